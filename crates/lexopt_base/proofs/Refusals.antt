@@ -1,0 +1,58 @@
+-- Refused memory, and refused values.
+use Rattle.std.proofs.Common.{◌≡◌, ◌⊎◌, ℕ, Bool, true, false, List, [], Option, Some, None, Result, Ok, Err, IsSome, string_bytes, refl, sym, ap, subst, ◌∙◌, inl, inr}
+use Rattle.lexopt_spec.specs.UnreadLine.{UnreadLine, Tail, no_tail, joined, rest, spelling, pending, pending_in}
+use Rattle.lexopt_spec.specs.Steps.{Reply, no_memory, unexpected, Answers, IsRefused, Next, NextStep, TakesMemory}
+use Rattle.lexopt_spec.proofs.LineLemmas.{refuses_joined, answers_map}
+use Rattle.lexopt_base.specs.Replies.{Gives, error_reply}
+use Rattle.lexopt_base.specs.Words.{IsJoined, RefusesPending}
+use Rattle.lexopt_base.specs.declared.error.Error.{Error}
+use Rattle.lexopt_base.specs.declared.error.Error.TheVariants.{MissingValue, UnexpectedArgument, UnexpectedValue, OutOfMemory}
+
+-- a call that was refused memory changes nothing, where its step would have made a text
+pub refused : (Step : UnreadLine → Reply → UnreadLine → Type 0) (u : UnreadLine) (wanted : Reply) (there : UnreadLine) → Step u wanted there → TakesMemory wanted
+    → Gives (Answers Step) u (error_reply OutOfMemory) u
+refused Step u wanted there step takes = inr (record { reply_is = refl; after_is = refl; in_place_of = (wanted, there, step, takes) })
+
+-- what is there
+pub some_of : {A : Type 0} (o : Option A) → IsSome o → (x : A) × (o ≡ Some x)
+some_of None is = let f : false ≡ true = is in cc
+some_of (Some x) is = (x, refl)
+
+joined_of : (p : Option (List ℕ × Bool)) → IsJoined p → (value : List ℕ) × (p ≡ Some (value, true))
+joined_of None is = absurd is
+joined_of (Some value) is = (value.0, ap (λ (b : Bool). Some (value.0, b)) is)
+
+flag_of : Option (List ℕ × Bool) → List ℕ
+flag_of None = []
+flag_of (Some value) = value.0
+
+-- `next` refuses a value that is joined by `=`
+pub refuses : (u v : UnreadLine) (e : Error) → IsJoined (pending u) → RefusesPending u e v → Gives Next u (error_reply e) v
+unfolding joined_of flag_of
+refuses u v (MissingValue option) is h = absurd h
+refuses u v (UnexpectedArgument value) is h = absurd h
+refuses u v (UnexpectedValue option value) is h =
+    let found = joined_of (pending u) is in
+    let same : found.0 ≡ value = ap flag_of (sym found.1 ∙ h.1.1) in
+    let step = refuses_joined u value (string_bytes option) (found.1 ∙ ap (λ (l : List ℕ). Some (l, true)) same) h.0 in
+    inl (subst (λ (x : UnreadLine). NextStep u (unexpected (string_bytes option) value) x) (sym h.1.2) step)
+refuses u v OutOfMemory is h =
+    let found = joined_of (pending u) is in
+    let option = some_of (spelling u.last) h.1 in
+    let step = refuses_joined u found.0 option.0 found.1 option.1 in
+    inr (record { reply_is = refl; after_is = h.0; in_place_of = (unexpected option.0 found.0, record u { tail = no_tail }, step, tt) })
+
+none_in : (switch : Bool) (tail : Tail) → (IsJoined (pending_in switch tail) → ⊥) → ((bytes : List ℕ) → tail ≡ rest bytes → ⊥) → tail ≡ no_tail
+none_in switch no_tail loose other = refl
+none_in switch (joined value) loose other = absurd (loose refl)
+none_in switch (rest bytes) loose other = absurd (other bytes refl)
+
+-- where no value is joined and no cluster is being read, nothing is left of the word
+pub nothing_left : (u : UnreadLine) → (IsJoined (pending u) → ⊥) → ((bytes : List ℕ) → u.tail ≡ rest bytes → ⊥) → u.tail ≡ no_tail
+nothing_left u loose other = none_in u.short_equals u.tail loose other
+
+-- what a helper's relation gives, the call's relation gives
+pub gives_map : (S T : UnreadLine → Reply → UnreadLine → Type 0) (u : UnreadLine) → ((r : Reply) (v : UnreadLine) → S u r v → T u r v)
+    → (reply : Option Reply) (v : UnreadLine) → Gives (Answers S) u reply v → Gives (Answers T) u reply v
+gives_map S T u f None v h = absurd h
+gives_map S T u f (Some reply) v h = answers_map S T u f reply v h

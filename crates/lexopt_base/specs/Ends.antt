@@ -1,0 +1,14 @@
+-- What a parser ends as, once what `next` gave is no longer borrowed.
+use Rattle.std.specs.Prelude.{Result, Option}
+use Rattle.std.specs.Borrow.{Fml, MutBor}
+use Rattle.std.specs.Io.BufRead.{Rests}
+use Rattle.lexopt_spec.specs.UnreadLine.{UnreadLine}
+use Rattle.lexopt_spec.specs.Steps.{Next}
+use Rattle.lexopt_base.specs.Replies.{Gives, next_reply}
+use Rattle.lexopt_base.specs.declared.error.Arg.{Arg}
+use Rattle.lexopt_base.specs.declared.error.Error.{Error}
+use Rattle.lexopt_base.specs.contracts.parser.Parser.{the_row}
+
+-- the line goes on as `next` does with this answer
+abbrev pub EndsAfter : MutBor UnreadLine → Result (Option Arg) Error → Fml
+EndsAfter parser result = Rests the_row parser (Gives Next parser.now (next_reply result))

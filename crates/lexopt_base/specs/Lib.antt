@@ -1,0 +1,10 @@
+pub use Rattle.lexopt_spec.specs.Pieces
+pub use Rattle.lexopt_spec.specs.UnreadLine
+pub use Rattle.lexopt_spec.specs.Steps
+pub use Rattle.lexopt_spec.specs.Text
+pub mod Codepoint
+pub mod Message
+pub mod View
+pub mod Replies
+pub mod Words
+pub mod Ends

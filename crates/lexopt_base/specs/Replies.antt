@@ -1,0 +1,65 @@
+-- What the answers of a parser say, as replies.
+use Rattle.std.specs.Prelude.{◌≡◌, Option, Some, None, Result, Ok, Err, List, ℕ, string_bytes}
+use Rattle.std.specs.Option.{option_map}
+use Rattle.std.specs.declared.string.String.{String}
+use Rattle.std.specs.declared.alloc.Global.{Global}
+use Rattle.lexopt_spec.specs.UnreadLine.{UnreadLine, LastOption, no_option, short_option, long_option}
+use Rattle.lexopt_spec.specs.Steps.{Reply, short, long, positional, end, taken, missing, unexpected, no_memory, Next}
+use Rattle.lexopt_base.specs.declared.error.Arg.{Arg}
+use Rattle.lexopt_base.specs.declared.error.Arg.TheVariants.{Short, Long, Value}
+use Rattle.lexopt_base.specs.declared.error.Error.{Error}
+use Rattle.lexopt_base.specs.declared.error.Error.TheVariants.{MissingValue, UnexpectedArgument, UnexpectedValue, OutOfMemory}
+use Rattle.lexopt_base.specs.declared.parser.Found.{Found}
+use Rattle.lexopt_base.specs.declared.parser.Found.TheVariants as found
+
+-- the reply of an error; none, where no call of a parser answers it
+abbrev pub error_reply : Error → Option Reply
+error_reply (MissingValue None) = Some (missing None)
+error_reply (MissingValue (Some option)) = Some (missing (Some (string_bytes option)))
+error_reply (UnexpectedArgument value) = None
+error_reply (UnexpectedValue option value) = Some (unexpected (string_bytes option) value)
+error_reply OutOfMemory = Some no_memory
+
+abbrev pub arg_reply : Option Arg → Reply
+arg_reply None = end
+arg_reply (Some (Short c)) = short c
+arg_reply (Some (Long name)) = long name.now
+arg_reply (Some (Value word)) = positional word
+
+-- the reply of `next`
+abbrev pub next_reply : Result (Option Arg) Error → Option Reply
+next_reply (Ok arg) = Some (arg_reply arg)
+next_reply (Err e) = error_reply e
+
+-- the reply of `value`
+abbrev pub value_reply : Result (List ℕ) Error → Option Reply
+value_reply (Ok word) = Some (taken word)
+value_reply (Err e) = error_reply e
+
+-- a call answers at the line u by this relation, with this reply, and leaves the line after
+abbrev pub Gives : (UnreadLine → Reply → UnreadLine → Type 0) → UnreadLine → Option Reply → UnreadLine → Type 0
+Gives Answers u None after = ⊥
+Gives Answers u (Some reply) after = Answers u reply after
+
+-- `next` can answer so at the line u
+abbrev pub CanReply : UnreadLine → Option Reply → Type 0
+CanReply u reply = (after : UnreadLine) × Gives Next u reply after
+
+-- ---- inside the parser
+
+-- the name that stands as the last option
+abbrev pub name_of : LastOption → Reply
+name_of no_option = end
+name_of (short_option c) = end
+name_of (long_option name) = long name
+
+-- what was found, where `last` is the last option now
+abbrev pub found_as : LastOption → Found → Reply
+found_as last (found.Short c) = short c
+found_as last found.Long = name_of last
+found_as last (found.Value word) = positional word
+found_as last found.End = end
+
+abbrev pub found_reply : LastOption → Result Found Error → Option Reply
+found_reply last (Ok f) = Some (found_as last f)
+found_reply last (Err e) = error_reply e

@@ -1,0 +1,79 @@
+//! What can be wrong with a command line, and what the parser hands out.
+ghost use Rattle.std.specs.Prelude.{◌≡◌, Some};
+
+use crate::os_string::{OsString, Quoted};
+use std::alloc::AllocError;
+use std::fmt;
+
+/// What `next` hands out: an option or a positional argument.
+#[derive(Drop)]
+pub enum Arg<'a> {
+    /// A short option, as `Short('q')` for `-q`.
+    Short(char),
+    /// A long option without its dashes, as `Long("verbose")` for `--verbose`.
+    Long(&'a str),
+    /// A positional argument, as `/dev/null`.
+    Value(OsString),
+}
+
+/// Why a command line was refused.
+#[derive(Drop)]
+pub enum Error {
+    /// An option wants a value, and no word is left. The option is spelled with its dashes; there is none where no option was read.
+    MissingValue { option: Option<String> },
+    /// A positional argument was not expected.
+    UnexpectedArgument(OsString),
+    /// An option that takes no value has one joined to it. The option is spelled with its dashes.
+    UnexpectedValue { option: String, value: OsString },
+    /// Memory was refused. The call changed nothing, and can be made again.
+    OutOfMemory,
+}
+
+impl fmt::Display for Error {
+    ghost use Rattle.std.specs.Prelude.{Some};
+    ghost use Rattle.lexopt_base.specs.Message.{message};
+
+    ghost output = { λ e. Some (message e) };
+
+    fn fmt<W: fmt::Write>(&self, f: &mut fmt::Formatter<W>) -> fmt::Result {
+        match self {
+            Error::MissingValue { option: None } => f.write_str("missing argument"),
+            Error::MissingValue {
+                option: Some(option),
+            } => write!(f, "missing argument for option '{option}'"),
+            Error::UnexpectedArgument(value) => {
+                let value = Quoted::new(value.as_bytes());
+                write!(f, "unexpected argument {value}")
+            }
+            Error::UnexpectedValue { option, value } => {
+                let value = Quoted::new(value.as_bytes());
+                write!(f, "unexpected argument for option '{option}': {value}")
+            }
+            Error::OutOfMemory => f.write_str("out of memory"),
+        }
+    }
+}
+
+impl fmt::Debug for Error {
+    ghost use Rattle.std.specs.Prelude.{Some};
+    ghost use Rattle.lexopt_base.specs.Message.{message};
+
+    ghost debug_output = { λ e. Some (message e) };
+
+    fn fmt<W: fmt::Write>(&self, f: &mut fmt::Formatter<W>) -> fmt::Result {
+        fmt::Display::fmt(self, f)
+    }
+}
+
+impl std::error::Error for Error {}
+
+impl From<AllocError> for Error {
+    ghost use Rattle.std.specs.Prelude.{◌≡◌};
+    ghost use Rattle.lexopt_base.specs.declared.error.Error.TheVariants.{OutOfMemory};
+
+    ghost from_gives = { λ _ e. e ≡ OutOfMemory };
+
+    fn from(_error: AllocError) -> Error {
+        Error::OutOfMemory
+    }
+}

@@ -1,0 +1,9 @@
+//! The command line lexer: words, errors and the parser. The crate `lexopt` hands on its public items.
+#![tactic(auto)]
+
+mod codepoint;
+pub mod error;
+pub mod os_string;
+pub mod parser;
+mod quoted;
+mod word;

@@ -1,0 +1,4 @@
+pub mod Rows
+pub mod Fronts
+pub mod PieceSteps
+pub mod LineLemmas

@@ -1,0 +1,154 @@
+-- Scripts: what they mean, and what is written for them.
+-- The source is `docs/formats.md`. A script is a list of bytes.
+use Rattle.std.specs.Prelude.{ℕ, suc, ◌+◌, ◌*◌, ◌-◌, Bool, true, false, nat_le, ◌==◌, ◌&&◌, ◌||◌, List, [], ◌∷◌, ◌++◌, Option, Some, None, codes, encode_utf8, if◌then◌else◌}
+use Rattle.std.specs.List.{filter_map, flat_map}
+use Rattle.std.specs.Cmp.Lexicographic.{pointwise}
+use Rattle.lexopt_spec.specs.Runs.{Call, next, value}
+use Rattle.lexopt_spec.specs.Steps.{Reply, short, long, positional, end, taken, missing, unexpected, no_memory}
+use Rattle.lexopt_spec.specs.Text.{quoted, missing_message, unexpected_value_message, no_memory_message}
+
+abbrev pub newline : ℕ
+newline = 0x0A
+
+abbrev pub blank : ℕ
+blank = 0x20
+
+abbrev pub backslash : ℕ
+backslash = 0x5C
+
+-- ---- a line
+
+-- the byte stands at the front of the first line
+abbrev pub onto_first : ℕ → List (List ℕ) → List (List ℕ)
+onto_first b [] = (b ∷ []) ∷ []
+onto_first b (line ∷ lines) = (b ∷ line) ∷ lines
+
+-- what stands before, between and behind the newlines. Behind the last newline an empty line is no line of the script,
+-- and here it does no harm, since an empty line means nothing
+abbrev pub lines_of : List ℕ → List (List ℕ)
+lines_of [] = [] ∷ []
+lines_of (b ∷ bs) = if b == newline then [] ∷ lines_of bs else onto_first b (lines_of bs)
+
+abbrev pub in_front : ℕ → Option (List ℕ) → Option (List ℕ)
+in_front b None = None
+in_front b (Some bs) = Some (b ∷ bs)
+
+-- the value of a hexadecimal digit of either case
+abbrev pub hexadecimal : ℕ → Option ℕ
+hexadecimal c =
+    if nat_le 0x30 c && nat_le c 0x39 then Some (c - 0x30)
+    else (if nat_le 0x41 c && nat_le c 0x46 then Some (c - 0x37)
+    else (if nat_le 0x61 c && nat_le c 0x66 then Some (c - 0x57)
+    else None))
+
+-- the byte of two digits stands at the front
+abbrev pub byte_in_front : Option ℕ → Option ℕ → Option (List ℕ) → Option (List ℕ)
+byte_in_front None low bytes = None
+byte_in_front (Some high) None bytes = None
+byte_in_front (Some high) (Some low) bytes = in_front (16 * high + low) bytes
+
+abbrev mutual
+  -- the bytes of a text: `\\` is a backslash, `\n` a newline, `\xHH` a byte, and each byte that is no backslash stands for itself
+  pub unescaped : List ℕ → Option (List ℕ)
+  unescaped [] = Some []
+  unescaped (b ∷ bs) = if b == backslash then behind_backslash bs else in_front b (unescaped bs)
+
+  pub behind_backslash : List ℕ → Option (List ℕ)
+  behind_backslash [] = None
+  behind_backslash (c ∷ bs) =
+      if c == backslash then in_front backslash (unescaped bs)
+      else (if c == 0x6E then in_front newline (unescaped bs)
+      else (if c == 0x78 then behind_x bs
+      else None))
+
+  pub behind_x : List ℕ → Option (List ℕ)
+  behind_x [] = None
+  behind_x (high ∷ []) = None
+  behind_x (high ∷ low ∷ bs) = byte_in_front (hexadecimal high) (hexadecimal low) (unescaped bs)
+
+-- what a line of a script says
+pub data Meaning : Type 0 where
+  nothing : Meaning
+  word : List ℕ → Meaning
+  call : Call → Meaning
+  bad : Meaning
+
+abbrev pub word_or_bad : Option (List ℕ) → Meaning
+word_or_bad None = bad
+word_or_bad (Some bytes) = word bytes
+
+-- `w TEXT`: one blank, and then the text
+abbrev pub meaning_of_word : List ℕ → Meaning
+meaning_of_word [] = bad
+meaning_of_word (a ∷ []) = bad
+meaning_of_word (a ∷ b ∷ text) = if a == 0x77 && b == blank then word_or_bad (unescaped text) else bad
+
+abbrev pub meaning : List ℕ → Meaning
+meaning line =
+    if pointwise ◌==◌ line [] then nothing
+    else (if pointwise ◌==◌ line (codes "next") then call next
+    else (if pointwise ◌==◌ line (codes "value") then call value
+    else (if pointwise ◌==◌ line (codes "w") then word []
+    else meaning_of_word line)))
+
+-- ---- a script
+
+abbrev pub is_call : Meaning → Bool
+is_call nothing = false
+is_call (word bytes) = false
+is_call (call c) = true
+is_call bad = false
+
+-- a word may not stand behind a call
+abbrev pub is_bad : Bool → Meaning → Bool
+is_bad called nothing = false
+is_bad called (word bytes) = called
+is_bad called (call c) = false
+is_bad called bad = true
+
+-- the number of the first bad line among these, the first of which has the number n; a call stands before them where called is true
+abbrev pub first_bad : ℕ → Bool → List (List ℕ) → Option ℕ
+first_bad n called [] = None
+first_bad n called (line ∷ lines) =
+    if is_bad called (meaning line) then Some n
+    else first_bad (n + 1) (called || is_call (meaning line)) lines
+
+-- the number of the first bad line of a script: lines count from 1
+abbrev pub bad_line : List ℕ → Option ℕ
+bad_line script = first_bad 1 false (lines_of script)
+
+abbrev pub word_of : Meaning → Option (List ℕ)
+word_of nothing = None
+word_of (word bytes) = Some bytes
+word_of (call c) = None
+word_of bad = None
+
+abbrev pub call_of : Meaning → Option Call
+call_of nothing = None
+call_of (word bytes) = None
+call_of (call c) = Some c
+call_of bad = None
+
+-- the words of a script, and its calls, each in order
+abbrev pub words_of : List ℕ → List (List ℕ)
+words_of script = filter_map (λ line. word_of (meaning line)) (lines_of script)
+
+abbrev pub calls_of : List ℕ → List Call
+calls_of script = filter_map (λ line. call_of (meaning line)) (lines_of script)
+
+-- ---- what is written
+
+-- the text of a reply
+abbrev pub reply_text : Reply → List ℕ
+reply_text (short c) = codes "Short " ++ quoted (encode_utf8 c)
+reply_text (long name) = codes "Long " ++ quoted name
+reply_text (positional bytes) = codes "Value " ++ quoted bytes
+reply_text end = codes "None"
+reply_text (taken bytes) = quoted bytes
+reply_text (missing option) = codes "error: " ++ missing_message option
+reply_text (unexpected option bytes) = codes "error: " ++ unexpected_value_message option bytes
+reply_text no_memory = codes "error: " ++ no_memory_message
+
+-- a line for each reply, in order
+abbrev pub lines_written : List Reply → List ℕ
+lines_written replies = flat_map (λ reply. reply_text reply ++ newline ∷ []) replies

@@ -1,0 +1,74 @@
+-- The unread line: what is left of a command line, as contracts see a parser.
+-- The source is `docs/behaviour.md`. A word is a list of bytes, a name is the UTF-8 of its text.
+use Rattle.std.specs.Prelude.{◌≡◌, ℕ, Bool, true, false, IsTrue, ◌==◌, ◌&&◌, ◌⊎◌, List, [], ◌∷◌, Option, Some, None, encode_utf8, if◌then◌else◌}
+
+abbrev pub dash : ℕ
+dash = 0x2D
+
+abbrev pub equals : ℕ
+equals = 0x3D
+
+-- what is left of the word that is being read
+pub data Tail : Type 0 where
+  no_tail : Tail
+  -- the value of a long option, behind its `=`
+  joined : List ℕ → Tail
+  -- the characters of a cluster that are still unread: never empty
+  rest : List ℕ → Tail
+
+-- the option that was read last
+pub data LastOption : Type 0 where
+  no_option : LastOption
+  short_option : ℕ → LastOption
+  long_option : List ℕ → LastOption
+
+pub record UnreadLine : Type 0 where
+  pub tail : Tail
+  -- the words that are still unread, in order
+  pub words : List (List ℕ)
+  -- the separator `--` was read
+  pub ended : Bool
+  pub last : LastOption
+  -- in a cluster, `=` stands between an option and its value
+  pub short_equals : Bool
+
+-- the line of these words, of which none was read
+abbrev pub fresh : List (List ℕ) → UnreadLine
+fresh words = record { tail = no_tail; words = words; ended = false; last = no_option; short_equals = true }
+
+-- an option with its dashes
+abbrev pub spelling : LastOption → Option (List ℕ)
+spelling no_option = None
+spelling (short_option c) = Some (dash ∷ encode_utf8 c)
+spelling (long_option name) = Some (dash ∷ dash ∷ name)
+
+-- these bytes as the rest of a cluster
+abbrev pub rest_of : List ℕ → Tail
+rest_of [] = no_tail
+rest_of (b ∷ bs) = rest (b ∷ bs)
+
+-- the value that belongs to the last option, and whether it is joined to it by `=`
+abbrev pub pending_in : Bool → Tail → Option (List ℕ × Bool)
+pending_in switch no_tail = None
+pending_in switch (joined value) = Some (value, true)
+pending_in switch (rest []) = None
+pending_in switch (rest (b ∷ bs)) = if switch && b == equals then Some (bs, true) else Some (b ∷ bs, false)
+
+abbrev pub pending : UnreadLine → Option (List ℕ × Bool)
+pending u = pending_in u.short_equals u.tail
+
+abbrev pub BeginsWith : ℕ → List ℕ → Type 0
+BeginsWith b [] = ⊥
+BeginsWith b (c ∷ cs) = c ≡ b
+
+-- the word is no option: it stands behind the separator, or is `-`, or does not begin with a dash
+abbrev pub IsPlain : Bool → List ℕ → Type 0
+IsPlain ended word = (ended ≡ true) ⊎ ((word ≡ dash ∷ []) ⊎ ¬ BeginsWith dash word)
+
+-- the next word can be one of several values
+abbrev pub IsNormalIn : Bool → List (List ℕ) → Type 0
+IsNormalIn ended [] = ⊥
+IsNormalIn ended (word ∷ words) = IsPlain ended word
+
+abbrev pub IsNormal : UnreadLine → Type 0
+IsNormal u = (u.tail ≡ no_tail) × IsNormalIn u.ended u.words

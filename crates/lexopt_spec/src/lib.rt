@@ -1,0 +1,9 @@
+//! What the contracts of lexopt cite: definitions over plain data, in `specs/`, and laws that hold of them.
+//!
+//! A definition that computes is tied here to the rule that it computes, by a function with no body whose contract is
+//! the law.
+#![tactic(auto)]
+
+mod laws;
+
+pub use laws::{first_piece_is_by_the_table, pieces_are_in_a_row};
