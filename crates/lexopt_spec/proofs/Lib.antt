@@ -2,3 +2,4 @@ pub mod Rows
 pub mod Fronts
 pub mod PieceSteps
 pub mod LineLemmas
+pub mod Computing

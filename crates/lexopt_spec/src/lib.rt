@@ -4,6 +4,8 @@
 //! the law.
 #![tactic(auto)]
 
+#[cfg(test)]
+mod examples;
 mod laws;
 
 pub use laws::{first_piece_is_by_the_table, pieces_are_in_a_row};

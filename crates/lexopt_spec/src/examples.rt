@@ -1,0 +1,125 @@
+//! Worked examples, computed by the definitions themselves: each clause is one example.
+ghost use Rattle.std.specs.Prelude.{◌≡◌, ◌++◌, [], ◌∷◌, true, false, Some, None, codes};
+ghost use Rattle.lexopt_spec.specs.Pieces.{first_piece, lossy, lossy_characters};
+ghost use Rattle.lexopt_spec.specs.UnreadLine.{fresh, joined, long_option, no_option, no_tail, pending, pending_in, rest, rest_of, short_option, spelling};
+ghost use Rattle.lexopt_spec.specs.Steps.{end, long, missing, no_memory, positional, short, taken, unexpected};
+ghost use Rattle.lexopt_spec.specs.Runs.{next, value};
+ghost use Rattle.lexopt_spec.specs.Text.{missing_message, quoted, unexpected_argument_message, unexpected_value_message};
+ghost use Rattle.lexopt_spec.specs.Script.{bad_line, calls_of, lines_written, unescaped, words_of};
+
+#[test]
+fn definitions_compute_the_worked_examples() {
+    lossy_text_of_damaged_bytes();
+    first_pieces_of_damaged_bytes();
+    options_are_spelled();
+    values_are_pending();
+    quoted_forms();
+    messages();
+    texts_are_unescaped();
+    scripts_have_bad_lines();
+    a_script_has_words_and_calls();
+    replies_are_written();
+}
+
+#[tactic(auto, unfolding(crate::proofs::Computing::computing))]
+fn lossy_text_of_damaged_bytes()
+    ensures between { lossy_characters (0x61 ∷ 0xFF ∷ 0x63 ∷ []) ≡ 0x61 ∷ 0xFFFD ∷ 0x63 ∷ [] }
+    ensures cut { lossy_characters (0xC2 ∷ []) ≡ 0xFFFD ∷ [] }
+    ensures cut_short { lossy_characters (0xC2 ∷ 0x61 ∷ []) ≡ 0xFFFD ∷ 0x61 ∷ [] }
+    ensures two_bytes { lossy_characters (0xC2 ∷ 0xB5 ∷ []) ≡ 0xB5 ∷ [] }
+    ensures one_of_four { lossy_characters (0xF0 ∷ []) ≡ 0xFFFD ∷ [] }
+    ensures two_of_four { lossy_characters (0xF0 ∷ 0x9D ∷ []) ≡ 0xFFFD ∷ [] }
+    ensures three_of_four { lossy_characters (0xF0 ∷ 0x9D ∷ 0x84 ∷ []) ≡ 0xFFFD ∷ [] }
+    ensures two_of_four_first { lossy_characters (0xF0 ∷ 0x9D ∷ 0x61 ∷ []) ≡ 0xFFFD ∷ 0x61 ∷ [] }
+    ensures three_of_four_first { lossy_characters (0xF0 ∷ 0x9D ∷ 0x84 ∷ 0x61 ∷ []) ≡ 0xFFFD ∷ 0x61 ∷ [] }
+    ensures four_bytes { lossy_characters (0xF0 ∷ 0x9D ∷ 0x84 ∷ 0x9E ∷ []) ≡ 0x1D11E ∷ [] }
+    ensures surrogate { lossy_characters (0xED ∷ 0xA0 ∷ 0x80 ∷ []) ≡ 0xFFFD ∷ 0xFFFD ∷ 0xFFFD ∷ [] }
+    ensures replacement_itself { lossy_characters (0xEF ∷ 0xBF ∷ 0xBD ∷ []) ≡ 0xFFFD ∷ [] }
+    ensures text { lossy (0x61 ∷ 0xFF ∷ []) ≡ 0x61 ∷ 0xEF ∷ 0xBF ∷ 0xBD ∷ [] }
+{
+}
+
+fn first_pieces_of_damaged_bytes()
+    ensures damaged { first_piece (0xF0 ∷ 0x9D ∷ 0x61 ∷ []) ≡ record { bytes = 0xF0 ∷ 0x9D ∷ []; char = None } }
+    ensures surrogate { first_piece (0xED ∷ 0xA0 ∷ 0x80 ∷ []) ≡ record { bytes = 0xED ∷ []; char = None } }
+    ensures not_damaged { first_piece (0xEF ∷ 0xBF ∷ 0xBD ∷ []) ≡ record { bytes = 0xEF ∷ 0xBF ∷ 0xBD ∷ []; char = Some 0xFFFD } }
+{
+}
+
+#[tactic(auto, unfolding(crate::proofs::Computing::computing))]
+fn options_are_spelled()
+    ensures none { spelling no_option ≡ None }
+    ensures short { spelling (short_option 0xB5) ≡ Some (0x2D ∷ 0xC2 ∷ 0xB5 ∷ []) }
+    ensures long { spelling (long_option (codes "out")) ≡ Some (codes "--out") }
+{
+}
+
+fn values_are_pending()
+    ensures nothing { pending (fresh (codes "a" ∷ [])) ≡ None }
+    ensures joined { pending_in false (joined (codes "x")) ≡ Some (codes "x", true) }
+    ensures behind_equals { pending_in true (rest (codes "==b")) ≡ Some (codes "=b", true) }
+    ensures switched_off { pending_in false (rest (codes "==b")) ≡ Some (codes "==b", false) }
+    ensures attached { pending_in true (rest (codes "value")) ≡ Some (codes "value", false) }
+    ensures empty_behind_equals { pending_in true (rest (codes "=")) ≡ Some ([], true) }
+    ensures rest_of_none { rest_of [] ≡ no_tail }
+{
+}
+
+#[tactic(auto, unfolding(crate::proofs::Computing::computing))]
+fn quoted_forms()
+    ensures empty { quoted [] ≡ codes "\"\"" }
+    ensures control { quoted (0x1B ∷ []) ≡ codes "\"\\u{1b}\"" }
+    ensures low_control { quoted (0x01 ∷ []) ≡ codes "\"\\u{1}\"" }
+    ensures damage { quoted (0xF0 ∷ 0x9D ∷ []) ≡ codes "\"\\xF0\\x9D\"" }
+    ensures apostrophe { quoted (0x27 ∷ []) ≡ codes "\"'\"" }
+    ensures escapes { quoted (0x00 ∷ 0x0D ∷ 0x1F ∷ 0x0A ∷ 0x09 ∷ 0x7F ∷ 0x5C ∷ 0x22 ∷ []) ≡ codes "\"\\0\\r\\u{1f}\\n\\t\\u{7f}\\\\\\\"\"" }
+    ensures past_ascii { quoted (0xC2 ∷ 0xB5 ∷ []) ≡ 0x22 ∷ 0xC2 ∷ 0xB5 ∷ 0x22 ∷ [] }
+{
+}
+
+#[tactic(auto, unfolding(crate::proofs::Computing::computing))]
+fn messages()
+    ensures missing { missing_message None ≡ codes "missing argument" }
+    ensures missing_of { missing_message (Some (codes "-o")) ≡ codes "missing argument for option '-o'" }
+    ensures argument { unexpected_argument_message (codes "foo") ≡ codes "unexpected argument \"foo\"" }
+    ensures value { unexpected_value_message (codes "--foobar") (codes "qux=baz") ≡ codes "unexpected argument for option '--foobar': \"qux=baz\"" }
+{
+}
+
+fn texts_are_unescaped()
+    ensures plain { unescaped (codes "a b") ≡ Some (codes "a b") }
+    ensures backslash { unescaped (codes "\\\\") ≡ Some (0x5C ∷ []) }
+    ensures newline { unescaped (codes "\\n") ≡ Some (0x0A ∷ []) }
+    ensures byte { unescaped (codes "a\\xfFb") ≡ Some (0x61 ∷ 0xFF ∷ 0x62 ∷ []) }
+    ensures other { unescaped (codes "\\q") ≡ None }
+    ensures cut { unescaped (codes "\\x4") ≡ None }
+    ensures nothing_behind { unescaped (codes "\\") ≡ None }
+{
+}
+
+fn scripts_have_bad_lines()
+    ensures bad_escape { bad_line (codes "w a\\q") ≡ Some 1 }
+    ensures word_behind_a_call { bad_line (codes "w a\nnext\nw b") ≡ Some 3 }
+    ensures no_such_call { bad_line (codes "\nvalues") ≡ Some 2 }
+    ensures blank_behind { bad_line (codes "next ") ≡ Some 1 }
+    ensures empty { bad_line [] ≡ None }
+    ensures empty_lines { bad_line (codes "\n\nnext\n") ≡ None }
+    ensures carriage_return { bad_line (codes "next\r") ≡ Some 1 }
+{
+}
+
+fn a_script_has_words_and_calls()
+    ensures words { words_of (codes "w --out=x\nw\nw \n\nw \\x2D\nnext\nvalue") ≡ codes "--out=x" ∷ [] ∷ [] ∷ codes "-" ∷ [] }
+    ensures calls { calls_of (codes "w --out=x\nw\nw \n\nw \\x2D\nnext\nvalue") ≡ next ∷ value ∷ [] }
+{
+}
+
+#[tactic(auto, unfolding(crate::proofs::Computing::computing))]
+fn replies_are_written()
+    ensures first_script { lines_written (long (codes "out") ∷ taken (codes "x") ∷ positional (codes "file") ∷ positional (codes "-y") ∷ end ∷ [])
+        ≡ codes "Long \"out\"\n\"x\"\nValue \"file\"\nValue \"-y\"\nNone\n" }
+    ensures errors { lines_written (missing None ∷ unexpected (codes "-a") (codes "b") ∷ no_memory ∷ [])
+        ≡ codes "error: missing argument\nerror: unexpected argument for option '-a': \"b\"\nerror: out of memory\n" }
+    ensures short { lines_written (short 0x61 ∷ []) ≡ codes "Short \"a\"\n" }
+{
+}
