@@ -2,4 +2,6 @@ pub mod Rows
 pub mod Fronts
 pub mod PieceSteps
 pub mod LineLemmas
+pub mod ScriptLemmas
+pub mod RunLemmas
 pub mod Computing

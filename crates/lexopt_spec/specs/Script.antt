@@ -1,7 +1,7 @@
 -- Scripts: what they mean, and what is written for them.
 -- The source is `docs/formats.md`. A script is a list of bytes.
 use Rattle.std.specs.Prelude.{ℕ, suc, ◌+◌, ◌*◌, ◌-◌, Bool, true, false, nat_le, ◌==◌, ◌&&◌, ◌||◌, List, [], ◌∷◌, ◌++◌, Option, Some, None, codes, encode_utf8, if◌then◌else◌}
-use Rattle.std.specs.List.{filter_map, flat_map}
+use Rattle.std.specs.List.{filter_map, flat_map, slice_split}
 use Rattle.std.specs.Cmp.Lexicographic.{pointwise}
 use Rattle.lexopt_spec.specs.Runs.{Call, next, value}
 use Rattle.lexopt_spec.specs.Steps.{Reply, short, long, positional, end, taken, missing, unexpected, no_memory}
@@ -18,16 +18,10 @@ backslash = 0x5C
 
 -- ---- a line
 
--- the byte stands at the front of the first line
-abbrev pub onto_first : ℕ → List (List ℕ) → List (List ℕ)
-onto_first b [] = (b ∷ []) ∷ []
-onto_first b (line ∷ lines) = (b ∷ line) ∷ lines
-
 -- what stands before, between and behind the newlines. Behind the last newline an empty line is no line of the script,
 -- and here it does no harm, since an empty line means nothing
 abbrev pub lines_of : List ℕ → List (List ℕ)
-lines_of [] = [] ∷ []
-lines_of (b ∷ bs) = if b == newline then [] ∷ lines_of bs else onto_first b (lines_of bs)
+lines_of script = slice_split (λ b. b == newline) script
 
 abbrev pub in_front : ℕ → Option (List ℕ) → Option (List ℕ)
 in_front b None = None

@@ -36,23 +36,20 @@ fn lossy_text_of_damaged_bytes()
     ensures surrogate { lossy_characters (0xED ∷ 0xA0 ∷ 0x80 ∷ []) ≡ 0xFFFD ∷ 0xFFFD ∷ 0xFFFD ∷ [] }
     ensures replacement_itself { lossy_characters (0xEF ∷ 0xBF ∷ 0xBD ∷ []) ≡ 0xFFFD ∷ [] }
     ensures text { lossy (0x61 ∷ 0xFF ∷ []) ≡ 0x61 ∷ 0xEF ∷ 0xBF ∷ 0xBD ∷ [] }
-{
-}
+{}
 
 fn first_pieces_of_damaged_bytes()
     ensures damaged { first_piece (0xF0 ∷ 0x9D ∷ 0x61 ∷ []) ≡ record { bytes = 0xF0 ∷ 0x9D ∷ []; char = None } }
     ensures surrogate { first_piece (0xED ∷ 0xA0 ∷ 0x80 ∷ []) ≡ record { bytes = 0xED ∷ []; char = None } }
     ensures not_damaged { first_piece (0xEF ∷ 0xBF ∷ 0xBD ∷ []) ≡ record { bytes = 0xEF ∷ 0xBF ∷ 0xBD ∷ []; char = Some 0xFFFD } }
-{
-}
+{}
 
 #[tactic(auto, unfolding(crate::proofs::Computing::computing))]
 fn options_are_spelled()
     ensures none { spelling no_option ≡ None }
     ensures short { spelling (short_option 0xB5) ≡ Some (0x2D ∷ 0xC2 ∷ 0xB5 ∷ []) }
     ensures long { spelling (long_option (codes "out")) ≡ Some (codes "--out") }
-{
-}
+{}
 
 fn values_are_pending()
     ensures nothing { pending (fresh (codes "a" ∷ [])) ≡ None }
@@ -62,8 +59,7 @@ fn values_are_pending()
     ensures attached { pending_in true (rest (codes "value")) ≡ Some (codes "value", false) }
     ensures empty_behind_equals { pending_in true (rest (codes "=")) ≡ Some ([], true) }
     ensures rest_of_none { rest_of [] ≡ no_tail }
-{
-}
+{}
 
 #[tactic(auto, unfolding(crate::proofs::Computing::computing))]
 fn quoted_forms()
@@ -74,8 +70,7 @@ fn quoted_forms()
     ensures apostrophe { quoted (0x27 ∷ []) ≡ codes "\"'\"" }
     ensures escapes { quoted (0x00 ∷ 0x0D ∷ 0x1F ∷ 0x0A ∷ 0x09 ∷ 0x7F ∷ 0x5C ∷ 0x22 ∷ []) ≡ codes "\"\\0\\r\\u{1f}\\n\\t\\u{7f}\\\\\\\"\"" }
     ensures past_ascii { quoted (0xC2 ∷ 0xB5 ∷ []) ≡ 0x22 ∷ 0xC2 ∷ 0xB5 ∷ 0x22 ∷ [] }
-{
-}
+{}
 
 #[tactic(auto, unfolding(crate::proofs::Computing::computing))]
 fn messages()
@@ -83,8 +78,7 @@ fn messages()
     ensures missing_of { missing_message (Some (codes "-o")) ≡ codes "missing argument for option '-o'" }
     ensures argument { unexpected_argument_message (codes "foo") ≡ codes "unexpected argument \"foo\"" }
     ensures value { unexpected_value_message (codes "--foobar") (codes "qux=baz") ≡ codes "unexpected argument for option '--foobar': \"qux=baz\"" }
-{
-}
+{}
 
 fn texts_are_unescaped()
     ensures plain { unescaped (codes "a b") ≡ Some (codes "a b") }
@@ -94,8 +88,7 @@ fn texts_are_unescaped()
     ensures other { unescaped (codes "\\q") ≡ None }
     ensures cut { unescaped (codes "\\x4") ≡ None }
     ensures nothing_behind { unescaped (codes "\\") ≡ None }
-{
-}
+{}
 
 fn scripts_have_bad_lines()
     ensures bad_escape { bad_line (codes "w a\\q") ≡ Some 1 }
@@ -105,14 +98,12 @@ fn scripts_have_bad_lines()
     ensures empty { bad_line [] ≡ None }
     ensures empty_lines { bad_line (codes "\n\nnext\n") ≡ None }
     ensures carriage_return { bad_line (codes "next\r") ≡ Some 1 }
-{
-}
+{}
 
 fn a_script_has_words_and_calls()
     ensures words { words_of (codes "w --out=x\nw\nw \n\nw \\x2D\nnext\nvalue") ≡ codes "--out=x" ∷ [] ∷ [] ∷ codes "-" ∷ [] }
     ensures calls { calls_of (codes "w --out=x\nw\nw \n\nw \\x2D\nnext\nvalue") ≡ next ∷ value ∷ [] }
-{
-}
+{}
 
 #[tactic(auto, unfolding(crate::proofs::Computing::computing))]
 fn replies_are_written()
@@ -121,5 +112,4 @@ fn replies_are_written()
     ensures errors { lines_written (missing None ∷ unexpected (codes "-a") (codes "b") ∷ no_memory ∷ [])
         ≡ codes "error: missing argument\nerror: unexpected argument for option '-a': \"b\"\nerror: out of memory\n" }
     ensures short { lines_written (short 0x61 ∷ []) ≡ codes "Short \"a\"\n" }
-{
-}
+{}

@@ -1,0 +1,3 @@
+pub mod InARow
+pub mod NumberedLines
+pub mod StepReplies

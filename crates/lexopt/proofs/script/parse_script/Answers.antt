@@ -1,0 +1,61 @@
+use Rattle.std.proofs.Common.{rules, tests, ◌≡◌, ℕ, ◌+◌, ◌<◌, ◌==◌, true, false, List, [], ◌∷◌, ◌++◌, length, map, Some, refl, sym, ap, ◌∙◌, inr, arith, append-nil}
+use Rattle.std.proofs.lemmas.Bool.Decides.{nat_tests}
+use Rattle.std.proofs.lemmas.Iterator.Consumers.{YieldsList-at, YieldsList-from_enumerate}
+use Rattle.std.proofs.lemmas.Iterator.Splits.{YieldsList-from_slice_split}
+use Rattle.std.proofs.lemmas.List.{length_push, map-append, length-map}
+use Rattle.lexopt_spec.specs.Script.{nothing, word, call, bad, is_bad}
+use Rattle.lexopt_spec.proofs.ScriptLemmas.{called, called-none, called-some, ReadsTo-more, ReadsTo-bad, ReadsTo-end}
+use Rattle.lexopt.specs.Meanings.{meaning_view}
+use Rattle.lexopt.specs.Replies.{call_view}
+use Rattle.lexopt.proofs.NumberedLines.{IsLineAt, line_read, lines_read}
+use Rattle.lexopt.proofs.script.parse_script.Goals as goal
+use Rattle.lexopt.proofs.script.parse_script.Goals.{In_ok-meaning_of}
+
+turn : (c : In_ok-meaning_of) → IsLineAt c.args.script.now (length c.loop-index.yielded) c.in-Some.index c.in-Some.line.now
+turn c =
+    line_read c.args.script.now c.loop-index.yielded _ c.loop-index.yielded_by _ _ (c.in-Some.index, c.in-Some.line) c.in-Some.is c.next.ensures.steps
+    (YieldsList-at c.into_iter-index-iterator.ensures.into_iter_gives (YieldsList-from_enumerate (YieldsList-at c.enumerate-index-items.ensures.source
+    (YieldsList-from_slice_split _ _ c.args.script.now c.split.ensures.rest c.split.ensures.done c.split.ensures.closure (λ x r q k. search (rules, tests))))
+    c.enumerate-index-items.ensures.count))
+
+pub loop-index-preserved-in-Nothing-1 : goal.loop-index-preserved-in-Nothing-1
+loop-index-preserved-in-Nothing-1 c =
+    let line = turn (goal.at.loop-index-preserved-in-Nothing-1 c).In_ok-meaning_of in
+    let says = sym c.in_ok-meaning_of.ensures ∙ ap meaning_view c.in-Nothing.is in
+    ReadsTo-more _ _ _ _ _ _ _ c.in-Some.line.now nothing line.within line.is says refl (length_push c.loop-index.yielded _)
+    (sym (append-nil _)) (sym (append-nil _)) c.loop-index.invariant
+
+pub loop-index-preserved-then-is_empty : goal.loop-index-preserved-then-is_empty
+loop-index-preserved-then-is_empty c =
+    let line = turn (goal.at.loop-index-preserved-then-is_empty c).In_ok-meaning_of in
+    let says = sym c.in_ok-meaning_of.ensures ∙ ap meaning_view c.in-Word.is in
+    let none : length (map call_view c.loop-index.calls.items) ≡ 0 = grind (arith, nat_tests, length-map) in
+    ReadsTo-more _ _ _ _ _ _ _ c.in-Some.line.now (word c.in-Word.word) line.within line.is says
+    (called-none _ none)
+    (length_push c.loop-index.yielded _) c.in_ok-push-in-Word.ensures.items (sym (append-nil _)) c.loop-index.invariant
+
+pub loop-index-preserved : goal.loop-index-preserved
+loop-index-preserved c =
+    let line = turn (goal.at.loop-index-preserved c).In_ok-meaning_of in
+    let says = sym c.in_ok-meaning_of.ensures ∙ ap meaning_view c.in-Call.is in
+    ReadsTo-more _ _ _ _ _ _ _ c.in-Some.line.now (call (call_view c.in-Call.call)) line.within line.is says refl (length_push c.loop-index.yielded _)
+    (sym (append-nil _)) (ap (map call_view) c.in_ok-push-in-Call.ensures.items ∙ map-append call_view c.loop-index.calls.items (c.in-Call.call ∷ [])) c.loop-index.invariant
+
+pub returns-in-Word-2-clause-err : goal.returns-in-Word-2-clause-err
+returns-in-Word-2-clause-err c =
+    let line = turn (goal.at.returns-in-Word-2-clause-err c).In_ok-meaning_of in
+    let wrong : is_bad (called (map call_view c.loop-index.calls.items)) (meaning_view c.in_ok-meaning_of.field-0) ≡ true = grind (arith, nat_tests, called-some, length-map) in
+    inr (
+      c.in-Some.index + 1,
+      refl,
+      ReadsTo-bad _ _ _ _ c.in-Some.line.now _ line.within line.is (sym c.in_ok-meaning_of.ensures) wrong c.loop-index.invariant
+          ∙ ap (λ n. Some (n + 1)) (sym line.index_is),
+    )
+
+pub returns-clause-ok : goal.returns-clause-ok
+returns-clause-ok c =
+    let all = lines_read c.args.script.now c.loop-index.yielded _ c.loop-index.yielded_by _ _ c.in-None.is c.next.ensures.steps
+    (YieldsList-at c.into_iter-index-iterator.ensures.into_iter_gives (YieldsList-from_enumerate (YieldsList-at c.enumerate-index-items.ensures.source
+    (YieldsList-from_slice_split _ _ c.args.script.now c.split.ensures.rest c.split.ensures.done c.split.ensures.closure (λ x r q k. search (rules, tests))))
+    c.enumerate-index-items.ensures.count)) in
+    ReadsTo-end _ _ _ _ all c.loop-index.invariant

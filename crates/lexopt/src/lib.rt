@@ -1,0 +1,15 @@
+//! A pedantic lexer for command lines of any bytes.
+//!
+//! `Parser::next` reads the next option or positional argument, and `Parser::value` takes a value for the option just
+//! read. Nothing is declared ahead of time.
+#![tactic(auto)]
+
+pub use lexopt_base::error::{Arg, Error};
+pub use lexopt_base::os_string::OsString;
+pub use lexopt_base::parser::Parser;
+pub use lexopt_base::{error, os_string, parser};
+
+pub mod replay;
+mod reply;
+mod run_error;
+mod script;

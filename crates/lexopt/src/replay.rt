@@ -1,0 +1,140 @@
+//! Scripts of calls: `run` reads one, makes its calls, and writes a line for each reply.
+ghost use Rattle.std.specs.Prelude.{◌≡◌, ◌⊎◌, ◌+◌, ◌≤◌, ◌<◌, ℕ, List, Option, None, Some, Ok, Err, IfOk, IfErr, OnErr, OnOk, length, map, string_bytes};
+ghost use Rattle.std.specs.Option.{option_map};
+ghost use Rattle.std.specs.Io.KnownBytes.{Appends, Consumes, IsAtEnd};
+ghost use Rattle.lexopt_spec.specs.Steps as steps;
+ghost use Rattle.lexopt_spec.specs.Steps.{Next, Value};
+ghost use Rattle.lexopt_spec.specs.Runs.{Run, Step};
+ghost use Rattle.lexopt_spec.specs.Script.{bad_line};
+ghost use Rattle.lexopt.specs.Answer.{IsAnswer};
+ghost use Rattle.lexopt_base.specs.Replies.{Gives, error_reply, next_reply};
+ghost use Rattle.lexopt.specs.Replies.{call_view, reply_view};
+
+use crate::reply::{Call, Reply, written};
+pub use crate::run_error::RunError;
+use crate::script::{LIMIT, parse_script, read_script};
+use lexopt_base::error::{Arg, Error};
+use lexopt_base::parser::Parser;
+use std::alloc::{AllocError, Global};
+use std::io::{Read, Write};
+
+// Copies a reply of `next` out of the parser. It is none where no parser answers so.
+fn copied(alloc: Global, reply: Result<Option<Arg<'_>>, Error>) -> Result<Option<Reply>, AllocError>
+    ensures { IfOk result (λ copy. option_map reply_view copy ≡ next_reply reply.entry) }
+{
+    match reply {
+        Ok(None) => Ok(Some(Reply::End)),
+        Ok(Some(Arg::Short(option))) => Ok(Some(Reply::Short(option))),
+        Ok(Some(Arg::Long(name))) => Ok(Some(Reply::LongName(String::from_str(alloc, name)?))),
+        Ok(Some(Arg::Value(word))) => Ok(Some(Reply::Positional(word))),
+        Err(error) => Ok(refusal(error)),
+    }
+}
+
+// The reply of an error. It is none where no parser answers so.
+fn refusal(error: Error) -> Option<Reply>
+    ensures { option_map reply_view result ≡ error_reply error }
+{
+    match error {
+        Error::MissingValue { option } => Some(Reply::Missing(option)),
+        Error::UnexpectedArgument(_) => None,
+        Error::UnexpectedValue { option, value } => Some(Reply::Unexpected(option, value)),
+        Error::OutOfMemory => Some(Reply::NoMemory),
+    }
+}
+
+// One call of `next`.
+fn step(alloc: Global, parser: &mut Parser) -> Result<Option<Reply>, AllocError>
+    ensures { (reply : Option steps.Reply) × Gives Next parser.old reply parser.new
+        × IfOk result (λ copy. option_map reply_view copy ≡ reply) }
+{
+    let reply = parser.next();
+    copied(alloc, reply)
+}
+
+// One call of `value`.
+fn take(parser: &mut Parser) -> Option<Reply>
+    ensures { Gives Value parser.old (option_map reply_view result) parser.new }
+{
+    match parser.value() {
+        Ok(word) => Some(Reply::Taken(word)),
+        Err(error) => refusal(error),
+    }
+}
+
+// One call, and its reply.
+fn reply_to(alloc: Global, parser: &mut Parser, call: Call) -> Result<Reply, AllocError>
+    ensures { (reply : steps.Reply) × Step (call_view call) parser.old reply parser.new
+        × IfOk result (λ copy. reply_view copy ≡ reply) }
+{
+    let reply = match call {
+        Call::Next => step(alloc, parser)?,
+        Call::Value => take(parser),
+    };
+    match reply {
+        Some(reply) => Ok(reply),
+        None => unreachable!(),
+    }
+}
+
+// A reply for each call, in order.
+fn replies_to(alloc: Global, parser: &mut Parser, calls: &[Call]) -> Result<Vec<Reply>, AllocError>
+    ensures { IfOk result (λ replies. Run parser.old (map call_view calls.now) (map reply_view replies.items) parser.new) }
+{
+    let mut replies = Vec::new(alloc);
+    for call in calls {
+        replies.push(reply_to(alloc, parser, *call)?)?;
+    }
+    Ok(replies)
+}
+
+// What is written for a script, or its first bad line.
+fn answer(alloc: Global, script: &[u8]) -> Result<String, RunError>
+    requires { length script.now ≤ LIMIT }
+    ensures ok { IfOk result (λ text. IsAnswer script.now (string_bytes text)) }
+    ensures err { IfErr result (λ e. (e ≡ RunError.NoMemory)
+        ⊎ ((n : ℕ) × (e ≡ RunError.BadLine n) × (bad_line script.now ≡ Some n))) }
+{
+    let script = parse_script(alloc, script)?;
+    let Ok(mut parser) = Parser::from_args(alloc, script.words) else {
+        return Err(RunError::NoMemory);
+    };
+    let replies = replies_to(alloc, &mut parser, &script.calls)?;
+    Ok(written(alloc, &replies)?)
+}
+
+/// Reads a whole script, makes its calls on a parser of its words, and writes a line for each reply, all at once.
+///
+/// The words `--out=x`, `file` and the calls `next`, `value`, `next` write `Long "out"`, `"x"` and `Value "file"`.
+///
+/// Errors: `TooLong` where more than 1,048,576 bytes were read, `BadLine` with the number of the first bad line,
+/// `ReadFailed`, `NoMemory` where a growth outside the calls was refused. Nothing was written then. `WriteFailed`: some of
+/// the answer may have gone out.
+pub fn run<R: Read, W: Write>(alloc: Global, reader: &mut R, writer: &mut W) -> Result<(), RunError>
+    ensures ok { OnOk result ((script : List ℕ)
+        × Consumes (R.remaining reader.old) (R.remaining reader.new) script
+        × IsAtEnd (R.remaining reader.new) × (length script ≤ LIMIT)
+        × ((text : List ℕ) × IsAnswer script text × Appends (W.contents writer.old) (W.contents writer.new) text)) }
+
+    // When each error comes.
+    ensures bad_line { (line : ℕ) → result ≡ Err (RunError.BadLine line) → ((script : List ℕ)
+        × Consumes (R.remaining reader.old) (R.remaining reader.new) script
+        × IsAtEnd (R.remaining reader.new) × (length script ≤ LIMIT) × (bad_line script ≡ Some line)) }
+    ensures too_long { result ≡ Err RunError.TooLong → ((script : List ℕ)
+        × Consumes (R.remaining reader.old) (R.remaining reader.new) script × (LIMIT < length script)) }
+    ensures write_failed { result ≡ Err RunError.WriteFailed → ((script : List ℕ)
+        × Consumes (R.remaining reader.old) (R.remaining reader.new) script
+        × IsAtEnd (R.remaining reader.new) × (length script ≤ LIMIT) × (bad_line script ≡ None)) }
+
+    // What an error leaves, and how much is read.
+    ensures untouched { IfErr result (λ e. (e ≡ RunError.WriteFailed) ⊎ (writer.new ≡ writer.old)) }
+    ensures bounded { (script : List ℕ) × Consumes (R.remaining reader.old) (R.remaining reader.new) script
+        × (length script ≤ LIMIT + 512) }
+{
+    let script = read_script(alloc, reader)?;
+    let text = answer(alloc, &script)?;
+    if writer.write_all(text.as_bytes()).is_err() || writer.flush().is_err() {
+        return Err(RunError::WriteFailed);
+    }
+    Ok(())
+}

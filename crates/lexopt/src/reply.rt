@@ -1,0 +1,134 @@
+//! Calls on a command line, and what they answer.
+ghost use Rattle.std.specs.Prelude.{◌≡◌, IfOk, map, string_bytes};
+ghost use Rattle.lexopt_spec.specs.Script.{lines_written};
+ghost use Rattle.lexopt.specs.Replies.{reply_view};
+
+use lexopt_base::os_string::{OsString, Quoted};
+use std::alloc::{AllocError, Global};
+use std::fmt;
+
+/// A call on a command line.
+#[derive(Clone, Copy, Debug, PartialEq, Eq)]
+pub enum Call {
+    Next,
+    Value,
+}
+
+/// What a call answered.
+#[derive(PartialEq, Eq, Drop)]
+pub enum Reply {
+    /// `next` read a short option.
+    Short(char),
+    /// `next` read a long option, whose name stands here without its dashes.
+    LongName(String),
+    /// `next` read a positional argument.
+    Positional(OsString),
+    /// `next` found nothing more.
+    End,
+    /// `value` took this word.
+    Taken(OsString),
+    /// `value` found no word, for this option if one was read.
+    Missing(Option<String>),
+    /// `next` found a value that nobody asked for, joined to this option.
+    Unexpected(String, OsString),
+    /// Memory was refused.
+    NoMemory,
+}
+
+impl fmt::Display for Reply {
+    ghost use Rattle.std.specs.Prelude.{Some};
+    ghost use Rattle.lexopt_spec.specs.Script.{reply_text};
+    ghost use Rattle.lexopt.specs.Replies.{reply_view};
+
+    ghost output = { λ r. Some (reply_text (reply_view r)) };
+
+    fn fmt<W: fmt::Write>(&self, f: &mut fmt::Formatter<W>) -> fmt::Result {
+        match self {
+            Reply::Short(character) => {
+                let mut buffer = [0u8; 4];
+                let character = Quoted::new(character.encode_utf8(&mut buffer).as_bytes());
+                write!(f, "Short {character}")
+            }
+            Reply::LongName(name) => {
+                let name = Quoted::new(name.as_bytes());
+                write!(f, "Long {name}")
+            }
+            Reply::Positional(word) => {
+                let word = Quoted::new(word.as_bytes());
+                write!(f, "Value {word}")
+            }
+            Reply::End => f.write_str("None"),
+            Reply::Taken(word) => {
+                let word = Quoted::new(word.as_bytes());
+                write!(f, "{word}")
+            }
+            Reply::Missing(None) => f.write_str("error: missing argument"),
+            Reply::Missing(Some(option)) => {
+                write!(f, "error: missing argument for option '{option}'")
+            }
+            Reply::Unexpected(option, word) => {
+                let word = Quoted::new(word.as_bytes());
+                write!(
+                    f,
+                    "error: unexpected argument for option '{option}': {word}"
+                )
+            }
+            Reply::NoMemory => f.write_str("error: out of memory"),
+        }
+    }
+}
+
+/// The lines that are printed for these replies, in order.
+pub fn written(alloc: Global, replies: &[Reply]) -> Result<String, AllocError>
+    ensures { IfOk result (λ text. string_bytes text ≡ lines_written (map reply_view replies.now)) }
+{
+    let mut text = String::new(alloc);
+    for reply in replies {
+        writeln!(text, "{reply}")?;
+    }
+    Ok(text)
+}
+
+#[cfg(test)]
+mod tests {
+    use super::*;
+    use std::test::Fail;
+
+    #[test]
+    fn lines(rt: HostRuntime) -> Result<(), Fail> {
+        let alloc = rt.alloc();
+        let replies = vec![in alloc;
+            Reply::Short('a'),
+            Reply::Short('\u{FFFD}'),
+            Reply::LongName(String::from_str(alloc, "out")?),
+            Reply::Positional(OsString::from_text(alloc, "file")?),
+            Reply::Taken(OsString::from_bytes(alloc, b"\xf0\x9d")?),
+            Reply::End,
+            Reply::Missing(None),
+            Reply::Missing(Some(String::from_str(alloc, "-\u{FFFD}")?)),
+            Reply::Unexpected(
+                String::from_str(alloc, "-a")?,
+                OsString::from_text(alloc, "b")?
+            ),
+            Reply::NoMemory,
+        ]?;
+        let text = written(alloc, &replies)?;
+        let lines = [
+            "Short \"a\"",
+            "Short \"\u{FFFD}\"",
+            "Long \"out\"",
+            "Value \"file\"",
+            "\"\\xF0\\x9D\"",
+            "None",
+            "error: missing argument",
+            "error: missing argument for option '-\u{FFFD}'",
+            "error: unexpected argument for option '-a': \"b\"",
+            "error: out of memory",
+        ];
+        for (line, wanted) in text.as_str().lines().zip(lines) {
+            assert_eq!(rt; line, wanted);
+        }
+        assert_eq!(rt; text.as_str().lines().count(), lines.len());
+        Ok(())
+    }
+}

@@ -1,0 +1,242 @@
+//! Scripts: the words of a command line, and the calls that are made on it.
+//!
+//! A script is bytes, in lines that end with the byte 0A; the last line may lack it. A line is empty, or one of these.
+//!
+//! - `w`: the empty word.
+//! - `w TEXT`: the word TEXT, with one blank before it. `\\` in it is a backslash, `\n` the byte 0A, and `\xHH` the byte
+//!   of these two hexadecimal digits; no other backslash may stand in it.
+//! - `next`, `value`: a call.
+//!
+//! Every other line is bad, and so is a word behind the first call.
+ghost use Rattle.std.specs.Prelude.{◌≡◌, ◌⊎◌, ℕ, ◌+◌, ◌<◌, ◌≤◌, ◌∷◌, List, None, Some, IfErr, IfOk, MatchOption, length, map};
+ghost use Rattle.std.specs.Io.KnownBytes.{Consumes, IsAtEnd};
+ghost use Rattle.lexopt_spec.specs.Script.{bad_line, behind_backslash, calls_of, hexadecimal, in_front, meaning, unescaped, words_of};
+ghost use Rattle.lexopt.specs.Meanings.{meaning_view};
+ghost use Rattle.lexopt.specs.Replies.{call_view};
+
+use crate::reply::Call;
+use crate::run_error::RunError;
+use lexopt_base::os_string::OsString;
+use std::alloc::{AllocError, Global};
+use std::io::Read;
+
+/// The most bytes that a script may have.
+pub const LIMIT: usize = 1_048_576;
+
+/// The words of a command line, and the calls that are made on it, each in order.
+#[derive(Drop)]
+pub struct Script {
+    pub words: Vec<OsString>,
+    pub calls: Vec<Call>,
+}
+
+/// Reads a script, to the end or past the limit.
+pub fn read_script<R: Read>(alloc: Global, reader: &mut R) -> Result<Vec<u8>, RunError>
+    ensures ok { IfOk result (λ script. Consumes (R.remaining reader.old) (R.remaining reader.new) script.items
+        × IsAtEnd (R.remaining reader.new) × (length script.items ≤ LIMIT)) }
+    ensures bounded { (script : List ℕ) × Consumes (R.remaining reader.old) (R.remaining reader.new) script
+        × (length script ≤ LIMIT + 512) }
+    ensures err { IfErr result (λ e. (e ≡ RunError.NoMemory) ⊎ (e ≡ RunError.ReadFailed) ⊎ ((e ≡ RunError.TooLong)
+        × ((script : List ℕ) × Consumes (R.remaining reader.old) (R.remaining reader.new) script × (LIMIT < length script)))) }
+{
+    let mut script = Vec::new(alloc);
+    let mut chunk = [0u8; 512];
+    loop {
+        match reader.read(&mut chunk) {
+            Ok(0) => return Ok(script),
+            Ok(count) => script.extend_from_slice(&chunk[..count])?,
+            Err(_) => return Err(RunError::ReadFailed),
+        }
+        if script.len() > LIMIT {
+            return Err(RunError::TooLong);
+        }
+    }
+}
+
+/// The words and the calls of a script, or its first bad line.
+pub fn parse_script(alloc: Global, script: &[u8]) -> Result<Script, RunError>
+    requires { length script.now ≤ LIMIT }
+    ensures ok { IfOk result (λ s. (s.words.items ≡ words_of script.now) × (map call_view s.calls.items ≡ calls_of script.now)
+        × (bad_line script.now ≡ None)) }
+    ensures err { IfErr result (λ e. (e ≡ RunError.NoMemory)
+        ⊎ ((n : ℕ) × (e ≡ RunError.BadLine n) × (bad_line script.now ≡ Some n))) }
+{
+    let mut words = Vec::new(alloc);
+    let mut calls = Vec::new(alloc);
+    for (index, line) in script.split(|byte| *byte == b'\n').enumerate() {
+        match meaning_of(alloc, line)? {
+            Meaning::Nothing => {}
+            Meaning::Word(word) if calls.is_empty() => words.push(word)?,
+            Meaning::Call(call) => calls.push(call)?,
+            Meaning::Word(_) | Meaning::Bad => return Err(RunError::BadLine(index + 1)),
+        }
+    }
+    Ok(Script { words, calls })
+}
+
+/// What a line of a script says.
+#[derive(Drop)]
+enum Meaning {
+    Nothing,
+    Word(OsString),
+    Call(Call),
+    Bad,
+}
+
+fn meaning_of(alloc: Global, line: &[u8]) -> Result<Meaning, AllocError>
+    ensures { IfOk result (λ m. meaning_view m ≡ meaning line.now) }
+{
+    match line {
+        [] => Ok(Meaning::Nothing),
+        b"next" => Ok(Meaning::Call(Call::Next)),
+        b"value" => Ok(Meaning::Call(Call::Value)),
+        b"w" => Ok(Meaning::Word(OsString::new(alloc))),
+        [b'w', b' ', text @ ..] => match unescaped(alloc, text)? {
+            Some(word) => Ok(Meaning::Word(word)),
+            None => Ok(Meaning::Bad),
+        },
+        _ => Ok(Meaning::Bad),
+    }
+}
+
+/// The bytes that a text of a script stands for, if each backslash in it begins an escape.
+fn unescaped(alloc: Global, text: &[u8]) -> Result<Option<OsString>, AllocError>
+    ensures { IfOk result (λ word. word ≡ unescaped text.now) }
+{
+    let mut bytes = Vec::new(alloc);
+    let mut rest = text;
+    while let Some((first, behind)) = rest.split_first() {
+        let (byte, behind) = match *first {
+            b'\\' => match escaped(behind) {
+                Some(pair) => pair,
+                None => return Ok(None),
+            },
+            byte => (byte, behind),
+        };
+        bytes.push(byte)?;
+        rest = behind;
+    }
+    Ok(Some(OsString::from_vec(bytes)))
+}
+
+/// The byte that an escape stands for, of which the text behind its backslash is given, and what follows the escape.
+fn escaped(text: &[u8]) -> Option<(u8, &[u8])>
+    ensures { MatchOption result (behind_backslash text.now ≡ None)
+        (λ p. (behind_backslash text.now ≡ in_front p.0 (unescaped p.1.now)) × (length p.1.now < length text.now)) }
+{
+    match text {
+        [b'\\', behind @ ..] => Some((b'\\', behind)),
+        [b'n', behind @ ..] => Some((b'\n', behind)),
+        [b'x', high, low, behind @ ..] => {
+            let high = hexadecimal(*high)?;
+            let low = hexadecimal(*low)?;
+            Some((16 * high + low, behind))
+        }
+        _ => None,
+    }
+}
+
+/// The value of a hexadecimal digit of either case.
+fn hexadecimal(digit: u8) -> Option<u8>
+    ensures { result ≡ hexadecimal digit }
+{
+    match digit {
+        b'0'..=b'9' => Some(digit - b'0'),
+        b'A'..=b'F' => Some(digit - b'A' + 10),
+        b'a'..=b'f' => Some(digit - b'a' + 10),
+        _ => None,
+    }
+}
+
+#[cfg(test)]
+mod tests {
+    use super::*;
+    use std::io;
+    use std::process::Abort;
+    use std::test::Fail;
+
+    // Gives this many bytes, one at a time, and then fails.
+    #[derive(Drop)]
+    struct Broken(usize);
+
+    impl Read for Broken {
+        fn read(&mut self, buf: &mut [u8]) -> io::Result<usize> {
+            if self.0 == 0 || buf.is_empty() {
+                return Err(io::Error::from(io::ErrorKind::Other));
+            }
+            self.0 -= 1;
+            buf[0] = b'\n';
+            Ok(1)
+        }
+    }
+
+    // Never ends.
+    #[derive(Drop)]
+    struct Endless;
+
+    impl Read for Endless {
+        fn read(&mut self, buf: &mut [u8]) -> io::Result<usize> {
+            buf.fill(b'\n');
+            Ok(buf.len())
+        }
+    }
+
+    fn parsed<R: Abort + AllocGlobal>(rt: &R, script: &[u8]) -> Result<Script, RunError> {
+        assert!(rt; script.len() <= LIMIT);
+        parse_script(rt.alloc(), script)
+    }
+
+    #[test]
+    fn refused_lines(rt: HostRuntime) {
+        for (script, line) in [
+            (b"w a\\q".as_slice(), 1),
+            (b"w a\nnext\nw b".as_slice(), 3),
+            (b"next ".as_slice(), 1),
+            (b"\nvalues".as_slice(), 2),
+        ] {
+            assert_eq!(rt; parsed(&rt, script).err(), Some(RunError::BadLine(line)));
+        }
+    }
+
+    #[test]
+    fn words_and_calls(rt: HostRuntime) -> Result<(), Fail> {
+        let nothing = parsed(&rt, b"")?;
+        assert!(rt; nothing.words.is_empty() && nothing.calls.is_empty());
+        let escapes = parsed(&rt, b"w \\x41\\n\\\\\xc3\xa9\nw\n\nw ")?;
+        assert_eq!(rt; escapes.words.len(), 3);
+        assert_eq!(rt; escapes.words[0].as_bytes(), b"A\n\\\xc3\xa9".as_slice());
+        assert!(rt; escapes.words[1].is_empty() && escapes.words[2].is_empty());
+        assert!(rt; escapes.calls.is_empty());
+        let run = parsed(
+            &rt,
+            b"w --out=x\nw file\nw --\nw -y\nnext\nvalue\nnext\nnext\nnext\n",
+        )?;
+        assert_eq!(rt; run.words.len(), 4);
+        assert_eq!(rt; run.words[3].as_bytes(), b"-y".as_slice());
+        let calls = [Call::Next, Call::Value, Call::Next, Call::Next, Call::Next];
+        assert_eq!(rt; run.calls.as_slice(), calls.as_slice());
+        Ok(())
+    }
+
+    #[test]
+    fn reading(rt: HostRuntime) -> Result<(), Fail> {
+        let alloc = rt.alloc();
+        let mut short = b"w a\nnext".as_slice();
+        assert_eq!(rt;
+            read_script(alloc, &mut short)?.as_slice(),
+            b"w a\nnext".as_slice()
+        );
+        assert_eq!(rt;
+            read_script(alloc, &mut Broken(3)).err(),
+            Some(RunError::ReadFailed)
+        );
+        assert_eq!(rt;
+            read_script(alloc, &mut Endless).err(),
+            Some(RunError::TooLong)
+        );
+        let longest = vec![in alloc; b'\n'; LIMIT]?;
+        let mut reader = longest.as_slice();
+        assert_eq!(rt; read_script(alloc, &mut reader)?.len(), LIMIT);
+        Ok(())
+    }
+}

@@ -1,0 +1,19 @@
+//! Replays a script of calls: reads it from standard input, and writes a line for each reply to standard output.
+//!
+//! The exit status is 0, or 2 where the script is at fault, or 1 where a read, a write or a growth of memory failed; then a
+//! line says why.
+#![tactic(auto)]
+
+use lexopt::replay::run;
+use std::io;
+use std::process::ExitCode;
+
+fn main(rt: HostRuntime) -> ExitCode {
+    match run(rt.alloc(), &mut rt.reader(), &mut io::writer(&rt)) {
+        Ok(()) => ExitCode::SUCCESS,
+        Err(error) => {
+            let _ = println!(rt; "lexopt_replay: {error}");
+            ExitCode::from(error.status())
+        }
+    }
+}
