@@ -220,13 +220,13 @@ impl Parser {
         };
         match kind_of(word.as_bytes()) {
             WordKind::Separator => {
-                let _ = self.take_first();
+                let _separator = self.take_first();
                 self.state = State::FinishedOpts;
                 Ok(self.read_positional())
             }
             WordKind::Long => {
                 let (name, state) = long_option(self.alloc, &word.as_bytes()[2..])?;
-                let _ = self.take_first();
+                let _option = self.take_first();
                 self.last_option = LastOption::Long(name);
                 self.state = state;
                 Ok(Found::Long)

@@ -24,25 +24,25 @@ pub returns-in-Separator : goal.returns-in-Separator
 returns-in-Separator c =
     let u = c.args.self.now in
     let seen = c.in-Some.ensures in
-    let taken = c.take_first.ensures in
-    let is = first_word u.words c.take_first.new.self.words seen.0 c.take_first.result c.in-Some.word.now c.as_bytes.result.now _ taken.0 seen.1 c.as_bytes.ensures c.in-Separator.ensures in
-    let same = same_parts _ (record u { words = c.take_first.new.self.words; ended = true })
+    let taken = c.take_first-separator.ensures in
+    let is = first_word u.words c.take_first-separator.new.self.words seen.0 c.take_first-separator.result c.in-Some.word.now c.as_bytes.result.now _ taken.0 seen.1 c.as_bytes.ensures c.in-Separator.ensures in
+    let same = same_parts _ (record u { words = c.take_first-separator.new.self.words; ended = true })
     (sym c.requires.tail)
     (ap (λ (l : UnreadLine). l.words) c.self-in-Separator.view_is)
     refl
     (ap (λ (l : UnreadLine). l.last) (c.self-in-Separator.view_is ∙ taken.1))
     (ap (λ (l : UnreadLine). l.short_equals) (c.self-in-Separator.view_is ∙ taken.1)) in
-    inl (reads_separator c.take_first.new.self.words is (subst (λ (l : UnreadLine). ReadsPositional l (found_as c.read_positional.new.self.last c.read_positional.result) c.read_positional.new.self) same c.read_positional.ensures))
+    inl (reads_separator c.take_first-separator.new.self.words is (subst (λ (l : UnreadLine). ReadsPositional l (found_as c.read_positional.new.self.last c.read_positional.result) c.read_positional.new.self) same c.read_positional.ensures))
 
 pub returns-in_ok-name-in-Long : goal.returns-in_ok-name-in-Long
 returns-in_ok-name-in-Long c =
     let u = c.args.self.now in
     let text = c.in-Long.ensures in
     let seen = c.in-Some.ensures in
-    let taken = c.take_first-in-Long.ensures in
-    let words = c.take_first-in-Long.new.self.words in
+    let taken = c.take_first-option.ensures in
+    let words = c.take_first-option.new.self.words in
     let made = c.in_ok-name-in-Long.ensures in
-    let is = first_word u.words words seen.0 c.take_first-in-Long.result c.in-Some.word.now c.as_bytes.result.now _ taken.0 seen.1 c.as_bytes.ensures text.1 in
+    let is = first_word u.words words seen.0 c.take_first-option.result c.in-Some.word.now c.as_bytes.result.now _ taken.0 seen.1 c.as_bytes.ensures text.1 in
     let behind = rest_is c.as_bytes-in-Long.result.now 2 ∙ ap (drop 2) (c.as_bytes-in-Long.ensures ∙ sym c.as_bytes.ensures ∙ text.1) in
     inl (reads_long text.0 made.name (tail_of c.in_ok-name-in-Long.state) words is text.2
     (subst (λ (l : List ℕ). IsLongOption l made.name (tail_of c.in_ok-name-in-Long.state)) behind made.option)
