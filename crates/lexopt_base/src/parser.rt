@@ -235,7 +235,10 @@ impl Parser {
                 let word = self.take_first();
                 Ok(Found::Short(self.read_short(word, 1)))
             }
-            WordKind::Positional => Ok(Found::Value(self.take_first())),
+            WordKind::Positional => {
+                let positional = self.take_first();
+                Ok(Found::Value(positional))
+            }
         }
     }
 

@@ -70,8 +70,8 @@ pub returns-in-Positional : goal.returns-in-Positional
 returns-in-Positional c =
     let u = c.args.self.now in
     let seen = c.in-Some.ensures in
-    let taken = c.take_first-in-Positional.ensures in
-    let words = c.take_first-in-Positional.new.self.words in
-    let got = got_word u.words words seen.0 c.take_first-in-Positional.result c.in-Some.word.now c.as_bytes.result.now _ taken.0 seen.1 c.as_bytes.ensures refl in
-    inl (reads_positional c.take_first-in-Positional.result words taken.0
+    let taken = c.take_first-positional.ensures in
+    let words = c.take_first-positional.new.self.words in
+    let got = got_word u.words words seen.0 c.take_first-positional.result c.in-Some.word.now c.as_bytes.result.now _ taken.0 seen.1 c.as_bytes.ensures refl in
+    inl (reads_positional c.take_first-positional.result words taken.0
     (subst (λ (w : List ℕ). IsPlain false w) (sym got) c.in-Positional.ensures) refl taken.1)
