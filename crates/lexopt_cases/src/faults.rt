@@ -1,0 +1,169 @@
+//! Readers and writers that fail, that are slow and that never end.
+use lexopt::replay::{RunError, run};
+use std::io;
+use std::io::{Read, Write};
+use std::test::Fail;
+
+const SCRIPT: &[u8] = b"w --out=x\nw file\nw --\nw -y\nnext\nvalue\nnext\nnext\nnext\n";
+
+const WRITTEN: &[u8] = b"Long \"out\"\n\"x\"\nValue \"file\"\nValue \"-y\"\nNone\n";
+
+// Gives one byte at a time, and fails at this read, counted from 1; at 0 none fails.
+#[derive(Drop)]
+struct Slow<'a> {
+    left: &'a [u8],
+    reads: usize,
+    fails_at: usize,
+}
+
+impl Read for Slow<'_> {
+    fn read(&mut self, buf: &mut [u8]) -> io::Result<usize> {
+        self.reads = self.reads.saturating_add(1);
+        if self.reads == self.fails_at {
+            return Err(io::Error::from(io::ErrorKind::Other));
+        }
+        match (self.left.split_first(), buf.first_mut()) {
+            (Some((first, others)), Some(place)) => {
+                *place = *first;
+                self.left = others;
+                Ok(1)
+            }
+            _ => Ok(0),
+        }
+    }
+}
+
+// Never ends.
+#[derive(Drop)]
+struct Endless;
+
+impl Read for Endless {
+    fn read(&mut self, buf: &mut [u8]) -> io::Result<usize> {
+        buf.fill(b'\n');
+        Ok(buf.len())
+    }
+}
+
+// Takes this many bytes, one at a time, and then none; the flush may fail.
+#[derive(Drop)]
+struct Narrow {
+    taken: Vec<u8>,
+    room: usize,
+    flushes: bool,
+}
+
+impl Write for Narrow {
+    fn write(&mut self, buf: &[u8]) -> io::Result<usize> {
+        if self.room == 0 || buf.is_empty() {
+            return Ok(0);
+        }
+        self.room -= 1;
+        self.taken.push(buf[0])?;
+        Ok(1)
+    }
+
+    fn flush(&mut self) -> io::Result<()> {
+        if self.flushes {
+            Ok(())
+        } else {
+            Err(io::Error::from(io::ErrorKind::Other))
+        }
+    }
+}
+
+#[test]
+fn reads_that_fail(rt: HostRuntime) -> Result<(), Fail> {
+    let alloc = rt.alloc();
+    for fails_at in 1..SCRIPT.len() + 2 {
+        let mut text = Vec::new(alloc);
+        let mut reader = Slow {
+            left: SCRIPT,
+            reads: 0,
+            fails_at,
+        };
+        assert_eq!(rt;
+            run(alloc, &mut reader, &mut text),
+            Err(RunError::ReadFailed)
+        );
+        assert!(rt; text.is_empty());
+    }
+    let mut text = Vec::new(alloc);
+    let mut reader = Slow {
+        left: SCRIPT,
+        reads: 0,
+        fails_at: 0,
+    };
+    assert_eq!(rt; run(alloc, &mut reader, &mut text), Ok(()));
+    assert_eq!(rt; text.as_slice(), WRITTEN);
+    Ok(())
+}
+
+#[test]
+fn writes_that_fail(rt: HostRuntime) -> Result<(), Fail> {
+    let alloc = rt.alloc();
+    for room in 0..WRITTEN.len() {
+        let mut narrow = Narrow {
+            taken: Vec::new(alloc),
+            room,
+            flushes: true,
+        };
+        let mut script = SCRIPT;
+        assert_eq!(rt;
+            run(alloc, &mut script, &mut narrow),
+            Err(RunError::WriteFailed)
+        );
+        assert_eq!(rt; narrow.taken.as_slice(), &WRITTEN[..room]);
+    }
+    for (flushes, answer) in [(true, Ok(())), (false, Err(RunError::WriteFailed))] {
+        let mut narrow = Narrow {
+            taken: Vec::new(alloc),
+            room: WRITTEN.len(),
+            flushes,
+        };
+        let mut script = SCRIPT;
+        assert_eq!(rt; run(alloc, &mut script, &mut narrow), answer);
+        assert_eq!(rt; narrow.taken.as_slice(), WRITTEN);
+    }
+    Ok(())
+}
+
+#[test]
+fn limits(rt: HostRuntime) -> Result<(), Fail> {
+    let alloc = rt.alloc();
+    let mut text = Vec::new(alloc);
+    assert_eq!(rt; run(alloc, &mut Endless, &mut text), Err(RunError::TooLong));
+    for (first, length, answer) in [
+        (b'\n', 1_048_576, Ok(())),
+        (b'\n', 1_048_577, Err(RunError::TooLong)),
+        (b'x', 1_048_576, Err(RunError::BadLine(1))),
+        (b'x', 1_048_577, Err(RunError::TooLong)),
+    ] {
+        let mut script = vec![in alloc; b'\n'; length]?;
+        if let Some(place) = script.first_mut() {
+            *place = first;
+        }
+        let mut reader = script.as_slice();
+        assert_eq!(rt; run(alloc, &mut reader, &mut text), answer);
+    }
+    assert!(rt; text.is_empty());
+    Ok(())
+}
+
+#[test]
+fn bad_scripts(rt: HostRuntime) -> Result<(), Fail> {
+    let alloc = rt.alloc();
+    let mut text = Vec::new(alloc);
+    for (script, answer) in [
+        (b"w a\\q".as_slice(), Err(RunError::BadLine(1))),
+        (b"w a\nnext\nw b".as_slice(), Err(RunError::BadLine(3))),
+        (b"next ".as_slice(), Err(RunError::BadLine(1))),
+        (b"\nvalues".as_slice(), Err(RunError::BadLine(2))),
+        (b"next\r\n".as_slice(), Err(RunError::BadLine(1))),
+        (b"".as_slice(), Ok(())),
+    ] {
+        let mut reader = script;
+        assert_eq!(rt; run(alloc, &mut reader, &mut text), answer);
+    }
+    assert!(rt; text.is_empty());
+    Ok(())
+}
