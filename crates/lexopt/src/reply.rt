@@ -10,7 +10,9 @@ use std::fmt;
 /// A call on a command line.
 #[derive(Clone, Copy, Debug, PartialEq, Eq)]
 pub enum Call {
+    /// Asks for the next option or positional argument.
     Next,
+    /// Asks for the value of the last option.
     Value,
 }
 

@@ -8,7 +8,7 @@
 //! - `next`, `value`: a call.
 //!
 //! Every other line is bad, and so is a word behind the first call.
-ghost use Rattle.std.specs.Prelude.{◌≡◌, ◌⊎◌, ℕ, ◌+◌, ◌<◌, ◌≤◌, ◌∷◌, List, None, Some, IfErr, IfOk, MatchOption, length, map};
+ghost use Rattle.std.specs.Prelude.{◌≡◌, ◌⊎◌, ℕ, ◌+◌, ◌<◌, ◌≤◌, List, None, Some, IfErr, IfOk, MatchOption, length, map};
 ghost use Rattle.std.specs.Io.KnownBytes.{Consumes, IsAtEnd};
 ghost use Rattle.lexopt_spec.specs.Script.{bad_line, behind_backslash, calls_of, hexadecimal, in_front, meaning, unescaped, words_of};
 ghost use Rattle.lexopt.specs.Meanings.{meaning_view};

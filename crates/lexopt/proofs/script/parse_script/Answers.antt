@@ -1,9 +1,9 @@
-use Rattle.std.proofs.Common.{rules, tests, ◌≡◌, ℕ, ◌+◌, ◌<◌, ◌==◌, true, false, List, [], ◌∷◌, ◌++◌, length, map, Some, refl, sym, ap, ◌∙◌, inr, arith, append-nil}
+use Rattle.std.proofs.Common.{rules, tests, ◌≡◌, ◌+◌, true, [], ◌∷◌, length, map, Some, refl, sym, ap, ◌∙◌, inr, arith, append-nil}
 use Rattle.std.proofs.lemmas.Bool.Decides.{nat_tests}
 use Rattle.std.proofs.lemmas.Iterator.Consumers.{YieldsList-at, YieldsList-from_enumerate}
 use Rattle.std.proofs.lemmas.Iterator.Splits.{YieldsList-from_slice_split}
 use Rattle.std.proofs.lemmas.List.{length_push, map-append, length-map}
-use Rattle.lexopt_spec.specs.Script.{nothing, word, call, bad, is_bad}
+use Rattle.lexopt_spec.specs.Script.{nothing, word, call, is_bad}
 use Rattle.lexopt_spec.proofs.ScriptLemmas.{called, called-none, called-some, ReadsTo-more, ReadsTo-bad, ReadsTo-end}
 use Rattle.lexopt.specs.Meanings.{meaning_view}
 use Rattle.lexopt.specs.Replies.{call_view}
@@ -11,6 +11,7 @@ use Rattle.lexopt.proofs.NumberedLines.{IsLineAt, line_read, lines_read}
 use Rattle.lexopt.proofs.script.parse_script.Goals as goal
 use Rattle.lexopt.proofs.script.parse_script.Goals.{In_ok-meaning_of}
 
+-- the line of this iteration
 turn : (c : In_ok-meaning_of) → IsLineAt c.args.script.now (length c.loop-index.yielded) c.in-Some.index c.in-Some.line.now
 turn c =
     line_read c.args.script.now c.loop-index.yielded _ c.loop-index.yielded_by _ _ (c.in-Some.index, c.in-Some.line) c.in-Some.is c.next.ensures.steps
