@@ -1,5 +1,5 @@
 -- The lines of a script as `split` and `enumerate` give them.
-use Rattle.std.proofs.Common.{◌≡◌, ℕ, ◌+◌, ◌<◌, ◌≤◌, ◌==◌, List, length, get_or, map, Option, Some, None, sym, ap, ◌∙◌, arith, zero-add}
+use Rattle.std.proofs.Common.{◌≡◌, ℕ, ◌<◌, ◌≤◌, ◌==◌, List, length, get_or, Option, Some, None, ap, ◌∙◌, arith, zero-add}
 use Rattle.std.specs.Iterator.{Yields}
 use Rattle.std.specs.List.{enumerate_from, slice_split}
 use Rattle.std.proofs.lemmas.Iterator.{YieldsList}

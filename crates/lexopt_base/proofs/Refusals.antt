@@ -1,7 +1,7 @@
 -- Refused memory, and refused values.
-use Rattle.std.proofs.Common.{◌≡◌, ◌⊎◌, ℕ, Bool, true, false, List, [], Option, Some, None, Result, Ok, Err, IsSome, string_bytes, refl, sym, ap, subst, ◌∙◌, inl, inr}
+use Rattle.std.proofs.Common.{◌≡◌, ℕ, Bool, true, false, List, [], Option, Some, None, IsSome, string_bytes, refl, sym, ap, subst, ◌∙◌, inl, inr}
 use Rattle.lexopt_spec.specs.UnreadLine.{UnreadLine, Tail, no_tail, joined, rest, spelling, pending, pending_in}
-use Rattle.lexopt_spec.specs.Steps.{Reply, no_memory, unexpected, Answers, IsRefused, Next, NextStep, TakesMemory}
+use Rattle.lexopt_spec.specs.Steps.{Reply, unexpected, Answers, Next, NextStep, TakesMemory}
 use Rattle.lexopt_spec.proofs.LineLemmas.{refuses_joined, answers_map}
 use Rattle.lexopt_base.specs.Replies.{Gives, error_reply}
 use Rattle.lexopt_base.specs.Words.{IsJoined, RefusesPending}

@@ -1,5 +1,5 @@
 -- What errors print.
-use Rattle.std.specs.Prelude.{ℕ, List, Option, Some, None, string_bytes}
+use Rattle.std.specs.Prelude.{ℕ, List, Some, None, string_bytes}
 use Rattle.lexopt_spec.specs.Text.{missing_message, unexpected_argument_message, unexpected_value_message, no_memory_message}
 use Rattle.lexopt_base.specs.declared.error.Error.{Error}
 use Rattle.lexopt_base.specs.declared.error.Error.TheVariants.{MissingValue, UnexpectedArgument, UnexpectedValue, OutOfMemory}

@@ -4,4 +4,5 @@ pub mod PieceSteps
 pub mod LineLemmas
 pub mod ScriptLemmas
 pub mod RunLemmas
+pub mod Exact
 pub mod Computing

@@ -1,4 +1,4 @@
--- Lists of calls on one line.
+-- Lists of calls on one line: one reply for each call, each by the rules of `docs/behaviour.md`.
 use Rattle.std.specs.Prelude.{◌≡◌, List, [], ◌∷◌}
 use Rattle.lexopt_spec.specs.UnreadLine.{UnreadLine}
 use Rattle.lexopt_spec.specs.Steps.{Reply, Next, Value}

@@ -2,7 +2,7 @@
 -- The source is `docs/behaviour.md`, after the documentation of lexopt 0.3.2. Parts of a line that a rule does not name stay.
 use Rattle.std.specs.Prelude.{◌≡◌, ◌≢◌, ℕ, Bool, true, false, ◌⊎◌, List, [], ◌∷◌, ◌++◌, Contains, Option, Some, None}
 use Rattle.lexopt_spec.specs.Pieces.{first_piece, after_first_piece, shown, lossy}
-use Rattle.lexopt_spec.specs.UnreadLine.{dash, equals, Tail, no_tail, joined, rest, LastOption, short_option, long_option, UnreadLine, spelling, rest_of, pending, BeginsWith, IsPlain}
+use Rattle.lexopt_spec.specs.UnreadLine.{dash, equals, Tail, no_tail, joined, rest, short_option, long_option, UnreadLine, spelling, rest_of, pending, BeginsWith, IsPlain}
 
 -- what a call answers: an option is spelled with its dashes, a name stands without them
 pub data Reply : Type 0 where

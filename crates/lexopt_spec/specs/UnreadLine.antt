@@ -1,6 +1,6 @@
 -- The unread line: what is left of a command line, as contracts see a parser.
 -- The source is `docs/behaviour.md`. A word is a list of bytes, a name is the UTF-8 of its text.
-use Rattle.std.specs.Prelude.{◌≡◌, ℕ, Bool, true, false, IsTrue, ◌==◌, ◌&&◌, ◌⊎◌, List, [], ◌∷◌, Option, Some, None, encode_utf8, if◌then◌else◌}
+use Rattle.std.specs.Prelude.{◌≡◌, ℕ, Bool, true, false, ◌==◌, ◌&&◌, ◌⊎◌, List, [], ◌∷◌, Option, Some, None, encode_utf8, if◌then◌else◌}
 
 abbrev pub dash : ℕ
 dash = 0x2D

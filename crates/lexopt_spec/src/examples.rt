@@ -7,6 +7,15 @@ ghost use Rattle.lexopt_spec.specs.Runs.{next, value};
 ghost use Rattle.lexopt_spec.specs.Text.{missing_message, quoted, unexpected_argument_message, unexpected_value_message};
 ghost use Rattle.lexopt_spec.specs.Script.{bad_line, calls_of, lines_written, unescaped, words_of};
 
+use crate::laws::{each_call_has_one_answer, first_piece_is_by_the_table, pieces_are_in_a_row};
+
+#[test]
+fn laws_hold_at_some_bytes() {
+    first_piece_is_by_the_table(b"\xf0\x9da");
+    pieces_are_in_a_row(b"\xf0\x9da");
+    each_call_has_one_answer();
+}
+
 #[test]
 fn definitions_compute_the_worked_examples() {
     lossy_text_of_damaged_bytes();

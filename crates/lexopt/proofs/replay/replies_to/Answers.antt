@@ -1,8 +1,7 @@
-use Rattle.std.proofs.Common.{◌≡◌, map, ◌++◌, ◌∷◌, [], get_or, sym, ap, subst, ◌∙◌}
-use Rattle.std.proofs.lemmas.List.{map-append, take_more, take_all}
+use Rattle.std.proofs.Common.{get_or, sym, subst}
+use Rattle.std.proofs.lemmas.List.{map-append, take_more}
 use Rattle.lexopt_spec.specs.Steps.{Reply}
-use Rattle.lexopt_spec.specs.Runs as runs
-use Rattle.lexopt_spec.specs.Runs.{Run, Step}
+use Rattle.lexopt_spec.specs.Runs.{Step}
 use Rattle.lexopt_spec.proofs.RunLemmas.{Run-more}
 use Rattle.lexopt.specs.declared.reply.Call.TheVariants.{Next}
 use Rattle.lexopt.specs.Replies.{call_view, reply_view}

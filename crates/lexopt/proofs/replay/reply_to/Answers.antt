@@ -1,8 +1,5 @@
-use Rattle.std.proofs.Common.{sym, ap, subst}
 use Rattle.std.proofs.lemmas.Result.{IfOk-from_err}
-use Rattle.lexopt_spec.specs.Steps.{Reply, Next}
-use Rattle.lexopt_spec.specs.Runs.{Step}
-use Rattle.lexopt.specs.Replies.{call_view, reply_view}
+use Rattle.lexopt_spec.specs.Steps.{Next}
 use Rattle.lexopt.proofs.StepReplies.{given}
 use Rattle.lexopt.proofs.replay.reply_to.Goals as goal
 

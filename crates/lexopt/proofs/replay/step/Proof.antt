@@ -40,9 +40,7 @@ use Rattle.lexopt_base.specs.contracts.error.Arg as Arg-type
 use Rattle.lexopt_base.specs.contracts.error.Error as Error-type
 use Rattle.lexopt_base.proofs.error.Arg.TheLaws as Arg-laws
 use Rattle.lexopt_base.proofs.error.Error.TheLaws as Error-laws
-use Rattle.std.specs.Prelude.{Option}
 use Rattle.lexopt_spec.specs.UnreadLine.{UnreadLine}
-use Rattle.lexopt_spec.specs.Steps as steps
 use Rattle.lexopt_spec.specs.Steps.{Next}
 use Rattle.lexopt_base.specs.Replies.{CanReply, Gives, next_reply}
 use Rattle.lexopt_base.specs.Ends.{EndsAfter}

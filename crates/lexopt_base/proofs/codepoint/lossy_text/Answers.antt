@@ -1,7 +1,7 @@
 use Rattle.std.proofs.Common.{◌≡◌, ◌<◌, [], ◌++◌, length, string_bytes, encode_utf8, encode_utf8_all, sym, ap, ◌∙◌, arith, append-nil, map}
 use Rattle.std.proofs.lemmas.Bool.Decides.{nat_tests}
 use Rattle.std.proofs.lemmas.List.{nil_from_length}
-use Rattle.lexopt_spec.specs.Pieces.{shown, lossy_characters, lossy}
+use Rattle.lexopt_spec.specs.Pieces.{shown, lossy}
 use Rattle.lexopt_base.specs.Codepoint.{character_of}
 use Rattle.lexopt_spec.proofs.PieceSteps.{pieces-nil, rest_is, text_step}
 use Rattle.lexopt_base.proofs.codepoint.lossy_text.Goals as goal

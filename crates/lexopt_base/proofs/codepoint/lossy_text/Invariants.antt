@@ -1,4 +1,4 @@
-use Rattle.std.proofs.Common.{◌≡◌, ◌++◌, length, string_bytes, encode_utf8_all}
+use Rattle.std.proofs.Common.{◌≡◌, ◌++◌, length, string_bytes}
 use Rattle.lexopt_spec.specs.Pieces.{lossy}
 use Rattle.lexopt_base.proofs.codepoint.lossy_text.Given as goal
 

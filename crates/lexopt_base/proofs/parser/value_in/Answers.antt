@@ -1,5 +1,4 @@
-use Rattle.std.proofs.Common.{◌≡◌, ◌≢◌, true, false, drop, sym, subst, ap, ◌∙◌, ℕ, List, Some, true≢false, get_or}
-use Rattle.lexopt_spec.specs.UnreadLine.{pending_in, rest_of}
+use Rattle.std.proofs.Common.{false, drop, sym, ap, ◌∙◌, ℕ, List, Some, true≢false, get_or}
 use Rattle.lexopt_spec.proofs.LineLemmas.{pending_behind}
 use Rattle.lexopt_base.proofs.parser.value_in.Goals as goal
 use Rattle.lexopt_base.proofs.parser.value_in.Goals.{else-short_equals-via-then-short_equals+else-as_bytes-position-eq61, else-short_equals-via-else-short_equals}

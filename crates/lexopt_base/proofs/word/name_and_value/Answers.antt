@@ -1,4 +1,4 @@
-use Rattle.std.proofs.Common.{◌+◌, ap, subst, sym, ◌∙◌, List, ℕ, take}
+use Rattle.std.proofs.Common.{◌+◌, subst, sym, List, ℕ, take}
 use Rattle.lexopt_spec.specs.UnreadLine.{joined}
 use Rattle.lexopt_spec.specs.Steps.{IsLongOption}
 use Rattle.lexopt_spec.proofs.LineLemmas.{long_cut, long_uncut}

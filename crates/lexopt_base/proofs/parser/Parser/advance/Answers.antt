@@ -1,5 +1,5 @@
-use Rattle.std.proofs.Common.{◌≡◌, ◌<◌, ℕ, Bool, true, false, List, drop, length, Some, None, IsTrue, refl, sym, ap, subst, ◌∙◌, inl, true≢false, arith, length-drop}
-use Rattle.lexopt_spec.specs.UnreadLine.{UnreadLine, rest, rest_of, pending}
+use Rattle.std.proofs.Common.{◌<◌, drop, length, refl, sym, ap, subst, ◌∙◌, inl, true≢false, arith, length-drop}
+use Rattle.lexopt_spec.specs.UnreadLine.{UnreadLine, pending}
 use Rattle.lexopt_spec.specs.Steps.{short, NextStep, ReadsShort, ReadsWord, ReadsPositional, Answers, next_in_cluster, after_separator, next_word}
 use Rattle.lexopt_spec.proofs.LineLemmas.{goes_on, rest_of-some}
 use Rattle.lexopt_base.specs.Words.{IsJoined}

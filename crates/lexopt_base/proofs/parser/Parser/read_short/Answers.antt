@@ -1,4 +1,4 @@
-use Rattle.std.proofs.Common.{◌≡◌, refl, drop, ap, sym, subst, ◌∙◌, ◌+◌, ℕ, List}
+use Rattle.std.proofs.Common.{refl, drop, ap, sym, ◌∙◌, ℕ, List}
 use Rattle.bstr.specs.Utf8.{decoded}
 use Rattle.lexopt_spec.specs.UnreadLine.{UnreadLine}
 use Rattle.lexopt_spec.specs.Pieces.{shown}

@@ -1,8 +1,8 @@
-use Rattle.std.proofs.Common.{◌≡◌, ◌<◌, ℕ, suc, List, [], ◌∷◌, drop, length, refl, sym, ap, subst, ◌∙◌, inl, true, false}
+use Rattle.std.proofs.Common.{ℕ, List, ◌∷◌, drop, refl, sym, ap, subst, ◌∙◌, inl, true, false}
 use Rattle.std.proofs.lemmas.Result.{err_from_is_err_and}
 use Rattle.lexopt_spec.specs.Pieces.{lossy}
-use Rattle.lexopt_spec.specs.UnreadLine.{UnreadLine, LastOption, long_option, IsPlain, Tail}
-use Rattle.lexopt_spec.specs.Steps.{Reply, long, short, ReadsPositional, ReadsShort, ReadsWord, IsLongOption, reads_separator, reads_long, reads_cluster, reads_positional}
+use Rattle.lexopt_spec.specs.UnreadLine.{UnreadLine, long_option, IsPlain}
+use Rattle.lexopt_spec.specs.Steps.{long, short, ReadsPositional, ReadsShort, ReadsWord, IsLongOption, reads_separator, reads_long, reads_cluster, reads_positional}
 use Rattle.lexopt_spec.proofs.PieceSteps.{rest_is}
 use Rattle.lexopt_spec.proofs.LineLemmas.{first_word, got_word, same_parts, long_exists}
 use Rattle.lexopt_base.specs.View.{tail_of}

@@ -1,7 +1,7 @@
 use Rattle.std.proofs.Common.{Some, refl, sym, ap, subst, ◌∙◌, inl}
 use Rattle.std.proofs.lemmas.Result.{err_from_is_err_and}
 use Rattle.lexopt_spec.specs.UnreadLine.{UnreadLine, spelling}
-use Rattle.lexopt_spec.specs.Steps.{taken, missing, ValueStep, pending_value, takes_word, nothing_to_take}
+use Rattle.lexopt_spec.specs.Steps.{missing, ValueStep, pending_value, takes_word, nothing_to_take}
 use Rattle.lexopt_base.specs.Words.{TakesWord}
 use Rattle.lexopt_base.proofs.Refusals.{refused, some_of}
 use Rattle.lexopt_base.proofs.parser.Parser.value.Goals as goal
