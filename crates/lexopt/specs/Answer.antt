@@ -1,9 +1,14 @@
--- What a run of a script writes.
-use Rattle.std.specs.Prelude.{◌≡◌, ℕ, List, None}
+-- What a run of a script reads and writes: `docs/formats.md`.
+use Rattle.std.specs.Prelude.{◌≡◌, ◌≤◌, ℕ, List, length, Option, None}
+use Rattle.std.specs.Io.KnownBytes.{Consumes, IsAtEnd}
 use Rattle.lexopt_spec.specs.UnreadLine.{UnreadLine, fresh}
 use Rattle.lexopt_spec.specs.Steps.{Reply}
 use Rattle.lexopt_spec.specs.Runs.{Run}
-use Rattle.lexopt_spec.specs.Script.{bad_line, calls_of, lines_written, words_of}
+use Rattle.lexopt_spec.specs.Script.{bad_line, calls_of, lines_written, most_bytes, words_of}
+
+-- a reader gave these bytes, which were all that it had and are no more than a script may have
+abbrev pub ReadsWhole : Option (List ℕ) → Option (List ℕ) → List ℕ → Type 0
+ReadsWhole old new script = Consumes old new script × IsAtEnd new × (length script ≤ most_bytes)
 
 -- the script has no bad line, and the text is a line for each reply to its calls, in order, on a parser of its words
 pub record IsAnswer (script text : List ℕ) : Type 0 where

@@ -1,7 +1,7 @@
-//! A pedantic lexer for command lines of any bytes.
+//! A lexer for command lines of any bytes.
 //!
 //! `Parser::next` reads the next option or positional argument, and `Parser::value` takes a value for the option just
-//! read. Nothing is declared ahead of time.
+//! read. There is no table of options: a program asks, and decides.
 #![tactic(auto)]
 
 pub use lexopt_base::error::{Arg, Error};

@@ -1,12 +1,12 @@
 //! Scripts of calls: `run` reads one, makes its calls, and writes a line for each reply.
 ghost use Rattle.std.specs.Prelude.{◌≡◌, ◌⊎◌, ◌+◌, ◌≤◌, ◌<◌, ℕ, List, Option, None, Some, Ok, Err, IfOk, IfErr, OnErr, OnOk, length, map, string_bytes};
 ghost use Rattle.std.specs.Option.{option_map};
-ghost use Rattle.std.specs.Io.KnownBytes.{Appends, Consumes, IsAtEnd};
+ghost use Rattle.std.specs.Io.KnownBytes.{Appends, Consumes};
 ghost use Rattle.lexopt_spec.specs.Steps as steps;
 ghost use Rattle.lexopt_spec.specs.Steps.{Next, Value};
 ghost use Rattle.lexopt_spec.specs.Runs.{Run, Step};
-ghost use Rattle.lexopt_spec.specs.Script.{bad_line};
-ghost use Rattle.lexopt.specs.Answer.{IsAnswer};
+ghost use Rattle.lexopt_spec.specs.Script.{bad_line, most_bytes};
+ghost use Rattle.lexopt.specs.Answer.{IsAnswer, ReadsWhole};
 ghost use Rattle.lexopt_base.specs.Replies.{Gives, error_reply, next_reply};
 ghost use Rattle.lexopt.specs.Replies.{call_view, reply_view};
 
@@ -79,7 +79,8 @@ fn reply_to(alloc: Global, parser: &mut Parser, call: Call) -> Result<Reply, All
 
 // A reply for each call, in order.
 fn replies_to(alloc: Global, parser: &mut Parser, calls: &[Call]) -> Result<Vec<Reply>, AllocError>
-    ensures { IfOk result (λ replies. Run parser.old (map call_view calls.now) (map reply_view replies.items) parser.new) }
+    ensures { IfOk result (λ replies.
+        Run parser.old (map call_view calls.now) (map reply_view replies.items) parser.new) }
 {
     let mut replies = Vec::new(alloc);
     for call in calls {
@@ -90,7 +91,7 @@ fn replies_to(alloc: Global, parser: &mut Parser, calls: &[Call]) -> Result<Vec<
 
 // What is written for a script, or its first bad line.
 fn answer(alloc: Global, script: &[u8]) -> Result<String, RunError>
-    requires { length script.now ≤ LIMIT }
+    requires { length script.now ≤ most_bytes }
     ensures ok { IfOk result (λ text. IsAnswer script.now (string_bytes text)) }
     ensures err { IfErr result (λ e. (e ≡ RunError.NoMemory)
         ⊎ ((n : ℕ) × (e ≡ RunError.BadLine n) × (bad_line script.now ≡ Some n))) }
@@ -111,25 +112,22 @@ fn answer(alloc: Global, script: &[u8]) -> Result<String, RunError>
 /// `ReadFailed`, `NoMemory` where a growth outside the calls was refused. Nothing was written then. `WriteFailed`: some of
 /// the answer may have gone out.
 pub fn run<R: Read, W: Write>(alloc: Global, reader: &mut R, writer: &mut W) -> Result<(), RunError>
-    ensures ok { OnOk result ((script : List ℕ)
-        × Consumes (R.remaining reader.old) (R.remaining reader.new) script
-        × IsAtEnd (R.remaining reader.new) × (length script ≤ LIMIT)
-        × ((text : List ℕ) × IsAnswer script text × Appends (W.contents writer.old) (W.contents writer.new) text)) }
+    ensures ok { OnOk result ((script text : List ℕ)
+        × ReadsWhole (R.remaining reader.old) (R.remaining reader.new) script
+        × IsAnswer script text × Appends (W.contents writer.old) (W.contents writer.new) text) }
 
     // When each error comes.
     ensures bad_line { (line : ℕ) → result ≡ Err (RunError.BadLine line) → ((script : List ℕ)
-        × Consumes (R.remaining reader.old) (R.remaining reader.new) script
-        × IsAtEnd (R.remaining reader.new) × (length script ≤ LIMIT) × (bad_line script ≡ Some line)) }
+        × ReadsWhole (R.remaining reader.old) (R.remaining reader.new) script × (bad_line script ≡ Some line)) }
     ensures too_long { result ≡ Err RunError.TooLong → ((script : List ℕ)
-        × Consumes (R.remaining reader.old) (R.remaining reader.new) script × (LIMIT < length script)) }
+        × Consumes (R.remaining reader.old) (R.remaining reader.new) script × (most_bytes < length script)) }
     ensures write_failed { result ≡ Err RunError.WriteFailed → ((script : List ℕ)
-        × Consumes (R.remaining reader.old) (R.remaining reader.new) script
-        × IsAtEnd (R.remaining reader.new) × (length script ≤ LIMIT) × (bad_line script ≡ None)) }
+        × ReadsWhole (R.remaining reader.old) (R.remaining reader.new) script × (bad_line script ≡ None)) }
 
     // What an error leaves, and how much is read.
     ensures untouched { IfErr result (λ e. (e ≡ RunError.WriteFailed) ⊎ (writer.new ≡ writer.old)) }
     ensures bounded { (script : List ℕ) × Consumes (R.remaining reader.old) (R.remaining reader.new) script
-        × (length script ≤ LIMIT + 512) }
+        × (length script ≤ most_bytes + 512) }
 {
     let script = read_script(alloc, reader)?;
     let text = answer(alloc, &script)?;

@@ -9,7 +9,7 @@ use std::fmt;
 pub enum RunError {
     /// This line of the script is the first bad one. Lines are numbered from 1.
     BadLine(usize),
-    /// The script has more bytes than `LIMIT`.
+    /// The script has more than 1,048,576 bytes.
     TooLong,
     /// The script could not be read.
     ReadFailed,
@@ -68,27 +68,5 @@ impl<T: Drop> From<AllocFailed<T>> for RunError {
 
     fn from(_error: AllocFailed<T>) -> RunError {
         RunError::NoMemory
-    }
-}
-
-#[cfg(test)]
-mod tests {
-    use super::*;
-    use std::test::Fail;
-
-    #[test]
-    fn messages(rt: HostRuntime) -> Result<(), Fail> {
-        for (error, message, status) in [
-            (RunError::BadLine(12), "line 12 refused", 2),
-            (RunError::TooLong, "script too long", 2),
-            (RunError::ReadFailed, "read failed", 1),
-            (RunError::WriteFailed, "write failed", 1),
-            (RunError::NoMemory, "out of memory", 1),
-        ] {
-            let text = error.to_string(rt.alloc())?;
-            assert_eq!(rt; text.as_str(), message);
-            assert_eq!(rt; error.status(), status);
-        }
-        Ok(())
     }
 }

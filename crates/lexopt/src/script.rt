@@ -9,8 +9,9 @@
 //!
 //! Every other line is bad, and so is a word behind the first call.
 ghost use Rattle.std.specs.Prelude.{◌≡◌, ◌⊎◌, ℕ, ◌+◌, ◌<◌, ◌≤◌, List, None, Some, IfErr, IfOk, MatchOption, length, map};
-ghost use Rattle.std.specs.Io.KnownBytes.{Consumes, IsAtEnd};
-ghost use Rattle.lexopt_spec.specs.Script.{bad_line, behind_backslash, calls_of, hexadecimal, in_front, meaning, unescaped, words_of};
+ghost use Rattle.std.specs.Io.KnownBytes.{Consumes};
+ghost use Rattle.lexopt_spec.specs.Script.{bad_line, behind_backslash, calls_of, hexadecimal, in_front, meaning, most_bytes, unescaped, words_of};
+ghost use Rattle.lexopt.specs.Answer.{ReadsWhole};
 ghost use Rattle.lexopt.specs.Meanings.{meaning_view};
 ghost use Rattle.lexopt.specs.Replies.{call_view};
 
@@ -32,12 +33,12 @@ pub struct Script {
 
 /// Reads a script, to the end or past the limit.
 pub fn read_script<R: Read>(alloc: Global, reader: &mut R) -> Result<Vec<u8>, RunError>
-    ensures ok { IfOk result (λ script. Consumes (R.remaining reader.old) (R.remaining reader.new) script.items
-        × IsAtEnd (R.remaining reader.new) × (length script.items ≤ LIMIT)) }
+    ensures ok { IfOk result (λ script. ReadsWhole (R.remaining reader.old) (R.remaining reader.new) script.items) }
     ensures bounded { (script : List ℕ) × Consumes (R.remaining reader.old) (R.remaining reader.new) script
-        × (length script ≤ LIMIT + 512) }
+        × (length script ≤ most_bytes + 512) }
     ensures err { IfErr result (λ e. (e ≡ RunError.NoMemory) ⊎ (e ≡ RunError.ReadFailed) ⊎ ((e ≡ RunError.TooLong)
-        × ((script : List ℕ) × Consumes (R.remaining reader.old) (R.remaining reader.new) script × (LIMIT < length script)))) }
+        × ((script : List ℕ) × Consumes (R.remaining reader.old) (R.remaining reader.new) script
+        × (most_bytes < length script)))) }
 {
     let mut script = Vec::new(alloc);
     let mut chunk = [0u8; 512];
@@ -55,7 +56,7 @@ pub fn read_script<R: Read>(alloc: Global, reader: &mut R) -> Result<Vec<u8>, Ru
 
 /// The words and the calls of a script, or its first bad line.
 pub fn parse_script(alloc: Global, script: &[u8]) -> Result<Script, RunError>
-    requires { length script.now ≤ LIMIT }
+    requires { length script.now ≤ most_bytes }
     ensures ok { IfOk result (λ s. (s.words.items ≡ words_of script.now) × (map call_view s.calls.items ≡ calls_of script.now)
         × (bad_line script.now ≡ None)) }
     ensures err { IfErr result (λ e. (e ≡ RunError.NoMemory)
@@ -145,98 +146,5 @@ fn hexadecimal(digit: u8) -> Option<u8>
         b'A'..=b'F' => Some(digit - b'A' + 10),
         b'a'..=b'f' => Some(digit - b'a' + 10),
         _ => None,
-    }
-}
-
-#[cfg(test)]
-mod tests {
-    use super::*;
-    use std::io;
-    use std::process::Abort;
-    use std::test::Fail;
-
-    // Gives this many bytes, one at a time, and then fails.
-    #[derive(Drop)]
-    struct Broken(usize);
-
-    impl Read for Broken {
-        fn read(&mut self, buf: &mut [u8]) -> io::Result<usize> {
-            if self.0 == 0 || buf.is_empty() {
-                return Err(io::Error::from(io::ErrorKind::Other));
-            }
-            self.0 -= 1;
-            buf[0] = b'\n';
-            Ok(1)
-        }
-    }
-
-    // Never ends.
-    #[derive(Drop)]
-    struct Endless;
-
-    impl Read for Endless {
-        fn read(&mut self, buf: &mut [u8]) -> io::Result<usize> {
-            buf.fill(b'\n');
-            Ok(buf.len())
-        }
-    }
-
-    fn parsed<R: Abort + AllocGlobal>(rt: &R, script: &[u8]) -> Result<Script, RunError> {
-        assert!(rt; script.len() <= LIMIT);
-        parse_script(rt.alloc(), script)
-    }
-
-    #[test]
-    fn refused_lines(rt: HostRuntime) {
-        for (script, line) in [
-            (b"w a\\q".as_slice(), 1),
-            (b"w a\nnext\nw b".as_slice(), 3),
-            (b"next ".as_slice(), 1),
-            (b"\nvalues".as_slice(), 2),
-        ] {
-            assert_eq!(rt; parsed(&rt, script).err(), Some(RunError::BadLine(line)));
-        }
-    }
-
-    #[test]
-    fn words_and_calls(rt: HostRuntime) -> Result<(), Fail> {
-        let nothing = parsed(&rt, b"")?;
-        assert!(rt; nothing.words.is_empty() && nothing.calls.is_empty());
-        let escapes = parsed(&rt, b"w \\x41\\n\\\\\xc3\xa9\nw\n\nw ")?;
-        assert_eq!(rt; escapes.words.len(), 3);
-        assert_eq!(rt; escapes.words[0].as_bytes(), b"A\n\\\xc3\xa9".as_slice());
-        assert!(rt; escapes.words[1].is_empty() && escapes.words[2].is_empty());
-        assert!(rt; escapes.calls.is_empty());
-        let run = parsed(
-            &rt,
-            b"w --out=x\nw file\nw --\nw -y\nnext\nvalue\nnext\nnext\nnext\n",
-        )?;
-        assert_eq!(rt; run.words.len(), 4);
-        assert_eq!(rt; run.words[3].as_bytes(), b"-y".as_slice());
-        let calls = [Call::Next, Call::Value, Call::Next, Call::Next, Call::Next];
-        assert_eq!(rt; run.calls.as_slice(), calls.as_slice());
-        Ok(())
-    }
-
-    #[test]
-    fn reading(rt: HostRuntime) -> Result<(), Fail> {
-        let alloc = rt.alloc();
-        let mut short = b"w a\nnext".as_slice();
-        assert_eq!(rt;
-            read_script(alloc, &mut short)?.as_slice(),
-            b"w a\nnext".as_slice()
-        );
-        assert_eq!(rt;
-            read_script(alloc, &mut Broken(3)).err(),
-            Some(RunError::ReadFailed)
-        );
-        assert_eq!(rt;
-            read_script(alloc, &mut Endless).err(),
-            Some(RunError::TooLong)
-        );
-        let longest = vec![in alloc; b'\n'; LIMIT]?;
-        let mut reader = longest.as_slice();
-        assert_eq!(rt; read_script(alloc, &mut reader)?.len(), LIMIT);
-        Ok(())
     }
 }

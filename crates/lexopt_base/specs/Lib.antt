@@ -6,5 +6,6 @@ pub mod Codepoint
 pub mod Message
 pub mod View
 pub mod Replies
+pub mod Found
 pub mod Words
 pub mod Ends

@@ -1,13 +1,11 @@
 -- What the answers of a parser say, as replies.
 use Rattle.std.specs.Prelude.{Option, Some, None, Result, Ok, Err, List, ℕ, string_bytes}
-use Rattle.lexopt_spec.specs.UnreadLine.{UnreadLine, LastOption, no_option, short_option, long_option}
+use Rattle.lexopt_spec.specs.UnreadLine.{UnreadLine}
 use Rattle.lexopt_spec.specs.Steps.{Reply, short, long, positional, end, taken, missing, unexpected, no_memory, Next}
 use Rattle.lexopt_base.specs.declared.error.Arg.{Arg}
 use Rattle.lexopt_base.specs.declared.error.Arg.TheVariants.{Short, Long, Value}
 use Rattle.lexopt_base.specs.declared.error.Error.{Error}
 use Rattle.lexopt_base.specs.declared.error.Error.TheVariants.{MissingValue, UnexpectedArgument, UnexpectedValue, OutOfMemory}
-use Rattle.lexopt_base.specs.declared.parser.Found.{Found}
-use Rattle.lexopt_base.specs.declared.parser.Found.TheVariants as found
 
 -- the reply of an error; none, where no call of a parser answers it
 abbrev pub error_reply : Error → Option Reply
@@ -41,22 +39,3 @@ Gives Answers u (Some reply) after = Answers u reply after
 -- `next` can answer so at the line u
 abbrev pub CanReply : UnreadLine → Option Reply → Type 0
 CanReply u reply = (after : UnreadLine) × Gives Next u reply after
-
--- ---- inside the parser
-
--- the name that stands as the last option
-abbrev pub name_of : LastOption → Reply
-name_of no_option = end
-name_of (short_option c) = end
-name_of (long_option name) = long name
-
--- what was found, where `last` is the last option now
-abbrev pub found_as : LastOption → Found → Reply
-found_as last (found.Short c) = short c
-found_as last found.Long = name_of last
-found_as last (found.Value word) = positional word
-found_as last found.End = end
-
-abbrev pub found_reply : LastOption → Result Found Error → Option Reply
-found_reply last (Ok f) = Some (found_as last f)
-found_reply last (Err e) = error_reply e

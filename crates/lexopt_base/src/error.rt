@@ -5,14 +5,14 @@ use crate::os_string::{OsString, Quoted};
 use std::alloc::AllocError;
 use std::fmt;
 
-/// What `next` hands out: an option or a positional argument.
+/// What `next` reads.
 #[derive(Drop)]
 pub enum Arg<'a> {
-    /// A short option, as `Short('q')` for `-q`.
+    /// An option of one character: `-o` reads as `Short('o')`.
     Short(char),
-    /// A long option without its dashes, as `Long("verbose")` for `--verbose`.
+    /// An option with a name, which stands here without its dashes: `--out` reads as `Long("out")`.
     Long(&'a str),
-    /// A positional argument, as `/dev/null`.
+    /// A word that is no option, or that stands behind the separator.
     Value(OsString),
 }
 
@@ -25,7 +25,8 @@ pub enum Error {
     UnexpectedArgument(OsString),
     /// An option that takes no value has one joined to it. The option is spelled with its dashes.
     UnexpectedValue { option: String, value: OsString },
-    /// Memory was refused. The call changed nothing, and can be made again.
+    /// Memory was refused. A call of a parser changed nothing then, and can be made again; a constructor gives none of its
+    /// items back.
     OutOfMemory,
 }
 

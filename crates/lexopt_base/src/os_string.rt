@@ -56,7 +56,8 @@ impl OsString {
     pub fn into_vec(self) -> Vec<u8>
         ensures { result.items ≡ self }
     {
-        self.bytes
+        let OsString { bytes } = self;
+        bytes
     }
 
     /// The bytes of the word.

@@ -5,7 +5,8 @@ ghost use Rattle.std.specs.Iterator.{IsFiniteIterable};
 ghost use Rattle.std.specs.Iterator.Runs.{WholeRun};
 ghost use Rattle.lexopt_spec.specs.UnreadLine.{fresh, no_tail, rest_of, pending, spelling};
 ghost use Rattle.lexopt_spec.specs.Steps.{Answers, Next, Value, ReadsShort, ReadsPositional, ReadsWord, short};
-ghost use Rattle.lexopt_base.specs.Replies.{CanReply, Gives, found_as, found_reply, next_reply, value_reply};
+ghost use Rattle.lexopt_base.specs.Replies.{CanReply, Gives, next_reply, value_reply};
+ghost use Rattle.lexopt_base.specs.Found.{found_as, found_reply};
 ghost use Rattle.lexopt_base.specs.Words.{IsFirst, IsJoined, IsOfKind, PendingIs, RefusesPending, TakesPending, TakesShorts, TakesWord};
 ghost use Rattle.lexopt_base.specs.View.{IsLongRead, IsPlaced, ended_of, tail_of};
 
@@ -47,7 +48,7 @@ enum Found {
     End,
 }
 
-/// A parser for command line arguments.
+/// A command line of which some is read. Contracts see it as its unread line.
 #[derive(Drop)]
 pub struct Parser {
     alloc: Global,
@@ -75,7 +76,8 @@ impl Parser {
 
     /// A parser of these words, of which none is read. There is no binary name among them.
     ///
-    /// All items are taken at once, so the iterator has to end. The error is `OutOfMemory`.
+    /// All items are taken at once, so the iterator has to end. The only error is `OutOfMemory`, after which the items are
+    /// gone.
     pub fn from_args<I>(alloc: Global, args: I) -> Result<Parser, Error>
     where
         I: IntoIterator<Item = OsString> + Drop,
@@ -157,7 +159,7 @@ impl Parser {
             Ok(Found::Value(word)) => Ok(Some(Arg::Value(word))),
             Ok(Found::End) => Ok(None),
             Ok(Found::Long) => match &self.last_option {
-                LastOption::Long(name) => Ok(Some(Arg::Long(name.as_str()))),
+                LastOption::Long(name) => Ok(Some(Arg::Long(name))),
                 LastOption::Nothing | LastOption::Short(_) => Ok(None),
             },
             Err(error) => Err(error),
@@ -289,14 +291,13 @@ impl Parser {
     fn take_pending(&mut self) -> Option<OsString>
         ensures { TakesPending self.old result self.new }
     {
-        match &mut self.state {
-            State::Ready | State::FinishedOpts => return None,
-            State::PendingValue(_) | State::Shorts(_, _) => {}
-        }
         match mem::replace(&mut self.state, State::Ready) {
-            State::Ready | State::FinishedOpts => None,
             State::PendingValue(value) => Some(value),
             State::Shorts(word, position) => Some(value_in(word, position, self.short_equals)),
+            state => {
+                self.state = state;
+                None
+            }
         }
     }
 
@@ -304,13 +305,12 @@ impl Parser {
     fn take_shorts(&mut self) -> Option<(OsString, usize)>
         ensures { TakesShorts self.old result self.new }
     {
-        match &self.state {
-            State::Shorts(_, _) => {}
-            _ => return None,
-        }
         match mem::replace(&mut self.state, State::Ready) {
             State::Shorts(word, position) => Some((word, position)),
-            _ => None,
+            state => {
+                self.state = state;
+                None
+            }
         }
     }
 

@@ -1,5 +1,6 @@
 //! What a word is before the separator.
 ghost use Rattle.std.specs.Prelude.{◌≡◌, ◌==◌, option_map, position};
+ghost use Rattle.lexopt_spec.specs.UnreadLine.{equals};
 ghost use Rattle.lexopt_spec.specs.Steps.{IsLongOption};
 ghost use Rattle.lexopt_base.specs.Words.{IsOfKind, joined_tail};
 
@@ -20,17 +21,11 @@ pub enum WordKind {
 pub fn kind_of(word: &[u8]) -> WordKind
     ensures { IsOfKind word.now result }
 {
-    let [first, second, others @ ..] = word else {
-        return WordKind::Positional;
-    };
-    if *first != b'-' {
-        WordKind::Positional
-    } else if *second != b'-' {
-        WordKind::Shorts
-    } else if others.is_empty() {
-        WordKind::Separator
-    } else {
-        WordKind::Long
+    match word {
+        b"--" => WordKind::Separator,
+        [b'-', b'-', ..] => WordKind::Long,
+        [b'-', _, ..] => WordKind::Shorts,
+        _ => WordKind::Positional,
     }
 }
 
@@ -46,7 +41,7 @@ pub fn name_and_value(text: &[u8]) -> (&[u8], Option<&[u8]>)
 
 // Where the first `=` stands.
 fn place_of_equals(text: &[u8]) -> Option<usize>
-    ensures { result ≡ position (λ byte. byte == 61) text.now }
+    ensures { result ≡ position (λ byte. byte == equals) text.now }
 {
     text.iter().position(|byte| *byte == b'=')
 }

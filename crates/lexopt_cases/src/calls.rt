@@ -1,7 +1,8 @@
 //! Each public call once, with memory enough.
 use lexopt::os_string::Quoted;
+use lexopt::replay::RunError;
 use lexopt::{Arg, Error, OsString, Parser};
-use std::alloc::{AllocError, Global};
+use std::alloc::{AllocError, AllocFailed, Global};
 use std::test::Fail;
 
 fn parser_of(alloc: Global, words: &[&[u8]]) -> Result<Parser, Error> {
@@ -116,5 +117,24 @@ fn no_words(rt: HostRuntime) -> Result<(), Fail> {
     let mut parser = parser_of(rt.alloc(), &[])?;
     assert!(rt; matches!(parser.value(), Err(Error::MissingValue { option: None })));
     assert!(rt; parser.next()?.is_none());
+    Ok(())
+}
+
+#[test]
+fn run_errors(rt: HostRuntime) -> Result<(), Fail> {
+    for (error, message, status) in [
+        (RunError::BadLine(12), "line 12 refused", 2),
+        (RunError::TooLong, "script too long", 2),
+        (RunError::ReadFailed, "read failed", 1),
+        (RunError::WriteFailed, "write failed", 1),
+        (RunError::from(AllocError), "out of memory", 1),
+    ] {
+        assert_eq!(rt; error.to_string(rt.alloc())?.as_str(), message);
+        assert_eq!(rt; error.status(), status);
+    }
+    assert_eq!(rt;
+        RunError::from(AllocFailed { value: 0u8 }),
+        RunError::NoMemory
+    );
     Ok(())
 }

@@ -44,18 +44,29 @@ impl Read for Endless {
     }
 }
 
-// Takes this many bytes, one at a time, and then none; the flush may fail.
+// What a writer does once it is full.
+#[derive(Clone, Copy)]
+enum Full {
+    TakesNothing,
+    Fails,
+}
+
+// Takes this many bytes, one at a time; the flush may fail.
 #[derive(Drop)]
 struct Narrow {
     taken: Vec<u8>,
     room: usize,
+    full: Full,
     flushes: bool,
 }
 
 impl Write for Narrow {
     fn write(&mut self, buf: &[u8]) -> io::Result<usize> {
         if self.room == 0 || buf.is_empty() {
-            return Ok(0);
+            return match self.full {
+                Full::TakesNothing => Ok(0),
+                Full::Fails => Err(io::Error::from(io::ErrorKind::Other)),
+            };
         }
         self.room -= 1;
         self.taken.push(buf[0])?;
@@ -101,23 +112,27 @@ fn reads_that_fail(rt: HostRuntime) -> Result<(), Fail> {
 #[test]
 fn writes_that_fail(rt: HostRuntime) -> Result<(), Fail> {
     let alloc = rt.alloc();
-    for room in 0..WRITTEN.len() {
-        let mut narrow = Narrow {
-            taken: Vec::new(alloc),
-            room,
-            flushes: true,
-        };
-        let mut script = SCRIPT;
-        assert_eq!(rt;
-            run(alloc, &mut script, &mut narrow),
-            Err(RunError::WriteFailed)
-        );
-        assert_eq!(rt; narrow.taken.as_slice(), &WRITTEN[..room]);
+    for full in [Full::TakesNothing, Full::Fails] {
+        for room in 0..WRITTEN.len() {
+            let mut narrow = Narrow {
+                taken: Vec::new(alloc),
+                room,
+                full,
+                flushes: true,
+            };
+            let mut script = SCRIPT;
+            assert_eq!(rt;
+                run(alloc, &mut script, &mut narrow),
+                Err(RunError::WriteFailed)
+            );
+            assert_eq!(rt; narrow.taken.as_slice(), &WRITTEN[..room]);
+        }
     }
     for (flushes, answer) in [(true, Ok(())), (false, Err(RunError::WriteFailed))] {
         let mut narrow = Narrow {
             taken: Vec::new(alloc),
             room: WRITTEN.len(),
+            full: Full::Fails,
             flushes,
         };
         let mut script = SCRIPT;

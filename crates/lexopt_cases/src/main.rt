@@ -11,7 +11,7 @@ mod example;
 #[cfg(test)]
 mod faults;
 #[cfg(test)]
-mod rows;
+mod worked_examples;
 
 use lexopt::replay::run;
 use std::alloc::{AllocError, Global};

@@ -87,6 +87,10 @@ meaning line =
 
 -- ---- a script
 
+-- the most bytes that a script may have
+abbrev pub most_bytes : ℕ
+most_bytes = 1048576
+
 abbrev pub is_call : Meaning → Bool
 is_call nothing = false
 is_call (word bytes) = false

@@ -3,7 +3,8 @@ use Rattle.lexopt_spec.specs.UnreadLine.{UnreadLine, pending}
 use Rattle.lexopt_spec.specs.Steps.{short, NextStep, ReadsShort, ReadsWord, ReadsPositional, Answers, next_in_cluster, after_separator, next_word}
 use Rattle.lexopt_spec.proofs.LineLemmas.{goes_on, rest_of-some}
 use Rattle.lexopt_base.specs.Words.{IsJoined}
-use Rattle.lexopt_base.specs.Replies.{Gives, found_as, found_reply}
+use Rattle.lexopt_base.specs.Replies.{Gives}
+use Rattle.lexopt_base.specs.Found.{found_as, found_reply}
 use Rattle.lexopt_base.proofs.Refusals.{refuses, nothing_left, gives_map}
 use Rattle.lexopt_base.proofs.parser.Parser.advance.Goals as goal
 

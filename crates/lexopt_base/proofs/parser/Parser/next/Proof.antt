@@ -45,7 +45,8 @@ use Rattle.lexopt_base.proofs.error.Error.TheLaws as Error-laws
 use Rattle.std.specs.Prelude.{Option}
 use Rattle.lexopt_spec.specs.UnreadLine.{UnreadLine}
 use Rattle.lexopt_spec.specs.Steps.{Reply, Next}
-use Rattle.lexopt_base.specs.Replies.{Gives, next_reply, found_reply}
+use Rattle.lexopt_base.specs.Replies.{Gives, next_reply}
+use Rattle.lexopt_base.specs.Found.{found_reply}
 use Rattle.lexopt_base.specs.Ends.{EndsAfter}
 use Rattle.lexopt_base.proofs.Ends.{ends_after}
 use Rattle.lexopt_base.specs.contracts.parser.Parser.next as f

@@ -6,7 +6,7 @@ use Rattle.lexopt_spec.specs.Steps.{long, short, ReadsPositional, ReadsShort, Re
 use Rattle.lexopt_spec.proofs.PieceSteps.{rest_is}
 use Rattle.lexopt_spec.proofs.LineLemmas.{first_word, got_word, same_parts, long_exists}
 use Rattle.lexopt_base.specs.View.{tail_of}
-use Rattle.lexopt_base.specs.Replies.{found_as}
+use Rattle.lexopt_base.specs.Found.{found_as}
 use Rattle.lexopt_base.proofs.Refusals.{refused}
 use Rattle.lexopt_base.proofs.parser.Parser.read_word.Goals as goal
 

@@ -11,8 +11,8 @@ fn written(alloc: Global, script: &str) -> Result<Vec<u8>, RunError> {
     Ok(text)
 }
 
-fn all_agree(rt: &impl Abort, alloc: Global, rows: &[(&str, &str)]) -> Result<(), Fail> {
-    for (script, text) in rows {
+fn all_agree(rt: &impl Abort, alloc: Global, examples: &[(&str, &str)]) -> Result<(), Fail> {
+    for (script, text) in examples {
         let found = written(alloc, script)?;
         assert_eq!(rt; found.as_slice(), text.as_bytes(), "{script}");
     }
@@ -68,6 +68,19 @@ fn first_path(rt: HostRuntime) -> Result<(), Fail> {
                 "Value \"\"\nLong \"\"\n\"\"\nLong \"\"\n\"3\"\nValue \"-\"\nShort \"x\"\n\"--\"\nValue \"-\"\nShort \"x\"\nValue \"\"\nValue \"-\"\nValue \"-x\"\nNone\n",
             ),
         ],
+    )
+}
+
+// Escapes of scripts, which may be upper or lower case, and words of no bytes.
+#[test]
+fn escapes(rt: HostRuntime) -> Result<(), Fail> {
+    all_agree(
+        &rt,
+        rt.alloc(),
+        &[(
+            "w \\x41\\n\\\\é\nw\nw \\xfF\nnext\nnext\nnext\nnext\n",
+            "Value \"A\\n\\\\é\"\nValue \"\"\nValue \"\\xFF\"\nNone\n",
+        )],
     )
 }
 

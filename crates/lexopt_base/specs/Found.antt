@@ -1,0 +1,25 @@
+-- What the parser found, as a reply. No public clause cites this file.
+use Rattle.std.specs.Prelude.{Option, Some, Result, Ok, Err}
+use Rattle.lexopt_spec.specs.UnreadLine.{LastOption, no_option, short_option, long_option}
+use Rattle.lexopt_spec.specs.Steps.{Reply, short, long, positional, end}
+use Rattle.lexopt_base.specs.Replies.{error_reply}
+use Rattle.lexopt_base.specs.declared.error.Error.{Error}
+use Rattle.lexopt_base.specs.declared.parser.Found.{Found}
+use Rattle.lexopt_base.specs.declared.parser.Found.TheVariants as found
+
+-- the name that stands as the last option
+abbrev pub name_of : LastOption → Reply
+name_of no_option = end
+name_of (short_option c) = end
+name_of (long_option name) = long name
+
+-- what was found, where `last` is the last option now
+abbrev pub found_as : LastOption → Found → Reply
+found_as last (found.Short c) = short c
+found_as last found.Long = name_of last
+found_as last (found.Value word) = positional word
+found_as last found.End = end
+
+abbrev pub found_reply : LastOption → Result Found Error → Option Reply
+found_reply last (Ok f) = Some (found_as last f)
+found_reply last (Err e) = error_reply e
