@@ -3,6 +3,7 @@ ghost use Rattle.std.specs.Prelude.{◌≡◌, IfOk, map, string_bytes};
 ghost use Rattle.lexopt_spec.specs.Script.{lines_written};
 ghost use Rattle.lexopt.specs.Replies.{reply_view};
 
+use lexopt_base::message::{write_missing_value, write_no_memory, write_unexpected_value};
 use lexopt_base::os_string::{OsString, Quoted};
 use std::alloc::{AllocError, Global};
 use std::fmt;
@@ -64,18 +65,18 @@ impl fmt::Display for Reply {
                 let word = Quoted::new(word.as_bytes());
                 write!(f, "{word}")
             }
-            Reply::Missing(None) => f.write_str("error: missing argument"),
-            Reply::Missing(Some(option)) => {
-                write!(f, "error: missing argument for option '{option}'")
+            Reply::Missing(option) => {
+                f.write_str("error: ")?;
+                write_missing_value(option.as_ref().map(|option| option.as_str()), f)
             }
             Reply::Unexpected(option, word) => {
-                let word = Quoted::new(word.as_bytes());
-                write!(
-                    f,
-                    "error: unexpected argument for option '{option}': {word}"
-                )
+                f.write_str("error: ")?;
+                write_unexpected_value(option, word, f)
             }
-            Reply::NoMemory => f.write_str("error: out of memory"),
+            Reply::NoMemory => {
+                f.write_str("error: ")?;
+                write_no_memory(f)
+            }
         }
     }
 }

@@ -1,6 +1,7 @@
 //! What can be wrong with a command line, and what the parser hands out.
 ghost use Rattle.std.specs.Prelude.{◌≡◌, Some};
 
+use crate::message::{write_missing_value, write_no_memory, write_unexpected_value};
 use crate::os_string::{OsString, Quoted};
 use std::alloc::AllocError;
 use std::fmt;
@@ -38,19 +39,15 @@ impl fmt::Display for Error {
 
     fn fmt<W: fmt::Write>(&self, f: &mut fmt::Formatter<W>) -> fmt::Result {
         match self {
-            Error::MissingValue { option: None } => f.write_str("missing argument"),
-            Error::MissingValue {
-                option: Some(option),
-            } => write!(f, "missing argument for option '{option}'"),
+            Error::MissingValue { option } => {
+                write_missing_value(option.as_ref().map(|option| option.as_str()), f)
+            }
             Error::UnexpectedArgument(value) => {
                 let value = Quoted::new(value.as_bytes());
                 write!(f, "unexpected argument {value}")
             }
-            Error::UnexpectedValue { option, value } => {
-                let value = Quoted::new(value.as_bytes());
-                write!(f, "unexpected argument for option '{option}': {value}")
-            }
-            Error::OutOfMemory => f.write_str("out of memory"),
+            Error::UnexpectedValue { option, value } => write_unexpected_value(option, value, f),
+            Error::OutOfMemory => write_no_memory(f),
         }
     }
 }

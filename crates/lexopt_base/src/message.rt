@@ -1,0 +1,40 @@
+//! The messages that more than one type prints. The crate `lexopt` does not hand them on.
+ghost use Rattle.std.specs.Prelude.{None, Some, option_map};
+ghost use Rattle.std.specs.Fmt.{WritesOnOk};
+ghost use Rattle.lexopt_spec.specs.Text.{missing_message, no_memory_message, unexpected_value_message};
+
+use crate::os_string::{OsString, Quoted};
+use std::fmt;
+
+/// A value is missing, of this option where there is one.
+pub fn write_missing_value<W: fmt::Write>(
+    option: Option<&str>,
+    f: &mut fmt::Formatter<W>,
+) -> fmt::Result
+    ensures { WritesOnOk W.write_str_gives f.old result
+        (missing_message (option_map (λ text. text.now) option.entry)) f.new }
+{
+    match option {
+        None => f.write_str("missing argument"),
+        Some(option) => write!(f, "missing argument for option '{option}'"),
+    }
+}
+
+/// An option that takes no value has this one.
+pub fn write_unexpected_value<W: fmt::Write>(
+    option: &str,
+    value: &OsString,
+    f: &mut fmt::Formatter<W>,
+) -> fmt::Result
+    ensures { WritesOnOk W.write_str_gives f.old result (unexpected_value_message option.now value.now) f.new }
+{
+    let value = Quoted::new(value.as_bytes());
+    write!(f, "unexpected argument for option '{option}': {value}")
+}
+
+/// Memory was refused.
+pub fn write_no_memory<W: fmt::Write>(f: &mut fmt::Formatter<W>) -> fmt::Result
+    ensures { WritesOnOk W.write_str_gives f.old result no_memory_message f.new }
+{
+    f.write_str("out of memory")
+}
