@@ -5,4 +5,6 @@ pub mod LineLemmas
 pub mod ScriptLemmas
 pub mod RunLemmas
 pub mod Exact
+pub mod Lines
+pub mod Total
 pub mod Computing

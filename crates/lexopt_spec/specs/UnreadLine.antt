@@ -1,6 +1,6 @@
 -- The unread line: what is left of a command line, as contracts see a parser.
 -- The source is `docs/behaviour.md`. A word is a list of bytes, a name is the UTF-8 of its text.
-use Rattle.std.specs.Prelude.{◌≡◌, ℕ, Bool, true, false, ◌==◌, ◌&&◌, ◌⊎◌, List, [], ◌∷◌, Option, Some, None, encode_utf8, if◌then◌else◌}
+use Rattle.std.specs.Prelude.{◌≡◌, ◌≢◌, ℕ, Bool, true, false, ◌==◌, ◌&&◌, ◌⊎◌, List, [], ◌∷◌, Option, Some, None, encode_utf8, if◌then◌else◌}
 
 abbrev pub dash : ℕ
 dash = 0x2D
@@ -31,6 +31,16 @@ pub record UnreadLine : Type 0 where
   pub last : LastOption
   -- in a cluster, `=` stands between an option and its value
   pub short_equals : Bool
+
+-- a tail stands only with a last option, and never behind the separator
+abbrev pub TailStands : Tail → LastOption → Bool → Type 0
+TailStands no_tail last ended = Unit {0}
+TailStands (joined value) last ended = (last ≢ no_option) × (ended ≡ false)
+TailStands (rest bytes) last ended = (last ≢ no_option) × (ended ≡ false) × (bytes ≢ [])
+
+-- what every parser is: the other lines never come up
+abbrev pub IsLine : UnreadLine → Type 0
+IsLine u = TailStands u.tail u.last u.ended
 
 -- the line of these words, of which none was read
 abbrev pub fresh : List (List ℕ) → UnreadLine

@@ -7,13 +7,16 @@ ghost use Rattle.lexopt_spec.specs.Runs.{next, value};
 ghost use Rattle.lexopt_spec.specs.Text.{missing_message, quoted, unexpected_argument_message, unexpected_value_message};
 ghost use Rattle.lexopt_spec.specs.Script.{bad_line, calls_of, lines_written, unescaped, words_of};
 
-use crate::laws::{each_call_has_one_answer, first_piece_is_by_the_table, pieces_are_in_a_row};
+use crate::laws::{
+    each_call_has_one_answer, first_piece_is_by_the_table, lines_stay_lines, pieces_are_in_a_row,
+};
 
 #[test]
 fn laws_hold_at_some_bytes() {
     first_piece_is_by_the_table(b"\xf0\x9da");
     pieces_are_in_a_row(b"\xf0\x9da");
     each_call_has_one_answer();
+    lines_stay_lines();
 }
 
 #[test]

@@ -8,4 +8,6 @@
 mod examples;
 mod laws;
 
-pub use laws::{each_call_has_one_answer, first_piece_is_by_the_table, pieces_are_in_a_row};
+pub use laws::{
+    each_call_has_one_answer, first_piece_is_by_the_table, lines_stay_lines, pieces_are_in_a_row,
+};
