@@ -75,7 +75,7 @@ pub fn parse_script(alloc: Global, script: &[u8]) -> Result<Script, RunError>
     Ok(Script { words, calls })
 }
 
-/// What a line of a script says.
+// What a line of a script says.
 #[derive(Drop)]
 enum Meaning {
     Nothing,
@@ -84,6 +84,7 @@ enum Meaning {
     Bad,
 }
 
+// The meaning of a line.
 fn meaning_of(alloc: Global, line: &[u8]) -> Result<Meaning, AllocError>
     ensures { IfOk result (λ m. meaning_view m ≡ meaning line.now) }
 {
@@ -100,7 +101,7 @@ fn meaning_of(alloc: Global, line: &[u8]) -> Result<Meaning, AllocError>
     }
 }
 
-/// The bytes that a text of a script stands for, if each backslash in it begins an escape.
+// The bytes that a text of a script stands for, if each backslash in it begins an escape.
 fn unescaped(alloc: Global, text: &[u8]) -> Result<Option<OsString>, AllocError>
     ensures { IfOk result (λ word. word ≡ unescaped text.now) }
 {
@@ -120,7 +121,7 @@ fn unescaped(alloc: Global, text: &[u8]) -> Result<Option<OsString>, AllocError>
     Ok(Some(OsString::from_vec(bytes)))
 }
 
-/// The byte that an escape stands for, of which the text behind its backslash is given, and what follows the escape.
+// The byte that an escape stands for, of which the text behind its backslash is given, and what follows the escape.
 fn escaped(text: &[u8]) -> Option<(u8, &[u8])>
     ensures { MatchOption result (behind_backslash text.now ≡ None)
         (λ p. (behind_backslash text.now ≡ in_front p.0 (unescaped p.1.now)) × (length p.1.now < length text.now)) }
@@ -137,7 +138,7 @@ fn escaped(text: &[u8]) -> Option<(u8, &[u8])>
     }
 }
 
-/// The value of a hexadecimal digit of either case.
+// The value of a hexadecimal digit of either case.
 fn hexadecimal(digit: u8) -> Option<u8>
     ensures { result ≡ hexadecimal digit }
 {

@@ -20,7 +20,8 @@ pub enum Arg<'a> {
 /// Why a command line was refused.
 #[derive(Drop)]
 pub enum Error {
-    /// An option wants a value, and no word is left. The option is spelled with its dashes; there is none where no option was read.
+    /// An option wants a value, and no word is left. The option is spelled with its dashes; there is none where no option
+    /// was read.
     MissingValue { option: Option<String> },
     /// A positional argument was not expected.
     UnexpectedArgument(OsString),

@@ -74,19 +74,19 @@ impl OsString {
         self.bytes.len()
     }
 
+    /// Whether the word has no byte.
+    pub fn is_empty(&self) -> bool
+        ensures { IsTrue result ↔ (self.now ≡ []) }
+    {
+        self.bytes.is_empty()
+    }
+
     // Removes the first `count` bytes, in place.
     pub(crate) fn remove_front(&mut self, count: usize)
         requires { count ≤ length self.old }
         ensures { self.new ≡ drop count self.old }
     {
         self.bytes.drain(..count);
-    }
-
-    /// Whether the word has no byte.
-    pub fn is_empty(&self) -> bool
-        ensures { IsTrue result ↔ (self.now ≡ []) }
-    {
-        self.bytes.is_empty()
     }
 }
 

@@ -32,13 +32,13 @@ pub record UnreadLine : Type 0 where
   -- in a cluster, `=` stands between an option and its value
   pub short_equals : Bool
 
--- a tail stands only with a last option, and never behind the separator
+-- a tail stands only with a last option and never behind the separator, and the rest of a cluster is never empty
 abbrev pub TailStands : Tail → LastOption → Bool → Type 0
 TailStands no_tail last ended = Unit {0}
 TailStands (joined value) last ended = (last ≢ no_option) × (ended ≡ false)
 TailStands (rest bytes) last ended = (last ≢ no_option) × (ended ≡ false) × (bytes ≢ [])
 
--- what every parser is: the other lines never come up
+-- the lines that a parser can be: it is one at the start, and every step leads to one
 abbrev pub IsLine : UnreadLine → Type 0
 IsLine u = TailStands u.tail u.last u.ended
 
