@@ -5,10 +5,11 @@
 #![tactic(auto)]
 
 pub use lexopt_base::error::{Arg, Error};
-pub use lexopt_base::os_string::OsString;
+pub use lexopt_base::os_string::{OsStr, OsString, Quoted};
 pub use lexopt_base::parser::Parser;
 pub use lexopt_base::{error, os_string, parser};
 
+pub mod items;
 pub mod replay;
 mod reply;
 mod run_error;

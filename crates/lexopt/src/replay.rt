@@ -6,13 +6,13 @@ ghost use Rattle.lexopt_spec.specs.Steps as steps;
 ghost use Rattle.lexopt_spec.specs.Steps.{Next, Value};
 ghost use Rattle.lexopt_spec.specs.Runs.{Run, Step};
 ghost use Rattle.lexopt_spec.specs.Script.{bad_line, most_bytes};
-ghost use Rattle.lexopt.specs.Answer.{IsAnswer, ReadsWhole};
+ghost use Rattle.lexopt.specs.Output.{IsOutput, ReadsWhole, read_room};
 ghost use Rattle.lexopt_base.specs.Replies.{Gives, error_reply, next_reply};
 ghost use Rattle.lexopt.specs.Replies.{call_view, reply_view};
 
 use crate::reply::{Call, Reply, written};
 pub use crate::run_error::RunError;
-use crate::script::{LIMIT, parse_script, read_script};
+use crate::script::{parse_script, read_script};
 use lexopt_base::error::{Arg, Error};
 use lexopt_base::parser::Parser;
 use std::alloc::{AllocError, Global};
@@ -37,14 +37,18 @@ fn refusal(error: Error) -> Option<Reply>
 {
     match error {
         Error::MissingValue { option } => Some(Reply::Missing(option)),
-        Error::UnexpectedArgument(_) => None,
+        Error::UnexpectedOption(_)
+        | Error::UnexpectedArgument(_)
+        | Error::ParsingFailed { .. }
+        | Error::NonUnicodeValue(_)
+        | Error::Custom(_) => None,
         Error::UnexpectedValue { option, value } => Some(Reply::Unexpected(option, value)),
         Error::OutOfMemory => Some(Reply::NoMemory),
     }
 }
 
 // One call of `next`.
-fn step(alloc: Global, parser: &mut Parser) -> Result<Option<Reply>, AllocError>
+pub(crate) fn call_next(alloc: Global, parser: &mut Parser) -> Result<Option<Reply>, AllocError>
     ensures { (reply : Option steps.Reply) × Gives Next parser.old reply parser.new
         × IfOk result (λ copy. option_map reply_view copy ≡ reply) }
 {
@@ -53,7 +57,7 @@ fn step(alloc: Global, parser: &mut Parser) -> Result<Option<Reply>, AllocError>
 }
 
 // One call of `value`.
-fn take(parser: &mut Parser) -> Option<Reply>
+fn call_value(parser: &mut Parser) -> Option<Reply>
     ensures { Gives Value parser.old (option_map reply_view result) parser.new }
 {
     match parser.value() {
@@ -68,8 +72,13 @@ fn reply_to(alloc: Global, parser: &mut Parser, call: Call) -> Result<Reply, All
         × IfOk result (λ copy. reply_view copy ≡ reply) }
 {
     let reply = match call {
-        Call::Next => step(alloc, parser)?,
-        Call::Value => take(parser),
+        Call::Next => call_next(alloc, parser)?,
+        Call::Value => call_value(parser),
+        Call::Optional => Some(Reply::Maybe(parser.optional_value())),
+        Call::Switch(on) => {
+            parser.set_short_equals(on);
+            Some(Reply::Done)
+        }
     };
     match reply {
         Some(reply) => Ok(reply),
@@ -90,9 +99,9 @@ fn replies_to(alloc: Global, parser: &mut Parser, calls: &[Call]) -> Result<Vec<
 }
 
 // What is written for a script, or its first bad line.
-fn answer(alloc: Global, script: &[u8]) -> Result<String, RunError>
+fn output(alloc: Global, script: &[u8]) -> Result<String, RunError>
     requires { length script.now ≤ most_bytes }
-    ensures ok { IfOk result (λ text. IsAnswer script.now (string_bytes text)) }
+    ensures ok { IfOk result (λ text. IsOutput script.now (string_bytes text)) }
     ensures err { IfErr result (λ e. (e ≡ RunError.NoMemory)
         ⊎ ((n : ℕ) × (e ≡ RunError.BadLine n) × (bad_line script.now ≡ Some n))) }
 {
@@ -104,17 +113,17 @@ fn answer(alloc: Global, script: &[u8]) -> Result<String, RunError>
     Ok(written(alloc, &replies)?)
 }
 
-/// Reads a whole script, makes its calls on a parser of its words, and writes a line for each reply, all at once.
+/// Reads a whole script, makes its calls on a parser of its words, and then writes a line for each reply.
 ///
 /// The words `--out=x`, `file` and the calls `next`, `value`, `next` write `Long "out"`, `"x"` and `Value "file"`.
 ///
-/// Errors: `TooLong` where more than 1,048,576 bytes were read, `BadLine` with the number of the first bad line,
+/// Errors: `TooLong` where more bytes were read than a script may have, `BadLine` with the number of the first bad line,
 /// `ReadFailed`, `NoMemory` where a growth outside the calls was refused. Nothing was written then. `WriteFailed`: some of
-/// the answer may have gone out.
+/// the output may have gone out.
 pub fn run<R: Read, W: Write>(alloc: Global, reader: &mut R, writer: &mut W) -> Result<(), RunError>
     ensures ok { OnOk result ((script text : List ℕ)
         × ReadsWhole (R.remaining reader.old) (R.remaining reader.new) script
-        × IsAnswer script text × Appends (W.contents writer.old) (W.contents writer.new) text) }
+        × IsOutput script text × Appends (W.contents writer.old) (W.contents writer.new) text) }
 
     // When each error comes.
     ensures bad_line { (line : ℕ) → result ≡ Err (RunError.BadLine line) → ((script : List ℕ)
@@ -127,10 +136,10 @@ pub fn run<R: Read, W: Write>(alloc: Global, reader: &mut R, writer: &mut W) -> 
     // What an error leaves, and how much is read.
     ensures untouched { IfErr result (λ e. (e ≡ RunError.WriteFailed) ⊎ (writer.new ≡ writer.old)) }
     ensures bounded { (script : List ℕ) × Consumes (R.remaining reader.old) (R.remaining reader.new) script
-        × (length script ≤ most_bytes + 512) }
+        × (length script ≤ most_bytes + read_room) }
 {
     let script = read_script(alloc, reader)?;
-    let text = answer(alloc, &script)?;
+    let text = output(alloc, &script)?;
     if writer.write_all(text.as_bytes()).is_err() || writer.flush().is_err() {
         return Err(RunError::WriteFailed);
     }

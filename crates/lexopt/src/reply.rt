@@ -1,7 +1,7 @@
 //! Calls on a command line, and what they answer.
 ghost use Rattle.std.specs.Prelude.{◌≡◌, IfOk, map, string_bytes};
-ghost use Rattle.lexopt_spec.specs.Script.{lines_written};
-ghost use Rattle.lexopt.specs.Replies.{reply_view};
+ghost use Rattle.lexopt_spec.specs.Script.{lines_written, reads_line};
+ghost use Rattle.lexopt.specs.Replies.{call_view, reply_view};
 
 use lexopt_base::message::{write_missing_value, write_no_memory, write_unexpected_value};
 use lexopt_base::os_string::{OsString, Quoted};
@@ -15,6 +15,19 @@ pub enum Call {
     Next,
     /// Asks for the value of the last option.
     Value,
+    /// Asks for a value of the last option that is left of its word.
+    Optional,
+    /// Sets whether `=` stands between a short option and its value.
+    Switch(bool),
+}
+
+impl Call {
+    /// Whether the call reads the line, which the switch alone does not.
+    pub fn reads_line(self) -> bool
+        ensures { result ≡ reads_line (call_view self) }
+    {
+        !matches!(self, Call::Switch(_))
+    }
 }
 
 /// What a call answered.
@@ -30,6 +43,10 @@ pub enum Reply {
     End,
     /// `value` took this word.
     Taken(OsString),
+    /// `optional_value` took this value, or found none.
+    Maybe(Option<OsString>),
+    /// The switch was set.
+    Done,
     /// `value` found no word, for this option if one was read.
     Missing(Option<String>),
     /// `next` found a value that nobody asked for, joined to this option.
@@ -65,6 +82,12 @@ impl fmt::Display for Reply {
                 let word = Quoted::new(word.as_bytes());
                 write!(f, "{word}")
             }
+            Reply::Maybe(Some(word)) => {
+                let word = Quoted::new(word.as_bytes());
+                write!(f, "{word}")
+            }
+            Reply::Maybe(None) => f.write_str("None"),
+            Reply::Done => f.write_str("ok"),
             Reply::Missing(option) => {
                 f.write_str("error: ")?;
                 write_missing_value(option.as_ref().map(|option| option.as_str()), f)

@@ -13,7 +13,7 @@ pub enum RunError {
     TooLong,
     /// The script could not be read.
     ReadFailed,
-    /// The answer could not be written.
+    /// The output could not be written.
     WriteFailed,
     /// Memory was refused.
     NoMemory,

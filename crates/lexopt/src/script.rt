@@ -5,13 +5,14 @@
 //! - `w`: the empty word.
 //! - `w TEXT`: the word TEXT, with one blank before it. `\\` in it is a backslash, `\n` the byte 0A, and `\xHH` the byte
 //!   of these two hexadecimal digits; no other backslash may stand in it.
-//! - `next`, `value`: a call.
+//! - `next`, `value`, `optional`: a call.
+//! - `on`, `off`: sets whether `=` stands between a short option and its value.
 //!
-//! Every other line is bad, and so is a word behind the first call.
+//! Every other line is bad, and so is a word behind the first call that reads the line.
 ghost use Rattle.std.specs.Prelude.{◌≡◌, ◌⊎◌, ℕ, ◌+◌, ◌<◌, ◌≤◌, List, None, Some, IfErr, IfOk, MatchOption, length, map};
 ghost use Rattle.std.specs.Io.KnownBytes.{Consumes};
 ghost use Rattle.lexopt_spec.specs.Script.{bad_line, behind_backslash, calls_of, hexadecimal, in_front, meaning, most_bytes, unescaped, words_of};
-ghost use Rattle.lexopt.specs.Answer.{ReadsWhole};
+ghost use Rattle.lexopt.specs.Output.{ReadsWhole, read_room};
 ghost use Rattle.lexopt.specs.Meanings.{meaning_view};
 ghost use Rattle.lexopt.specs.Replies.{call_view};
 
@@ -21,8 +22,11 @@ use lexopt_base::os_string::OsString;
 use std::alloc::{AllocError, Global};
 use std::io::Read;
 
-/// The most bytes that a script may have.
-pub const LIMIT: usize = 1_048_576;
+// The most bytes that a script may have.
+const LIMIT: usize = 1_048_576;
+
+// The room of one read: at most so many bytes are read past the limit.
+const ROOM: usize = 512;
 
 /// The words of a command line, and the calls that are made on it, each in order.
 #[derive(Drop)]
@@ -35,13 +39,13 @@ pub struct Script {
 pub fn read_script<R: Read>(alloc: Global, reader: &mut R) -> Result<Vec<u8>, RunError>
     ensures ok { IfOk result (λ script. ReadsWhole (R.remaining reader.old) (R.remaining reader.new) script.items) }
     ensures bounded { (script : List ℕ) × Consumes (R.remaining reader.old) (R.remaining reader.new) script
-        × (length script ≤ most_bytes + 512) }
+        × (length script ≤ most_bytes + read_room) }
     ensures err { IfErr result (λ e. (e ≡ RunError.NoMemory) ⊎ (e ≡ RunError.ReadFailed) ⊎ ((e ≡ RunError.TooLong)
         × ((script : List ℕ) × Consumes (R.remaining reader.old) (R.remaining reader.new) script
         × (most_bytes < length script)))) }
 {
     let mut script = Vec::new(alloc);
-    let mut chunk = [0u8; 512];
+    let mut chunk = [0u8; ROOM];
     loop {
         match reader.read(&mut chunk) {
             Ok(0) => return Ok(script),
@@ -64,12 +68,21 @@ pub fn parse_script(alloc: Global, script: &[u8]) -> Result<Script, RunError>
 {
     let mut words = Vec::new(alloc);
     let mut calls = Vec::new(alloc);
+    let mut is_read = false;
     for (index, line) in script.split(|byte| *byte == b'\n').enumerate() {
         match meaning_of(alloc, line)? {
             Meaning::Nothing => {}
-            Meaning::Word(word) if calls.is_empty() => words.push(word)?,
-            Meaning::Call(call) => calls.push(call)?,
-            Meaning::Word(_) | Meaning::Bad => return Err(RunError::BadLine(index + 1)),
+            Meaning::Word(word) => {
+                if is_read {
+                    return Err(RunError::BadLine(index + 1));
+                }
+                words.push(word)?;
+            }
+            Meaning::Call(call) => {
+                is_read |= call.reads_line();
+                calls.push(call)?;
+            }
+            Meaning::Bad => return Err(RunError::BadLine(index + 1)),
         }
     }
     Ok(Script { words, calls })
@@ -92,6 +105,9 @@ fn meaning_of(alloc: Global, line: &[u8]) -> Result<Meaning, AllocError>
         [] => Ok(Meaning::Nothing),
         b"next" => Ok(Meaning::Call(Call::Next)),
         b"value" => Ok(Meaning::Call(Call::Value)),
+        b"optional" => Ok(Meaning::Call(Call::Optional)),
+        b"on" => Ok(Meaning::Call(Call::Switch(true))),
+        b"off" => Ok(Meaning::Call(Call::Switch(false))),
         b"w" => Ok(Meaning::Word(OsString::new(alloc))),
         [b'w', b' ', text @ ..] => match unescaped(alloc, text)? {
             Some(word) => Ok(Meaning::Word(word)),

@@ -1,4 +1,5 @@
 -- A parser whose last value is said ends so.
+use Rattle.std.proofs.Common.{◌≡◌, None, Some, refl, sym, subst}
 use Rattle.std.specs.Prelude.{Result, Option, ⊤}
 use Rattle.std.specs.Borrow.{MutBor}
 use mathlib.Core.List.{[], ◌∷◌}
@@ -10,12 +11,17 @@ use types.Logic.{Logic, sem}
 use types.Kit.{‵, raw, ◌$◌, ◌∵◌, !, qed, done, fpack, fpick, show, use0}
 use denote.Follow.{such_by, follows_by}
 use Rattle.lexopt_spec.specs.UnreadLine.{UnreadLine}
-use Rattle.lexopt_spec.specs.Steps.{Next}
+use Rattle.lexopt_spec.specs.Steps.{Reply, Next}
 use Rattle.lexopt_base.specs.Replies.{Gives, next_reply}
 use Rattle.lexopt_base.specs.Ends.{EndsAfter}
 use Rattle.lexopt_base.specs.declared.error.Arg.{Arg}
 use Rattle.lexopt_base.specs.declared.error.Error.{Error}
 use Rattle.lexopt_base.specs.contracts.parser.Parser.{the_row as R}
+
+-- what was found is what is lent
+pub told_of : (u w : UnreadLine) (found said : Option Reply) → Gives Next u found w → ((reply : Reply) → found ≡ Some reply → said ≡ Some reply) → Gives Next u said w
+told_of u w None said gives same = absurd gives
+told_of u w (Some reply) said gives same = subst (λ (t : Option Reply). Gives Next u t w) (sym (same reply refl)) gives
 
 module _ {M : Type 1} {𝓤 : Ura M} (𝓛 : Logic 𝓤) (s : MutBor UnreadLine) (r : Result (Option Arg) Error) where
   pub ends_after : (w : UnreadLine) → Gives Next s.now (next_reply r) w → ent 𝓤 (sem 𝓛 (fres s.ghost_name (R.coded.code w))) (sem 𝓛 (EndsAfter s r))

@@ -1,12 +1,12 @@
 -- Refused memory, and refused values.
-use Rattle.std.proofs.Common.{◌≡◌, ℕ, Bool, true, false, List, [], Option, Some, None, IsSome, string_bytes, refl, sym, ap, subst, ◌∙◌, inl, inr}
-use Rattle.lexopt_spec.specs.UnreadLine.{UnreadLine, Tail, no_tail, joined, rest, spelling, pending, pending_in}
-use Rattle.lexopt_spec.specs.Steps.{Reply, unexpected, Answers, Next, NextStep, TakesMemory}
+use Rattle.std.proofs.Common.{◌≡◌, ℕ, Bool, true, false, List, [], ◌∷◌, Option, Some, None, IsSome, string_bytes, refl, sym, ap, subst, ◌∙◌, inl, inr}
+use Rattle.lexopt_spec.specs.UnreadLine.{UnreadLine, no_tail, spelling, pending, IsPlain}
+use Rattle.lexopt_spec.specs.Steps.{Reply, unexpected, Answers, Next, NextStep, TakesMemory, ReadsPositional, no_word_left, word_left, ReadsWord, reads_positional}
 use Rattle.lexopt_spec.proofs.LineLemmas.{refuses_joined, answers_map}
 use Rattle.lexopt_base.specs.Replies.{Gives, error_reply}
-use Rattle.lexopt_base.specs.Words.{IsJoined, RefusesPending}
+use Rattle.lexopt_base.specs.Helpers.{IsJoined, RefusesPending}
 use Rattle.lexopt_base.specs.declared.error.Error.{Error}
-use Rattle.lexopt_base.specs.declared.error.Error.TheVariants.{MissingValue, UnexpectedArgument, UnexpectedValue, OutOfMemory}
+use Rattle.lexopt_base.specs.declared.error.Error.TheVariants.{MissingValue, UnexpectedOption, UnexpectedArgument, UnexpectedValue, ParsingFailed, NonUnicodeValue, Custom, OutOfMemory}
 
 -- a call that was refused memory changes nothing, where its step would have made a text
 pub refused : (Step : UnreadLine → Reply → UnreadLine → Type 0) (u : UnreadLine) (wanted : Reply) (there : UnreadLine) → Step u wanted there → TakesMemory wanted
@@ -30,29 +30,38 @@ flag_of (Some value) = value.0
 pub refuses : (u v : UnreadLine) (e : Error) → IsJoined (pending u) → RefusesPending u e v → Gives Next u (error_reply e) v
 unfolding joined_of flag_of
 refuses u v (MissingValue option) is h = absurd h
+refuses u v (UnexpectedOption option) is h = absurd h
 refuses u v (UnexpectedArgument value) is h = absurd h
 refuses u v (UnexpectedValue option value) is h =
     let found = joined_of (pending u) is in
     let same : found.0 ≡ value = ap flag_of (sym found.1 ∙ h.1.1) in
     let step = refuses_joined u value (string_bytes option) (found.1 ∙ ap (λ (l : List ℕ). Some (l, true)) same) h.0 in
     inl (subst (λ (x : UnreadLine). NextStep u (unexpected (string_bytes option) value) x) (sym h.1.2) step)
+refuses u v (ParsingFailed value error) is h = absurd h
+refuses u v (NonUnicodeValue value) is h = absurd h
+refuses u v (Custom error) is h = absurd h
 refuses u v OutOfMemory is h =
     let found = joined_of (pending u) is in
     let option = some_of (spelling u.last) h.1 in
     let step = refuses_joined u found.0 option.0 found.1 option.1 in
     inr (record { reply_is = refl; after_is = h.0; in_place_of = (unexpected option.0 found.0, record u { tail = no_tail }, step, tt) })
 
-none_in : (switch : Bool) (tail : Tail) → (IsJoined (pending_in switch tail) → ⊥) → ((bytes : List ℕ) → tail ≡ rest bytes → ⊥) → tail ≡ no_tail
-none_in switch no_tail loose other = refl
-none_in switch (joined value) loose other = absurd (loose refl)
-none_in switch (rest bytes) loose other = absurd (other bytes refl)
-
--- where no value is joined and no cluster is being read, nothing is left of the word
-pub nothing_left : (u : UnreadLine) → (IsJoined (pending u) → ⊥) → ((bytes : List ℕ) → u.tail ≡ rest bytes → ⊥) → u.tail ≡ no_tail
-nothing_left u loose other = none_in u.short_equals u.tail loose other
-
 -- what a helper's relation gives, the call's relation gives
 pub gives_map : (S T : UnreadLine → Reply → UnreadLine → Type 0) (u : UnreadLine) → ((r : Reply) (v : UnreadLine) → S u r v → T u r v)
     → (reply : Option Reply) (v : UnreadLine) → Gives (Answers S) u reply v → Gives (Answers T) u reply v
 gives_map S T u f None v h = absurd h
 gives_map S T u f (Some reply) v h = answers_map S T u f reply v h
+
+-- what a step gives, a call gives where it may be refused memory
+pub gives_step : (S T : UnreadLine → Reply → UnreadLine → Type 0) (s u : UnreadLine) → ((r : Reply) (v : UnreadLine) → S s r v → T u r v)
+    → (reply : Option Reply) (v : UnreadLine) → Gives S s reply v → Gives (Answers T) u reply v
+gives_step S T s u f None v h = absurd h
+gives_step S T s u f (Some reply) v h = inl (f reply v h)
+
+-- a word that is no option is a positional also before the separator
+pub positional_read : (u : UnreadLine) (word : List ℕ) (others : List (List ℕ)) (r : Reply) (v : UnreadLine) → u.words ≡ word ∷ others → IsPlain false word
+    → ReadsPositional u r v → ReadsWord u r v
+positional_read u word others r v some plain (no_word_left none reply after) = let e = sym some ∙ none in cc
+positional_read u word others r v some plain (word_left w ws is reply after) =
+    let same : word ≡ w = cc in
+    reads_positional w ws is (subst (λ (l : List ℕ). IsPlain false l) same plain) reply after

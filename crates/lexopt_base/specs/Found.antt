@@ -1,5 +1,5 @@
 -- What the parser found, as a reply. No public clause cites this file.
-use Rattle.std.specs.Prelude.{Option, Some, Result, Ok, Err}
+use Rattle.std.specs.Prelude.{Option, Some, None, Result, Ok, Err}
 use Rattle.lexopt_spec.specs.UnreadLine.{LastOption, no_option, short_option, long_option}
 use Rattle.lexopt_spec.specs.Steps.{Reply, short, long, positional, end}
 use Rattle.lexopt_base.specs.Replies.{error_reply}
@@ -7,19 +7,19 @@ use Rattle.lexopt_base.specs.declared.error.Error.{Error}
 use Rattle.lexopt_base.specs.declared.parser.Found.{Found}
 use Rattle.lexopt_base.specs.declared.parser.Found.TheVariants as found
 
--- the name that stands as the last option
-abbrev pub name_of : LastOption → Reply
-name_of no_option = end
-name_of (short_option c) = end
-name_of (long_option name) = long name
+-- the name that stands as the last option, if that is a long one
+abbrev pub name_of : LastOption → Option Reply
+name_of no_option = None
+name_of (short_option c) = None
+name_of (long_option name) = Some (long name)
 
 -- what was found, where `last` is the last option now
-abbrev pub found_as : LastOption → Found → Reply
-found_as last (found.Short c) = short c
+abbrev pub found_as : LastOption → Found → Option Reply
+found_as last (found.Short c) = Some (short c)
 found_as last found.Long = name_of last
-found_as last (found.Value word) = positional word
-found_as last found.End = end
+found_as last (found.Value word) = Some (positional word)
+found_as last found.End = Some end
 
 abbrev pub found_reply : LastOption → Result Found Error → Option Reply
-found_reply last (Ok f) = Some (found_as last f)
+found_reply last (Ok f) = found_as last f
 found_reply last (Err e) = error_reply e

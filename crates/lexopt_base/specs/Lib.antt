@@ -1,11 +1,10 @@
-pub use Rattle.lexopt_spec.specs.Pieces
-pub use Rattle.lexopt_spec.specs.UnreadLine
-pub use Rattle.lexopt_spec.specs.Steps
-pub use Rattle.lexopt_spec.specs.Text
 pub mod Codepoint
 pub mod Message
+pub mod Arguments
+pub mod KeptWords
 pub mod View
 pub mod Replies
 pub mod Found
-pub mod Words
+pub mod WordKinds
+pub mod Helpers
 pub mod Ends

@@ -5,14 +5,18 @@ use Rattle.lexopt_spec.specs.Steps.{Reply, short, long, positional, end, taken, 
 use Rattle.lexopt_base.specs.declared.error.Arg.{Arg}
 use Rattle.lexopt_base.specs.declared.error.Arg.TheVariants.{Short, Long, Value}
 use Rattle.lexopt_base.specs.declared.error.Error.{Error}
-use Rattle.lexopt_base.specs.declared.error.Error.TheVariants.{MissingValue, UnexpectedArgument, UnexpectedValue, OutOfMemory}
+use Rattle.lexopt_base.specs.declared.error.Error.TheVariants.{MissingValue, UnexpectedOption, UnexpectedArgument, UnexpectedValue, ParsingFailed, NonUnicodeValue, Custom, OutOfMemory}
 
 -- the reply of an error; none, where no call of a parser answers it
 abbrev pub error_reply : Error → Option Reply
 error_reply (MissingValue None) = Some (missing None)
 error_reply (MissingValue (Some option)) = Some (missing (Some (string_bytes option)))
+error_reply (UnexpectedOption option) = None
 error_reply (UnexpectedArgument value) = None
 error_reply (UnexpectedValue option value) = Some (unexpected (string_bytes option) value)
+error_reply (ParsingFailed value error) = None
+error_reply (NonUnicodeValue value) = None
+error_reply (Custom error) = None
 error_reply OutOfMemory = Some no_memory
 
 abbrev pub arg_reply : Option Arg → Reply

@@ -1,5 +1,5 @@
 //! The first character of some bytes, or the damaged piece that they begin with.
-ghost use Rattle.std.specs.Prelude.{◌≡◌, [], IfOk, string_bytes};
+ghost use Rattle.std.specs.Prelude.{◌≡◌, ◌++◌, [], IfOk, OnOk, encode_utf8, string_bytes};
 ghost use Rattle.lexopt_spec.specs.Pieces.{first_piece, lossy, shown};
 ghost use Rattle.lexopt_base.specs.Codepoint.{IsFirstOf, character_of, size_of};
 ghost use Rattle.bstr.specs.Utf8.{decoded};
@@ -44,12 +44,13 @@ pub fn first_codepoint(bytes: &[u8]) -> FirstCodepoint
     ensures character { character_of result ≡ (decoded bytes.now).char }
     ensures size { size_of result ≡ (decoded bytes.now).size }
 {
-    if bytes.is_empty() {
-        return FirstCodepoint::Empty;
-    }
-    match decode_utf8(bytes) {
-        (Some(character), size) => FirstCodepoint::Character(character, size),
-        (None, size) => FirstCodepoint::Damage(size),
+    match bytes {
+        [] => FirstCodepoint::Empty,
+        [first @ ..=0x7F, ..] => FirstCodepoint::Character(char::from(*first), 1),
+        _ => match decode_utf8(bytes) {
+            (Some(character), size) => FirstCodepoint::Character(character, size),
+            (None, size) => FirstCodepoint::Damage(size),
+        },
     }
 }
 
@@ -57,14 +58,24 @@ pub fn first_codepoint(bytes: &[u8]) -> FirstCodepoint
 pub fn lossy_text(alloc: Global, bytes: &[u8]) -> Result<String, AllocError>
     ensures { IfOk result (λ text. string_bytes text ≡ lossy bytes.now) }
 {
-    let mut text = String::new(alloc);
+    let mut text = String::with_capacity(alloc, bytes.len())?;
     let mut rest = bytes;
     while !rest.is_empty() {
         let piece = first_codepoint(rest);
-        text.push(piece.shown())?;
+        push_shown(&mut text, piece)?;
         rest = &rest[piece.size()..];
     }
     Ok(text)
+}
+
+// Adds to a text what stands there for a piece.
+fn push_shown(text: &mut String, piece: FirstCodepoint) -> Result<(), AllocError>
+    ensures { OnOk result (string_bytes text.new ≡ string_bytes text.old ++ encode_utf8 (shown (character_of piece))) }
+{
+    match piece {
+        FirstCodepoint::Character(character, _) => text.push(character),
+        FirstCodepoint::Empty | FirstCodepoint::Damage(_) => text.push_str("\u{FFFD}"),
+    }
 }
 
 #[cfg(test)]

@@ -3,6 +3,7 @@
 
 mod codepoint;
 pub mod error;
+mod kept_words;
 pub mod message;
 pub mod os_string;
 pub mod parser;

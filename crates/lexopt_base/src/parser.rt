@@ -1,45 +1,48 @@
 //! The parser: a command line of which some is read.
-ghost use Rattle.std.specs.Prelude.{◌≡◌, ◌≢◌, ◌↔◌, ◌<◌, ◌≤◌, ◌∷◌, [], None, Some, true, false, IsTrue, IsSome, IfOk, IfErr, OnErr, length, drop, string_bytes};
+ghost use Rattle.std.specs.Prelude.{◌≡◌, ◌≢◌, ◌↔◌, ◌<◌, ◌≤◌, [], ◌∷◌, Some, false, IsTrue, IsSome, IfOk, IfErr, OnErr, OnOk, length, string_bytes};
 ghost use Rattle.std.specs.Option.{option_map};
 ghost use Rattle.std.specs.Iterator.{IsFiniteIterable};
 ghost use Rattle.std.specs.Iterator.Runs.{WholeRun};
-ghost use Rattle.lexopt_spec.specs.UnreadLine.{fresh, no_tail, rest_of, pending, spelling};
-ghost use Rattle.lexopt_spec.specs.Steps.{Answers, Next, Value, ReadsShort, ReadsPositional, ReadsWord, short};
+ghost use Rattle.lexopt_spec.specs.Pieces.{lossy};
+ghost use Rattle.lexopt_spec.specs.UnreadLine.{dash, fresh, no_tail, pending, pending_in, rest_of, spelling};
+ghost use Rattle.lexopt_spec.specs.Steps.{Answers, Next, OptionalStep, Reply, Value, ReadsPositional, ReadsWord, maybe};
 ghost use Rattle.lexopt_base.specs.Replies.{CanReply, Gives, next_reply, value_reply};
 ghost use Rattle.lexopt_base.specs.Found.{found_as, found_reply};
-ghost use Rattle.lexopt_base.specs.Words.{IsFirst, IsJoined, IsOfKind, PendingIs, RefusesPending, TakesPending, TakesShorts, TakesWord};
-ghost use Rattle.lexopt_base.specs.View.{IsLongRead, IsPlaced, ended_of, tail_of};
+ghost use Rattle.lexopt_base.specs.Helpers.{IsJoined, RefusesPending, TakesPending, TakesWord};
+ghost use Rattle.lexopt_base.specs.View.{IsLongRead, IsShortRead};
 
 use crate::codepoint::{first_codepoint, lossy_text};
 use crate::error::{Arg, Error};
+use crate::kept_words::KeptWords;
 use crate::os_string::OsString;
-use crate::word::{WordKind, kind_of, name_and_value};
+use crate::word::{WordKind, kind_of};
+use bstr::ByteSlice;
 use std::alloc::{AllocError, Global};
 use std::marker::Model;
-use std::mem;
 
-// What is left of the word that is being read.
-#[derive(Drop)]
+// What is left of the word just before the cursor. A position is a number of bytes of that word.
+#[derive(Clone, Copy)]
 enum State {
     // Nothing.
     Ready,
-    // The value of `--option=value`.
-    PendingValue(OsString),
-    // A cluster, as `-abc`, and how many of its bytes are read.
-    Shorts(OsString, usize),
+    // The value of `--option=value`, which begins here.
+    PendingValue(usize),
+    // The rest of a cluster, as `-abc`, which begins here.
+    Shorts(usize),
     // Nothing, and the separator was read.
     FinishedOpts,
 }
 
-// The option that was read last. A long name stands here, so that it can be lent.
-#[derive(Drop)]
+// The option that was read last.
+#[derive(Clone, Copy)]
 enum LastOption {
     Nothing,
     Short(char),
-    Long(String),
+    // Its name is kept by the parser.
+    Long,
 }
 
-// What `advance` found. A long name is then the last option.
+// What `advance` found. A long option is then the last option.
 #[derive(Drop)]
 enum Found {
     Short(char),
@@ -52,9 +55,11 @@ enum Found {
 #[derive(Drop)]
 pub struct Parser {
     alloc: Global,
-    words: Vec<OsString>,
+    words: KeptWords,
     state: State,
     last_option: LastOption,
+    // The name of the long option that was read last, which is lent from here.
+    name: String,
     short_equals: bool,
 }
 
@@ -90,11 +95,22 @@ impl Parser {
         let words = args.into_iter().collect(alloc)?;
         Ok(Parser {
             alloc,
-            words,
+            words: KeptWords::new(alloc, words),
             state: State::Ready,
             last_option: LastOption::Nothing,
+            name: String::new(alloc),
             short_equals: true,
         })
+    }
+
+    /// Sets whether `=` stands between a short option and its value, as it does at the start. It counts from the next call
+    /// on, also within a cluster.
+    ///
+    /// With the switch off, the word `-a=b` gives `Short('a')`, `Short('=')` and `Short('b')`.
+    pub fn set_short_equals(&mut self, on: bool)
+        ensures { self.new ≡ record self.old { short_equals = on } }
+    {
+        self.short_equals = on;
     }
 
     /// Reads the next option or positional argument; `Ok(None)` at the end of the line.
@@ -134,80 +150,33 @@ impl Parser {
         Err(Error::MissingValue { option })
     }
 
-    // Reads the next option or positional argument, and keeps a long name as the last option.
+    /// Takes a value that belongs to the last option, if one is left of its word. It never takes the next word.
+    ///
+    /// At `-n10`, `-n=10` and `--number=10` it gives `10`; at `-n 10` and `--number 10` it gives `None`.
+    pub fn optional_value(&mut self) -> Option<OsString>
+        ensures { OptionalStep self.old (maybe result) self.new }
+    {
+        self.take_pending()
+    }
+
+    // Reads the next option or positional argument. A long option is then the last option, whose name can be lent.
     fn advance(&mut self) -> Result<Found, Error>
         ensures { Gives Next self.old (found_reply self.new.last result) self.new }
     {
-        if self.has_joined_value() {
-            return Err(self.refuse_pending());
-        }
-        if let Some((word, position)) = self.take_shorts() {
-            return Ok(Found::Short(self.read_short(word, position)));
-        }
-        if self.has_ended() {
-            return Ok(self.read_positional());
-        }
-        self.read_word()
-    }
-
-    // Lends what was found.
-    fn lend(&self, found: Result<Found, Error>) -> Result<Option<Arg<'_>>, Error>
-        ensures { next_reply result ≡ found_reply self.now.last found }
-    {
-        match found {
-            Ok(Found::Short(option)) => Ok(Some(Arg::Short(option))),
-            Ok(Found::Value(word)) => Ok(Some(Arg::Value(word))),
-            Ok(Found::End) => Ok(None),
-            Ok(Found::Long) => match &self.last_option {
-                LastOption::Long(name) => Ok(Some(Arg::Long(name))),
-                LastOption::Nothing | LastOption::Short(_) => Ok(None),
-            },
-            Err(error) => Err(error),
-        }
-    }
-
-    // Whether the separator was read.
-    fn has_ended(&self) -> bool
-        ensures { result ≡ self.now.ended }
-    {
-        matches!(self.state, State::FinishedOpts)
-    }
-
-    // The next word.
-    fn next_word(&self) -> Option<&OsString>
-        ensures { IsFirst (option_map (λ word. word.now) result) self.now.words }
-    {
-        self.words.first()
-    }
-
-    // Takes the next word.
-    fn take_word(&mut self) -> Option<OsString>
-        ensures { TakesWord self.old result self.new }
-    {
-        if self.words.is_empty() {
-            return None;
-        }
-        Some(self.words.remove(0))
-    }
-
-    // Takes the next word, of which is known that it is there.
-    fn take_first(&mut self) -> OsString
-        requires { self.old.words ≢ [] }
-        ensures { TakesWord self.old (Some result) self.new }
-    {
-        match self.take_word() {
-            Some(word) => word,
-            None => unreachable!(),
-        }
-    }
-
-    // Reads a word behind the separator.
-    fn read_positional(&mut self) -> Found
-        ensures { ReadsPositional self.old (found_as self.new.last result) self.new }
-    {
-        match self.take_word() {
-            Some(word) => Found::Value(word),
-            None => Found::End,
+        match self.state {
+            State::PendingValue(_) => Err(self.refuse_pending()),
+            State::Shorts(position) => {
+                let word = self.words.current();
+                if is_joined(&word[position..], self.short_equals) {
+                    return Err(self.refuse_pending());
+                }
+                let (option, state) = read_short(word, position);
+                self.last_option = LastOption::Short(option);
+                self.state = state;
+                Ok(Found::Short(option))
+            }
+            State::FinishedOpts => Ok(self.read_positional()),
+            State::Ready => self.read_word(),
         }
     }
 
@@ -217,45 +186,83 @@ impl Parser {
         requires ended { self.old.ended ≡ false }
         ensures { Gives (Answers ReadsWord) self.old (found_reply self.new.last result) self.new }
     {
-        let Some(word) = self.next_word() else {
+        let Some(word) = self.words.first() else {
             return Ok(Found::End);
         };
-        match kind_of(word.as_bytes()) {
+        let word = word.as_bytes();
+        match kind_of(word) {
             WordKind::Separator => {
-                let _separator = self.take_first();
+                self.words.pass();
                 self.state = State::FinishedOpts;
                 Ok(self.read_positional())
             }
             WordKind::Long => {
-                let (name, state) = long_option(self.alloc, &word.as_bytes()[2..])?;
-                let _option = self.take_first();
-                self.last_option = LastOption::Long(name);
+                let (name, state) = read_long(word);
+                keep_name(self.alloc, &mut self.name, name)?;
+                self.words.pass();
+                self.last_option = LastOption::Long;
                 self.state = state;
                 Ok(Found::Long)
             }
             WordKind::Shorts => {
-                let word = self.take_first();
-                Ok(Found::Short(self.read_short(word, 1)))
+                let (option, state) = read_short(word, 1);
+                self.words.pass();
+                self.last_option = LastOption::Short(option);
+                self.state = state;
+                Ok(Found::Short(option))
             }
-            WordKind::Positional => {
-                let positional = self.take_first();
-                Ok(Found::Value(positional))
-            }
+            WordKind::Positional => Ok(self.read_positional()),
         }
     }
 
-    // Whether a value is pending that is joined to its option by `=`.
-    fn has_joined_value(&self) -> bool
-        ensures value { IsTrue result ↔ IsJoined (pending self.now) }
-        ensures option { IsTrue result → IsSome (spelling self.now.last) }
+    // Reads a word as a positional argument.
+    fn read_positional(&mut self) -> Found
+        requires { self.old.tail ≡ no_tail }
+        ensures { Gives ReadsPositional self.old (found_as self.new.last result) self.new }
     {
-        match &self.state {
-            State::Ready | State::FinishedOpts => false,
-            State::PendingValue(_) => true,
-            State::Shorts(word, position) => {
-                self.short_equals && word.as_bytes()[*position] == b'='
-            }
+        match self.take_word() {
+            Some(word) => Found::Value(word),
+            None => Found::End,
         }
+    }
+
+    // Lends what was found: the name of a long option is the last option's.
+    fn lend(&self, found: Result<Found, Error>) -> Result<Option<Arg<'_>>, Error>
+        ensures { (reply : Reply) → found_reply self.now.last found ≡ Some reply → next_reply result ≡ Some reply }
+    {
+        match found? {
+            Found::Short(option) => Ok(Some(Arg::Short(option))),
+            Found::Long => Ok(Some(Arg::Long(&self.name))),
+            Found::Value(word) => Ok(Some(Arg::Value(word))),
+            Found::End => Ok(None),
+        }
+    }
+
+    // Takes the value that belongs to the last option, if one is left of its word.
+    fn take_pending(&mut self) -> Option<OsString>
+        ensures { TakesPending self.old result self.new }
+    {
+        let position = match self.state {
+            State::Ready | State::FinishedOpts => return None,
+            State::PendingValue(position) => position,
+            State::Shorts(position) => {
+                if is_joined(&self.words.current()[position..], self.short_equals) {
+                    position + 1
+                } else {
+                    position
+                }
+            }
+        };
+        self.state = State::Ready;
+        Some(self.words.take_current(position))
+    }
+
+    // Takes the next word.
+    fn take_word(&mut self) -> Option<OsString>
+        requires { self.old.tail ≡ no_tail }
+        ensures { TakesWord self.old result self.new }
+    {
+        self.words.take_next()
     }
 
     // Refuses the pending value, which is then consumed.
@@ -280,92 +287,80 @@ impl Parser {
         ensures ok { IfOk result (λ text. option_map string_bytes text ≡ spelling self.now.last) }
         ensures err { OnErr result (IsSome (spelling self.now.last)) }
     {
-        match &self.last_option {
+        match self.last_option {
             LastOption::Nothing => Ok(None),
             LastOption::Short(option) => Ok(Some(format!(in self.alloc; "-{option}")?)),
-            LastOption::Long(name) => Ok(Some(format!(in self.alloc; "--{name}")?)),
-        }
-    }
-
-    // Takes the value that belongs to the last option, if one is left of its word.
-    fn take_pending(&mut self) -> Option<OsString>
-        ensures { TakesPending self.old result self.new }
-    {
-        match mem::replace(&mut self.state, State::Ready) {
-            State::PendingValue(value) => Some(value),
-            State::Shorts(word, position) => Some(value_in(word, position, self.short_equals)),
-            state => {
-                self.state = state;
-                None
+            LastOption::Long => {
+                let name = &self.name;
+                Ok(Some(format!(in self.alloc; "--{name}")?))
             }
         }
     }
+}
 
-    // Takes the cluster that is being read.
-    fn take_shorts(&mut self) -> Option<(OsString, usize)>
-        ensures { TakesShorts self.old result self.new }
-    {
-        match mem::replace(&mut self.state, State::Ready) {
-            State::Shorts(word, position) => Some((word, position)),
-            state => {
-                self.state = state;
-                None
-            }
-        }
-    }
+impl Clone for Parser {
+    ghost use Rattle.std.specs.Prelude.{◌≡◌};
 
-    // Reads the first piece of the word behind `position` as a short option.
-    fn read_short(&mut self, word: OsString, position: usize) -> char
-        requires position { position < length word }
-        requires ended { self.old.ended ≡ false }
-        ensures { ReadsShort (drop position word) self.old (short result) self.new }
-    {
-        let piece = first_codepoint(&word.as_bytes()[position..]);
-        let option = piece.shown();
-        let position = position + piece.size();
-        self.last_option = LastOption::Short(option);
-        self.state = shorts_behind(word, position);
-        option
+    ghost is_clone = { λ parser copy. copy ≡ parser };
+
+    /// A parser of the same unread line.
+    fn clone(&self) -> Result<Parser, AllocError> {
+        Ok(Parser {
+            alloc: self.alloc,
+            words: self.words.copied()?,
+            state: self.state,
+            last_option: self.last_option,
+            name: String::from_str(self.alloc, &self.name)?,
+            short_equals: self.short_equals,
+        })
     }
 }
 
-// The name of a long option, of which each damaged piece is shown as U+FFFD, and the state behind it. The text is what
-// stands behind the dashes.
-fn long_option(alloc: Global, text: &[u8]) -> Result<(String, State), AllocError>
-    ensures { IfOk result (λ option. IsLongRead text.now (string_bytes option.0) option.1) }
+// Whether the rest of a cluster is a value that `=` joins to the option before it.
+fn is_joined(rest: &[u8], short_equals: bool) -> bool
+    ensures { IsTrue result ↔ IsJoined (pending_in short_equals (rest_of rest.now)) }
 {
-    let (name, value) = name_and_value(text);
-    let name = lossy_text(alloc, name)?;
-    let state = match value {
-        Some(value) => State::PendingValue(OsString::from_bytes(alloc, value)?),
-        None => State::Ready,
-    };
-    Ok((name, state))
+    short_equals && matches!(rest, [b'=', ..])
 }
 
-// The cluster that is left of the word behind `position`.
-fn shorts_behind(word: OsString, position: usize) -> State
-    ensures tail { tail_of result ≡ rest_of (drop position word) }
-    ensures ended { ended_of result ≡ false }
-    ensures placed { IsPlaced result }
+// The short option at this position of a word, and the state behind it.
+fn read_short(word: &[u8], position: usize) -> (char, State)
+    requires { position < length word.now }
+    ensures { IsShortRead word.now position result.0 result.1 }
 {
-    if position < word.len() {
-        State::Shorts(word, position)
+    let piece = first_codepoint(&word[position..]);
+    let position = position + piece.size();
+    let state = if position < word.len() {
+        State::Shorts(position)
     } else {
         State::Ready
+    };
+    (piece.shown(), state)
+}
+
+// The name of the long option in a word, and the state behind it.
+fn read_long(word: &[u8]) -> (&[u8], State)
+    requires { 2 ≤ length word.now }
+    ensures { IsLongRead word.now result.0.now result.1 }
+{
+    let text = &word[2..];
+    match text.find_byte(b'=') {
+        Some(place) => (&text[..place], State::PendingValue(2 + place + 1)),
+        None => (text, State::Ready),
     }
 }
 
-// The value in the rest of a cluster, which is the word behind `position`: an `=` in front is left out where it stands
-// between an option and its value.
-fn value_in(mut word: OsString, position: usize, short_equals: bool) -> OsString
-    requires { position < length word }
-    ensures { PendingIs short_equals (drop position word) result }
+// Keeps the name of a long option, of which each damaged piece is shown as U+FFFD, in place of the one that was kept.
+// Where memory is refused, that one stays.
+fn keep_name(alloc: Global, kept: &mut String, name: &[u8]) -> Result<(), AllocError>
+    ensures ok { OnOk result (string_bytes kept.new ≡ lossy name.now) }
+    ensures err { OnErr result (string_bytes kept.new ≡ string_bytes kept.old) }
 {
-    if short_equals && word.as_bytes()[position] == b'=' {
-        word.remove_front(position + 1);
-    } else {
-        word.remove_front(position);
-    }
-    word
+    let Ok(text) = str::from_utf8(name) else {
+        *kept = lossy_text(alloc, name)?;
+        return Ok(());
+    };
+    kept.reserve(text.len().saturating_sub(kept.len()))?;
+    kept.clear();
+    kept.push_str(text)
 }

@@ -10,9 +10,9 @@ use crate::codepoint::{FirstCodepoint, first_codepoint};
 use std::fmt;
 use std::marker::Model;
 
-/// Bytes that print in double quotes: what is no printable ASCII character is escaped where it is a control character or
-/// no UTF-8, and everything else past ASCII stands for itself. So no line break or terminal command is printed, and
-/// different bytes print differently.
+/// Bytes that print in double quotes. A double quote, a backslash, each control character of ASCII and each byte that is
+/// no UTF-8 are escaped. Every other character stands for itself, also one that a terminal may act on, as U+0085, U+009B
+/// and U+2028.
 ///
 /// The bytes `66 6F 6F FF` print as `"foo\xFF"`.
 #[derive(Drop)]

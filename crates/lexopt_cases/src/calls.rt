@@ -1,17 +1,15 @@
 //! Each public call once, with memory enough.
-use lexopt::os_string::Quoted;
 use lexopt::replay::RunError;
-use lexopt::{Arg, Error, OsString, Parser};
+use lexopt::{Arg, Error, OsStr, OsString, Parser, Quoted};
 use std::alloc::{AllocError, AllocFailed, Global};
+use std::hash::{DefaultHasher, Hash, Hasher};
 use std::test::Fail;
 
-fn parser_of(alloc: Global, words: &[&[u8]]) -> Result<Parser, Error> {
+pub fn parser_of(alloc: Global, words: &[&[u8]]) -> Result<Parser, Error> {
     let mut list = Vec::new(alloc);
     for word in words {
         let word = OsString::from_bytes(alloc, word)?;
-        if list.push(word).is_err() {
-            return Err(Error::OutOfMemory);
-        }
+        list.push(word)?;
     }
     Parser::from_args(alloc, list)
 }
@@ -54,42 +52,63 @@ fn quoted_bytes(rt: HostRuntime) -> Result<(), Fail> {
     Ok(())
 }
 
-#[test]
-fn messages(rt: HostRuntime) -> Result<(), Fail> {
-    let alloc = rt.alloc();
-    let option = || String::from_str(alloc, "-\"");
-    for (error, message) in [
-        (Error::MissingValue { option: None }, "missing argument"),
-        (
-            Error::MissingValue {
-                option: Some(option()?),
-            },
-            "missing argument for option '-\"'",
-        ),
-        (
-            Error::UnexpectedArgument(OsString::from_text(alloc, "foo")?),
-            "unexpected argument \"foo\"",
-        ),
-        (
-            Error::UnexpectedValue {
-                option: String::from_str(alloc, "--foobar")?,
-                value: OsString::from_text(alloc, "qux=baz")?,
-            },
-            "unexpected argument for option '--foobar': \"qux=baz\"",
-        ),
-        (Error::from(AllocError), "out of memory"),
-    ] {
-        assert_eq!(rt; error.to_string(alloc)?.as_str(), message);
-        assert_eq!(rt; format!(in alloc; "{error:?}")?.as_str(), message);
+// Whether the next option is this one.
+pub fn reads_short(parser: &mut Parser, wanted: char) -> Result<bool, Error> {
+    match parser.next()? {
+        Some(Arg::Short(option)) => Ok(option == wanted),
+        _ => Ok(false),
     }
-    Ok(())
+}
+
+pub fn reads_long(parser: &mut Parser, wanted: &str) -> Result<bool, Error> {
+    match parser.next()? {
+        Some(Arg::Long(name)) => Ok(name == wanted),
+        _ => Ok(false),
+    }
+}
+
+// Whether the next argument is no option but this word.
+pub fn reads_word(parser: &mut Parser, wanted: &[u8]) -> Result<bool, Error> {
+    match parser.next()? {
+        Some(Arg::Value(word)) => Ok(word.as_bytes() == wanted),
+        _ => Ok(false),
+    }
+}
+
+// Whether all is read.
+pub fn is_at_end(parser: &mut Parser) -> Result<bool, Error> {
+    Ok(parser.next()?.is_none())
+}
+
+// Whether these bytes are the value.
+pub fn takes(parser: &mut Parser, wanted: &[u8]) -> Result<bool, Error> {
+    Ok(parser.value()?.as_bytes() == wanted)
+}
+
+// Whether these bytes are the optional value.
+fn takes_optional(parser: &mut Parser, wanted: &[u8]) -> bool {
+    match parser.optional_value() {
+        Some(value) => value.as_bytes() == wanted,
+        None => false,
+    }
 }
 
 #[test]
 fn options_and_values(rt: HostRuntime) -> Result<(), Fail> {
-    let alloc = rt.alloc();
-    let mut parser = parser_of(alloc, &[b"--foobar=qux=baz", b"-x", b"--", b"-y"])?;
-    assert!(rt; matches!(parser.next()?, Some(Arg::Long("foobar"))));
+    let mut parser = parser_of(rt.alloc(), &[b"--out=x", b"-x", b"--", b"-y"])?;
+    assert!(rt; reads_long(&mut parser, "out")?);
+    assert!(rt; takes(&mut parser, b"x")?);
+    assert!(rt; reads_short(&mut parser, 'x')?);
+    assert!(rt; takes(&mut parser, b"--")?);
+    assert!(rt; reads_short(&mut parser, 'y')?);
+    assert!(rt; is_at_end(&mut parser)?);
+    Ok(())
+}
+
+#[test]
+fn unexpected_value(rt: HostRuntime) -> Result<(), Fail> {
+    let mut parser = parser_of(rt.alloc(), &[b"--foobar=qux=baz", b"foo"])?;
+    assert!(rt; reads_long(&mut parser, "foobar")?);
     match parser.next() {
         Err(Error::UnexpectedValue { option, value }) => {
             assert_eq!(rt; option.as_str(), "--foobar");
@@ -97,9 +116,14 @@ fn options_and_values(rt: HostRuntime) -> Result<(), Fail> {
         }
         _ => return Err(Fail::from("an unexpected value")),
     }
-    assert!(rt; matches!(parser.next()?, Some(Arg::Short('x'))));
-    assert_eq!(rt; parser.value()?.as_bytes(), b"--".as_slice());
-    assert!(rt; matches!(parser.next()?, Some(Arg::Short('y'))));
+    assert!(rt; reads_word(&mut parser, b"foo")?);
+    Ok(())
+}
+
+#[test]
+fn missing_value(rt: HostRuntime) -> Result<(), Fail> {
+    let mut parser = parser_of(rt.alloc(), &[b"-y"])?;
+    assert!(rt; reads_short(&mut parser, 'y')?);
     match parser.value() {
         Err(
             Error::MissingValue {
@@ -108,7 +132,7 @@ fn options_and_values(rt: HostRuntime) -> Result<(), Fail> {
         ) => assert_eq!(rt; option.as_str(), "-y"),
         _ => return Err(Fail::from("a missing value")),
     }
-    assert!(rt; parser.next()?.is_none());
+    assert!(rt; is_at_end(&mut parser)?);
     Ok(())
 }
 
@@ -136,5 +160,167 @@ fn run_errors(rt: HostRuntime) -> Result<(), Fail> {
         RunError::from(AllocFailed { value: 0u8 }),
         RunError::NoMemory
     );
+    Ok(())
+}
+
+#[test]
+fn views_and_clones(rt: HostRuntime) -> Result<(), Fail> {
+    let alloc = rt.alloc();
+    for bytes in [
+        b"".as_slice(),
+        b"foo".as_slice(),
+        b"foo\xff".as_slice(),
+        b"\xff\xfe\0-".as_slice(),
+    ] {
+        let view = OsStr::from_bytes(bytes);
+        let word = view.to_os_string(alloc)?;
+        assert_eq!(rt; word.as_bytes(), bytes);
+        let copy = word.clone()?;
+        assert!(rt; copy == word);
+        assert_eq!(rt; copy.as_bytes(), bytes);
+        assert!(rt; word.as_os_str() == view);
+        assert_eq!(rt; word.as_os_str().as_bytes(), bytes);
+        assert_eq!(rt; view.bytes, bytes);
+    }
+    assert!(rt; OsStr::from_bytes(b"foo") != OsStr::from_bytes(b"foo\xff"));
+    assert!(rt; OsStr::from_bytes(b"foo") != OsStr::from_bytes(b"fox"));
+    Ok(())
+}
+
+#[test]
+fn texts_of_words(rt: HostRuntime) -> Result<(), Fail> {
+    let alloc = rt.alloc();
+    for (bytes, text) in [
+        (b"".as_slice(), Some("")),
+        (b"foo".as_slice(), Some("foo")),
+        (b"\xc2\xb5".as_slice(), Some("µ")),
+        (b"\xf0\x9d\x84\x9e".as_slice(), Some("\u{1d11e}")),
+        (b"\xef\xbf\xbd".as_slice(), Some("\u{fffd}")),
+        (b"foo\xff".as_slice(), None),
+        (b"a\xffc".as_slice(), None),
+        (b"\xf0\x9d\x84".as_slice(), None),
+        (b"\xed\xa0\x80".as_slice(), None),
+    ] {
+        assert_eq!(rt; OsStr::from_bytes(bytes).to_str(), text);
+        let word = OsString::from_bytes(alloc, bytes)?;
+        assert_eq!(rt; word.to_str(), text);
+        match word.into_string() {
+            Ok(found) => {
+                assert_eq!(rt; Some(found.as_str()), text);
+                let again = OsString::from_string(found);
+                assert_eq!(rt; again.as_bytes(), bytes);
+            }
+            Err(word) => {
+                assert!(rt; text.is_none());
+                assert_eq!(rt; word.as_bytes(), bytes);
+            }
+        }
+    }
+    Ok(())
+}
+
+#[test]
+fn debug_text_of_words(rt: HostRuntime) -> Result<(), Fail> {
+    let alloc = rt.alloc();
+    for (bytes, text) in [
+        (b"".as_slice(), "\"\""),
+        (b"foo\xff".as_slice(), "\"foo\\xFF\""),
+        (
+            b"\x1b\x01\xf0\x9d'".as_slice(),
+            "\"\\u{1b}\\u{1}\\xF0\\x9D'\"",
+        ),
+    ] {
+        let word = OsString::from_bytes(alloc, bytes)?;
+        assert_eq!(rt; format!(in alloc; "{word:?}")?.as_str(), text);
+        let view = OsStr::from_bytes(bytes);
+        assert_eq!(rt; format!(in alloc; "{view:?}")?.as_str(), text);
+    }
+    Ok(())
+}
+
+// Words in their order, which is that of their lists of bytes: the first byte that differs decides, and a front comes first.
+#[test]
+fn order_of_words(rt: HostRuntime) -> Result<(), Fail> {
+    let alloc = rt.alloc();
+    let ordered = [
+        b"".as_slice(),
+        b"\0".as_slice(),
+        b"-".as_slice(),
+        b"--".as_slice(),
+        b"-a".as_slice(),
+        b"-ab".as_slice(),
+        b"-b".as_slice(),
+        b"foo".as_slice(),
+        b"foo\xff".as_slice(),
+        b"fop".as_slice(),
+        b"\xc2\xb5".as_slice(),
+        b"\xff".as_slice(),
+    ];
+    for (place, bytes) in ordered.iter().enumerate() {
+        let word = OsString::from_bytes(alloc, bytes)?;
+        for (other_place, other) in ordered.iter().enumerate() {
+            let other = OsString::from_bytes(alloc, other)?;
+            assert_eq!(rt; word.cmp(&other), place.cmp(&other_place));
+            assert_eq!(rt; word < other, place < other_place);
+            assert_eq!(rt; word == other, place == other_place);
+        }
+    }
+    Ok(())
+}
+
+fn hash_of<T: Hash>(value: &T) -> u64 {
+    let mut state = DefaultHasher::new();
+    value.hash(&mut state);
+    state.finish()
+}
+
+#[test]
+fn hashes_of_words(rt: HostRuntime) -> Result<(), Fail> {
+    let alloc = rt.alloc();
+    let word = OsString::from_bytes(alloc, b"foo\xff")?;
+    assert_eq!(rt; hash_of(&word), hash_of(&word.clone()?));
+    assert_eq!(rt; hash_of(&word), hash_of(&b"foo\xff".as_slice()));
+    assert!(rt; hash_of(&word) != hash_of(&OsString::from_text(alloc, "foo!")?));
+    Ok(())
+}
+
+#[test]
+fn optional_values(rt: HostRuntime) -> Result<(), Fail> {
+    let mut parser = parser_of(rt.alloc(), &[b"-c=d", b"e"])?;
+    assert!(rt; reads_short(&mut parser, 'c')?);
+    parser.set_short_equals(false);
+    assert!(rt; takes_optional(&mut parser, b"=d"));
+    assert!(rt; parser.optional_value().is_none());
+    assert!(rt; reads_word(&mut parser, b"e")?);
+    Ok(())
+}
+
+#[test]
+fn copies_of_parsers(rt: HostRuntime) -> Result<(), Fail> {
+    let mut parser = parser_of(rt.alloc(), &[b"-ab", b"-c=d"])?;
+    assert!(rt; reads_short(&mut parser, 'a')?);
+    let mut copy = parser.clone()?;
+    assert!(rt; takes(&mut copy, b"b")?);
+    assert!(rt; takes(&mut parser, b"b")?);
+    parser.set_short_equals(false);
+    assert!(rt; reads_short(&mut copy, 'c')?);
+    assert!(rt; takes(&mut copy, b"d")?);
+    assert!(rt; reads_short(&mut parser, 'c')?);
+    assert!(rt; takes(&mut parser, b"=d")?);
+    Ok(())
+}
+
+#[test]
+fn copies_of_arguments(rt: HostRuntime) -> Result<(), Fail> {
+    let word = OsString::from_text(rt.alloc(), "foo")?;
+    for (argument, text) in [
+        (Arg::Short('a'), "Short('a')"),
+        (Arg::Long("n"), "Long(\"n\")"),
+        (Arg::Value(word), "Value(\"foo\")"),
+    ] {
+        let copy = argument.clone()?;
+        assert!(rt; copy == argument);
+        assert_eq!(rt; format!(in rt.alloc(); "{copy:?}")?.as_str(), text);
+    }
     Ok(())
 }

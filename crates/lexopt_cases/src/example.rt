@@ -1,6 +1,6 @@
 //! The example of the README.
 use lexopt::{Arg, Error, OsString, Parser};
-use std::alloc::AllocFailed;
+use std::alloc::Global;
 use std::test::Fail;
 
 // What a program was asked to do.
@@ -16,18 +16,11 @@ struct Options {
 enum UsageError {
     CommandLine(Error),
     UnknownOption,
-    OutOfMemory,
 }
 
 impl From<Error> for UsageError {
     fn from(error: Error) -> UsageError {
         UsageError::CommandLine(error)
-    }
-}
-
-impl From<AllocFailed<OsString>> for UsageError {
-    fn from(_failed: AllocFailed<OsString>) -> UsageError {
-        UsageError::OutOfMemory
     }
 }
 
@@ -37,7 +30,7 @@ fn read_options(parser: &mut Parser, options: &mut Options) -> Result<(), UsageE
         match parser.next()? {
             Some(Arg::Short('n') | Arg::Long("number")) => options.number = Some(parser.value()?),
             Some(Arg::Long("shout")) => options.shout = true,
-            Some(Arg::Value(file)) => options.files.push(file)?,
+            Some(Arg::Value(file)) => options.files.push(file).map_err(Error::from)?,
             Some(Arg::Short(_) | Arg::Long(_)) => return Err(UsageError::UnknownOption),
             None => break,
         }
@@ -45,39 +38,61 @@ fn read_options(parser: &mut Parser, options: &mut Options) -> Result<(), UsageE
     Ok(())
 }
 
+// Whether the line is understood, and what was read until then is `-n 10`, `--shout` and these files.
+fn reads(alloc: Global, line: &[&str], known: bool, files: &[&str]) -> Result<bool, Error> {
+    let mut words = Vec::new(alloc);
+    for word in line {
+        words.push(OsString::from_text(alloc, word)?)?;
+    }
+    let mut parser = Parser::from_args(alloc, words)?;
+    let mut options = Options {
+        number: None,
+        shout: false,
+        files: Vec::new(alloc),
+    };
+    let is_known = match read_options(&mut parser, &mut options) {
+        Ok(()) => true,
+        Err(UsageError::CommandLine(error)) => return Err(error),
+        Err(UsageError::UnknownOption) => false,
+    };
+    let number = OsString::from_text(alloc, "10")?;
+    Ok(
+        is_known == known
+            && options.shout
+            && options.number == Some(number)
+            && are(&options.files, files),
+    )
+}
+
+fn are(words: &[OsString], texts: &[&str]) -> bool {
+    words.len() == texts.len()
+        && words
+            .iter()
+            .zip(texts.iter())
+            .all(|(word, text)| word.as_bytes() == text.as_bytes())
+}
+
 #[test]
 fn reads_the_example(rt: HostRuntime) -> Result<(), Fail> {
-    let alloc = rt.alloc();
-    for (line, known) in [
-        (["-n10", "--shout", "file", "--", "-x", ""], true),
-        (["--number=10", "--shout", "file", "--", "-x", ""], true),
-        (["-n=10", "file", "--shout", "--", "-x", ""], true),
-        (["-n", "10", "--shout", "file", "--", "-x"], true),
-        (["--number", "10", "--shout", "file", "--", "-x"], true),
-        (["-n10", "--shout", "file", "-x", "--", ""], false),
+    for line in [
+        ["-n10", "--shout", "file", "--", "-x", ""],
+        ["--number=10", "--shout", "file", "--", "-x", ""],
+        ["-n=10", "file", "--shout", "--", "-x", ""],
     ] {
-        let mut words = Vec::new(alloc);
-        for word in line {
-            words.push(OsString::from_text(alloc, word)?)?;
-        }
-        let mut parser = Parser::from_args(alloc, words)?;
-        let mut options = Options {
-            number: None,
-            shout: false,
-            files: Vec::new(alloc),
-        };
-        match read_options(&mut parser, &mut options) {
-            Ok(()) => assert!(rt; known),
-            Err(error) => assert!(rt; !known && matches!(error, UsageError::UnknownOption)),
-        }
-        assert!(rt; options.shout);
-        assert!(rt; options.number == Some(OsString::from_text(alloc, "10")?));
-        assert!(rt; !options.files.is_empty());
-        assert_eq!(rt; options.files[0].as_bytes(), b"file".as_slice());
-        if known {
-            assert!(rt; options.files.len() > 1);
-            assert_eq!(rt; options.files[1].as_bytes(), b"-x".as_slice());
-        }
+        assert!(rt; reads(rt.alloc(), &line, true, &["file", "-x", ""])?);
     }
+    for line in [
+        ["-n", "10", "--shout", "file", "--", "-x"],
+        ["--number", "10", "--shout", "file", "--", "-x"],
+    ] {
+        assert!(rt; reads(rt.alloc(), &line, true, &["file", "-x"])?);
+    }
+    Ok(())
+}
+
+#[test]
+fn refuses_an_unknown_option(rt: HostRuntime) -> Result<(), Fail> {
+    let line = ["-n10", "--shout", "file", "-x", "--", ""];
+    assert!(rt; reads(rt.alloc(), &line, false, &["file"])?);
     Ok(())
 }

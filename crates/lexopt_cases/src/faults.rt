@@ -1,12 +1,12 @@
-//! Readers and writers that fail, that are slow and that never end.
+//! Readers and writers that fail, that are slow and that never end, and scripts that a case file cannot say.
 use lexopt::replay::{RunError, run};
 use std::io;
 use std::io::{Read, Write};
 use std::test::Fail;
 
-const SCRIPT: &[u8] = b"w --out=x\nw file\nw --\nw -y\nnext\nvalue\nnext\nnext\nnext\n";
+pub const SCRIPT: &[u8] = b"w --out=x\nw file\nw --\nw -y\nnext\nvalue\nnext\nnext\nnext\n";
 
-const WRITTEN: &[u8] = b"Long \"out\"\n\"x\"\nValue \"file\"\nValue \"-y\"\nNone\n";
+pub const WRITTEN: &[u8] = b"Long \"out\"\n\"x\"\nValue \"file\"\nValue \"-y\"\nNone\n";
 
 // Gives one byte at a time, and fails at this read, counted from 1; at 0 none fails.
 #[derive(Drop)]
@@ -164,21 +164,24 @@ fn limits(rt: HostRuntime) -> Result<(), Fail> {
     Ok(())
 }
 
+// Scripts that a case file cannot say.
 #[test]
-fn bad_scripts(rt: HostRuntime) -> Result<(), Fail> {
+fn line_ends_and_bytes(rt: HostRuntime) -> Result<(), Fail> {
     let alloc = rt.alloc();
-    let mut text = Vec::new(alloc);
-    for (script, answer) in [
-        (b"w a\\q".as_slice(), Err(RunError::BadLine(1))),
-        (b"w a\nnext\nw b".as_slice(), Err(RunError::BadLine(3))),
-        (b"next ".as_slice(), Err(RunError::BadLine(1))),
-        (b"\nvalues".as_slice(), Err(RunError::BadLine(2))),
-        (b"next\r\n".as_slice(), Err(RunError::BadLine(1))),
-        (b"".as_slice(), Ok(())),
+    for (script, text, answer) in [
+        (b"".as_slice(), b"".as_slice(), Ok(())),
+        (b"w a\nnext", b"Value \"a\"\n", Ok(())),
+        (b"w a\r\nnext\n", b"Value \"a\\r\"\n", Ok(())),
+        (b"w \xff\nnext\n", b"Value \"\\xFF\"\n", Ok(())),
+        (b"w a\\q", b"", Err(RunError::BadLine(1))),
+        (b"w a\nnext\nw b", b"", Err(RunError::BadLine(3))),
+        (b"next\r\n", b"", Err(RunError::BadLine(1))),
+        (b"w a\n\xff\n", b"", Err(RunError::BadLine(2))),
     ] {
+        let mut written = Vec::new(alloc);
         let mut reader = script;
-        assert_eq!(rt; run(alloc, &mut reader, &mut text), answer);
+        assert_eq!(rt; run(alloc, &mut reader, &mut written), answer);
+        assert_eq!(rt; written.as_slice(), text);
     }
-    assert!(rt; text.is_empty());
     Ok(())
 }

@@ -1,76 +1,190 @@
-//! Replays recorded answers of lexopt 0.3.2, and has the tests that cross crates.
+//! Replays cases: scripts of calls, each with the text that it is to write. It also has the tests that cross crates.
 //!
-//! Standard input holds cases: lines `> ` with a script, lines `< ` with what the original's answers print as, and an empty
-//! line behind each case. Each case whose script writes something else is printed, and then the counts.
+//! Standard input holds the cases; the head of the file `stdin` says how they are written. Each case that comes to something
+//! else is printed, and behind each section the number of its cases that agree and that differ.
 #![tactic(auto)]
 
 #[cfg(test)]
 mod calls;
 #[cfg(test)]
+mod errors;
+#[cfg(test)]
 mod example;
 #[cfg(test)]
 mod faults;
 #[cfg(test)]
-mod worked_examples;
+mod refused_memory;
+#[cfg(test)]
+mod sizes;
+#[cfg(test)]
+mod whole_lines;
 
 use lexopt::replay::run;
 use std::alloc::{AllocError, Global};
 use std::io;
 
-// A script, and what is to be written for it.
+// What a script comes to: what is written for it, and the message if it is refused.
+#[derive(PartialEq, Drop)]
+struct Outcome {
+    written: Vec<u8>,
+    refusal: String,
+}
+
+// A script, and what it is to come to.
 #[derive(Drop)]
 struct Case {
     script: String,
-    wanted: String,
+    wanted: Outcome,
+}
+
+// A section: its name, the heading that was read last, and its cases so far.
+#[derive(Drop)]
+struct Section {
+    name: String,
+    heading: String,
+    agree: u32,
+    differ: u32,
+}
+
+impl Outcome {
+    fn new(alloc: Global) -> Outcome {
+        Outcome {
+            written: Vec::new(alloc),
+            refusal: String::new(alloc),
+        }
+    }
+
+    // What a script comes to.
+    fn of(alloc: Global, script: &str) -> Result<Outcome, AllocError> {
+        let mut outcome = Outcome::new(alloc);
+        if let Err(error) = run(alloc, &mut script.as_bytes(), &mut outcome.written) {
+            outcome.refusal = format!(in alloc; "{error}\n")?;
+        }
+        Ok(outcome)
+    }
+
+    fn print(&self, rt: &(impl Print + AllocGlobal)) -> io::Result<()> {
+        let written = String::from_utf8_lossy(rt.alloc(), self.written.as_slice())?;
+        print_lines(rt, "<", written.as_str())?;
+        print_lines(rt, "!", self.refusal.as_str())
+    }
 }
 
 impl Case {
     fn new(alloc: Global) -> Case {
         Case {
             script: String::new(alloc),
-            wanted: String::new(alloc),
+            wanted: Outcome::new(alloc),
         }
     }
 
-    // Adds a line of a case.
-    fn add(&mut self, line: &str) -> Result<(), AllocError> {
-        if let Some(line) = line.strip_prefix("> ") {
-            self.script.push_str(line)?;
+    fn is_empty(&self) -> bool {
+        self.script.is_empty() && self.wanted.written.is_empty() && self.wanted.refusal.is_empty()
+    }
+
+    // Adds a line, if it is one of a case.
+    fn add(&mut self, line: &str) -> Result<bool, AllocError> {
+        if let Some(text) = behind(line, ">") {
+            self.script.push_str(text)?;
             self.script.push('\n')?;
+        } else if let Some(text) = behind(line, "<") {
+            self.wanted.written.extend_from_slice(text.as_bytes())?;
+            self.wanted.written.push(b'\n')?;
+        } else if let Some(text) = behind(line, "!") {
+            self.wanted.refusal.push_str(text)?;
+            self.wanted.refusal.push('\n')?;
+        } else {
+            return Ok(false);
         }
-        if let Some(line) = line.strip_prefix("< ") {
-            self.wanted.push_str(line)?;
-            self.wanted.push('\n')?;
-        }
-        Ok(())
+        Ok(true)
+    }
+}
+
+impl Section {
+    fn new(alloc: Global, name: &str) -> Result<Section, AllocError> {
+        Ok(Section {
+            name: String::from_str(alloc, name)?,
+            heading: String::new(alloc),
+            agree: 0,
+            differ: 0,
+        })
     }
 
-    // Whether the script writes what is wanted.
-    fn agrees(&self, alloc: Global) -> bool {
-        let mut written = Vec::new(alloc);
-        let done = run(alloc, &mut self.script.as_bytes(), &mut written);
-        done.is_ok() && written.as_slice() == self.wanted.as_bytes()
+    // Replays a case, and prints it if it comes to something else.
+    fn replay(&mut self, rt: &(impl Print + AllocGlobal), case: &Case) -> io::Result<()> {
+        if case.is_empty() {
+            return Ok(());
+        }
+        let outcome = Outcome::of(rt.alloc(), case.script.as_str())?;
+        if outcome == case.wanted {
+            self.agree = self.agree.saturating_add(1);
+            return Ok(());
+        }
+        self.differ = self.differ.saturating_add(1);
+        print_lines(rt, "##", self.heading.as_str())?;
+        print_lines(rt, ">", case.script.as_str())?;
+        println!(rt; "wanted")?;
+        case.wanted.print(rt)?;
+        println!(rt; "came")?;
+        outcome.print(rt)
     }
+
+    // Prints the counts, if there is a case.
+    fn print(&self, rt: &impl Print) -> io::Result<()> {
+        let Section {
+            name,
+            agree,
+            differ,
+            ..
+        } = self;
+        if *agree == 0 && *differ == 0 {
+            return Ok(());
+        }
+        println!(rt; "{name}: {agree} agree, {differ} differ")
+    }
+}
+
+// What stands behind the mark of a line: nothing, or a text with a blank in front.
+fn behind<'a>(line: &'a str, mark: &str) -> Option<&'a str> {
+    let rest = line.strip_prefix(mark)?;
+    if rest.is_empty() {
+        Some(rest)
+    } else {
+        rest.strip_prefix(" ")
+    }
+}
+
+fn print_lines(rt: &impl Print, mark: &str, text: &str) -> io::Result<()> {
+    for line in text.lines() {
+        println!(rt; "{mark} {line}")?;
+    }
+    Ok(())
 }
 
 fn main(rt: HostRuntime) -> io::Result<()> {
     let alloc = rt.alloc();
+    let mut section = Section::new(alloc, "Cases in no section")?;
     let mut case = Case::new(alloc);
-    let mut agree = 0u32;
-    let mut differ = 0u32;
+    let mut number = 0u32;
     for line in rt.lines(alloc) {
         let line = line?;
-        if !line.is_empty() {
-            case.add(line.as_str())?;
+        let line = line.as_str();
+        number = number.saturating_add(1);
+        if case.add(line)? {
             continue;
         }
-        if case.agrees(alloc) {
-            agree = agree.saturating_add(1);
-        } else {
-            differ = differ.saturating_add(1);
-            rt.print(case.script.as_str())?;
-        }
+        // Each other line ends the case.
+        section.replay(&rt, &case)?;
         case = Case::new(alloc);
+        if let Some(name) = behind(line, "#") {
+            section.print(&rt)?;
+            section = Section::new(alloc, name)?;
+        } else if let Some(heading) = behind(line, "##") {
+            section.heading = String::from_str(alloc, heading)?;
+        } else if !line.is_empty() && behind(line, "//").is_none() {
+            println!(rt; "line {number} has no mark: {line}")?;
+        }
     }
-    println!(rt; "{agree} recorded answers agree, {differ} differ")
+    section.replay(&rt, &case)?;
+    section.print(&rt)
 }

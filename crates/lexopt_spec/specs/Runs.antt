@@ -1,16 +1,38 @@
--- Lists of calls on one line: one reply for each call, each by the rules of `docs/behaviour.md`.
-use Rattle.std.specs.Prelude.{◌≡◌, List, [], ◌∷◌}
+-- Lists of calls on one line: one reply for each call, what becomes of each byte, and what is left of a list that was cut short.
+-- The source is `docs/behaviour.md`.
+use Rattle.std.specs.Prelude.{◌≡◌, ◌⊎◌, ℕ, Bool, List, [], ◌∷◌, ◌++◌, min}
+use Rattle.std.proofs.Common.{inl, inr}
 use Rattle.lexopt_spec.specs.UnreadLine.{UnreadLine}
-use Rattle.lexopt_spec.specs.Steps.{Reply, Next, Value}
+use Rattle.lexopt_spec.specs.Steps.{Reply, NextStep, ValueStep, OptionalStep, SwitchStep, Answers}
+use Rattle.lexopt_spec.specs.Account.{Segment, handing, handed_items, next_account}
+use Rattle.lexopt_spec.specs.Views.{ValuesStep, RawStep, TakesWords, TakesWordIf, TryRawStep}
 
 pub data Call : Type 0 where
   next : Call
   value : Call
+  optional : Call
+  -- a view, and so many items asked of it
+  values : ℕ → Call
+  raw : ℕ → Call
+  try_raw : ℕ → Call
+  -- `raw_args`, and its next word where it is this one
+  raw_if : List ℕ → Call
+  switch : Bool → Call
+
+-- with memory enough, a call answers so
+abbrev pub AmpleStep : Call → UnreadLine → Reply → UnreadLine → Type 0
+AmpleStep next = NextStep
+AmpleStep value = ValueStep
+AmpleStep optional = OptionalStep
+AmpleStep (values n) = ValuesStep n
+AmpleStep (raw n) = RawStep (TakesWords n)
+AmpleStep (try_raw n) = TryRawStep n
+AmpleStep (raw_if word) = RawStep (TakesWordIf word)
+AmpleStep (switch on) = SwitchStep on
 
 -- what a call answers at the line u, and the line after it
 abbrev pub Step : Call → UnreadLine → Reply → UnreadLine → Type 0
-Step next u reply after = Next u reply after
-Step value u reply after = Value u reply after
+Step call u reply after = Answers (AmpleStep call) u reply after
 
 -- one reply for each call, in order
 abbrev pub Run : UnreadLine → List Call → List Reply → UnreadLine → Type 0
@@ -18,3 +40,53 @@ Run u [] [] after = after ≡ u
 Run u [] (reply ∷ replies) after = ⊥
 Run u (call ∷ calls) [] after = ⊥
 Run u (call ∷ calls) (reply ∷ replies) after = (between : UnreadLine) × Step call u reply between × Run between calls replies after
+
+-- ---- the account of bytes
+
+-- the segments of what a call reads: every call but `next` hands out items alone
+abbrev pub ample_account : (call : Call) (u : UnreadLine) (reply : Reply) (after : UnreadLine) → AmpleStep call u reply after → List Segment
+ample_account next u reply after step = next_account u reply after step
+ample_account value u reply after step = handing u (handed_items reply)
+ample_account optional u reply after step = handing u (handed_items reply)
+ample_account (values n) u reply after step = handing u (handed_items reply)
+ample_account (raw n) u reply after step = handing u (handed_items reply)
+ample_account (try_raw n) u reply after step = handing u (handed_items reply)
+ample_account (raw_if word) u reply after step = handing u (handed_items reply)
+ample_account (switch on) u reply after step = []
+
+abbrev pub account : (call : Call) (u : UnreadLine) (reply : Reply) (after : UnreadLine) → Step call u reply after → List Segment
+account call u reply after (inl step) = ample_account call u reply after step
+account call u reply after (inr refused) = []
+
+-- the segments of a list of calls, in order
+abbrev pub segments : (u : UnreadLine) (calls : List Call) (replies : List Reply) (after : UnreadLine) → Run u calls replies after → List Segment
+segments u [] [] after run = []
+segments u [] (reply ∷ replies) after run = []
+segments u (call ∷ calls) [] after run = []
+segments u (call ∷ calls) (reply ∷ replies) after run =
+    account call u reply run.0 run.1 ++ segments run.0 calls replies after run.2
+
+-- a run, and its segments
+abbrev pub AccountedRun : UnreadLine → List Call → List Reply → List Segment → UnreadLine → Type 0
+AccountedRun u calls replies account_of after = (run : Run u calls replies after) × (account_of ≡ segments u calls replies after run)
+
+-- ---- where a list of calls was cut short
+
+-- the call with no more items asked than m
+abbrev pub up_to : ℕ → Call → Call
+up_to m next = next
+up_to m value = value
+up_to m optional = optional
+up_to m (values n) = values (min m n)
+up_to m (raw n) = raw (min m n)
+up_to m (try_raw n) = try_raw (min m n)
+up_to m (raw_if word) = raw_if word
+up_to m (switch on) = switch on
+
+-- some front of the calls was made, and then perhaps the next one, with some of its items
+abbrev pub Part : UnreadLine → List Call → UnreadLine → Type 0
+Part u [] after = after ≡ u
+Part u (call ∷ calls) after =
+    (after ≡ u)
+    ⊎ (((m : ℕ) × (reply : Reply) × Step (up_to m call) u reply after)
+    ⊎ ((between : UnreadLine) × (reply : Reply) × Step call u reply between × Part between calls after))

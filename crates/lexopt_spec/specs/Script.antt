@@ -1,10 +1,10 @@
 -- Scripts: what they mean, and what is written for them.
 -- The source is `docs/formats.md`. A script is a list of bytes.
 use Rattle.std.specs.Prelude.{ℕ, ◌+◌, ◌*◌, ◌-◌, Bool, true, false, nat_le, ◌==◌, ◌&&◌, ◌||◌, List, [], ◌∷◌, ◌++◌, Option, Some, None, codes, encode_utf8, if◌then◌else◌}
-use Rattle.std.specs.List.{filter_map, flat_map, slice_split}
+use Rattle.std.specs.List.{filter_map, flat_map, join_by, slice_split}
 use Rattle.std.specs.Cmp.Lexicographic.{pointwise}
-use Rattle.lexopt_spec.specs.Runs.{Call, next, value}
-use Rattle.lexopt_spec.specs.Steps.{Reply, short, long, positional, end, taken, missing, unexpected, no_memory}
+use Rattle.lexopt_spec.specs.Runs.{Call, next, value, optional, switch}
+use Rattle.lexopt_spec.specs.Steps.{Reply, short, long, positional, end, taken, maybe, items, busy, done, missing, unexpected, no_memory}
 use Rattle.lexopt_spec.specs.Text.{quoted, missing_message, unexpected_value_message, no_memory_message}
 
 abbrev pub newline : ℕ
@@ -82,8 +82,11 @@ meaning line =
     if pointwise ◌==◌ line [] then nothing
     else (if pointwise ◌==◌ line (codes "next") then call next
     else (if pointwise ◌==◌ line (codes "value") then call value
+    else (if pointwise ◌==◌ line (codes "optional") then call optional
+    else (if pointwise ◌==◌ line (codes "on") then call (switch true)
+    else (if pointwise ◌==◌ line (codes "off") then call (switch false)
     else (if pointwise ◌==◌ line (codes "w") then word []
-    else meaning_of_word line)))
+    else meaning_of_word line))))))
 
 -- ---- a script
 
@@ -91,20 +94,25 @@ meaning line =
 abbrev pub most_bytes : ℕ
 most_bytes = 1048576
 
+-- the call reads the line: the switch alone does not
+abbrev pub reads_line : Call → Bool
+reads_line (switch on) = false
+reads_line c = true
+
 abbrev pub is_call : Meaning → Bool
 is_call nothing = false
 is_call (word bytes) = false
-is_call (call c) = true
+is_call (call c) = reads_line c
 is_call bad = false
 
--- a word may not stand behind a call
+-- a word may not stand behind a call that reads the line
 abbrev pub is_bad : Bool → Meaning → Bool
 is_bad called nothing = false
 is_bad called (word bytes) = called
 is_bad called (call c) = false
 is_bad called bad = true
 
--- the number of the first bad line among these, the first of which has the number n; a call stands before them where called is true
+-- the number of the first bad line among these, the first of which has the number n; such a call stands before them where called is true
 abbrev pub first_bad : ℕ → Bool → List (List ℕ) → Option ℕ
 first_bad n called [] = None
 first_bad n called (line ∷ lines) =
@@ -143,6 +151,11 @@ reply_text (long name) = codes "Long " ++ quoted name
 reply_text (positional bytes) = codes "Value " ++ quoted bytes
 reply_text end = codes "None"
 reply_text (taken bytes) = quoted bytes
+reply_text (maybe None) = codes "None"
+reply_text (maybe (Some bytes)) = quoted bytes
+reply_text (items words) = codes "[" ++ (join_by quoted (codes ", ") words ++ codes "]")
+reply_text busy = codes "None"
+reply_text done = codes "ok"
 reply_text (missing option) = codes "error: " ++ missing_message option
 reply_text (unexpected option bytes) = codes "error: " ++ unexpected_value_message option bytes
 reply_text no_memory = codes "error: " ++ no_memory_message

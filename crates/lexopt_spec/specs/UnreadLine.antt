@@ -1,6 +1,7 @@
 -- The unread line: what is left of a command line, as contracts see a parser.
 -- The source is `docs/behaviour.md`. A word is a list of bytes, a name is the UTF-8 of its text.
-use Rattle.std.specs.Prelude.{◌≡◌, ◌≢◌, ℕ, Bool, true, false, ◌==◌, ◌&&◌, ◌⊎◌, List, [], ◌∷◌, Option, Some, None, encode_utf8, if◌then◌else◌}
+use Rattle.std.specs.Prelude.{◌≡◌, ◌≢◌, ℕ, Bool, true, false, ◌==◌, ◌&&◌, ◌||◌, not, ◌⊎◌, List, [], ◌∷◌, ◌++◌, Option, Some, None, encode_utf8, if◌then◌else◌}
+use Rattle.std.specs.List.{All}
 
 abbrev pub dash : ℕ
 dash = 0x2D
@@ -38,7 +39,7 @@ TailStands no_tail last ended = Unit {0}
 TailStands (joined value) last ended = (last ≢ no_option) × (ended ≡ false)
 TailStands (rest bytes) last ended = (last ≢ no_option) × (ended ≡ false) × (bytes ≢ [])
 
--- the lines that a parser can be: it is one at the start, and every step leads to one
+-- the lines that a parser can be are among these: it is one at the start, and every call leads from one to one
 abbrev pub IsLine : UnreadLine → Type 0
 IsLine u = TailStands u.tail u.last u.ended
 
@@ -75,10 +76,23 @@ BeginsWith b (c ∷ cs) = c ≡ b
 abbrev pub IsPlain : Bool → List ℕ → Type 0
 IsPlain ended word = (ended ≡ true) ⊎ ((word ≡ dash ∷ []) ⊎ ¬ BeginsWith dash word)
 
+-- the same, as a test
+abbrev pub is_plain : Bool → List ℕ → Bool
+is_plain ended [] = true
+is_plain ended (b ∷ []) = true
+is_plain ended (b ∷ c ∷ cs) = ended || not (b == dash)
+
 -- the next word can be one of several values
 abbrev pub IsNormalIn : Bool → List (List ℕ) → Type 0
 IsNormalIn ended [] = ⊥
 IsNormalIn ended (word ∷ words) = IsPlain ended word
 
+-- these words are the longest front of words that are all plain, and the others are left
+pub record IsPlainFront (ended : Bool) (words front left : List (List ℕ)) : Type 0 where
+  pub words_are : words ≡ front ++ left
+  pub plain : All (IsPlain ended) front
+  pub longest : ¬ IsNormalIn ended left
+
+-- no word is half read, and the next one can be one of several values
 abbrev pub IsNormal : UnreadLine → Type 0
 IsNormal u = (u.tail ≡ no_tail) × IsNormalIn u.ended u.words

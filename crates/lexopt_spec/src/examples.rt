@@ -2,13 +2,17 @@
 ghost use Rattle.std.specs.Prelude.{◌≡◌, ◌++◌, [], ◌∷◌, true, false, Some, None, codes};
 ghost use Rattle.lexopt_spec.specs.Pieces.{first_piece, lossy, lossy_characters};
 ghost use Rattle.lexopt_spec.specs.UnreadLine.{fresh, joined, long_option, no_option, no_tail, pending, pending_in, rest, rest_of, short_option, spelling};
-ghost use Rattle.lexopt_spec.specs.Steps.{end, long, missing, no_memory, positional, short, taken, unexpected};
-ghost use Rattle.lexopt_spec.specs.Runs.{next, value};
-ghost use Rattle.lexopt_spec.specs.Text.{missing_message, quoted, unexpected_argument_message, unexpected_value_message};
+ghost use Rattle.lexopt_spec.specs.Steps.{busy, done, end, items, long, maybe, missing, no_memory, positional, short, taken, unexpected};
+ghost use Rattle.lexopt_spec.specs.Runs.{next, optional, switch, value};
+ghost use Rattle.lexopt_spec.specs.Text.{missing_message, non_unicode_message, parsing_failed_message, quoted, unexpected_argument_message, unexpected_option_message, unexpected_value_message};
 ghost use Rattle.lexopt_spec.specs.Script.{bad_line, calls_of, lines_written, unescaped, words_of};
 
 use crate::laws::{
-    each_call_has_one_answer, first_piece_is_by_the_table, lines_stay_lines, pieces_are_in_a_row,
+    calls_cut_short_are_a_part, clusters_are_read_by_pieces, each_call_has_one_answer,
+    first_piece_is_by_the_table, items_make_the_call, lines_stay_lines, no_byte_is_lost,
+    one_value_tables_agree, pieces_are_in_a_row, plain_words_are_the_longest_front,
+    readings_say_what_words_show, replies_are_bounded, some_calls_are_never_refused, views_agree,
+    whole_names_are_spelled, words_show_one_list,
 };
 
 #[test]
@@ -17,6 +21,18 @@ fn laws_hold_at_some_bytes() {
     pieces_are_in_a_row(b"\xf0\x9da");
     each_call_has_one_answer();
     lines_stay_lines();
+    some_calls_are_never_refused();
+    plain_words_are_the_longest_front();
+    items_make_the_call();
+    no_byte_is_lost();
+    calls_cut_short_are_a_part();
+    replies_are_bounded();
+    clusters_are_read_by_pieces();
+    views_agree();
+    readings_say_what_words_show();
+    words_show_one_list();
+    whole_names_are_spelled();
+    one_value_tables_agree();
 }
 
 #[test]
@@ -31,6 +47,7 @@ fn definitions_compute_the_worked_examples() {
     scripts_have_bad_lines();
     a_script_has_words_and_calls();
     replies_are_written();
+    more_replies_are_written();
 }
 
 #[tactic(auto, unfolding(crate::proofs::Computing::computing))]
@@ -88,8 +105,12 @@ fn quoted_forms()
 fn messages()
     ensures missing { missing_message None ≡ codes "missing argument" }
     ensures missing_of { missing_message (Some (codes "-o")) ≡ codes "missing argument for option '-o'" }
+    ensures short_option { unexpected_option_message (codes "-o") ≡ codes "invalid option '-o'" }
+    ensures long_option { unexpected_option_message (codes "--opt") ≡ codes "invalid option '--opt'" }
     ensures argument { unexpected_argument_message (codes "foo") ≡ codes "unexpected argument \"foo\"" }
     ensures value { unexpected_value_message (codes "--foobar") (codes "qux=baz") ≡ codes "unexpected argument for option '--foobar': \"qux=baz\"" }
+    ensures parse { parsing_failed_message (codes "foo") (codes "no number") ≡ codes "cannot parse argument \"foo\": no number" }
+    ensures no_text { non_unicode_message (codes "foo" ++ 0xFF ∷ []) ≡ codes "argument is invalid unicode: \"foo\\xFF\"" }
 {}
 
 fn texts_are_unescaped()
@@ -110,11 +131,14 @@ fn scripts_have_bad_lines()
     ensures empty { bad_line [] ≡ None }
     ensures empty_lines { bad_line (codes "\n\nnext\n") ≡ None }
     ensures carriage_return { bad_line (codes "next\r") ≡ Some 1 }
+    ensures word_behind_a_switch { bad_line (codes "off\nw a\non\nw b\noptional") ≡ None }
+    ensures word_behind_optional { bad_line (codes "optional\nw a") ≡ Some 2 }
 {}
 
 fn a_script_has_words_and_calls()
     ensures words { words_of (codes "w --out=x\nw\nw \n\nw \\x2D\nnext\nvalue") ≡ codes "--out=x" ∷ [] ∷ [] ∷ codes "-" ∷ [] }
     ensures calls { calls_of (codes "w --out=x\nw\nw \n\nw \\x2D\nnext\nvalue") ≡ next ∷ value ∷ [] }
+    ensures switches { calls_of (codes "off\nw -a=b\nnext\non\noptional") ≡ switch false ∷ next ∷ switch true ∷ optional ∷ [] }
 {}
 
 #[tactic(auto, unfolding(crate::proofs::Computing::computing))]
@@ -124,4 +148,10 @@ fn replies_are_written()
     ensures errors { lines_written (missing None ∷ unexpected (codes "-a") (codes "b") ∷ no_memory ∷ [])
         ≡ codes "error: missing argument\nerror: unexpected argument for option '-a': \"b\"\nerror: out of memory\n" }
     ensures short { lines_written (short 0x61 ∷ []) ≡ codes "Short \"a\"\n" }
+{}
+
+#[tactic(auto, unfolding(crate::proofs::Computing::computing))]
+fn more_replies_are_written()
+    ensures views { lines_written (items [] ∷ items (codes "a" ∷ codes "b c" ∷ []) ∷ maybe None ∷ maybe (Some (codes "x")) ∷ busy ∷ done ∷ [])
+        ≡ codes "[]\n[\"a\", \"b c\"]\nNone\n\"x\"\nNone\nok\n" }
 {}

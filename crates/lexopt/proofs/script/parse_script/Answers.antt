@@ -1,10 +1,10 @@
-use Rattle.std.proofs.Common.{rules, tests, ◌≡◌, ◌+◌, true, [], ◌∷◌, length, map, Some, refl, sym, ap, ◌∙◌, inr, arith, append-nil}
+use Rattle.std.proofs.Common.{rules, tests, ◌≡◌, ◌+◌, ◌||◌, true, [], ◌∷◌, length, map, Some, refl, sym, ap, ◌∙◌, inr, arith, append-nil}
 use Rattle.std.proofs.lemmas.Bool.Decides.{nat_tests}
 use Rattle.std.proofs.lemmas.Iterator.Consumers.{YieldsList-at, YieldsList-from_enumerate}
 use Rattle.std.proofs.lemmas.Iterator.Splits.{YieldsList-from_slice_split}
 use Rattle.std.proofs.lemmas.List.{length_push, map-append, length-map}
 use Rattle.lexopt_spec.specs.Script.{nothing, word, call, is_bad}
-use Rattle.lexopt_spec.proofs.ScriptLemmas.{called, called-none, called-some, ReadsTo-more, ReadsTo-bad, ReadsTo-end}
+use Rattle.lexopt_spec.proofs.ScriptLemmas.{called, called-append, ReadsTo-more, ReadsTo-bad, ReadsTo-end}
 use Rattle.lexopt.specs.Meanings.{meaning_view}
 use Rattle.lexopt.specs.Replies.{call_view}
 use Rattle.lexopt.proofs.NumberedLines.{IsLineAt, line_read, lines_read}
@@ -19,37 +19,55 @@ turn c =
     (YieldsList-from_slice_split _ _ c.args.script.now c.split.ensures.rest c.split.ensures.done c.split.ensures.closure (λ x r q k. search (rules, tests))))
     c.enumerate-index-items.ensures.count))
 
-pub loop-index-preserved-in-Nothing-1 : goal.loop-index-preserved-in-Nothing-1
-loop-index-preserved-in-Nothing-1 c =
-    let line = turn (goal.at.loop-index-preserved-in-Nothing-1 c).In_ok-meaning_of in
-    let says = sym c.in_ok-meaning_of.ensures ∙ ap meaning_view c.in-Nothing.is in
-    ReadsTo-more _ _ _ _ _ _ _ c.in-Some.line.now nothing line.within line.is says refl (length_push c.loop-index.yielded _)
-    (sym (append-nil _)) (sym (append-nil _)) c.loop-index.invariant
+pub loop-index-preserved-in-Nothing : goal.loop-index-preserved-in-Nothing
+loop-index-preserved-in-Nothing c =
+    let line = turn (goal.at.loop-index-preserved-in-Nothing c).In_ok-meaning_of in
+    let says = sym c.in_ok-meaning_of.ensures ∙ ap meaning_view c.in-Nothing.is in (
+      ReadsTo-more _ _ _ _ _ _ _ c.in-Some.line.now nothing line.within line.is says refl (length_push c.loop-index.yielded _)
+          (sym (append-nil _)) (sym (append-nil _)) c.loop-index.invariant.0,
+      c.loop-index.invariant.1,
+    )
 
-pub loop-index-preserved-then-is_empty : goal.loop-index-preserved-then-is_empty
-loop-index-preserved-then-is_empty c =
-    let line = turn (goal.at.loop-index-preserved-then-is_empty c).In_ok-meaning_of in
-    let says = sym c.in_ok-meaning_of.ensures ∙ ap meaning_view c.in-Word.is in
-    let none : length (map call_view c.loop-index.calls.items) ≡ 0 = grind (arith, nat_tests, length-map) in
-    ReadsTo-more _ _ _ _ _ _ _ c.in-Some.line.now (word c.in-Word.word) line.within line.is says
-    (called-none _ none)
-    (length_push c.loop-index.yielded _) c.in_ok-push-in-Word.ensures.items (sym (append-nil _)) c.loop-index.invariant
+pub loop-index-preserved-in-Continue-branch-3 : goal.loop-index-preserved-in-Continue-branch-3
+loop-index-preserved-in-Continue-branch-3 c =
+    let line = turn (goal.at.loop-index-preserved-in-Continue-branch-3 c).In_ok-meaning_of in
+    let says = sym c.in_ok-meaning_of.ensures ∙ ap meaning_view c.in-Word.is in (
+      ReadsTo-more _ _ _ _ _ _ _ c.in-Some.line.now (word c.in-Word.word) line.within line.is says (sym c.loop-index.invariant.1 ∙ c.if-is_read.false)
+          (length_push c.loop-index.yielded _) c.in_ok-push-in-Word.ensures.items (sym (append-nil _)) c.loop-index.invariant.0,
+      c.loop-index.invariant.1,
+    )
 
 pub loop-index-preserved : goal.loop-index-preserved
 loop-index-preserved c =
     let line = turn (goal.at.loop-index-preserved c).In_ok-meaning_of in
     let says = sym c.in_ok-meaning_of.ensures ∙ ap meaning_view c.in-Call.is in
-    ReadsTo-more _ _ _ _ _ _ _ c.in-Some.line.now (call (call_view c.in-Call.call)) line.within line.is says refl (length_push c.loop-index.yielded _)
-    (sym (append-nil _)) (ap (map call_view) c.in_ok-push-in-Call.ensures.items ∙ map-append call_view c.loop-index.calls.items (c.in-Call.call ∷ [])) c.loop-index.invariant
+    let calls = map call_view c.loop-index.calls.items in
+    let more = ap (map call_view) c.in_ok-push-in-Call.ensures.items ∙ map-append call_view c.loop-index.calls.items (c.in-Call.call ∷ []) in (
+      ReadsTo-more _ _ _ _ _ _ _ c.in-Some.line.now (call (call_view c.in-Call.call)) line.within line.is says refl (length_push c.loop-index.yielded _)
+          (sym (append-nil _)) more c.loop-index.invariant.0,
+      ap (λ b. b || c.reads_line-is_read.result) c.loop-index.invariant.1 ∙ ap (λ b. called calls || b) c.reads_line-is_read.ensures
+          ∙ sym (called-append calls (call (call_view c.in-Call.call))) ∙ ap called (sym more),
+    )
 
-pub returns-in-Word-2-clause-err : goal.returns-in-Word-2-clause-err
-returns-in-Word-2-clause-err c =
-    let line = turn (goal.at.returns-in-Word-2-clause-err c).In_ok-meaning_of in
-    let wrong : is_bad (called (map call_view c.loop-index.calls.items)) (meaning_view c.in_ok-meaning_of.field-0) ≡ true = grind (arith, nat_tests, called-some, length-map) in
+pub returns-then-is_read-clause-err : goal.returns-then-is_read-clause-err
+returns-then-is_read-clause-err c =
+    let line = turn (goal.at.returns-then-is_read-clause-err c).In_ok-meaning_of in
+    let says = sym c.in_ok-meaning_of.ensures ∙ ap meaning_view c.in-Word.is in
     inr (
       c.in-Some.index + 1,
       refl,
-      ReadsTo-bad _ _ _ _ c.in-Some.line.now _ line.within line.is (sym c.in_ok-meaning_of.ensures) wrong c.loop-index.invariant
+      ReadsTo-bad _ _ _ _ c.in-Some.line.now _ line.within line.is says (sym c.loop-index.invariant.1 ∙ c.if-is_read.true) c.loop-index.invariant.0
+          ∙ ap (λ n. Some (n + 1)) (sym line.index_is),
+    )
+
+pub returns-in-Bad-clause-err : goal.returns-in-Bad-clause-err
+returns-in-Bad-clause-err c =
+    let line = turn (goal.at.returns-in-Bad-clause-err c).In_ok-meaning_of in
+    let says = sym c.in_ok-meaning_of.ensures ∙ ap meaning_view c.in-Bad.is in
+    inr (
+      c.in-Some.index + 1,
+      refl,
+      ReadsTo-bad _ _ _ _ c.in-Some.line.now _ line.within line.is says refl c.loop-index.invariant.0
           ∙ ap (λ n. Some (n + 1)) (sym line.index_is),
     )
 
@@ -59,4 +77,4 @@ returns-clause-ok c =
     (YieldsList-at c.into_iter-index-iterator.ensures.into_iter_gives (YieldsList-from_enumerate (YieldsList-at c.enumerate-index-items.ensures.source
     (YieldsList-from_slice_split _ _ c.args.script.now c.split.ensures.rest c.split.ensures.done c.split.ensures.closure (λ x r q k. search (rules, tests))))
     c.enumerate-index-items.ensures.count)) in
-    ReadsTo-end _ _ _ _ all c.loop-index.invariant
+    ReadsTo-end _ _ _ _ all c.loop-index.invariant.0

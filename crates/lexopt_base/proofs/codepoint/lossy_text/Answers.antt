@@ -1,4 +1,4 @@
-use Rattle.std.proofs.Common.{◌≡◌, ◌<◌, [], ◌++◌, length, string_bytes, encode_utf8, encode_utf8_all, sym, ap, ◌∙◌, arith, append-nil, map}
+use Rattle.std.proofs.Common.{◌≡◌, ◌<◌, [], ◌++◌, length, string_bytes, encode_utf8_all, sym, ap, ◌∙◌, arith, append-nil, map}
 use Rattle.std.proofs.lemmas.Bool.Decides.{nat_tests}
 use Rattle.std.proofs.lemmas.List.{nil_from_length}
 use Rattle.lexopt_spec.specs.Pieces.{shown, lossy}
@@ -13,7 +13,7 @@ loop-rest-preserved c =
     let some : 0 < length bs = grind (arith, nat_tests, c.is_empty.ensures, c.loop-rest-test.true) in
     text_step bs (string_bytes c.loop-rest.text) _ _ _ c.size.result (character_of piece.result) some
     (c.size.ensures ∙ piece.ensures.size) piece.ensures.character
-    (c.in_ok-push.ensures.bytes ∙ ap (λ x. string_bytes c.loop-rest.text ++ encode_utf8 x) c.shown.ensures)
+    c.in_ok-push_shown.ensures
     (rest_is bs c.size.result) c.loop-rest.invariant
 
 pub returns : goal.returns

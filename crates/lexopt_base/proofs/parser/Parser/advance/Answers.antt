@@ -1,44 +1,69 @@
-use Rattle.std.proofs.Common.{◌<◌, drop, length, refl, sym, ap, subst, ◌∙◌, inl, true≢false, arith, length-drop}
-use Rattle.lexopt_spec.specs.UnreadLine.{UnreadLine, pending}
-use Rattle.lexopt_spec.specs.Steps.{short, NextStep, ReadsShort, ReadsWord, ReadsPositional, Answers, next_in_cluster, after_separator, next_word}
-use Rattle.lexopt_spec.proofs.LineLemmas.{goes_on, rest_of-some}
-use Rattle.lexopt_base.specs.Words.{IsJoined}
-use Rattle.lexopt_base.specs.Replies.{Gives}
+use Rattle.std.proofs.Common.{◌≡◌, ◌<◌, List, ℕ, drop, length, refl, sym, ap, subst, ◌∙◌, inl, true≢false, arith, length-drop}
+use Rattle.lexopt_spec.specs.UnreadLine.{UnreadLine, pending, pending_in, rest_of, short_option}
+use Rattle.lexopt_spec.specs.Steps.{short, NextStep, ReadsPositional, ReadsWord, next_in_cluster, after_separator, next_word}
+use Rattle.lexopt_spec.proofs.LineLemmas.{goes_on, rest_of-some, same_parts}
+use Rattle.lexopt_spec.proofs.PieceSteps.{rest_is}
+use Rattle.lexopt_base.specs.View.{tail_of, ended_of, IsPlaced, IsShortRead}
+use Rattle.lexopt_base.specs.Helpers.{IsJoined}
 use Rattle.lexopt_base.specs.Found.{found_as, found_reply}
-use Rattle.lexopt_base.proofs.Refusals.{refuses, nothing_left, gives_map}
+use Rattle.lexopt_base.specs.declared.parser.State.{State}
+use Rattle.lexopt_base.proofs.Refusals.{refuses, gives_map, gives_step}
 use Rattle.lexopt_base.proofs.parser.Parser.advance.Goals as goal
 
-pub returns-then-has_joined_value : goal.returns-then-has_joined_value
-returns-then-has_joined_value c =
-    refuses c.args.self.now c.refuse_pending.new.self c.refuse_pending.result (c.has_joined_value.ensures.value.0 c.if-has_joined_value.true) c.refuse_pending.ensures
+pub returns-in-PendingValue : goal.returns-in-PendingValue
+returns-in-PendingValue c =
+    let p = c.self.inside in
+    let is = ap pending (sym c.self.view_is) ∙ ap (λ (s : State). pending_in p.short_equals (tail_of p.words.current s)) c.in-PendingValue.is in
+    refuses c.args.self.now c.refuse_pending.new.self c.refuse_pending.result (subst IsJoined (sym is) refl) c.refuse_pending.ensures
 
-pub returns-in-Some : goal.returns-in-Some
-returns-in-Some c =
+pub returns-then-is_joined : goal.returns-then-is_joined
+returns-then-is_joined c =
+    let p = c.self.inside in
+    let at = c.in-Shorts.position in
+    let behind = rest_is c.current-word.result.now at ∙ ap (drop at) c.current-word.ensures in
+    let is = ap pending (sym c.self.view_is) ∙ ap (λ (s : State). pending_in p.short_equals (tail_of p.words.current s)) c.in-Shorts.is
+    ∙ ap (λ (l : List ℕ). pending_in p.short_equals (rest_of l)) (sym behind) in
+    refuses c.args.self.now c.refuse_pending-then-is_joined.new.self c.refuse_pending-then-is_joined.result
+    (subst IsJoined (sym is) (c.is_joined.ensures.0 c.if-is_joined.true)) c.refuse_pending-then-is_joined.ensures
+
+pub returns-else-is_joined : goal.returns-else-is_joined
+returns-else-is_joined c =
     let u = c.args.self.now in
-    let bytes = drop c.in-Some.position c.in-Some.word in
-    let h = c.in-Some.ensures in
-    let some : 0 < length bytes = let below = h.0 in omega (arith, length-drop c.in-Some.position c.in-Some.word) in
-    let tail = h.2 ∙ rest_of-some bytes some in
-    let reads = subst (λ (l : UnreadLine). ReadsShort bytes l (short c.read_short.result) c.read_short.new.self) h.3 c.read_short.ensures in
+    let p = c.self.inside in
+    let word = p.words.current in
+    let at = c.in-Shorts.position in
+    let bytes = drop at word in
+    let behind = rest_is c.current-word.result.now at ∙ ap (drop at) c.current-word.ensures in
+    let below : at < length word = subst (λ (s : State). IsPlaced word s) c.in-Shorts.is c.self.invariant.placed in
+    let some : 0 < length bytes = omega (arith, length-drop at word) in
+    let is = ap (λ (s : State). tail_of word s) c.in-Shorts.is in
+    let tail = ap (λ (l : UnreadLine). l.tail) (sym c.self.view_is) ∙ is ∙ rest_of-some bytes some in
+    let joins = ap pending (sym c.self.view_is) ∙ ap (λ t. pending_in p.short_equals t) is ∙ ap (λ (l : List ℕ). pending_in p.short_equals (rest_of l)) (sym behind) in
+    let read = subst (λ (l : List ℕ). IsShortRead l at c.read_short-option.result.0 c.read_short-option.result.1) c.current-word.ensures c.read_short-option.ensures in
     inl (next_in_cluster bytes tail
-    (goes_on u bytes tail (λ value is. let joined : IsJoined (pending u) = subst IsJoined (sym is) refl in
-    true≢false (sym (c.has_joined_value.ensures.value.1 joined) ∙ c.if-has_joined_value.false)))
-    (record { some = reads.some; reply_is = reads.reply_is; after_is = reads.after_is }))
+    (goes_on u bytes tail (λ value known. true≢false (sym (c.is_joined.ensures.1 (subst IsJoined (sym known ∙ joins) refl)) ∙ c.if-is_joined.false)))
+    (record {
+      some = λ none. let e : length bytes ≡ 0 = ap length none in omega arith;
+      reply_is = ap short read.shown_is;
+      after_is = same_parts _ _ read.tail (ap (λ (l : UnreadLine). l.words) c.self.view_is)
+          (read.ended ∙ sym (ap ended_of c.in-Shorts.is) ∙ ap (λ (l : UnreadLine). l.ended) c.self.view_is)
+          (ap short_option read.shown_is) (ap (λ (l : UnreadLine). l.short_equals) c.self.view_is);
+    }))
 
-pub returns-then-has_ended : goal.returns-then-has_ended
-returns-then-has_ended c =
+pub returns-in-FinishedOpts : goal.returns-in-FinishedOpts
+returns-in-FinishedOpts c =
     let u = c.args.self.now in
-    let h = c.in_default.ensures in
-    let tail = nothing_left u (λ joined. true≢false (sym (c.has_joined_value.ensures.value.1 joined) ∙ c.if-has_joined_value.false)) h.0 in
-    inl (after_separator tail (sym (c.if-has_ended.ensures ∙ ap (λ (l : UnreadLine). l.ended) h.1))
-    (subst (λ (l : UnreadLine). ReadsPositional l (found_as c.read_positional.new.self.last c.read_positional.result) c.read_positional.new.self) h.1 c.read_positional.ensures))
+    let p = c.self.inside in
+    let tail = ap (λ (l : UnreadLine). l.tail) (sym c.self.view_is) ∙ ap (λ (s : State). tail_of p.words.current s) c.in-FinishedOpts.is in
+    let ended = ap (λ (l : UnreadLine). l.ended) (sym c.self.view_is) ∙ ap ended_of c.in-FinishedOpts.is in
+    gives_step ReadsPositional NextStep u u (λ r v reads. after_separator tail ended reads)
+    (found_as c.read_positional.new.self.last c.read_positional.result) c.read_positional.new.self c.read_positional.ensures
 
-pub returns : goal.returns
-returns c =
+pub returns-in-Ready : goal.returns-in-Ready
+returns-in-Ready c =
     let u = c.args.self.now in
-    let h = c.in_default.ensures in
-    let tail = nothing_left u (λ joined. true≢false (sym (c.has_joined_value.ensures.value.1 joined) ∙ c.if-has_joined_value.false)) h.0 in
-    let ended = sym (c.if-has_ended.ensures ∙ ap (λ (l : UnreadLine). l.ended) h.1) in
+    let p = c.self.inside in
+    let tail = ap (λ (l : UnreadLine). l.tail) (sym c.self.view_is) ∙ ap (λ (s : State). tail_of p.words.current s) c.in-Ready.is in
+    let ended = ap (λ (l : UnreadLine). l.ended) (sym c.self.view_is) ∙ ap ended_of c.in-Ready.is in
     gives_map ReadsWord NextStep u (λ r v step. next_word tail ended step)
-    (found_reply c.read_word.new.self.last c.read_word.result) c.read_word.new.self
-    (subst (λ (l : UnreadLine). Gives (Answers ReadsWord) l (found_reply c.read_word.new.self.last c.read_word.result) c.read_word.new.self) h.1 c.read_word.ensures)
+    (found_reply c.read_word.new.self.last c.read_word.result) c.read_word.new.self c.read_word.ensures

@@ -1,8 +1,9 @@
-use Rattle.std.proofs.Common.{ap}
+use Rattle.std.proofs.Common.{ap, ◌∙◌}
 use Rattle.lexopt_spec.specs.UnreadLine.{fresh}
+use Rattle.lexopt_base.specs.KeptWords.{Kept}
 use Rattle.lexopt_base.proofs.parser.Parser.from_args.Goals as goal
 
 pub returns-clause-ok : goal.returns-clause-ok
 returns-clause-ok g c =
     let run = c.in_ok-words.ensures.runs tt in
-    (c.into_iter.result, c.into_iter.ensures.into_iter_gives, (run.0, run.1, run.2, ap fresh run.3.0))
+    (c.into_iter.result, c.into_iter.ensures.into_iter_gives, (run.0, run.1, run.2, ap (λ (k : Kept). fresh k.left) c.new.ensures ∙ ap fresh run.3.0))

@@ -1,5 +1,5 @@
 -- `next` is a call of `advance`, and then lends itself for reading alone. So it ends at what `advance` left.
-use Rattle.std.proofs.Common.{◌≡◌, ℕ, refl, subst, sym}
+use Rattle.std.proofs.Common.{◌≡◌, ℕ, Some, refl}
 use Rattle.std.proofs.raw_atomic.Walks.{proved}
 use mathlib.Core.List.{List, [], ◌∷◌}
 use base.Fraction.{full_share}
@@ -42,13 +42,12 @@ use Rattle.lexopt_base.proofs.parser.Parser.TheLaws as R-laws
 use Rattle.lexopt_base.proofs.parser.Found.TheLaws as Found-laws
 use Rattle.lexopt_base.proofs.error.Arg.TheLaws as Arg-laws
 use Rattle.lexopt_base.proofs.error.Error.TheLaws as Error-laws
-use Rattle.std.specs.Prelude.{Option}
 use Rattle.lexopt_spec.specs.UnreadLine.{UnreadLine}
 use Rattle.lexopt_spec.specs.Steps.{Reply, Next}
 use Rattle.lexopt_base.specs.Replies.{Gives, next_reply}
 use Rattle.lexopt_base.specs.Found.{found_reply}
 use Rattle.lexopt_base.specs.Ends.{EndsAfter}
-use Rattle.lexopt_base.proofs.Ends.{ends_after}
+use Rattle.lexopt_base.proofs.Ends.{ends_after, told_of}
 use Rattle.lexopt_base.specs.contracts.parser.Parser.next as f
 use Rattle.lexopt_base.specs.contracts.parser.Parser.advance as g
 use Rattle.lexopt_base.specs.contracts.parser.Parser.lend as h
@@ -121,13 +120,13 @@ next_spec 𝓤 𝓛 𝓜 𝓡 wired =
     calls_at ! (framed 𝓤 𝓛.H 𝓜 (tables 𝓤 𝓛.H 𝓜 𝓡 𝓡.env)) H (lend_met 𝓤 𝓛 𝓜 𝓡 (code.calls-lexopt_base::parser::Parser::lend 𝓡.env wired)) zz
     (and_then ! (get ! refl) (and_then ! (get ! refl) (no_more !))) (λ u.
     use1 𝓛 (later (some (λ (y : Or.Denot). ((‵ (flft κ q) ⊛ ‵ ftrue) ⊛ ‵ (Or.own_val y (u ∷ []))) ⊛
-    some (λ (ws' : Lasts h.ended zz.0.0 zz.0.3). ‵ (lasts h.ended zz.0.0 zz.0.3 ws') ⊛ raw (fact 𝓤 (next_reply y ≡ found_reply w.last x)))))) (id⊢ 𝓤 _) $
+    some (λ (ws' : Lasts h.ended zz.0.0 zz.0.3). ‵ (lasts h.ended zz.0.0 zz.0.3 ws') ⊛ raw (fact 𝓤 ((reply : Reply) → found_reply w.last x ≡ Some reply → next_reply y ≡ Some reply)))))) (id⊢ 𝓤 _) $
     await ! tt $ pick ! (λ y. split ! $ split ! $ split ! $ move ! (2 ∷ []) $
     -- [the result; the token of κ; nothing; the rest; the last value of self; ..]
     peeks ! Or (Is Or) (shows 𝓛 Or) y (u ∷ []) (λ is'.
     lands_as ! refl refl (((Or-laws.lawful 𝓛).typed y (u ∷ []) is').0) $ move ! (3 ∷ []) $ pick ! (λ ws'. split ! $ drop ! $ heard ! _ (λ same.
     returns ! (look_at ! 0 refl) $ free_all ! refl $ keep ! (0 ∷ 1 ∷ 3 ∷ []) $ move ! (2 ∷ []) $
-    let told : Gives Next r.now (next_reply y) w = subst (λ (t : Option Reply). Gives Next r.now t w) (sym same) steps in
+    let told : Gives Next r.now (next_reply y) w = told_of r.now w (found_reply w.last x) (next_reply y) steps same in
     use1 𝓛 (‵ (EndsAfter r y)) (ends_after 𝓛 r y w told) $
     -- [the clause; the result; the token of κ]
     suffices ! _ (ends_at 𝓛 f.ended stayed c ((κs, qs, bounds, a, (vs, tt)), tt) u y (tt, tt) (tt, tt)) $

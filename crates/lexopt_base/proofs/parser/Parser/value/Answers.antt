@@ -1,10 +1,13 @@
 use Rattle.std.proofs.Common.{Some, refl, sym, ap, subst, ◌∙◌, inl}
 use Rattle.std.proofs.lemmas.Result.{err_from_is_err_and}
-use Rattle.lexopt_spec.specs.UnreadLine.{UnreadLine, spelling}
+use Rattle.lexopt_spec.specs.UnreadLine.{UnreadLine, Tail, pending_in, spelling}
 use Rattle.lexopt_spec.specs.Steps.{missing, ValueStep, pending_value, takes_word, nothing_to_take}
-use Rattle.lexopt_base.specs.Words.{TakesWord}
+use Rattle.lexopt_base.specs.Helpers.{TakesWord}
 use Rattle.lexopt_base.proofs.Refusals.{refused, some_of}
 use Rattle.lexopt_base.proofs.parser.Parser.value.Goals as goal
+
+pub take_word-requires : goal.take_word-requires
+take_word-requires c = let none = c.in_default.ensures in ap (λ (l : UnreadLine). l.tail) none.1 ∙ none.0
 
 pub returns-in-Some : goal.returns-in-Some
 returns-in-Some c =
@@ -14,7 +17,7 @@ pub returns-in-Some-take_word : goal.returns-in-Some-take_word
 returns-in-Some-take_word c =
     let none = c.in_default.ensures in
     let h = subst (λ (l : UnreadLine). TakesWord l (Some c.in-Some-take_word.word) c.take_word.new.self) none.1 c.in-Some-take_word.ensures in
-    inl (takes_word c.in-Some-take_word.word c.take_word.new.self.words none.0 h.0 refl h.1)
+    inl (takes_word c.in-Some-take_word.word c.take_word.new.self.words (ap (λ (t : Tail). pending_in c.args.self.now.short_equals t) none.0) h.0 refl h.1)
 
 pub returns-in_err-option : goal.returns-in_err-option
 returns-in_err-option c =
@@ -26,5 +29,5 @@ returns-in_err-option c =
     let option = some_of (spelling c.take_word.new.self.last) c.in_err-option.ensures.err in
     rw (made.1, made.2, same)
     (refused ValueStep u (missing (Some option.0)) u
-    (nothing_to_take none.0 (ap (λ (l : UnreadLine). l.words) (sym none.1) ∙ h.0)
+    (nothing_to_take (ap (λ (t : Tail). pending_in u.short_equals t) none.0) (ap (λ (l : UnreadLine). l.words) (sym none.1) ∙ h.0)
     (ap missing (sym option.1 ∙ ap (λ (l : UnreadLine). spelling l.last) same)) refl) tt)

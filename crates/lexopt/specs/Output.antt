@@ -1,0 +1,23 @@
+-- What a run of a script reads and writes: `docs/formats.md`.
+use Rattle.std.specs.Prelude.{◌≡◌, ◌≤◌, ℕ, List, length, Option, None}
+use Rattle.std.specs.Io.KnownBytes.{Consumes, IsAtEnd}
+use Rattle.lexopt_spec.specs.UnreadLine.{UnreadLine, fresh}
+use Rattle.lexopt_spec.specs.Steps.{Reply}
+use Rattle.lexopt_spec.specs.Runs.{Run}
+use Rattle.lexopt_spec.specs.Script.{bad_line, calls_of, lines_written, most_bytes, words_of}
+
+-- the room of one read, in bytes
+abbrev pub read_room : ℕ
+read_room = 512
+
+-- a reader gave these bytes, which were all that it had and are no more than a script may have
+abbrev pub ReadsWhole : Option (List ℕ) → Option (List ℕ) → List ℕ → Type 0
+ReadsWhole old new script = Consumes old new script × IsAtEnd new × (length script ≤ most_bytes)
+
+-- the script has no bad line, and the text is a line for each reply to its calls, in order, on a parser of its words
+pub record IsOutput (script text : List ℕ) : Type 0 where
+  pub no_bad_line : bad_line script ≡ None
+  pub replies : List Reply
+  pub after : UnreadLine
+  pub run : Run (fresh (words_of script)) (calls_of script) replies after
+  pub text_is : text ≡ lines_written replies

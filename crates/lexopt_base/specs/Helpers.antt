@@ -1,0 +1,32 @@
+-- What a parser's helpers do to the line.
+use Rattle.std.specs.Prelude.{◌≡◌, ℕ, Bool, true, List, [], ◌∷◌, Option, Some, None, IsSome, string_bytes}
+use Rattle.lexopt_spec.specs.UnreadLine.{UnreadLine, no_tail, spelling, pending}
+use Rattle.lexopt_base.specs.declared.error.Error.{Error}
+use Rattle.lexopt_base.specs.declared.error.Error.TheVariants.{MissingValue, UnexpectedOption, UnexpectedArgument, UnexpectedValue, ParsingFailed, NonUnicodeValue, Custom, OutOfMemory}
+
+-- the pending value is joined to its option by `=`
+abbrev pub IsJoined : Option (List ℕ × Bool) → Type 0
+IsJoined None = ⊥
+IsJoined (Some value) = value.1 ≡ true
+
+-- the pending value is taken, if there is one
+abbrev pub TakesPending : UnreadLine → Option (List ℕ) → UnreadLine → Type 0
+TakesPending u None after = (u.tail ≡ no_tail) × (after ≡ u)
+TakesPending u (Some value) after = (by_equals : Bool) × (pending u ≡ Some (value, by_equals)) × (after ≡ record u { tail = no_tail })
+
+-- the pending value is refused: it is taken, or there is no memory to say of what option it is
+abbrev pub RefusesPending : UnreadLine → Error → UnreadLine → Type 0
+RefusesPending u (MissingValue option) after = ⊥
+RefusesPending u (UnexpectedOption option) after = ⊥
+RefusesPending u (UnexpectedArgument value) after = ⊥
+RefusesPending u (UnexpectedValue option value) after =
+    (spelling u.last ≡ Some (string_bytes option)) × TakesPending u (Some value) after
+RefusesPending u (ParsingFailed value error) after = ⊥
+RefusesPending u (NonUnicodeValue value) after = ⊥
+RefusesPending u (Custom error) after = ⊥
+RefusesPending u OutOfMemory after = (after ≡ u) × IsSome (spelling u.last) × IsSome (pending u)
+
+-- the next word is taken, if there is one
+abbrev pub TakesWord : UnreadLine → Option (List ℕ) → UnreadLine → Type 0
+TakesWord u None after = (u.words ≡ []) × (after ≡ u)
+TakesWord u (Some word) after = (u.words ≡ word ∷ after.words) × (after ≡ record u { words = after.words })

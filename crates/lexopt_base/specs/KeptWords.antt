@@ -1,0 +1,30 @@
+-- Words with a cursor: how they are seen, and what is taken of them.
+use Rattle.std.specs.Prelude.{◌≡◌, ◌≤◌, ℕ, zero, suc, List, [], ◌∷◌, drop, slice_index_or, vec_len, Option, Some, None}
+use Rattle.lexopt_base.specs.declared.kept_words.KeptWords.TheInside.{Inside}
+
+-- the word just before the cursor, or no bytes where there is none, and the words behind it
+pub record Kept : Type 0 where
+  pub current : List ℕ
+  pub left : List (List ℕ)
+
+-- the word just before this place
+abbrev pub word_before : ℕ → List (List ℕ) → List ℕ
+word_before zero words = []
+word_before (suc place) words = slice_index_or words place []
+
+abbrev pub kept_of : Inside → Kept
+kept_of w = record { current = word_before w.count w.words.items; left = drop w.count w.words.items }
+
+-- the cursor stands among the words
+abbrev pub IsWithin : Inside → Type 0
+IsWithin w = w.count ≤ vec_len w.words
+
+-- the first of these words, if there is one
+abbrev pub IsFirst : Option (List ℕ) → List (List ℕ) → Type 0
+IsFirst None words = words ≡ []
+IsFirst (Some word) words = (others : List (List ℕ)) × (words ≡ word ∷ others)
+
+-- the word behind the cursor is taken, if there is one
+abbrev pub TakesNext : Kept → Option (List ℕ) → Kept → Type 0
+TakesNext kept None after = (kept.left ≡ []) × (after ≡ kept)
+TakesNext kept (Some word) after = kept.left ≡ word ∷ after.left

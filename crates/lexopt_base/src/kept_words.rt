@@ -1,0 +1,119 @@
+//! The words of a command line, in one vector that is kept.
+//!
+//! Reading moves a cursor over the words and moves no word. A word that is handed out is taken out whole, and an empty one
+//! stays in its place, so handing it out takes no memory.
+ghost use Rattle.std.specs.Prelude.{◌≡◌, ◌≢◌, ◌≤◌, ◌∷◌, [], IfOk, Some, drop, length, vec_len, option_map};
+ghost use Rattle.lexopt_base.specs.KeptWords.{IsFirst, TakesNext};
+
+use crate::os_string::OsString;
+use std::alloc::{AllocError, Global};
+use std::marker::Model;
+use std::mem;
+
+/// Words with a cursor. Contracts see the word just before the cursor, of which some may be unread, and the words behind
+/// it, of which all are.
+#[derive(Drop)]
+pub struct KeptWords {
+    alloc: Global,
+    words: Vec<OsString>,
+    // How many words stand before the cursor.
+    count: usize,
+}
+
+impl Model for KeptWords {
+    ghost use Rattle.lexopt_base.specs.KeptWords.{Kept};
+
+    ghost Value = { Kept };
+
+    ghost use Rattle.lexopt_base.specs.KeptWords.{kept_of, IsWithin};
+
+    ghost view = { kept_of };
+
+    ghost invariant = { IsWithin };
+}
+
+impl KeptWords {
+    /// These words, with the cursor before the first.
+    pub fn new(alloc: Global, words: Vec<OsString>) -> KeptWords
+        ensures { result ≡ record { current = []; left = words.items } }
+    {
+        KeptWords {
+            alloc,
+            words,
+            count: 0,
+        }
+    }
+
+    /// The word just before the cursor.
+    pub fn current(&self) -> &[u8]
+        requires { self.now.current ≢ [] }
+        ensures { result.now ≡ self.now.current }
+    {
+        self.words[self.count - 1].as_bytes()
+    }
+
+    /// The word behind the cursor.
+    pub fn first(&self) -> Option<&OsString>
+        ensures { IsFirst (option_map (λ word. word.now) result) self.now.left }
+    {
+        self.words.get(self.count)
+    }
+
+    /// Moves the cursor over a word.
+    pub fn pass(&mut self)
+        requires { self.old.left ≢ [] }
+        ensures { self.old.left ≡ self.new.current ∷ self.new.left }
+    {
+        self.count += 1;
+    }
+
+    /// Takes the word behind the cursor, which moves over its place.
+    pub fn take_next(&mut self) -> Option<OsString>
+        ensures { TakesNext self.old result self.new }
+    {
+        let place = self.count;
+        if place == self.words.len() {
+            return None;
+        }
+        let empty = OsString::new(self.alloc);
+        let word = mem::replace(&mut self.words[place], empty);
+        self.count = place + 1;
+        Some(word)
+    }
+
+    /// A copy of the word just before the cursor and of the words behind it.
+    pub fn copied(&self) -> Result<KeptWords, AllocError>
+        ensures { IfOk result (λ kept. kept ≡ self.now) }
+    {
+        let first = self.count.saturating_sub(1);
+        Ok(KeptWords {
+            alloc: self.alloc,
+            words: copies(self.alloc, &self.words[first..])?,
+            count: self.count - first,
+        })
+    }
+
+    /// Takes the word just before the cursor, without its first `count` bytes.
+    pub fn take_current(&mut self, count: usize) -> OsString
+        requires some { self.old.current ≢ [] }
+        requires within { count ≤ length self.old.current }
+        ensures value { result ≡ drop count self.old.current }
+        ensures left { self.new.left ≡ self.old.left }
+    {
+        let empty = OsString::new(self.alloc);
+        let mut word = mem::replace(&mut self.words[self.count - 1], empty);
+        word.remove_front(count);
+        word
+    }
+}
+
+// A copy of these words.
+fn copies(alloc: Global, words: &[OsString]) -> Result<Vec<OsString>, AllocError>
+    ensures { IfOk result (λ copied. copied.items ≡ words.now) }
+{
+    let mut copied = Vec::with_capacity(alloc, words.len())?;
+    for word in words {
+        copied.push(OsString::from_bytes(alloc, word.as_bytes())?)?;
+    }
+    Ok(copied)
+}

@@ -1,0 +1,171 @@
+//! Refused memory: the script `refused_memory` beside `src` runs these tests with each request for memory refused in turn.
+//!
+//! One request of a test is refused in a run. Each test checks what stands afterwards, and then fails and says which call
+//! was refused. Where nothing is refused, each test passes.
+use crate::calls::{is_at_end, parser_of, reads_long, reads_short, reads_word, takes};
+use crate::faults::{SCRIPT, WRITTEN};
+use lexopt::Error;
+use lexopt::replay::{RunError, run};
+use std::alloc::Global;
+use std::test::Fail;
+
+// What the stored script writes where its first `next` is refused.
+const NEXT_REFUSED: &[u8] =
+    b"error: out of memory\n\"--out=x\"\nValue \"file\"\nValue \"-y\"\nNone\n";
+
+fn told(refused: bool, call: &str) -> Result<(), Fail> {
+    if refused {
+        Err(Fail::new(format_args!("{call} was refused memory")))
+    } else {
+        Ok(())
+    }
+}
+
+// `next` asks for memory once, for the name: it is refused in one run, and in each other run that has a parser the option
+// and its value are read, also where the request behind the one for the name is refused.
+#[test]
+fn long_option(rt: HostRuntime) -> Result<(), Fail> {
+    let Ok(mut parser) = parser_of(rt.alloc(), &[b"--out=x"]) else {
+        return told(true, "from_args");
+    };
+    let mut answer = reads_long(&mut parser, "out");
+    let refused = matches!(answer, Err(Error::OutOfMemory));
+    if refused {
+        answer = reads_long(&mut parser, "out");
+    }
+    assert!(rt; matches!(answer, Ok(true)));
+    assert!(rt; takes(&mut parser, b"x")?);
+    told(refused, "next")
+}
+
+#[test]
+fn unexpected_value(rt: HostRuntime) -> Result<(), Fail> {
+    let Ok(mut parser) = parser_of(rt.alloc(), &[b"-a=b", b"c"]) else {
+        return told(true, "from_args");
+    };
+    assert!(rt; reads_short(&mut parser, 'a')?);
+    let mut error = parser.next().err();
+    let refused = matches!(error, Some(Error::OutOfMemory));
+    if refused {
+        error = parser.next().err();
+    }
+    match error {
+        Some(Error::UnexpectedValue { option, value }) => {
+            assert_eq!(rt; option.as_str(), "-a");
+            assert_eq!(rt; value.as_bytes(), b"b".as_slice());
+        }
+        _ => return Err(Fail::new("next gave another answer")),
+    }
+    assert!(rt; reads_word(&mut parser, b"c")?);
+    told(refused, "next")
+}
+
+#[test]
+fn missing_value(rt: HostRuntime) -> Result<(), Fail> {
+    let Ok(mut parser) = parser_of(rt.alloc(), &[b"-a"]) else {
+        return told(true, "from_args");
+    };
+    assert!(rt; reads_short(&mut parser, 'a')?);
+    let mut answer = parser.value();
+    let refused = matches!(answer, Err(Error::OutOfMemory));
+    if refused {
+        answer = parser.value();
+    }
+    match answer {
+        Err(
+            Error::MissingValue {
+                option: Some(option),
+            },
+        ) => assert_eq!(rt; option.as_str(), "-a"),
+        _ => return Err(Fail::new("value gave another answer")),
+    }
+    told(refused, "value")
+}
+
+// A damaged cluster: its options and the value that is not there take no memory, the error that names the damaged option
+// does.
+#[test]
+fn damaged_cluster(rt: HostRuntime) -> Result<(), Fail> {
+    let Ok(mut parser) = parser_of(rt.alloc(), &[b"-a\xff"]) else {
+        return told(true, "from_args");
+    };
+    assert!(rt; reads_short(&mut parser, 'a')?);
+    assert!(rt; reads_short(&mut parser, '\u{fffd}')?);
+    assert!(rt; parser.optional_value().is_none());
+    let mut answer = parser.value();
+    let refused = matches!(answer, Err(Error::OutOfMemory));
+    if refused {
+        answer = parser.value();
+    }
+    match answer {
+        Err(
+            Error::MissingValue {
+                option: Some(option),
+            },
+        ) => assert_eq!(rt; option.as_str(), "-\u{fffd}"),
+        _ => return Err(Fail::new("value gave another answer")),
+    }
+    told(refused, "value")
+}
+
+// A cluster read under both settings of the switch: no call asks for memory.
+#[test]
+fn switched_cluster(rt: HostRuntime) -> Result<(), Fail> {
+    let Ok(mut parser) = parser_of(rt.alloc(), &[b"-a=b"]) else {
+        return told(true, "from_args");
+    };
+    assert!(rt; reads_short(&mut parser, 'a')?);
+    parser.set_short_equals(false);
+    assert!(rt; reads_short(&mut parser, '=')?);
+    parser.set_short_equals(true);
+    assert!(rt; reads_short(&mut parser, 'b')?);
+    assert!(rt; is_at_end(&mut parser)?);
+    Ok(())
+}
+
+// What a script writes: nothing where `run` is refused, else all of it, or what it writes where the one call that asks for
+// memory is refused.
+fn replays(
+    alloc: Global,
+    mut script: &[u8],
+    whole: &[u8],
+    refused: &[u8],
+    call: &str,
+) -> Result<(), Fail> {
+    let mut written = Vec::with_capacity(alloc, 2 * WRITTEN.len())?;
+    match run(alloc, &mut script, &mut written) {
+        Err(RunError::NoMemory) if written.is_empty() => told(true, "run"),
+        Ok(()) if written.as_slice() == whole => Ok(()),
+        Ok(()) if written.as_slice() == refused => told(true, call),
+        _ => Err(Fail::new("run gave another answer")),
+    }
+}
+
+// The script that `lexopt_replay` stores: where its first `next` is refused, `value` gives the whole word and reading goes
+// on.
+#[test]
+fn stored_script(rt: HostRuntime) -> Result<(), Fail> {
+    replays(rt.alloc(), SCRIPT, WRITTEN, NEXT_REFUSED, "next")
+}
+
+#[test]
+fn script_of_a_damaged_cluster(rt: HostRuntime) -> Result<(), Fail> {
+    let script = b"w -a\\xFF\nnext\nnext\noptional\nvalue\n";
+    let whole =
+        "Short \"a\"\nShort \"\u{fffd}\"\nNone\nerror: missing argument for option '-\u{fffd}'\n";
+    let refused = "Short \"a\"\nShort \"\u{fffd}\"\nNone\nerror: out of memory\n";
+    replays(
+        rt.alloc(),
+        script,
+        whole.as_bytes(),
+        refused.as_bytes(),
+        "value",
+    )
+}
+
+#[test]
+fn script_of_a_switched_cluster(rt: HostRuntime) -> Result<(), Fail> {
+    let script = b"w -a=b\nnext\noff\nnext\non\nnext\nnext\n";
+    let whole = b"Short \"a\"\nok\nShort \"=\"\nok\nShort \"b\"\nNone\n";
+    replays(rt.alloc(), script, whole, whole, "no call")
+}

@@ -1,0 +1,127 @@
+-- The account of bytes: what becomes of each byte that a call reads.
+-- The source is `docs/behaviour.md`.
+use Rattle.std.specs.Prelude.{ℕ, Bool, true, ◌==◌, ◌&&◌, List, [], ◌∷◌, ◌++◌, map, flat_map, Option, Some, None, encode_utf8, if◌then◌else◌}
+use Rattle.std.specs.List.{concat}
+use Rattle.lexopt_spec.specs.Pieces.{Piece, first_piece, pieces, replacement}
+use Rattle.lexopt_spec.specs.UnreadLine.{dash, equals, Tail, no_tail, joined, rest, UnreadLine}
+use Rattle.lexopt_spec.specs.Steps.{Reply, short, long, positional, end, taken, maybe, items, busy, done, missing, unexpected, no_memory, ReadsPositional, no_word_left, word_left, ReadsWord, no_word, reads_separator, reads_long, reads_cluster, reads_positional, NextStep, joined_value, equals_value, next_in_cluster, after_separator, next_word}
+
+-- some bytes in a row, and what becomes of them
+pub data Segment : Type 0 where
+  -- the same bytes stand in the reply
+  given : List ℕ → Segment
+  -- a dash of a cluster, the dashes of a long option, the `=` before a value, a separator: it stands in no reply
+  mark : List ℕ → Segment
+  -- a damaged piece: U+FFFD stands in the reply
+  damage : List ℕ → Segment
+
+abbrev pub segment_bytes : Segment → List ℕ
+segment_bytes (given bytes) = bytes
+segment_bytes (mark bytes) = bytes
+segment_bytes (damage bytes) = bytes
+
+-- all bytes that the segments name, in order
+abbrev pub bytes_of : List Segment → List ℕ
+bytes_of segments = flat_map segment_bytes segments
+
+abbrev pub tail_bytes : Tail → List ℕ
+tail_bytes no_tail = []
+tail_bytes (joined value) = value
+tail_bytes (rest bytes) = bytes
+
+-- all bytes of a line that are still unread
+abbrev pub flat : UnreadLine → List ℕ
+flat u = tail_bytes u.tail ++ concat u.words
+
+-- ---- the segments of a step
+
+abbrev pub piece_as : List ℕ → Option ℕ → Segment
+piece_as bytes None = damage bytes
+piece_as bytes (Some c) = given bytes
+
+abbrev pub piece_segment : Piece → Segment
+piece_segment p = piece_as p.bytes p.char
+
+-- the `=` that stands between a long name and its value
+abbrev pub name_end : Tail → List Segment
+name_end no_tail = []
+name_end (joined value) = mark (equals ∷ []) ∷ []
+name_end (rest bytes) = []
+
+-- the `=` of a cluster that is dropped before the value that is pending
+abbrev pub dropped_in : Bool → Tail → List Segment
+dropped_in switch no_tail = []
+dropped_in switch (joined value) = []
+dropped_in switch (rest []) = []
+dropped_in switch (rest (b ∷ bs)) = if switch && b == equals then mark (equals ∷ []) ∷ [] else []
+
+-- what the line hands out, where its items are asked
+abbrev pub handing : UnreadLine → List (List ℕ) → List Segment
+handing u [] = []
+handing u (item ∷ more) = dropped_in u.short_equals u.tail ++ (given item ∷ map given more)
+
+abbrev pub positional_account : (u : UnreadLine) (reply : Reply) (after : UnreadLine) → ReadsPositional u reply after → List Segment
+positional_account u reply after (no_word_left is reply_is after_is) = []
+positional_account u reply after (word_left w ws is reply_is after_is) = given w ∷ []
+
+abbrev pub word_account : (u : UnreadLine) (reply : Reply) (after : UnreadLine) → ReadsWord u reply after → List Segment
+word_account u reply after (no_word is reply_is after_is) = []
+word_account u reply after (reads_separator ws is reads) =
+    mark (dash ∷ dash ∷ []) ∷ positional_account (record u { words = ws; ended = true }) reply after reads
+word_account u reply after (reads_long text name tail ws is some option reply_is after_is) =
+    mark (dash ∷ dash ∷ []) ∷ (map piece_segment (pieces name) ++ name_end tail)
+word_account u reply after (reads_cluster bytes ws is other reads) = mark (dash ∷ []) ∷ piece_segment (first_piece bytes) ∷ []
+word_account u reply after (reads_positional w ws is plain reply_is after_is) = given w ∷ []
+
+abbrev pub next_account : (u : UnreadLine) (reply : Reply) (after : UnreadLine) → NextStep u reply after → List Segment
+next_account u reply after (joined_value value option is spelled reply_is after_is) = given value ∷ []
+next_account u reply after (equals_value value option is on spelled reply_is after_is) = mark (equals ∷ []) ∷ given value ∷ []
+next_account u reply after (next_in_cluster bytes is other reads) = piece_segment (first_piece bytes) ∷ []
+next_account u reply after (after_separator is ended reads) = positional_account u reply after reads
+next_account u reply after (next_word is ended reads) = word_account u reply after reads
+
+-- ---- what a reply hands out
+
+-- the values and words of a reply, in order
+abbrev pub handed_items : Reply → List (List ℕ)
+handed_items (short c) = []
+handed_items (long name) = []
+handed_items (positional word) = word ∷ []
+handed_items end = []
+handed_items (taken value) = value ∷ []
+handed_items (maybe None) = []
+handed_items (maybe (Some value)) = value ∷ []
+handed_items (items values) = values
+handed_items busy = []
+handed_items done = []
+handed_items (missing option) = []
+handed_items (unexpected option value) = value ∷ []
+handed_items no_memory = []
+
+-- the bytes of a reply that come from the line: those of a name that is repeated in an error do not
+abbrev pub handed : Reply → List ℕ
+handed (short c) = encode_utf8 c
+handed (long name) = name
+handed reply = concat (handed_items reply)
+
+-- the reply names an option that was read
+abbrev pub NamesOption : Reply → Type 0
+NamesOption (short c) = Unit {0}
+NamesOption (long name) = Unit {0}
+NamesOption reply = ⊥
+
+-- the bytes that are handed out as they are, segment by segment
+abbrev pub given_of : List Segment → List (List ℕ)
+given_of [] = []
+given_of (given bytes ∷ segments) = bytes ∷ given_of segments
+given_of (mark bytes ∷ segments) = given_of segments
+given_of (damage bytes ∷ segments) = given_of segments
+
+abbrev pub segment_shown : Segment → List ℕ
+segment_shown (given bytes) = bytes
+segment_shown (mark bytes) = []
+segment_shown (damage bytes) = encode_utf8 replacement
+
+-- what of the segments stands in replies
+abbrev pub shown_of : List Segment → List ℕ
+shown_of segments = flat_map segment_shown segments
