@@ -1,0 +1,98 @@
+//! Reads words many times, so that the cost of a read can be measured. `crates/lexopt_bench/src/main.rt` does the same with
+//! this repository's port, and says what the arguments and standard input are.
+
+mod seen;
+
+use lexopt::{Arg, Error, Parser};
+use seen::Seen;
+use std::env;
+use std::ffi::{OsStr, OsString};
+use std::io::{self, Read};
+use std::os::unix::ffi::OsStrExt;
+
+// What is done with the copies of the words.
+#[derive(Clone, Copy)]
+enum Work {
+    Copy,
+    Next,
+}
+
+impl Work {
+    fn of_name(name: &str) -> Option<Work> {
+        match name {
+            "copy" => Some(Work::Copy),
+            "next" => Some(Work::Next),
+            _ => None,
+        }
+    }
+}
+
+// A copy of these words.
+fn copies(words: &[&[u8]]) -> Vec<OsString> {
+    let mut copied = Vec::with_capacity(words.len());
+    for word in words {
+        copied.push(OsStr::from_bytes(word).to_os_string());
+    }
+    copied
+}
+
+// Takes a value for the last option.
+fn read_value(parser: &mut Parser, seen: &mut Seen) -> Result<(), Error> {
+    match parser.value() {
+        Ok(value) => seen.value(value.as_bytes()),
+        Err(error) => return seen.error(error),
+    }
+    Ok(())
+}
+
+// Reads the whole line. Only `-n` and `--name` take a value.
+fn read_line(parser: &mut Parser, seen: &mut Seen) -> Result<(), Error> {
+    loop {
+        match parser.next() {
+            Ok(Some(Arg::Short(option))) => {
+                seen.short(option);
+                if option == 'n' {
+                    read_value(parser, seen)?;
+                }
+            }
+            Ok(Some(Arg::Long(name))) => {
+                seen.long(name);
+                if name == "name" {
+                    read_value(parser, seen)?;
+                }
+            }
+            Ok(Some(Arg::Value(word))) => seen.positional(word.as_bytes()),
+            Ok(None) => return Ok(()),
+            Err(error) => seen.error(error)?,
+        }
+    }
+}
+
+fn main() -> Result<(), Box<dyn std::error::Error>> {
+    let mut args = env::args();
+    let (Some(_program), Some(work), Some(times)) = (args.next(), args.next(), args.next()) else {
+        return Err("usage: bench copy|next TIMES".into());
+    };
+    let work = Work::of_name(&work).ok_or("the work is copy or next")?;
+    let times = times.parse::<u64>()?;
+
+    let mut input = Vec::new();
+    io::stdin().read_to_end(&mut input)?;
+    let mut words: Vec<&[u8]> = input.split(|byte| *byte == 0).collect();
+    let _behind_the_last = words.pop();
+
+    let mut seen = Seen::new();
+    for _ in 0..times {
+        let copied = copies(&words);
+        match work {
+            Work::Copy => seen.copies(&copied),
+            Work::Next => {
+                let mut parser = Parser::from_args(copied);
+                read_line(&mut parser, &mut seen)?;
+            }
+        }
+        seen.stop_hashing();
+    }
+    print!("{seen}");
+    Ok(())
+}

@@ -1,0 +1,102 @@
+"""The workloads of the benchmark: each makes the words of a command line of any size. Nothing in them is by chance.
+
+Run with no argument it lists them, and with a number it writes the words of that one, each ended by a NUL.
+"""
+
+import sys
+from dataclasses import dataclass
+from itertools import cycle, islice
+from typing import Callable
+
+MIB = 1 << 20
+
+A_LINE = [
+    b"-v",
+    b"-n",
+    b"10",
+    b"--name=report",
+    b"-abc",
+    b"--shout",
+    b"--name",
+    b"summary",
+    b"-n5",
+    b"notes.txt",
+    b"todo.txt",
+    b"my file.txt",
+]
+
+# Latin-1, a character that is cut off, a byte that begins no character, and a surrogate.
+DAMAGED_NAMES = [
+    b"--caf\xe9",
+    b"--note\xf0\x9f\x92",
+    b"--re\xffport",
+    b"--\xed\xa0\x80size=10",
+    b"-\xff",
+    b"-a\xe2\x82",
+]
+
+DAMAGED_VALUES = [
+    b"--name=caf\xe9",
+    b"--name",
+    b"note\xf0\x9f\x92",
+    b"-nre\xffport",
+    b"-n=\xed\xa0\x80size",
+    b"\xff.txt",
+]
+
+
+def repeated(words):
+    """As many of these words as are asked for, over and over."""
+    return lambda size: list(islice(cycle(words), size))
+
+
+def one_word(front, text):
+    """One word: this front, and behind it the text over and over, as many bytes as are asked for."""
+    return lambda size: [front + (text * (size // len(text) + 1))[:size]]
+
+
+@dataclass(frozen=True)
+class Workload:
+    title: str  # as the table has it; {size} stands for the size
+    size: int
+    words: Callable[[int], list]
+    work: str = "next"  # the calls that both programs make: an argument that they know
+    times: int = 2  # over how many reads the cost of one is counted
+    is_timed: bool = False  # whether its time is taken too
+
+
+WORKLOADS = [
+    Workload("a line of {size} words, as people type them", 12, repeated(A_LINE), times=100),
+    Workload("{size} positionals", 10_000, repeated([b"file.txt"])),
+    Workload("{size} words `--name=value`", 10_000, repeated([b"--name=value"])),
+    Workload("{size} words, `-n` and `value` in turn", 20_000, repeated([b"-n", b"value"])),
+    Workload("{size} words, a positional and a flag in turn", 10_000, repeated([b"file.txt", b"-v"])),
+    Workload("a cluster of {size} letters", 100_000, one_word(b"-", b"abcdefghijklm")),
+    Workload(
+        "a cluster of letters of two bytes, {size} bytes",
+        200_000,
+        one_word(b"-", "äöüßéèñ".encode()),
+    ),
+    Workload("a value of {size} bytes", MIB, one_word(b"--name=", b"value"), is_timed=True),
+    Workload("a name of {size} bytes", MIB, one_word(b"--", b"name")),
+    Workload("{size} words with damaged names", 12_000, repeated(DAMAGED_NAMES)),
+    Workload("{size} words with damaged values", 12_000, repeated(DAMAGED_VALUES)),
+    Workload("a name of {size} damaged bytes", 100_000, one_word(b"--", b"\xff")),
+    Workload("a cluster of {size} damaged bytes", 100_000, one_word(b"-", b"\xff")),
+    Workload("{size} empty words", 10_000, repeated([b""])),
+    Workload("no words", 0, repeated([b""]), times=100),
+]
+
+
+def input_of(workload, size):
+    """What both programs read."""
+    return b"".join(word + b"\0" for word in workload.words(size))
+
+
+if __name__ == "__main__":
+    if len(sys.argv) > 1:
+        chosen = WORKLOADS[int(sys.argv[1])]
+        sys.stdout.buffer.write(input_of(chosen, chosen.size))
+    else:
+        for number, workload in enumerate(WORKLOADS):
+            print(number, workload.title.format(size=f"{workload.size:,}"))

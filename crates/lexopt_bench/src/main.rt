@@ -1,0 +1,103 @@
+//! Reads words many times, so that the cost of a read can be measured. `bench/src/main.rs` does the same with the Rust crate.
+//!
+//! Arguments are `copy` or `next`, and how many times. Standard input has the words, each ended by a NUL. Each time the words
+//! are copied; under `copy` that is all, and under `next` the copies are read as a command line. Last it prints what was seen.
+#![tactic(auto)]
+
+mod seen;
+
+use anyhow::{Context, Result, bail};
+use lexopt::{Arg, Error, OsString, Parser};
+use seen::Seen;
+use std::alloc::{AllocError, Global};
+use std::env;
+use std::io::Read;
+
+// What is done with the copies of the words.
+#[derive(Clone, Copy)]
+enum Work {
+    Copy,
+    Next,
+}
+
+impl Work {
+    fn of_name(name: &str) -> Option<Work> {
+        match name {
+            "copy" => Some(Work::Copy),
+            "next" => Some(Work::Next),
+            _ => None,
+        }
+    }
+}
+
+// A copy of these words.
+fn copies(alloc: Global, words: &[&[u8]]) -> Result<Vec<OsString>, AllocError> {
+    let mut copied = Vec::with_capacity(alloc, words.len())?;
+    for word in words {
+        copied.push(OsString::from_bytes(alloc, word)?)?;
+    }
+    Ok(copied)
+}
+
+// Takes a value for the last option.
+fn read_value(parser: &mut Parser, seen: &mut Seen) -> Result<(), Error> {
+    match parser.value() {
+        Ok(value) => seen.value(value.as_bytes()),
+        Err(error) => return seen.error(error),
+    }
+    Ok(())
+}
+
+// Reads the whole line. Only `-n` and `--name` take a value.
+fn read_line(parser: &mut Parser, seen: &mut Seen) -> Result<(), Error> {
+    for _ in 0..u64::MAX {
+        match parser.next() {
+            Ok(Some(Arg::Short(option))) => {
+                seen.short(option);
+                if option == 'n' {
+                    read_value(parser, seen)?;
+                }
+            }
+            Ok(Some(Arg::Long(name))) => {
+                seen.long(name);
+                if name == "name" {
+                    read_value(parser, seen)?;
+                }
+            }
+            Ok(Some(Arg::Value(word))) => seen.positional(word.as_bytes()),
+            Ok(None) => break,
+            Err(error) => seen.error(error)?,
+        }
+    }
+    Ok(())
+}
+
+fn main(rt: HostRuntime) -> Result<()> {
+    let alloc = rt.alloc();
+    let mut args = env::args(&rt)?;
+    let (Some(_program), Some(work), Some(times)) = (args.next(), args.next(), args.next()) else {
+        bail!("usage: lexopt_bench copy|next TIMES");
+    };
+    let work = Work::of_name(&work).context("the work is copy or next")?;
+    let times = times.parse::<u64>().context("how many times")?;
+
+    let mut input = Vec::new(alloc);
+    rt.reader().read_to_end(&mut input)?;
+    let mut words: Vec<&[u8]> = input.split(|byte| *byte == 0).collect(alloc)?;
+    let _behind_the_last = words.pop();
+
+    let mut seen = Seen::new();
+    for _ in 0..times {
+        let copied = copies(alloc, &words)?;
+        match work {
+            Work::Copy => seen.copies(&copied),
+            Work::Next => {
+                let mut parser = Parser::from_args(alloc, copied)?;
+                read_line(&mut parser, &mut seen)?;
+            }
+        }
+        seen.stop_hashing();
+    }
+    print!(rt; "{seen}")?;
+    Ok(())
+}
