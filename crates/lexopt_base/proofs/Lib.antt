@@ -5,3 +5,5 @@ pub mod States
 pub mod Names
 pub mod LongOptions
 pub mod Ends
+pub mod Fronts
+pub mod Stages

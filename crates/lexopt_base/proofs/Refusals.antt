@@ -1,6 +1,7 @@
 -- Refused memory, and refused values.
 use Rattle.std.proofs.Common.{◌≡◌, ℕ, Bool, true, false, List, [], ◌∷◌, Option, Some, None, IsSome, string_bytes, refl, sym, ap, subst, ◌∙◌, inl, inr}
 use Rattle.lexopt_spec.specs.UnreadLine.{UnreadLine, no_tail, spelling, pending, IsPlain}
+use Rattle.lexopt_spec.specs.Views.{RawStep, refuses_pending}
 use Rattle.lexopt_spec.specs.Steps.{Reply, unexpected, Answers, Next, NextStep, TakesMemory, ReadsPositional, no_word_left, word_left, ReadsWord, reads_positional}
 use Rattle.lexopt_spec.proofs.LineLemmas.{refuses_joined, answers_map}
 use Rattle.lexopt_base.specs.Replies.{Gives, error_reply}
@@ -65,3 +66,18 @@ positional_read u word others r v some plain (no_word_left none reply after) = l
 positional_read u word others r v some plain (word_left w ws is reply after) =
     let same : word ≡ w = cc in
     reads_positional w ws is (subst (λ (l : List ℕ). IsPlain false l) same plain) reply after
+
+-- `raw_args` refuses what is pending, whatever would have been asked of the words
+pub refuses_raw : (Taken : UnreadLine → Reply → UnreadLine → Type 0) (u v : UnreadLine) (e : Error) → RefusesPending u e v → Gives (Answers (RawStep Taken)) u (error_reply e) v
+refuses_raw Taken u v (MissingValue option) h = absurd h
+refuses_raw Taken u v (UnexpectedOption option) h = absurd h
+refuses_raw Taken u v (UnexpectedArgument value) h = absurd h
+refuses_raw Taken u v (UnexpectedValue option value) h = inl (refuses_pending value (string_bytes option) h.1.0 h.1.1 h.0 refl h.1.2)
+refuses_raw Taken u v (ParsingFailed value error) h = absurd h
+refuses_raw Taken u v (NonUnicodeValue value) h = absurd h
+refuses_raw Taken u v (Custom error) h = absurd h
+refuses_raw Taken u v OutOfMemory h =
+    let option = some_of (spelling u.last) h.1 in
+    let found = some_of (pending u) h.2 in
+    let step = refuses_pending found.0.0 option.0 found.0.1 found.1 option.1 refl refl in
+    inr (record { reply_is = refl; after_is = h.0; in_place_of = (unexpected option.0 found.0.0, record u { tail = no_tail }, step, tt) })

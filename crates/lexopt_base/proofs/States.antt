@@ -1,5 +1,5 @@
 -- What the states of a parser stand for.
-use Rattle.std.proofs.Common.{◌≡◌, ◌≢◌, ℕ, zero, suc, ◌+◌, ◌-◌, get_or, ◌<◌, ◌≤◌, ◌==◌, ◌&&◌, Bool, true, false, List, [], ◌∷◌, length, drop, Option, Some, None, refl, sym, ap, subst, ◌∙◌, arith, ⊎_elim, true≢false, add-one, length-drop}
+use Rattle.std.proofs.Common.{◌≡◌, ◌≢◌, ◌⊎◌, ℕ, zero, suc, ◌+◌, ◌-◌, get_or, ◌<◌, ◌≤◌, ◌==◌, ◌&&◌, Bool, true, false, List, [], ◌∷◌, length, drop, Option, Some, None, IsSome, refl, sym, ap, subst, ◌∙◌, arith, ⊎_elim, true≢false, add-one, length-drop}
 use Rattle.std.proofs.lemmas.Bool.{cases_Bool, cond-true, cond-false, cases_lt}
 use Rattle.std.proofs.lemmas.List.{drop-drop, drop_all, get_or-drop}
 use Rattle.std.proofs.Math.Seq.{drop-cons}
@@ -11,7 +11,8 @@ use Rattle.lexopt_spec.proofs.LineLemmas.{rest_of-some, same_parts}
 use Rattle.lexopt_base.specs.KeptWords.{Kept, word_before, TakesNext}
 use Rattle.lexopt_base.specs.View.{tail_of, ended_of, last_of, line_of, IsPlaced, IsShortRead}
 use Rattle.lexopt_base.specs.Found.{name_of}
-use Rattle.lexopt_base.specs.Helpers.{IsJoined, TakesPending, TakesWord}
+use Rattle.lexopt_spec.specs.Views.{WordItem}
+use Rattle.lexopt_base.specs.Helpers.{IsJoined, TakesPending}
 use Rattle.lexopt_base.specs.declared.parser.State.{State}
 use Rattle.lexopt_base.specs.declared.parser.State.TheVariants.{Ready, PendingValue, Shorts, FinishedOpts}
 use Rattle.lexopt_base.specs.declared.parser.LastOption.{LastOption}
@@ -70,7 +71,7 @@ no_tail_anywhere word other FinishedOpts placed is = refl
 
 -- the word behind the cursor is the next word of the line
 pub word_taken : (p : Inside) (u : UnreadLine) (result : Option (List ℕ)) (after : Kept) → line_of p ≡ u → IsPlaced p.words.current p.state → u.tail ≡ no_tail
-    → TakesNext p.words result after → TakesWord u result (line_of (record p { words = after }))
+    → TakesNext p.words result after → WordItem u result (line_of (record p { words = after }))
 word_taken p u None after seen placed none takes =
     (ap (λ (l : UnreadLine). l.words) (sym seen) ∙ takes.0, ap (λ (k : Kept). line_of (record p { words = k })) takes.1 ∙ seen)
 word_taken p u (Some word) after seen placed none takes = (
@@ -105,6 +106,26 @@ unjoined_rest switch (b ∷ bs) some not = ⊎_elim
     (λ (yes : (switch && b == equals) ≡ true). absurd (not (subst IsJoined (sym (cond-true _ (Some (bs, true)) (Some (b ∷ bs, false)) yes)) refl)))
     (λ (no : (switch && b == equals) ≡ false). cond-false _ _ _ no)
     (cases_Bool (switch && b == equals))
+
+pub some_rest : (switch : Bool) (bytes : List ℕ) → 0 < length bytes → IsSome (pending_in switch (rest_of bytes))
+some_rest switch [] some = absurd (omega arith)
+some_rest switch (b ∷ bs) some = ⊎_elim
+    (λ (yes : (switch && b == equals) ≡ true). subst IsSome (sym (cond-true _ (Some (bs, true)) (Some (b ∷ bs, false)) yes)) refl)
+    (λ (no : (switch && b == equals) ≡ false). subst IsSome (sym (cond-false _ (Some (bs, true)) (Some (b ∷ bs, false)) no)) refl)
+    (cases_Bool (switch && b == equals))
+
+-- a state with a tail has a value
+pub some_pending : (p : Inside) (u : UnreadLine) → line_of p ≡ u → IsPlaced p.words.current p.state
+    → ((position : ℕ) × (p.state ≡ PendingValue position)) ⊎ ((position : ℕ) × (p.state ≡ Shorts position)) → IsSome (pending u)
+some_pending p u seen placed is = ⊎_elim
+    (λ (joined : (position : ℕ) × (p.state ≡ PendingValue position)).
+    subst IsSome (sym (ap (λ (s : State). pending_in p.short_equals (tail_of p.words.current s)) joined.1) ∙ ap pending seen) refl)
+    (λ (cluster : (position : ℕ) × (p.state ≡ Shorts position)).
+    let below : cluster.0 < length p.words.current = subst (λ (s : State). IsPlaced p.words.current s) cluster.1 placed in
+    let some : 0 < length (drop cluster.0 p.words.current) = omega (arith, length-drop cluster.0 p.words.current) in
+    subst IsSome (sym (ap (λ (s : State). pending_in p.short_equals (tail_of p.words.current s)) cluster.1) ∙ ap pending seen)
+    (some_rest p.short_equals (drop cluster.0 p.words.current) some))
+    is
 
 -- ---- names
 

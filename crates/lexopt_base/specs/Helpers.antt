@@ -1,5 +1,5 @@
 -- What a parser's helpers do to the line.
-use Rattle.std.specs.Prelude.{◌≡◌, ℕ, Bool, true, List, [], ◌∷◌, Option, Some, None, IsSome, string_bytes}
+use Rattle.std.specs.Prelude.{◌≡◌, ℕ, Bool, true, List, Option, Some, None, IsSome, string_bytes}
 use Rattle.lexopt_spec.specs.UnreadLine.{UnreadLine, no_tail, spelling, pending}
 use Rattle.lexopt_base.specs.declared.error.Error.{Error}
 use Rattle.lexopt_base.specs.declared.error.Error.TheVariants.{MissingValue, UnexpectedOption, UnexpectedArgument, UnexpectedValue, ParsingFailed, NonUnicodeValue, Custom, OutOfMemory}
@@ -25,8 +25,3 @@ RefusesPending u (ParsingFailed value error) after = ⊥
 RefusesPending u (NonUnicodeValue value) after = ⊥
 RefusesPending u (Custom error) after = ⊥
 RefusesPending u OutOfMemory after = (after ≡ u) × IsSome (spelling u.last) × IsSome (pending u)
-
--- the next word is taken, if there is one
-abbrev pub TakesWord : UnreadLine → Option (List ℕ) → UnreadLine → Type 0
-TakesWord u None after = (u.words ≡ []) × (after ≡ u)
-TakesWord u (Some word) after = (u.words ≡ word ∷ after.words) × (after ≡ record u { words = after.words })

@@ -8,3 +8,5 @@ pub mod Found
 pub mod WordKinds
 pub mod Helpers
 pub mod Ends
+pub mod Stages
+pub mod Views

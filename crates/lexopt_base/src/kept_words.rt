@@ -81,6 +81,25 @@ impl KeptWords {
         Some(word)
     }
 
+    /// Takes the word behind the cursor; the word just before the cursor stays just before it.
+    pub fn take_behind(&mut self) -> Option<OsString>
+        requires { self.old.current ≢ [] }
+        ensures taken { TakesNext self.old result self.new }
+        ensures current { self.new.current ≡ self.old.current }
+    {
+        if self.count == self.words.len() {
+            return None;
+        }
+        Some(self.words.remove(self.count))
+    }
+
+    /// The words behind the cursor.
+    pub fn left(&self) -> &[OsString]
+        ensures { result.now ≡ self.now.left }
+    {
+        &self.words[self.count..]
+    }
+
     /// A copy of the word just before the cursor and of the words behind it.
     pub fn copied(&self) -> Result<KeptWords, AllocError>
         ensures { IfOk result (λ kept. kept ≡ self.now) }

@@ -8,4 +8,6 @@ pub mod message;
 pub mod os_string;
 pub mod parser;
 mod quoted;
+pub mod raw;
+pub mod values;
 mod word;

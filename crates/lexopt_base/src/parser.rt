@@ -1,21 +1,23 @@
 //! The parser: a command line of which some is read.
-ghost use Rattle.std.specs.Prelude.{◌≡◌, ◌≢◌, ◌↔◌, ◌<◌, ◌≤◌, [], ◌∷◌, Some, false, IsTrue, IsSome, IfOk, IfErr, OnErr, OnOk, length, string_bytes};
+ghost use Rattle.std.specs.Prelude.{◌≡◌, ◌≢◌, ◌↔◌, ◌<◌, ◌≤◌, [], ◌∷◌, Some, None, false, IsTrue, IsSome, IfOk, IfErr, OnErr, OnOk, length, string_bytes};
 ghost use Rattle.std.specs.Option.{option_map};
 ghost use Rattle.std.specs.Iterator.{IsFiniteIterable};
 ghost use Rattle.std.specs.Iterator.Runs.{WholeRun};
 ghost use Rattle.lexopt_spec.specs.Pieces.{lossy};
-ghost use Rattle.lexopt_spec.specs.UnreadLine.{dash, fresh, no_tail, pending, pending_in, rest_of, spelling};
+ghost use Rattle.lexopt_spec.specs.UnreadLine.{IsNormalIn, dash, fresh, no_tail, pending, pending_in, rest_of, spelling};
 ghost use Rattle.lexopt_spec.specs.Steps.{Answers, Next, OptionalStep, Reply, Value, ReadsPositional, ReadsWord, maybe};
 ghost use Rattle.lexopt_base.specs.Replies.{CanReply, Gives, next_reply, value_reply};
 ghost use Rattle.lexopt_base.specs.Found.{found_as, found_reply};
-ghost use Rattle.lexopt_base.specs.Helpers.{IsJoined, RefusesPending, TakesPending, TakesWord};
+ghost use Rattle.lexopt_spec.specs.Views.{WordItem, available};
+ghost use Rattle.lexopt_base.specs.Helpers.{IsJoined, RefusesPending, TakesPending};
+ghost use Rattle.lexopt_base.specs.Views.{RefusesRaw, RefusesValues};
 ghost use Rattle.lexopt_base.specs.View.{IsLongRead, IsShortRead};
 
 use crate::codepoint::{first_codepoint, lossy_text};
 use crate::error::{Arg, Error};
 use crate::kept_words::KeptWords;
 use crate::os_string::OsString;
-use crate::word::{WordKind, kind_of};
+use crate::word::{WordKind, is_positional, kind_of};
 use bstr::ByteSlice;
 use std::alloc::{AllocError, Global};
 use std::marker::Model;
@@ -239,7 +241,7 @@ impl Parser {
     }
 
     // Takes the value that belongs to the last option, if one is left of its word.
-    fn take_pending(&mut self) -> Option<OsString>
+    pub(crate) fn take_pending(&mut self) -> Option<OsString>
         ensures { TakesPending self.old result self.new }
     {
         let position = match self.state {
@@ -257,12 +259,63 @@ impl Parser {
         Some(self.words.take_current(position))
     }
 
-    // Takes the next word.
-    fn take_word(&mut self) -> Option<OsString>
-        requires { self.old.tail ≡ no_tail }
-        ensures { TakesWord self.old result self.new }
+    // Takes the next word. What is left of the word before it stays.
+    pub(crate) fn take_word(&mut self) -> Option<OsString>
+        ensures { WordItem self.old result self.new }
     {
-        self.words.take_next()
+        match self.state {
+            State::Ready | State::FinishedOpts => self.words.take_next(),
+            State::PendingValue(_) | State::Shorts(_) => self.words.take_behind(),
+        }
+    }
+
+    // The words that are still unread.
+    pub(crate) fn words_left(&self) -> &[OsString]
+        ensures { result.now ≡ self.now.words }
+    {
+        self.words.left()
+    }
+
+    // Whether a value is left of the word of the last option.
+    pub(crate) fn has_pending(&self) -> bool
+        ensures value { IsTrue result ↔ IsSome (pending self.now) }
+        ensures option { IsTrue result → IsSome (spelling self.now.last) }
+    {
+        match self.state {
+            State::Ready | State::FinishedOpts => false,
+            State::PendingValue(_) | State::Shorts(_) => true,
+        }
+    }
+
+    // Whether that value is joined to its option by `=`.
+    pub(crate) fn has_joined_value(&self) -> bool
+        ensures { IsTrue result ↔ IsJoined (pending self.now) }
+    {
+        match self.state {
+            State::Ready | State::FinishedOpts => false,
+            State::PendingValue(_) => true,
+            State::Shorts(position) => {
+                is_joined(&self.words.current()[position..], self.short_equals)
+            }
+        }
+    }
+
+    // Whether no word is half read, and the next one can be one of several values.
+    pub(crate) fn is_normal(&self) -> bool
+        ensures { IsTrue result ↔ ((pending self.now ≡ None) × IsNormalIn self.now.ended self.now.words) }
+    {
+        !self.has_pending() && self.has_plain_word()
+    }
+
+    // Whether the next word can be one of several values.
+    fn has_plain_word(&self) -> bool
+        ensures { IsTrue result ↔ IsNormalIn self.now.ended self.now.words }
+    {
+        match self.words.first() {
+            Some(word) => matches!(self.state, State::FinishedOpts)
+                || is_positional(word.as_bytes()),
+            None => false,
+        }
     }
 
     // Refuses the pending value, which is then consumed.
@@ -280,6 +333,29 @@ impl Parser {
             Some(value) => Error::UnexpectedValue { option, value },
             None => unreachable!(),
         }
+    }
+
+    // Refuses the pending value, if there is one.
+    pub(crate) fn refuse_if_pending(&mut self) -> Result<(), Error>
+        ensures ok { OnOk result ((pending self.old ≡ None) × (self.new ≡ self.old)) }
+        ensures err { IfErr result (λ e. RefusesRaw self.old e self.new) }
+    {
+        if self.has_pending() {
+            return Err(self.refuse_pending());
+        }
+        Ok(())
+    }
+
+    // Refuses a line with no value for the last option.
+    pub(crate) fn refuse_missing(&self) -> Result<(), Error>
+        ensures ok { OnOk result (available self.now ≢ []) }
+        ensures err { IfErr result (λ e. RefusesValues self.now e self.now) }
+    {
+        if self.has_pending() || self.has_plain_word() {
+            return Ok(());
+        }
+        let option = self.spelling()?;
+        Err(Error::MissingValue { option })
     }
 
     // How the last option is spelled, with its dashes.

@@ -1,4 +1,6 @@
 //! What a word is before the separator.
+ghost use Rattle.std.specs.Prelude.{◌↔◌, false, IsTrue};
+ghost use Rattle.lexopt_spec.specs.UnreadLine.{IsPlain};
 ghost use Rattle.lexopt_base.specs.WordKinds.{IsOfKind};
 
 /// What a word is, where the separator was not read.
@@ -24,4 +26,11 @@ pub fn kind_of(word: &[u8]) -> WordKind
         [b'-', _, ..] => WordKind::Shorts,
         _ => WordKind::Positional,
     }
+}
+
+/// Whether this word is no option and no separator.
+pub fn is_positional(word: &[u8]) -> bool
+    ensures { IsTrue result ↔ IsPlain false word.now }
+{
+    matches!(kind_of(word), WordKind::Positional)
 }

@@ -2,12 +2,9 @@ use Rattle.std.proofs.Common.{Some, refl, sym, ap, subst, ◌∙◌, inl}
 use Rattle.std.proofs.lemmas.Result.{err_from_is_err_and}
 use Rattle.lexopt_spec.specs.UnreadLine.{UnreadLine, Tail, pending_in, spelling}
 use Rattle.lexopt_spec.specs.Steps.{missing, ValueStep, pending_value, takes_word, nothing_to_take}
-use Rattle.lexopt_base.specs.Helpers.{TakesWord}
+use Rattle.lexopt_spec.specs.Views.{WordItem}
 use Rattle.lexopt_base.proofs.Refusals.{refused, some_of}
 use Rattle.lexopt_base.proofs.parser.Parser.value.Goals as goal
-
-pub take_word-requires : goal.take_word-requires
-take_word-requires c = let none = c.in_default.ensures in ap (λ (l : UnreadLine). l.tail) none.1 ∙ none.0
 
 pub returns-in-Some : goal.returns-in-Some
 returns-in-Some c =
@@ -16,7 +13,7 @@ returns-in-Some c =
 pub returns-in-Some-take_word : goal.returns-in-Some-take_word
 returns-in-Some-take_word c =
     let none = c.in_default.ensures in
-    let h = subst (λ (l : UnreadLine). TakesWord l (Some c.in-Some-take_word.word) c.take_word.new.self) none.1 c.in-Some-take_word.ensures in
+    let h = subst (λ (l : UnreadLine). WordItem l (Some c.in-Some-take_word.word) c.take_word.new.self) none.1 c.in-Some-take_word.ensures in
     inl (takes_word c.in-Some-take_word.word c.take_word.new.self.words (ap (λ (t : Tail). pending_in c.args.self.now.short_equals t) none.0) h.0 refl h.1)
 
 pub returns-in_err-option : goal.returns-in_err-option

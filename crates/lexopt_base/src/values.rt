@@ -1,0 +1,103 @@
+//! Several values of one option.
+ghost use Rattle.std.specs.Prelude.{◌≡◌, ◌≢◌, [], IfOk};
+ghost use Rattle.std.specs.Borrow.{sem};
+ghost use Rattle.lexopt_spec.specs.UnreadLine.{pending};
+ghost use Rattle.lexopt_spec.specs.Views.{ValueItem, at_start, available};
+ghost use Rattle.lexopt_base.specs.Stages.{stage_of};
+ghost use Rattle.lexopt_base.specs.Views.{RestsIfRefused};
+
+use crate::error::Error;
+use crate::os_string::OsString;
+use crate::parser::Parser;
+
+// How far a view has come.
+#[derive(Clone, Copy)]
+enum Stage {
+    Start,
+    GoingOn,
+    End,
+}
+
+/// The values of one option, each of which is taken when it is asked for. What is not asked for stays with the parser.
+#[derive(Drop)]
+pub struct ValuesIter<'a> {
+    parser: &'a mut Parser,
+    stage: Stage,
+}
+
+impl Parser {
+    /// Several values for the last option, of which there is one at least: what is left of its word, and then the next
+    /// words up to the first that looks like an option. A value that is joined by `=` stands alone.
+    ///
+    /// At `-a b c -d` it gives `b` and `c`, at `-ab c` too, and at `-a=b c` it gives `b`. Behind the separator every word
+    /// is a value. Nothing is taken before it is asked for: with `-a b c`, a view that is asked once leaves `c`.
+    ///
+    /// Errors: `MissingValue` where there is no value; `OutOfMemory` only in its place, where it names an option. Neither
+    /// consumes anything.
+    pub fn values(&mut self) -> Result<ValuesIter<'_>, Error>
+        ensures* refused { sem 𝓛 (RestsIfRefused self.entry result) }
+        ensures found { IfOk result (λ _. available self.old ≢ []) }
+        ensures unchanged { IfOk result (λ view. view.parser.now ≡ self.old) }
+        ensures at_start { IfOk result (λ view. stage_of view.stage ≡ at_start) }
+        ensures same_parser { IfOk result (λ view. view.parser.ghost_name ≡ self.entry.ghost_name) }
+    {
+        self.refuse_missing()?;
+        Ok(ValuesIter {
+            parser: self,
+            stage: Stage::Start,
+        })
+    }
+}
+
+impl Iterator for ValuesIter<'_> {
+    ghost use Rattle.std.specs.Iterator.{item_count};
+    ghost use Rattle.lexopt_spec.specs.Views.{values_left};
+    ghost use Rattle.lexopt_base.specs.Stages.{stage_of};
+    ghost use Rattle.lexopt_base.specs.Views.{GivesValue};
+
+    type Item = OsString;
+
+    ghost next_gives = { GivesValue };
+
+    ghost remaining = { item_count (λ view. values_left (stage_of view.stage) view.parser.now) };
+
+    /// The next value. After the first `None` there is no other.
+    fn next(&mut self) -> Option<OsString> {
+        match self.stage {
+            Stage::Start => self.first(),
+            Stage::GoingOn => self.another(),
+            Stage::End => None,
+        }
+    }
+}
+
+impl ValuesIter<'_> {
+    // The first value: what is left of the word of the option, or else a word.
+    fn first(&mut self) -> Option<OsString>
+        requires { self.old.stage ≡ Stage.Start }
+        ensures same_parser { self.new.parser.ghost_name ≡ self.old.parser.ghost_name }
+        ensures item { ValueItem (stage_of self.old.stage) self.old.parser.now result self.new.parser.now (stage_of self.new.stage) }
+    {
+        let is_last = self.parser.has_joined_value();
+        if let Some(value) = self.parser.take_pending() {
+            self.stage = if is_last { Stage::End } else { Stage::GoingOn };
+            return Some(value);
+        }
+        self.another()
+    }
+
+    // The next word, if it can be a value.
+    fn another(&mut self) -> Option<OsString>
+        requires on { self.old.stage ≢ Stage.End }
+        requires first { self.old.stage ≡ Stage.Start → pending self.old.parser.now ≡ None }
+        ensures same_parser { self.new.parser.ghost_name ≡ self.old.parser.ghost_name }
+        ensures item { ValueItem (stage_of self.old.stage) self.old.parser.now result self.new.parser.now (stage_of self.new.stage) }
+    {
+        if self.parser.is_normal() {
+            self.stage = Stage::GoingOn;
+            return self.parser.take_word();
+        }
+        self.stage = Stage::End;
+        None
+    }
+}
