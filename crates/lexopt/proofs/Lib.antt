@@ -3,3 +3,5 @@ pub mod NumberedLines
 pub mod StepReplies
 pub mod MeaningLemmas
 pub mod ReadsItems
+pub mod Numbers
+pub mod Views

@@ -3,14 +3,17 @@ use Rattle.std.specs.Prelude.{option_map, string_bytes}
 use Rattle.lexopt_spec.specs.Runs as runs
 use Rattle.lexopt_spec.specs.Steps as steps
 use Rattle.lexopt.specs.declared.reply.Call.{Call}
-use Rattle.lexopt.specs.declared.reply.Call.TheVariants.{Next, Value, Optional, Switch}
+use Rattle.lexopt.specs.declared.reply.Call.TheVariants.{Next, Value, Optional, Values, Raw, TryRaw, Switch}
 use Rattle.lexopt.specs.declared.reply.Reply.{Reply}
-use Rattle.lexopt.specs.declared.reply.Reply.TheVariants.{Short, LongName, Positional, End, Taken, Maybe, Done, Missing, Unexpected, NoMemory}
+use Rattle.lexopt.specs.declared.reply.Reply.TheVariants.{Short, LongName, Positional, End, Taken, Maybe, Items, Busy, Done, Missing, Unexpected, NoMemory}
 
 abbrev pub call_view : Call → runs.Call
 call_view Next = runs.next
 call_view Value = runs.value
 call_view Optional = runs.optional
+call_view (Values n) = runs.values n
+call_view (Raw n) = runs.raw n
+call_view (TryRaw n) = runs.try_raw n
 call_view (Switch on) = runs.switch on
 
 abbrev pub reply_view : Reply → steps.Reply
@@ -20,6 +23,8 @@ reply_view (Positional word) = steps.positional word
 reply_view End = steps.end
 reply_view (Taken word) = steps.taken word
 reply_view (Maybe word) = steps.maybe word
+reply_view (Items words) = steps.items words.items
+reply_view Busy = steps.busy
 reply_view Done = steps.done
 reply_view (Missing option) = steps.missing (option_map string_bytes option)
 reply_view (Unexpected option word) = steps.unexpected (string_bytes option) word

@@ -83,9 +83,15 @@ fn read_item(alloc: Global, parser: &mut Parser, table: &Table) -> Result<Option
         Some(Reply::End) => Ok(None),
         Some(Reply::Unexpected(option, value)) => Err(Error::UnexpectedValue { option, value }),
         Some(Reply::NoMemory) => Err(Error::OutOfMemory),
-        Some(Reply::Taken(_) | Reply::Maybe(_) | Reply::Done | Reply::Missing(_)) | None => {
-            unreachable!()
-        }
+        Some(
+            Reply::Taken(_)
+            | Reply::Maybe(_)
+            | Reply::Items(_)
+            | Reply::Busy
+            | Reply::Done
+            | Reply::Missing(_),
+        )
+        | None => { unreachable!() }
     }
 }
 

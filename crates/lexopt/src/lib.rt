@@ -7,7 +7,9 @@
 pub use lexopt_base::error::{Arg, Error};
 pub use lexopt_base::os_string::{OsStr, OsString, Quoted};
 pub use lexopt_base::parser::Parser;
-pub use lexopt_base::{error, os_string, parser};
+pub use lexopt_base::raw::RawArgs;
+pub use lexopt_base::values::ValuesIter;
+pub use lexopt_base::{error, os_string, parser, raw, values};
 
 pub mod items;
 pub mod replay;

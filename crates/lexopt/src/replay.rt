@@ -4,7 +4,9 @@ ghost use Rattle.std.specs.Option.{option_map};
 ghost use Rattle.std.specs.Io.KnownBytes.{Appends, Consumes};
 ghost use Rattle.lexopt_spec.specs.Steps as steps;
 ghost use Rattle.lexopt_spec.specs.Steps.{Next, Value};
-ghost use Rattle.lexopt_spec.specs.Runs.{Run, Step};
+ghost use Rattle.lexopt_spec.specs.Runs.{Run, Step, values, raw, try_raw, up_to};
+ghost use Rattle.lexopt_spec.specs.Views.{ValueItems, WordItems};
+ghost use Rattle.lexopt_base.specs.Stages.{stage_of};
 ghost use Rattle.lexopt_spec.specs.Script.{bad_line, most_bytes};
 ghost use Rattle.lexopt.specs.Output.{IsOutput, ReadsWhole, read_room};
 ghost use Rattle.lexopt_base.specs.Replies.{Gives, error_reply, next_reply};
@@ -14,7 +16,10 @@ use crate::reply::{Call, Reply, written};
 pub use crate::run_error::RunError;
 use crate::script::{parse_script, read_script};
 use lexopt_base::error::{Arg, Error};
+use lexopt_base::os_string::OsString;
 use lexopt_base::parser::Parser;
+use lexopt_base::raw::RawArgs;
+use lexopt_base::values::ValuesIter;
 use std::alloc::{AllocError, Global};
 use std::io::{Read, Write};
 
@@ -66,15 +71,97 @@ fn call_value(parser: &mut Parser) -> Option<Reply>
     }
 }
 
-// One call, and its reply.
+// One call of `values`, and so many items of its view. Where the list of them finds no memory, some were taken.
+fn call_values(
+    alloc: Global,
+    parser: &mut Parser,
+    count: usize,
+) -> Result<Option<Reply>, AllocError>
+    ensures { (m : ℕ) × (reply : Option steps.Reply) × (m ≤ count) × Gives (Step (values m)) parser.old reply parser.new
+        × IfOk result (λ copy. (m ≡ count) × (option_map reply_view copy ≡ reply)) }
+{
+    match parser.values() {
+        Ok(mut view) => Ok(Some(Reply::Items(values_of(alloc, &mut view, count)?))),
+        Err(error) => Ok(refusal(error)),
+    }
+}
+
+// So many items of a view of values, or fewer where it ends before.
+fn values_of(
+    alloc: Global,
+    view: &mut ValuesIter<'_>,
+    count: usize,
+) -> Result<Vec<OsString>, AllocError>
+    ensures same_parser { view.new.parser.ghost_name ≡ view.old.parser.ghost_name }
+    ensures items { (m : ℕ) × (came : List (List ℕ)) × (m ≤ count)
+        × ValueItems m (stage_of view.old.stage) view.old.parser.now came view.new.parser.now (stage_of view.new.stage)
+        × IfOk result (λ items. (m ≡ count) × (items.items ≡ came)) }
+{
+    let mut items = Vec::new(alloc);
+    for _asked in 0..count {
+        match view.next() {
+            Some(value) => items.push(value)?,
+            None => break,
+        }
+    }
+    Ok(items)
+}
+
+// One call of `raw_args`, and so many words.
+fn call_raw(alloc: Global, parser: &mut Parser, count: usize) -> Result<Option<Reply>, AllocError>
+    ensures { (m : ℕ) × (reply : Option steps.Reply) × (m ≤ count) × Gives (Step (raw m)) parser.old reply parser.new
+        × IfOk result (λ copy. (m ≡ count) × (option_map reply_view copy ≡ reply)) }
+{
+    match parser.raw_args() {
+        Ok(mut view) => Ok(Some(Reply::Items(words_of(alloc, &mut view, count)?))),
+        Err(error) => Ok(refusal(error)),
+    }
+}
+
+// One call of `try_raw_args`, and so many words.
+fn call_try_raw(alloc: Global, parser: &mut Parser, count: usize) -> Result<Reply, AllocError>
+    ensures { (m : ℕ) × (reply : steps.Reply) × (m ≤ count) × Step (try_raw m) parser.old reply parser.new
+        × IfOk result (λ copy. (m ≡ count) × (reply_view copy ≡ reply)) }
+{
+    match parser.try_raw_args() {
+        Some(mut view) => Ok(Reply::Items(words_of(alloc, &mut view, count)?)),
+        None => Ok(Reply::Busy),
+    }
+}
+
+// So many words of a view of words, or fewer where it ends before.
+fn words_of(
+    alloc: Global,
+    view: &mut RawArgs<'_>,
+    count: usize,
+) -> Result<Vec<OsString>, AllocError>
+    ensures same_parser { view.new.parser.ghost_name ≡ view.old.parser.ghost_name }
+    ensures items { (m : ℕ) × (came : List (List ℕ)) × (m ≤ count)
+        × WordItems m view.old.parser.now came view.new.parser.now
+        × IfOk result (λ items. (m ≡ count) × (items.items ≡ came)) }
+{
+    let mut items = Vec::new(alloc);
+    for _asked in 0..count {
+        match view.next() {
+            Some(word) => items.push(word)?,
+            None => break,
+        }
+    }
+    Ok(items)
+}
+
+// One call, and its reply. Where a list of items finds no memory, some were taken.
 fn reply_to(alloc: Global, parser: &mut Parser, call: Call) -> Result<Reply, AllocError>
-    ensures { (reply : steps.Reply) × Step (call_view call) parser.old reply parser.new
-        × IfOk result (λ copy. reply_view copy ≡ reply) }
+    ensures { (m : ℕ) × (reply : steps.Reply) × Step (up_to m (call_view call)) parser.old reply parser.new
+        × IfOk result (λ copy. (up_to m (call_view call) ≡ call_view call) × (reply_view copy ≡ reply)) }
 {
     let reply = match call {
         Call::Next => call_next(alloc, parser)?,
         Call::Value => call_value(parser),
         Call::Optional => Some(Reply::Maybe(parser.optional_value())),
+        Call::Values(count) => call_values(alloc, parser, count)?,
+        Call::Raw(count) => call_raw(alloc, parser, count)?,
+        Call::TryRaw(count) => Some(call_try_raw(alloc, parser, count)?),
         Call::Switch(on) => {
             parser.set_short_equals(on);
             Some(Reply::Done)

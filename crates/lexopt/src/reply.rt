@@ -1,5 +1,8 @@
 //! Calls on a command line, and what they answer.
-ghost use Rattle.std.specs.Prelude.{◌≡◌, IfOk, map, string_bytes};
+ghost use Rattle.std.specs.Prelude.{◌≡◌, IfOk, codes, map, string_bytes};
+ghost use Rattle.std.specs.Fmt.{WritesOnOk};
+ghost use Rattle.std.specs.List.{join_by};
+ghost use Rattle.lexopt_spec.specs.Text.{quoted};
 ghost use Rattle.lexopt_spec.specs.Script.{lines_written, reads_line};
 ghost use Rattle.lexopt.specs.Replies.{call_view, reply_view};
 
@@ -17,6 +20,12 @@ pub enum Call {
     Value,
     /// Asks for a value of the last option that is left of its word.
     Optional,
+    /// Asks for several values of the last option, and for so many items of the view.
+    Values(usize),
+    /// Asks for the words that are left, and for so many items of the view.
+    Raw(usize),
+    /// Asks for the words that are left where no value is pending, and for so many items of the view.
+    TryRaw(usize),
     /// Sets whether `=` stands between a short option and its value.
     Switch(bool),
 }
@@ -45,11 +54,15 @@ pub enum Reply {
     Taken(OsString),
     /// `optional_value` took this value, or found none.
     Maybe(Option<OsString>),
+    /// A view gave these values or words, of those that it was asked for.
+    Items(Vec<OsString>),
+    /// `try_raw_args` gave no view, since a value is pending.
+    Busy,
     /// The switch was set.
     Done,
-    /// `value` found no word, for this option if one was read.
+    /// `value` or `values` found no word, for this option if one was read.
     Missing(Option<String>),
-    /// `next` found a value that nobody asked for, joined to this option.
+    /// `next` or `raw_args` found a value of this option that nobody asked for.
     Unexpected(String, OsString),
     /// Memory was refused.
     NoMemory,
@@ -86,7 +99,12 @@ impl fmt::Display for Reply {
                 let word = Quoted::new(word.as_bytes());
                 write!(f, "{word}")
             }
-            Reply::Maybe(None) => f.write_str("None"),
+            Reply::Maybe(None) | Reply::Busy => f.write_str("None"),
+            Reply::Items(words) => {
+                f.write_str("[")?;
+                write_words(words, f)?;
+                f.write_str("]")
+            }
             Reply::Done => f.write_str("ok"),
             Reply::Missing(option) => {
                 f.write_str("error: ")?;
@@ -102,6 +120,28 @@ impl fmt::Display for Reply {
             }
         }
     }
+}
+
+// Writes the quoted forms of these words, with a comma and a blank between them.
+fn write_words<W: fmt::Write>(words: &[OsString], f: &mut fmt::Formatter<W>) -> fmt::Result
+    ensures { WritesOnOk W.write_str_gives f.old result (join_by quoted (codes ", ") words.now) f.new }
+{
+    let Some((first, others)) = words.split_first() else {
+        return Ok(());
+    };
+    write_word(first, f)?;
+    for word in others {
+        f.write_str(", ")?;
+        write_word(word, f)?;
+    }
+    Ok(())
+}
+
+fn write_word<W: fmt::Write>(word: &OsString, f: &mut fmt::Formatter<W>) -> fmt::Result
+    ensures { WritesOnOk W.write_str_gives f.old result (quoted word.now) f.new }
+{
+    let word = Quoted::new(word.as_bytes());
+    write!(f, "{word}")
 }
 
 /// The lines that are printed for these replies, in order.

@@ -6,12 +6,14 @@
 //! - `w TEXT`: the word TEXT, with one blank before it. `\\` in it is a backslash, `\n` the byte 0A, and `\xHH` the byte
 //!   of these two hexadecimal digits; no other backslash may stand in it.
 //! - `next`, `value`, `optional`: a call.
+//! - `values N`, `raw N`, `try N`: a call of `values`, `raw_args` or `try_raw_args`, and how many items are asked of its
+//!   view: a number of one to nine decimal digits.
 //! - `on`, `off`: sets whether `=` stands between a short option and its value.
 //!
 //! Every other line is bad, and so is a word behind the first call that reads the line.
 ghost use Rattle.std.specs.Prelude.{◌≡◌, ◌⊎◌, ℕ, ◌+◌, ◌<◌, ◌≤◌, List, None, Some, IfErr, IfOk, MatchOption, length, map};
 ghost use Rattle.std.specs.Io.KnownBytes.{Consumes};
-ghost use Rattle.lexopt_spec.specs.Script.{bad_line, behind_backslash, calls_of, hexadecimal, in_front, meaning, most_bytes, unescaped, words_of};
+ghost use Rattle.lexopt_spec.specs.Script.{bad_line, behind_backslash, calls_of, hexadecimal, in_front, meaning, meaning_with_text, most_bytes, number, unescaped, words_of};
 ghost use Rattle.lexopt.specs.Output.{ReadsWhole, read_room};
 ghost use Rattle.lexopt.specs.Meanings.{meaning_view};
 ghost use Rattle.lexopt.specs.Replies.{call_view};
@@ -21,6 +23,7 @@ use crate::run_error::RunError;
 use lexopt_base::os_string::OsString;
 use std::alloc::{AllocError, Global};
 use std::io::Read;
+use std::str;
 
 // The most bytes that a script may have.
 const LIMIT: usize = 1_048_576;
@@ -109,12 +112,43 @@ fn meaning_of(alloc: Global, line: &[u8]) -> Result<Meaning, AllocError>
         b"on" => Ok(Meaning::Call(Call::Switch(true))),
         b"off" => Ok(Meaning::Call(Call::Switch(false))),
         b"w" => Ok(Meaning::Word(OsString::new(alloc))),
-        [b'w', b' ', text @ ..] => match unescaped(alloc, text)? {
+        _ => meaning_with_text(alloc, line),
+    }
+}
+
+// The meaning of a line that has a blank, and a text or a number behind it.
+fn meaning_with_text(alloc: Global, line: &[u8]) -> Result<Meaning, AllocError>
+    ensures { IfOk result (λ m. meaning_view m ≡ meaning_with_text line.now) }
+{
+    if let Some(text) = line.strip_prefix(b"w ") {
+        return match unescaped(alloc, text)? {
             Some(word) => Ok(Meaning::Word(word)),
             None => Ok(Meaning::Bad),
-        },
-        _ => Ok(Meaning::Bad),
+        };
     }
+    let call = if let Some(digits) = line.strip_prefix(b"values ") {
+        number(digits).map(Call::Values)
+    } else if let Some(digits) = line.strip_prefix(b"raw ") {
+        number(digits).map(Call::Raw)
+    } else if let Some(digits) = line.strip_prefix(b"try ") {
+        number(digits).map(Call::TryRaw)
+    } else {
+        None
+    };
+    match call {
+        Some(call) => Ok(Meaning::Call(call)),
+        None => Ok(Meaning::Bad),
+    }
+}
+
+// The number that one to nine decimal digits write.
+fn number(digits: &[u8]) -> Option<usize>
+    ensures { result ≡ number digits.now }
+{
+    if digits.len() > 9 || digits.starts_with(b"+") {
+        return None;
+    }
+    str::from_utf8(digits).ok()?.parse().ok()
 }
 
 // The bytes that a text of a script stands for, if each backslash in it begins an escape.

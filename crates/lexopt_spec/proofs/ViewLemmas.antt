@@ -1,5 +1,5 @@
 -- Views, one item at a time.
-use Rattle.std.proofs.Common.{◌≡◌, ◌≢◌, ℕ, zero, suc, Bool, true, false, List, [], ◌∷◌, ◌++◌, length, take, drop, Option, Some, None, refl, sym, ap, subst, ◌∙◌}
+use Rattle.std.proofs.Common.{◌≡◌, ◌≢◌, ◌<◌, ◌+◌, ◌-◌, ℕ, zero, suc, Bool, true, false, List, [], ◌∷◌, ◌++◌, length, take, drop, Option, Some, None, refl, sym, ap, subst, ◌∙◌, arith, append-nil}
 use Rattle.std.proofs.Math.Seq.{take-nil, drop-nil}
 use Rattle.std.specs.List.{cons_option}
 use Rattle.lexopt_spec.specs.UnreadLine.{no_tail, UnreadLine, pending, IsNormalIn}
@@ -140,6 +140,27 @@ ValueItems-more (suc n) stage u v w came then now item asked step = (
   ap (λ l. l ++ cons_option item []) asked.6 ∙ in_front asked.0 asked.3 (cons_option item []),
 )
 
+values_ended : (k n count : ℕ) (stage : Stage) (u v : UnreadLine) (came : List (List ℕ)) → k + n ≡ count
+    → ValueItems n stage u came v at_end → ValueItems count stage u came v at_end
+values_ended zero n count stage u v came is asked =
+    let same : n ≡ count = omega arith in subst (λ m. ValueItems m stage u came v at_end) same asked
+values_ended (suc k) n count stage u v came is asked =
+    let same : suc (k + n) ≡ count = omega arith in
+    let more = ValueItems-more (k + n) stage u v v came at_end at_end None (values_ended k n (k + n) stage u v came refl asked) (stopped refl refl refl refl) in
+    subst (λ m. ValueItems m stage u came v at_end) same (subst (λ l. ValueItems (suc (k + n)) stage u l v at_end) (append-nil came) more)
+
+-- once none came, more may be asked, and none comes
+pub values_no_more : (n count : ℕ) (stage : Stage) (u v w : UnreadLine) (came : List (List ℕ)) (then now : Stage) → n < count
+    → ValueItems n stage u came v then → ValueItem then v None w now → ValueItems count stage u came w now
+values_no_more n count stage u v w came then now below asked step =
+    let ended = none_ends then v w now step in
+    let more = count - suc n in
+    let all : more + suc n ≡ count = omega arith in
+    let one = subst (λ l. ValueItems (suc n) stage u l w now) (append-nil came) (ValueItems-more n stage u v w came then now None asked step) in
+    let last = subst (λ (s : Stage). ValueItems (suc n) stage u came w s) ended.1 one in
+    subst (λ (s : Stage). ValueItems count stage u came w s) (sym ended.1)
+    (values_ended more (suc n) count stage u w came all last)
+
 -- ---- n items of a view of words
 
 words_behind : (n : ℕ) (u : UnreadLine) (item : Option (List ℕ)) (between : UnreadLine) (others came : List (List ℕ)) (after : UnreadLine)
@@ -187,6 +208,23 @@ WordItems-more (suc n) u v w came item asked step = (
   WordItems-more n asked.1 v w asked.2 item asked.4 step,
   ap (λ l. l ++ cons_option item []) asked.5 ∙ in_front asked.0 asked.2 (cons_option item []),
 )
+
+words_ended : (k n count : ℕ) (u v : UnreadLine) (came : List (List ℕ)) → k + n ≡ count → v.words ≡ [] → WordItems n u came v → WordItems count u came v
+words_ended zero n count u v came is none asked =
+    let same : n ≡ count = omega arith in subst (λ m. WordItems m u came v) same asked
+words_ended (suc k) n count u v came is none asked =
+    let same : suc (k + n) ≡ count = omega arith in
+    let more = WordItems-more (k + n) u v v came None (words_ended k n (k + n) u v came refl none asked) (none, refl) in
+    subst (λ m. WordItems m u came v) same (subst (λ l. WordItems (suc (k + n)) u l v) (append-nil came) more)
+
+-- once none came, more may be asked, and none comes
+pub words_no_more : (n count : ℕ) (u v w : UnreadLine) (came : List (List ℕ)) → n < count → WordItems n u came v → WordItem v None w → WordItems count u came w
+words_no_more n count u v w came below asked step =
+    let more = count - suc n in
+    let all : more + suc n ≡ count = omega arith in
+    let one = subst (λ l. WordItems (suc n) u l w) (append-nil came) (WordItems-more n u v w came None asked step) in
+    let none : w.words ≡ [] = ap (λ (l : UnreadLine). l.words) step.1 ∙ step.0 in
+    words_ended more (suc n) count u w came all none one
 
 -- ---- what an implementation does
 

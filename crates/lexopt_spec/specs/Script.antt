@@ -1,9 +1,11 @@
 -- Scripts: what they mean, and what is written for them.
 -- The source is `docs/formats.md`. A script is a list of bytes.
-use Rattle.std.specs.Prelude.{ℕ, ◌+◌, ◌*◌, ◌-◌, Bool, true, false, nat_le, ◌==◌, ◌&&◌, ◌||◌, List, [], ◌∷◌, ◌++◌, Option, Some, None, codes, encode_utf8, if◌then◌else◌}
+use Rattle.std.specs.Prelude.{ℕ, ◌+◌, ◌*◌, ◌-◌, Bool, true, false, nat_le, ◌==◌, ◌&&◌, ◌||◌, List, [], ◌∷◌, ◌++◌, length, take, drop, Option, Some, None, codes, encode_utf8, if◌then◌else◌}
 use Rattle.std.specs.List.{filter_map, flat_map, join_by, slice_split}
 use Rattle.std.specs.Cmp.Lexicographic.{pointwise}
-use Rattle.lexopt_spec.specs.Runs.{Call, next, value, optional, switch}
+use Rattle.std.specs.Str.{all_ascii_digits}
+use Rattle.std.specs.Str.Parse.{digits_value}
+use Rattle.lexopt_spec.specs.Runs.{Call, next, value, optional, values, raw, try_raw, switch}
 use Rattle.lexopt_spec.specs.Steps.{Reply, short, long, positional, end, taken, maybe, items, busy, done, missing, unexpected, no_memory}
 use Rattle.lexopt_spec.specs.Text.{quoted, missing_message, unexpected_value_message, no_memory_message}
 
@@ -71,11 +73,26 @@ abbrev pub word_or_bad : Option (List ℕ) → Meaning
 word_or_bad None = bad
 word_or_bad (Some bytes) = word bytes
 
--- `w TEXT`: one blank, and then the text
-abbrev pub meaning_of_word : List ℕ → Meaning
-meaning_of_word [] = bad
-meaning_of_word (a ∷ []) = bad
-meaning_of_word (a ∷ b ∷ text) = if a == 0x77 && b == blank then word_or_bad (unescaped text) else bad
+-- the number that one to nine decimal digits write
+abbrev pub number : List ℕ → Option ℕ
+number text = if nat_le 1 (length text) && (nat_le (length text) 9 && all_ascii_digits text) then Some (digits_value 10 text) else None
+
+abbrev pub counted : (ℕ → Call) → Option ℕ → Meaning
+counted c None = bad
+counted c (Some n) = call (c n)
+
+-- the line begins with this text
+abbrev pub begins : List ℕ → List ℕ → Bool
+begins text line = pointwise ◌==◌ (take (length text) line) text
+
+-- `w TEXT`, `values N`, `raw N` or `try N`: one blank, and then the text or the number
+abbrev pub meaning_with_text : List ℕ → Meaning
+meaning_with_text line =
+    if begins (codes "w ") line then word_or_bad (unescaped (drop 2 line))
+    else (if begins (codes "values ") line then counted values (number (drop 7 line))
+    else (if begins (codes "raw ") line then counted raw (number (drop 4 line))
+    else (if begins (codes "try ") line then counted try_raw (number (drop 4 line))
+    else bad)))
 
 abbrev pub meaning : List ℕ → Meaning
 meaning line =
@@ -86,7 +103,7 @@ meaning line =
     else (if pointwise ◌==◌ line (codes "on") then call (switch true)
     else (if pointwise ◌==◌ line (codes "off") then call (switch false)
     else (if pointwise ◌==◌ line (codes "w") then word []
-    else meaning_of_word line))))))
+    else meaning_with_text line))))))
 
 -- ---- a script
 

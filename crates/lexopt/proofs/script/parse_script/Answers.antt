@@ -1,9 +1,8 @@
-use Rattle.std.proofs.Common.{rules, tests, ◌≡◌, ◌+◌, ◌||◌, true, [], ◌∷◌, length, map, Some, refl, sym, ap, ◌∙◌, inr, arith, append-nil}
-use Rattle.std.proofs.lemmas.Bool.Decides.{nat_tests}
+use Rattle.std.proofs.Common.{rules, tests, ◌+◌, ◌||◌, [], ◌∷◌, length, map, Some, refl, sym, ap, ◌∙◌, inr, append-nil}
 use Rattle.std.proofs.lemmas.Iterator.Consumers.{YieldsList-at, YieldsList-from_enumerate}
 use Rattle.std.proofs.lemmas.Iterator.Splits.{YieldsList-from_slice_split}
-use Rattle.std.proofs.lemmas.List.{length_push, map-append, length-map}
-use Rattle.lexopt_spec.specs.Script.{nothing, word, call, is_bad}
+use Rattle.std.proofs.lemmas.List.{length_push, map-append}
+use Rattle.lexopt_spec.specs.Script.{nothing, word, call}
 use Rattle.lexopt_spec.proofs.ScriptLemmas.{called, called-append, ReadsTo-more, ReadsTo-bad, ReadsTo-end}
 use Rattle.lexopt.specs.Meanings.{meaning_view}
 use Rattle.lexopt.specs.Replies.{call_view}
