@@ -15,6 +15,8 @@ use std::os::unix::ffi::OsStrExt;
 enum Work {
     Copy,
     Next,
+    Values,
+    Raw,
 }
 
 impl Work {
@@ -22,6 +24,8 @@ impl Work {
         match name {
             "copy" => Some(Work::Copy),
             "next" => Some(Work::Next),
+            "values" => Some(Work::Values),
+            "raw" => Some(Work::Raw),
             _ => None,
         }
     }
@@ -45,13 +49,36 @@ fn read_value(parser: &mut Parser, seen: &mut Seen) -> Result<(), Error> {
     Ok(())
 }
 
-// Reads the whole line. Only `-n` and `--name` take a value.
-fn read_line(parser: &mut Parser, seen: &mut Seen) -> Result<(), Error> {
+// Takes several values for the last option.
+fn read_values(parser: &mut Parser, seen: &mut Seen) -> Result<(), Error> {
+    match parser.values() {
+        Ok(view) => {
+            for value in view {
+                seen.value(value.as_bytes());
+            }
+        }
+        Err(error) => return seen.error(error),
+    }
+    Ok(())
+}
+
+// Takes the words that are left.
+fn read_raw(parser: &mut Parser, seen: &mut Seen) -> Result<(), Error> {
+    for word in parser.raw_args()? {
+        seen.positional(word.as_bytes());
+    }
+    Ok(())
+}
+
+// Reads the whole line. Only `-n` and `--name` take a value, and `-n` several values where that is wanted.
+fn read_line(parser: &mut Parser, several: bool, seen: &mut Seen) -> Result<(), Error> {
     loop {
         match parser.next() {
             Ok(Some(Arg::Short(option))) => {
                 seen.short(option);
-                if option == 'n' {
+                if option == 'n' && several {
+                    read_values(parser, seen)?;
+                } else if option == 'n' {
                     read_value(parser, seen)?;
                 }
             }
@@ -71,9 +98,9 @@ fn read_line(parser: &mut Parser, seen: &mut Seen) -> Result<(), Error> {
 fn main() -> Result<(), Box<dyn std::error::Error>> {
     let mut args = env::args();
     let (Some(_program), Some(work), Some(times)) = (args.next(), args.next(), args.next()) else {
-        return Err("usage: bench copy|next TIMES".into());
+        return Err("usage: bench copy|next|values|raw TIMES".into());
     };
-    let work = Work::of_name(&work).ok_or("the work is copy or next")?;
+    let work = Work::of_name(&work).ok_or("the work is copy, next, values or raw")?;
     let times = times.parse::<u64>()?;
 
     let mut input = Vec::new();
@@ -88,7 +115,15 @@ fn main() -> Result<(), Box<dyn std::error::Error>> {
             Work::Copy => seen.copies(&copied),
             Work::Next => {
                 let mut parser = Parser::from_args(copied);
-                read_line(&mut parser, &mut seen)?;
+                read_line(&mut parser, false, &mut seen)?;
+            }
+            Work::Values => {
+                let mut parser = Parser::from_args(copied);
+                read_line(&mut parser, true, &mut seen)?;
+            }
+            Work::Raw => {
+                let mut parser = Parser::from_args(copied);
+                read_raw(&mut parser, &mut seen)?;
             }
         }
         seen.stop_hashing();

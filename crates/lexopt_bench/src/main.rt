@@ -1,7 +1,8 @@
 //! Reads words many times, so that the cost of a read can be measured. `bench/src/main.rs` does the same with the Rust crate.
 //!
-//! Arguments are `copy` or `next`, and how many times. Standard input has the words, each ended by a NUL. Each time the words
-//! are copied; under `copy` that is all, and under `next` the copies are read as a command line. Last it prints what was seen.
+//! Arguments are `copy`, `next`, `values` or `raw`, and how many times. Standard input has the words, each ended by a NUL.
+//! Each time the words are copied; under `copy` that is all. Under `next` and `values` the copies are read as a command line,
+//! and `-n` takes one value or several; under `raw` they are taken unread. Last it prints what was seen.
 #![tactic(auto)]
 
 mod seen;
@@ -18,6 +19,8 @@ use std::io::Read;
 enum Work {
     Copy,
     Next,
+    Values,
+    Raw,
 }
 
 impl Work {
@@ -25,6 +28,8 @@ impl Work {
         match name {
             "copy" => Some(Work::Copy),
             "next" => Some(Work::Next),
+            "values" => Some(Work::Values),
+            "raw" => Some(Work::Raw),
             _ => None,
         }
     }
@@ -48,13 +53,36 @@ fn read_value(parser: &mut Parser, seen: &mut Seen) -> Result<(), Error> {
     Ok(())
 }
 
-// Reads the whole line. Only `-n` and `--name` take a value.
-fn read_line(parser: &mut Parser, seen: &mut Seen) -> Result<(), Error> {
+// Takes several values for the last option.
+fn read_values(parser: &mut Parser, seen: &mut Seen) -> Result<(), Error> {
+    match parser.values() {
+        Ok(view) => {
+            for value in view {
+                seen.value(value.as_bytes());
+            }
+        }
+        Err(error) => return seen.error(error),
+    }
+    Ok(())
+}
+
+// Takes the words that are left.
+fn read_raw(parser: &mut Parser, seen: &mut Seen) -> Result<(), Error> {
+    for word in parser.raw_args()? {
+        seen.positional(word.as_bytes());
+    }
+    Ok(())
+}
+
+// Reads the whole line. Only `-n` and `--name` take a value, and `-n` several values where that is wanted.
+fn read_line(parser: &mut Parser, several: bool, seen: &mut Seen) -> Result<(), Error> {
     for _ in 0..u64::MAX {
         match parser.next() {
             Ok(Some(Arg::Short(option))) => {
                 seen.short(option);
-                if option == 'n' {
+                if option == 'n' && several {
+                    read_values(parser, seen)?;
+                } else if option == 'n' {
                     read_value(parser, seen)?;
                 }
             }
@@ -76,9 +104,9 @@ fn main(rt: HostRuntime) -> Result<()> {
     let alloc = rt.alloc();
     let mut args = env::args(&rt)?;
     let (Some(_program), Some(work), Some(times)) = (args.next(), args.next(), args.next()) else {
-        bail!("usage: lexopt_bench copy|next TIMES");
+        bail!("usage: lexopt_bench copy|next|values|raw TIMES");
     };
-    let work = Work::of_name(&work).context("the work is copy or next")?;
+    let work = Work::of_name(&work).context("the work is copy, next, values or raw")?;
     let times = times.parse::<u64>().context("how many times")?;
 
     let mut input = Vec::new(alloc);
@@ -93,7 +121,15 @@ fn main(rt: HostRuntime) -> Result<()> {
             Work::Copy => seen.copies(&copied),
             Work::Next => {
                 let mut parser = Parser::from_args(alloc, copied)?;
-                read_line(&mut parser, &mut seen)?;
+                read_line(&mut parser, false, &mut seen)?;
+            }
+            Work::Values => {
+                let mut parser = Parser::from_args(alloc, copied)?;
+                read_line(&mut parser, true, &mut seen)?;
+            }
+            Work::Raw => {
+                let mut parser = Parser::from_args(alloc, copied)?;
+                read_raw(&mut parser, &mut seen)?;
             }
         }
         seen.stop_hashing();

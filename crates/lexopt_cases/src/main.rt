@@ -4,6 +4,7 @@
 //! else is printed, and behind each section the number of its cases that agree and that differ.
 #![tactic(auto)]
 
+mod callers;
 #[cfg(test)]
 mod calls;
 #[cfg(test)]
@@ -16,6 +17,8 @@ mod faults;
 mod refused_memory;
 #[cfg(test)]
 mod sizes;
+#[cfg(test)]
+mod views;
 #[cfg(test)]
 mod whole_lines;
 

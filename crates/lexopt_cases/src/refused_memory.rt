@@ -108,6 +108,67 @@ fn damaged_cluster(rt: HostRuntime) -> Result<(), Fail> {
     told(refused, "value")
 }
 
+// Without a value `values` asks for memory for the error alone.
+#[test]
+fn missing_values(rt: HostRuntime) -> Result<(), Fail> {
+    let Ok(mut parser) = parser_of(rt.alloc(), &[b"-a", b"-b"]) else {
+        return told(true, "from_args");
+    };
+    assert!(rt; reads_short(&mut parser, 'a')?);
+    let mut answer = parser.values().err();
+    let refused = matches!(answer, Some(Error::OutOfMemory));
+    if refused {
+        answer = parser.values().err();
+    }
+    match answer {
+        Some(
+            Error::MissingValue {
+                option: Some(option),
+            },
+        ) => assert_eq!(rt; option.as_str(), "-a"),
+        _ => return Err(Fail::new("values gave another answer")),
+    }
+    assert!(rt; reads_short(&mut parser, 'b')?);
+    told(refused, "values")
+}
+
+// A pending value is refused by `raw_args`, and stays where the error finds no memory.
+#[test]
+fn pending_value(rt: HostRuntime) -> Result<(), Fail> {
+    let Ok(mut parser) = parser_of(rt.alloc(), &[b"-ab", b"c"]) else {
+        return told(true, "from_args");
+    };
+    assert!(rt; reads_short(&mut parser, 'a')?);
+    let mut answer = parser.raw_args().err();
+    let refused = matches!(answer, Some(Error::OutOfMemory));
+    if refused {
+        assert!(rt; parser.try_raw_args().is_none());
+        answer = parser.raw_args().err();
+    }
+    match answer {
+        Some(Error::UnexpectedValue { option, value }) => {
+            assert_eq!(rt; option.as_str(), "-a");
+            assert_eq!(rt; value.as_bytes(), b"b".as_slice());
+        }
+        _ => return Err(Fail::new("raw_args gave another answer")),
+    }
+    assert!(rt; takes(&mut parser, b"c")?);
+    told(refused, "raw_args")
+}
+
+// Values and words are taken out of the parser's own: no item asks for memory.
+#[test]
+fn items_of_views(rt: HostRuntime) -> Result<(), Fail> {
+    let Ok(mut parser) = parser_of(rt.alloc(), &[b"-a=", b"x", b"-y"]) else {
+        return told(true, "from_args");
+    };
+    assert!(rt; reads_short(&mut parser, 'a')?);
+    assert!(rt; parser.values()?.next().is_some());
+    assert!(rt; parser.raw_args()?.next().is_some());
+    assert!(rt; reads_short(&mut parser, 'y')?);
+    Ok(())
+}
+
 // A cluster read under both settings of the switch: no call asks for memory.
 #[test]
 fn switched_cluster(rt: HostRuntime) -> Result<(), Fail> {
@@ -168,4 +229,22 @@ fn script_of_a_switched_cluster(rt: HostRuntime) -> Result<(), Fail> {
     let script = b"w -a=b\nnext\noff\nnext\non\nnext\nnext\n";
     let whole = b"Short \"a\"\nok\nShort \"=\"\nok\nShort \"b\"\nNone\n";
     replays(rt.alloc(), script, whole, whole, "no call")
+}
+
+// The list of the items that are asked of a view is the script's own, so `run` is refused where it finds no memory.
+#[test]
+fn script_of_words(rt: HostRuntime) -> Result<(), Fail> {
+    let script = b"w -ab\nw c\nw d\nnext\ntry 9\nraw 0\ntry 9\nnext\n";
+    let whole =
+        b"Short \"a\"\nNone\nerror: unexpected argument for option '-a': \"b\"\n[\"c\", \"d\"]\nNone\n";
+    let refused = b"Short \"a\"\nNone\nerror: out of memory\nNone\nShort \"b\"\n";
+    replays(rt.alloc(), script, whole, refused, "raw_args")
+}
+
+#[test]
+fn script_of_values(rt: HostRuntime) -> Result<(), Fail> {
+    let script = b"w -ab\nw c\nnext\nvalues 1\nvalues 1\nvalues 1\nnext\n";
+    let whole = b"Short \"a\"\n[\"b\"]\n[\"c\"]\nerror: missing argument for option '-a'\nNone\n";
+    let refused = b"Short \"a\"\n[\"b\"]\n[\"c\"]\nerror: out of memory\nNone\n";
+    replays(rt.alloc(), script, whole, refused, "values")
 }

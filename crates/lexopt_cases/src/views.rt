@@ -1,0 +1,138 @@
+//! Views: several values of one option, and the words that are left.
+use crate::callers::{negative_number, two_values};
+use crate::calls::{is_at_end, parser_of, reads_short, reads_word, takes};
+use lexopt::{Error, OsStr, OsString, Parser, RawArgs, ValuesIter};
+use std::test::Fail;
+
+// Whether a view gives this item.
+fn gives(item: Option<OsString>, wanted: &[u8]) -> bool {
+    match item {
+        Some(word) => word.as_bytes() == wanted,
+        None => false,
+    }
+}
+
+fn shows(word: Option<OsStr<'_>>, wanted: &[u8]) -> bool {
+    match word {
+        Some(word) => word.as_bytes() == wanted,
+        None => false,
+    }
+}
+
+fn gives_both(view: &mut ValuesIter<'_>) -> bool {
+    gives(view.next(), b"b")
+        && gives(view.next(), b"c")
+        && view.next().is_none()
+        && view.next().is_none()
+}
+
+#[test]
+fn several_values(rt: HostRuntime) -> Result<(), Fail> {
+    let mut parser = parser_of(rt.alloc(), &[b"-a", b"b", b"c", b"-d"])?;
+    assert!(rt; reads_short(&mut parser, 'a')?);
+    assert!(rt; gives_both(&mut parser.values()?));
+    assert!(rt; reads_short(&mut parser, 'd')?);
+    Ok(())
+}
+
+#[test]
+fn collected_values(rt: HostRuntime) -> Result<(), Fail> {
+    let mut parser = parser_of(rt.alloc(), &[b"-ab", b"c", b"-d"])?;
+    assert!(rt; reads_short(&mut parser, 'a')?);
+    let values: Vec<OsString> = parser.values()?.collect(rt.alloc())?;
+    assert_eq!(rt; values.len(), 2);
+    assert!(rt; reads_short(&mut parser, 'd')?);
+    Ok(())
+}
+
+fn lengths(view: ValuesIter<'_>) -> usize {
+    let mut most = 0;
+    for value in view {
+        most = value.len().max(most);
+    }
+    most
+}
+
+#[test]
+fn values_in_a_loop(rt: HostRuntime) -> Result<(), Fail> {
+    let mut parser = parser_of(rt.alloc(), &[b"-a", b"b", b"ccc", b"dd"])?;
+    assert!(rt; reads_short(&mut parser, 'a')?);
+    assert_eq!(rt; lengths(parser.values()?), 3);
+    assert!(rt; is_at_end(&mut parser)?);
+    Ok(())
+}
+
+#[test]
+fn dropped_view(rt: HostRuntime) -> Result<(), Fail> {
+    let mut parser = parser_of(rt.alloc(), &[b"-ab", b"c", b"-d"])?;
+    assert!(rt; reads_short(&mut parser, 'a')?);
+    assert!(rt; parser.values().is_ok());
+    assert!(rt; gives(parser.values()?.next(), b"b"));
+    assert!(rt; reads_word(&mut parser, b"c")?);
+    assert!(rt; reads_short(&mut parser, 'd')?);
+    Ok(())
+}
+
+fn looks_first(view: &mut RawArgs<'_>) -> bool {
+    shows(view.peek(), b"a")
+        && view.next_if(|_| false).is_none()
+        && gives(
+            view.next_if(|word| word.as_bytes() == b"a".as_slice()),
+            b"a",
+        )
+        && view.peek().is_none()
+        && view.next_if(|_| true).is_none()
+}
+
+#[test]
+fn words_looked_at(rt: HostRuntime) -> Result<(), Fail> {
+    let mut parser = parser_of(rt.alloc(), &[b"a"])?;
+    assert!(rt; looks_first(&mut parser.raw_args()?));
+    assert!(rt; is_at_end(&mut parser)?);
+    Ok(())
+}
+
+#[test]
+fn words_lent(rt: HostRuntime) -> Result<(), Fail> {
+    let mut parser = parser_of(rt.alloc(), &[b"-a", b"--", b"b"])?;
+    let mut view = parser.raw_args()?;
+    assert!(rt; gives(view.next(), b"-a"));
+    assert_eq!(rt; view.as_slice().len(), 2);
+    assert_eq!(rt; view.as_slice()[0].as_bytes(), b"--".as_slice());
+    assert!(rt; gives(view.next(), b"--"));
+    assert!(rt; reads_word(&mut parser, b"b")?);
+    Ok(())
+}
+
+fn is_refused(parser: &mut Parser) -> bool {
+    match parser.raw_args() {
+        Err(Error::UnexpectedValue { option, value }) => {
+            option.as_str() == "-a" && value.as_bytes() == b"b".as_slice()
+        }
+        _ => false,
+    }
+}
+
+#[test]
+fn pending_value(rt: HostRuntime) -> Result<(), Fail> {
+    let mut parser = parser_of(rt.alloc(), &[b"-ab", b"c"])?;
+    assert!(rt; reads_short(&mut parser, 'a')?);
+    assert!(rt; parser.try_raw_args().is_none());
+    assert!(rt; is_refused(&mut parser));
+    assert!(rt; gives(parser.raw_args()?.next(), b"c"));
+    assert!(rt; parser.try_raw_args().is_some());
+    Ok(())
+}
+
+#[test]
+fn callers(rt: HostRuntime) -> Result<(), Fail> {
+    let mut parser = parser_of(rt.alloc(), &[b"-a", b"b", b"c", b"d", b"-10", b"-e"])?;
+    assert!(rt; reads_short(&mut parser, 'a')?);
+    let (first, second) = two_values(&mut parser)?;
+    assert!(rt; gives(first, b"b") && gives(second, b"c"));
+    assert!(rt; negative_number(&mut parser)?.is_none());
+    assert!(rt; takes(&mut parser, b"d")?);
+    assert!(rt; gives(negative_number(&mut parser)?, b"-10"));
+    assert!(rt; reads_short(&mut parser, 'e')?);
+    Ok(())
+}
