@@ -2,16 +2,17 @@
 use Rattle.std.proofs.Common.{◌≡◌, ℕ, Bool, true, false, List, [], ◌∷◌, Option, Some, None, IsSome, string_bytes, refl, sym, ap, subst, ◌∙◌, inl, inr}
 use Rattle.lexopt_spec.specs.UnreadLine.{UnreadLine, no_tail, spelling, pending, IsPlain}
 use Rattle.lexopt_spec.specs.Views.{RawStep, refuses_pending}
-use Rattle.lexopt_spec.specs.Steps.{Reply, unexpected, Answers, Next, NextStep, TakesMemory, ReadsPositional, no_word_left, word_left, ReadsWord, reads_positional}
+use Rattle.lexopt_spec.specs.Steps.{Reply, unexpected, no_memory, Answers, Next, NextStep, TakesMemory, ReadsPositional, no_word_left, word_left, ReadsWord, reads_positional}
 use Rattle.lexopt_spec.proofs.LineLemmas.{refuses_joined, answers_map}
-use Rattle.lexopt_base.specs.Replies.{Gives, error_reply}
+use Rattle.lexopt_base.specs.Replies.{Gives}
 use Rattle.lexopt_base.specs.Helpers.{IsJoined, RefusesPending}
-use Rattle.lexopt_base.specs.declared.error.Error.{Error}
-use Rattle.lexopt_base.specs.declared.error.Error.TheVariants.{MissingValue, UnexpectedOption, UnexpectedArgument, UnexpectedValue, ParsingFailed, NonUnicodeValue, Custom, OutOfMemory}
+use Rattle.lexopt_base.specs.Found.{refusal_reply}
+use Rattle.lexopt_base.specs.declared.parser.Refusal.{Refusal}
+use Rattle.lexopt_base.specs.declared.parser.Refusal.TheVariants.{UnexpectedValue, OutOfMemory}
 
 -- a call that was refused memory changes nothing, where its step would have made a text
 pub refused : (Step : UnreadLine → Reply → UnreadLine → Type 0) (u : UnreadLine) (wanted : Reply) (there : UnreadLine) → Step u wanted there → TakesMemory wanted
-    → Gives (Answers Step) u (error_reply OutOfMemory) u
+    → Gives (Answers Step) u (Some no_memory) u
 refused Step u wanted there step takes = inr (record { reply_is = refl; after_is = refl; in_place_of = (wanted, there, step, takes) })
 
 -- what is there
@@ -28,19 +29,13 @@ flag_of None = []
 flag_of (Some value) = value.0
 
 -- `next` refuses a value that is joined by `=`
-pub refuses : (u v : UnreadLine) (e : Error) → IsJoined (pending u) → RefusesPending u e v → Gives Next u (error_reply e) v
+pub refuses : (u v : UnreadLine) (refusal : Refusal) → IsJoined (pending u) → RefusesPending u refusal v → Gives Next u (Some (refusal_reply refusal)) v
 unfolding joined_of flag_of
-refuses u v (MissingValue option) is h = absurd h
-refuses u v (UnexpectedOption option) is h = absurd h
-refuses u v (UnexpectedArgument value) is h = absurd h
 refuses u v (UnexpectedValue option value) is h =
     let found = joined_of (pending u) is in
     let same : found.0 ≡ value = ap flag_of (sym found.1 ∙ h.1.1) in
     let step = refuses_joined u value (string_bytes option) (found.1 ∙ ap (λ (l : List ℕ). Some (l, true)) same) h.0 in
     inl (subst (λ (x : UnreadLine). NextStep u (unexpected (string_bytes option) value) x) (sym h.1.2) step)
-refuses u v (ParsingFailed value error) is h = absurd h
-refuses u v (NonUnicodeValue value) is h = absurd h
-refuses u v (Custom error) is h = absurd h
 refuses u v OutOfMemory is h =
     let found = joined_of (pending u) is in
     let option = some_of (spelling u.last) h.1 in
@@ -68,14 +63,9 @@ positional_read u word others r v some plain (word_left w ws is reply after) =
     reads_positional w ws is (subst (λ (l : List ℕ). IsPlain false l) same plain) reply after
 
 -- `raw_args` refuses what is pending, whatever would have been asked of the words
-pub refuses_raw : (Taken : UnreadLine → Reply → UnreadLine → Type 0) (u v : UnreadLine) (e : Error) → RefusesPending u e v → Gives (Answers (RawStep Taken)) u (error_reply e) v
-refuses_raw Taken u v (MissingValue option) h = absurd h
-refuses_raw Taken u v (UnexpectedOption option) h = absurd h
-refuses_raw Taken u v (UnexpectedArgument value) h = absurd h
+pub refuses_raw : (Taken : UnreadLine → Reply → UnreadLine → Type 0) (u v : UnreadLine) (refusal : Refusal) → RefusesPending u refusal v
+    → Gives (Answers (RawStep Taken)) u (Some (refusal_reply refusal)) v
 refuses_raw Taken u v (UnexpectedValue option value) h = inl (refuses_pending value (string_bytes option) h.1.0 h.1.1 h.0 refl h.1.2)
-refuses_raw Taken u v (ParsingFailed value error) h = absurd h
-refuses_raw Taken u v (NonUnicodeValue value) h = absurd h
-refuses_raw Taken u v (Custom error) h = absurd h
 refuses_raw Taken u v OutOfMemory h =
     let option = some_of (spelling u.last) h.1 in
     let found = some_of (pending u) h.2 in

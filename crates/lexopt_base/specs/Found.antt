@@ -1,11 +1,11 @@
 -- What the parser found, as a reply. No public clause cites this file.
-use Rattle.std.specs.Prelude.{Option, Some, None, Result, Ok, Err}
+use Rattle.std.specs.Prelude.{Option, Some, None, Result, Ok, Err, string_bytes}
 use Rattle.lexopt_spec.specs.UnreadLine.{LastOption, no_option, short_option, long_option}
-use Rattle.lexopt_spec.specs.Steps.{Reply, short, long, positional, end}
-use Rattle.lexopt_base.specs.Replies.{error_reply}
-use Rattle.lexopt_base.specs.declared.error.Error.{Error}
+use Rattle.lexopt_spec.specs.Steps.{Reply, short, long, positional, end, unexpected, no_memory}
 use Rattle.lexopt_base.specs.declared.parser.Found.{Found}
 use Rattle.lexopt_base.specs.declared.parser.Found.TheVariants as found
+use Rattle.lexopt_base.specs.declared.parser.Refusal.{Refusal}
+use Rattle.lexopt_base.specs.declared.parser.Refusal.TheVariants.{UnexpectedValue, OutOfMemory}
 
 -- the name that stands as the last option, if that is a long one
 abbrev pub name_of : LastOption → Option Reply
@@ -20,6 +20,11 @@ found_as last found.Long = name_of last
 found_as last (found.Value word) = Some (positional word)
 found_as last found.End = Some end
 
-abbrev pub found_reply : LastOption → Result Found Error → Option Reply
+-- why nothing was found, as a reply
+abbrev pub refusal_reply : Refusal → Reply
+refusal_reply (UnexpectedValue option value) = unexpected (string_bytes option) value
+refusal_reply OutOfMemory = no_memory
+
+abbrev pub found_reply : LastOption → Result Found Refusal → Option Reply
 found_reply last (Ok f) = found_as last f
-found_reply last (Err e) = error_reply e
+found_reply last (Err refusal) = Some (refusal_reply refusal)

@@ -53,6 +53,39 @@ enum Found {
     End,
 }
 
+// Why nothing was found. An `Error` has room for a cause, so it is made where it is handed out.
+#[derive(Drop)]
+enum Refusal {
+    UnexpectedValue { option: String, value: OsString },
+    OutOfMemory,
+}
+
+impl From<AllocError> for Refusal {
+    ghost use Rattle.std.specs.Prelude.{◌≡◌};
+    ghost use Rattle.lexopt_base.specs.declared.parser.Refusal.TheVariants.{OutOfMemory};
+
+    ghost from_gives = { λ _ refusal. refusal ≡ OutOfMemory };
+
+    fn from(_error: AllocError) -> Refusal {
+        Refusal::OutOfMemory
+    }
+}
+
+impl From<Refusal> for Error {
+    ghost use Rattle.std.specs.Prelude.{◌≡◌, Some};
+    ghost use Rattle.lexopt_base.specs.Found.{refusal_reply};
+    ghost use Rattle.lexopt_base.specs.Replies.{error_reply};
+
+    ghost from_gives = { λ refusal e. error_reply e ≡ Some (refusal_reply refusal) };
+
+    fn from(refusal: Refusal) -> Error {
+        match refusal {
+            Refusal::UnexpectedValue { option, value } => Error::UnexpectedValue { option, value },
+            Refusal::OutOfMemory => Error::OutOfMemory,
+        }
+    }
+}
+
 /// A command line of which some is read. Contracts see it as its unread line.
 #[derive(Drop)]
 pub struct Parser {
@@ -162,7 +195,7 @@ impl Parser {
     }
 
     // Reads the next option or positional argument. A long option is then the last option, whose name can be lent.
-    fn advance(&mut self) -> Result<Found, Error>
+    fn advance(&mut self) -> Result<Found, Refusal>
         ensures { Gives Next self.old (found_reply self.new.last result) self.new }
     {
         match self.state {
@@ -183,7 +216,7 @@ impl Parser {
     }
 
     // Reads a word before the separator. A long option is consumed once nothing can fail any more.
-    fn read_word(&mut self) -> Result<Found, Error>
+    fn read_word(&mut self) -> Result<Found, Refusal>
         requires tail { self.old.tail ≡ no_tail }
         requires ended { self.old.ended ≡ false }
         ensures { Gives (Answers ReadsWord) self.old (found_reply self.new.last result) self.new }
@@ -229,14 +262,15 @@ impl Parser {
     }
 
     // Lends what was found: the name of a long option is the last option's.
-    fn lend(&self, found: Result<Found, Error>) -> Result<Option<Arg<'_>>, Error>
+    fn lend(&self, found: Result<Found, Refusal>) -> Result<Option<Arg<'_>>, Error>
         ensures { (reply : Reply) → found_reply self.now.last found ≡ Some reply → next_reply result ≡ Some reply }
     {
-        match found? {
-            Found::Short(option) => Ok(Some(Arg::Short(option))),
-            Found::Long => Ok(Some(Arg::Long(&self.name))),
-            Found::Value(word) => Ok(Some(Arg::Value(word))),
-            Found::End => Ok(None),
+        match found {
+            Ok(Found::Short(option)) => Ok(Some(Arg::Short(option))),
+            Ok(Found::Long) => Ok(Some(Arg::Long(&self.name))),
+            Ok(Found::Value(word)) => Ok(Some(Arg::Value(word))),
+            Ok(Found::End) => Ok(None),
+            Err(refusal) => Err(Error::from(refusal)),
         }
     }
 
@@ -259,8 +293,16 @@ impl Parser {
         Some(self.words.take_current(position))
     }
 
-    // Takes the next word. What is left of the word before it stays.
-    pub(crate) fn take_word(&mut self) -> Option<OsString>
+    // Takes the next word, where nothing is left of the word before it.
+    fn take_word(&mut self) -> Option<OsString>
+        requires { self.old.tail ≡ no_tail }
+        ensures { WordItem self.old result self.new }
+    {
+        self.words.take_next()
+    }
+
+    // Takes the next word for a view. What is left of the word before it stays.
+    pub(crate) fn take_next_word(&mut self) -> Option<OsString>
         ensures { WordItem self.old result self.new }
     {
         match self.state {
@@ -319,7 +361,7 @@ impl Parser {
     }
 
     // Refuses the pending value, which is then consumed.
-    fn refuse_pending(&mut self) -> Error
+    fn refuse_pending(&mut self) -> Refusal
         requires value { IsSome (pending self.old) }
         requires option { IsSome (spelling self.old.last) }
         ensures { RefusesPending self.old result self.new }
@@ -327,10 +369,10 @@ impl Parser {
         let option = match self.spelling() {
             Ok(Some(option)) => option,
             Ok(None) => unreachable!(),
-            Err(_) => return Error::OutOfMemory,
+            Err(_) => return Refusal::OutOfMemory,
         };
         match self.take_pending() {
-            Some(value) => Error::UnexpectedValue { option, value },
+            Some(value) => Refusal::UnexpectedValue { option, value },
             None => unreachable!(),
         }
     }
@@ -341,7 +383,7 @@ impl Parser {
         ensures err { IfErr result (λ e. RefusesRaw self.old e self.new) }
     {
         if self.has_pending() {
-            return Err(self.refuse_pending());
+            return Err(Error::from(self.refuse_pending()));
         }
         Ok(())
     }

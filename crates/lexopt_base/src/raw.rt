@@ -59,7 +59,7 @@ impl Iterator for RawArgs<'_> {
 
     /// Takes the next word.
     fn next(&mut self) -> Option<OsString> {
-        self.parser.take_word()
+        self.parser.take_next_word()
     }
 }
 

@@ -95,7 +95,7 @@ impl ValuesIter<'_> {
     {
         if self.parser.is_normal() {
             self.stage = Stage::GoingOn;
-            return self.parser.take_word();
+            return self.parser.take_next_word();
         }
         self.stage = Stage::End;
         None

@@ -36,10 +36,12 @@ use Rattle.std.proofs.result.Result.TheLaws as Result-laws
 use Rattle.std.proofs.option.Option.TheLaws as Option-laws
 use Rattle.lexopt_base.specs.contracts.parser.Parser.{the_row as R}
 use Rattle.lexopt_base.specs.contracts.parser.Found as Found-type
+use Rattle.lexopt_base.specs.contracts.parser.Refusal as Refusal-type
 use Rattle.lexopt_base.specs.contracts.error.Arg as Arg-type
 use Rattle.lexopt_base.specs.contracts.error.Error as Error-type
 use Rattle.lexopt_base.proofs.parser.Parser.TheLaws as R-laws
 use Rattle.lexopt_base.proofs.parser.Found.TheLaws as Found-laws
+use Rattle.lexopt_base.proofs.parser.Refusal.TheLaws as Refusal-laws
 use Rattle.lexopt_base.proofs.error.Arg.TheLaws as Arg-laws
 use Rattle.lexopt_base.proofs.error.Error.TheLaws as Error-laws
 use Rattle.lexopt_spec.specs.UnreadLine.{UnreadLine}
@@ -61,10 +63,10 @@ stayed = (stay_dropped (mut_ref_to (0 ∷ []) tt (plain (λ _. R))) no, tt)
 
 -- what `advance` gives, and what `next` gives
 abbrev Fr : RattleType
-Fr = Result-type.the_row Found-type.the_row Error-type.the_row
+Fr = Result-type.the_row Found-type.the_row Refusal-type.the_row
 
 Fr-laws : Laws Fr
-Fr-laws = Result-laws.the_row_laws Found-type.the_row Error-type.the_row Found-laws.the_row_laws Error-laws.the_row_laws
+Fr-laws = Result-laws.the_row_laws Found-type.the_row Refusal-type.the_row Found-laws.the_row_laws Refusal-laws.the_row_laws
 
 pub next_spec : {M : Type 1} → statement M
 next_spec 𝓤 𝓛 𝓜 𝓡 wired =

@@ -6,6 +6,9 @@ use Rattle.lexopt_spec.specs.Views.{WordItem}
 use Rattle.lexopt_base.proofs.Refusals.{refused, some_of}
 use Rattle.lexopt_base.proofs.parser.Parser.value.Goals as goal
 
+pub take_word-requires : goal.take_word-requires
+take_word-requires c = let none = c.in_default.ensures in ap (λ (l : UnreadLine). l.tail) none.1 ∙ none.0
+
 pub returns-in-Some : goal.returns-in-Some
 returns-in-Some c =
     let h = c.in-Some.ensures in inl (pending_value c.in-Some.value h.0 h.1 refl h.2)
