@@ -8,10 +8,12 @@ pub use lexopt_base::error::{Arg, Error};
 pub use lexopt_base::os_string::{OsStr, OsString, Quoted};
 pub use lexopt_base::parser::Parser;
 pub use lexopt_base::raw::RawArgs;
+pub use lexopt_base::value_ext::ValueExt;
 pub use lexopt_base::values::ValuesIter;
-pub use lexopt_base::{error, os_string, parser, raw, values};
+pub use lexopt_base::{error, os_string, parser, raw, value_ext, values};
 
 pub mod items;
+pub mod prelude;
 pub mod replay;
 mod reply;
 mod run_error;

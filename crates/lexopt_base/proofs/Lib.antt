@@ -7,3 +7,4 @@ pub mod LongOptions
 pub mod Ends
 pub mod Fronts
 pub mod Stages
+pub mod Errors

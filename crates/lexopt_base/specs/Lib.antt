@@ -10,3 +10,4 @@ pub mod Helpers
 pub mod Ends
 pub mod Stages
 pub mod Views
+pub mod Conversions

@@ -9,5 +9,6 @@ pub mod os_string;
 pub mod parser;
 mod quoted;
 pub mod raw;
+pub mod value_ext;
 pub mod values;
 mod word;

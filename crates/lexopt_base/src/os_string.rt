@@ -119,6 +119,11 @@ impl OsString {
         self.bytes.is_empty()
     }
 
+    // What the word takes its memory of.
+    pub(crate) fn allocator(&self) -> Global {
+        *self.bytes.allocator()
+    }
+
     // Removes the first `count` bytes, in place.
     pub(crate) fn remove_front(&mut self, count: usize)
         requires { count ≤ length self.old }

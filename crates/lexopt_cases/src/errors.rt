@@ -4,7 +4,7 @@ use std::alloc::{AllocError, AllocFailed, Global};
 use std::test::Fail;
 
 // Whether `Display` and `Debug` of an error both write this message.
-fn prints(alloc: Global, error: &Error, message: &str) -> Result<bool, AllocError> {
+pub fn prints(alloc: Global, error: &Error, message: &str) -> Result<bool, AllocError> {
     let displayed = error.to_string(alloc)?;
     let debugged = format!(in alloc; "{error:?}")?;
     Ok(displayed.as_str() == message && debugged.as_str() == message)
