@@ -1,8 +1,8 @@
 //! Conversions of values.
-use crate::calls::{parser_of, reads_word};
+use crate::calls::{parser_of, reads_short};
 use crate::errors::prints;
-use lexopt::prelude::{Short, ValueExt};
-use lexopt::{Error, OsString, Parser};
+use lexopt::prelude::{Value, ValueExt};
+use lexopt::{Error, OsString};
 use std::alloc::Global;
 use std::fmt;
 use std::test::Fail;
@@ -91,18 +91,11 @@ fn cause_of_a_failed_parse(rt: HostRuntime) -> Result<(), Fail> {
     Ok(())
 }
 
-// Takes the value of `-n` as a number.
-fn number_of(parser: &mut Parser) -> Result<i32, Error> {
-    match parser.next()? {
-        Some(Short('n')) => parser.value()?.parse(),
-        _ => Err(Error::from("no -n")),
-    }
-}
-
 #[test]
 fn parsed_value(rt: HostRuntime) -> Result<(), Fail> {
     let mut parser = parser_of(rt.alloc(), &[b"-n", b"10", b"foo"])?;
-    assert_eq!(rt; number_of(&mut parser)?, 10);
-    assert!(rt; reads_word(&mut parser, b"foo")?);
+    assert!(rt; reads_short(&mut parser, 'n')?);
+    assert_eq!(rt; parser.value()?.parse::<i32>()?, 10);
+    assert!(rt; matches!(parser.next()?, Some(Value(_))));
     Ok(())
 }
