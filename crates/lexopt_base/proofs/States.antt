@@ -77,7 +77,7 @@ word_taken p u None after seen placed none takes =
 word_taken p u (Some word) after seen placed none takes = (
   ap (λ (l : UnreadLine). l.words) (sym seen) ∙ takes,
   same_parts _ _ (no_tail_anywhere p.words.current after.current p.state placed (ap (λ (l : UnreadLine). l.tail) seen ∙ none) ∙ sym none) refl
-      (ap (λ (l : UnreadLine). l.ended) seen) (ap (λ (l : UnreadLine). l.last) seen) (ap (λ (l : UnreadLine). l.short_equals) seen),
+      (ap (λ (l : UnreadLine). l.ended) seen) (ap (λ (l : UnreadLine). l.last) seen) (ap (λ (l : UnreadLine). l.short_equals) seen) (ap (λ (l : UnreadLine). l.bin_name) seen),
 )
 
 -- a value is taken out of the word before the cursor
@@ -88,7 +88,7 @@ value_taken p u value by_equals after seen is running left = (
   by_equals,
   ap pending (sym seen) ∙ is,
   same_parts _ _ refl (left ∙ ap (λ (l : UnreadLine). l.words) seen) (sym running ∙ ap (λ (l : UnreadLine). l.ended) seen)
-      (ap (λ (l : UnreadLine). l.last) seen) (ap (λ (l : UnreadLine). l.short_equals) seen),
+      (ap (λ (l : UnreadLine). l.last) seen) (ap (λ (l : UnreadLine). l.short_equals) seen) (ap (λ (l : UnreadLine). l.bin_name) seen),
 )
 
 -- ---- values in clusters

@@ -1,5 +1,6 @@
 -- How a parser is seen: as an unread line.
 use Rattle.std.specs.Prelude.{◌≡◌, ◌<◌, ◌≤◌, ℕ, List, Bool, true, false, length, drop, string_bytes}
+use Rattle.std.specs.Option.{option_map}
 use Rattle.lexopt_spec.specs.UnreadLine.{UnreadLine, Tail, no_tail, joined, rest_of}
 use Rattle.lexopt_spec.specs.UnreadLine as line
 use Rattle.lexopt_spec.specs.Pieces.{first_piece, after_first_piece, shown}
@@ -29,7 +30,7 @@ last_of (Short c) name = line.short_option c
 last_of Long name = line.long_option name
 
 abbrev pub line_of : Inside → UnreadLine
-line_of p = record { tail = tail_of p.words.current p.state; words = p.words.left; ended = ended_of p.state; last = last_of p.last_option (string_bytes p.name); short_equals = p.short_equals }
+line_of p = record { tail = tail_of p.words.current p.state; words = p.words.left; ended = ended_of p.state; last = last_of p.last_option (string_bytes p.name); short_equals = p.short_equals; bin_name = option_map string_bytes p.bin_name }
 
 -- the position lies in the word: behind a byte, and in a cluster before one
 abbrev pub IsPlaced : List ℕ → State → Type 0

@@ -1,10 +1,10 @@
 //! The parser: a command line of which some is read.
-ghost use Rattle.std.specs.Prelude.{◌≡◌, ◌≢◌, ◌↔◌, ◌<◌, ◌≤◌, [], ◌∷◌, Some, None, false, IsTrue, IsSome, IfOk, IfErr, OnErr, OnOk, length, string_bytes};
+ghost use Rattle.std.specs.Prelude.{◌≡◌, ◌≢◌, ◌↔◌, ◌<◌, ◌≤◌, ℕ, List, [], ◌∷◌, Some, None, false, IsTrue, IsSome, IfOk, IfErr, OnErr, OnOk, length, string_bytes};
 ghost use Rattle.std.specs.Option.{option_map};
 ghost use Rattle.std.specs.Iterator.{IsFiniteIterable};
 ghost use Rattle.std.specs.Iterator.Runs.{WholeRun};
 ghost use Rattle.lexopt_spec.specs.Pieces.{lossy};
-ghost use Rattle.lexopt_spec.specs.UnreadLine.{IsNormalIn, dash, fresh, no_tail, pending, pending_in, rest_of, spelling};
+ghost use Rattle.lexopt_spec.specs.UnreadLine.{IsNormalIn, dash, fresh, invoked, no_tail, pending, pending_in, rest_of, spelling};
 ghost use Rattle.lexopt_spec.specs.Steps.{Answers, Next, OptionalStep, Reply, Value, ReadsPositional, ReadsWord, maybe};
 ghost use Rattle.lexopt_base.specs.Replies.{CanReply, Gives, next_reply, value_reply};
 ghost use Rattle.lexopt_base.specs.Found.{found_as, found_reply};
@@ -19,7 +19,10 @@ use crate::kept_words::KeptWords;
 use crate::os_string::OsString;
 use crate::word::{WordKind, is_positional, kind_of};
 use bstr::ByteSlice;
-use std::alloc::{AllocError, Global};
+use std::alloc::{AllocError, AllocGlobal, Global};
+use std::env;
+use std::env::Env;
+use std::io::ErrorKind;
 use std::marker::Model;
 
 // What is left of the word just before the cursor. A position is a number of bytes of that word.
@@ -53,39 +56,6 @@ enum Found {
     End,
 }
 
-// Why nothing was found. An `Error` has room for a cause, so it is made where it is handed out.
-#[derive(Drop)]
-enum Refusal {
-    UnexpectedValue { option: String, value: OsString },
-    OutOfMemory,
-}
-
-impl From<AllocError> for Refusal {
-    ghost use Rattle.std.specs.Prelude.{◌≡◌};
-    ghost use Rattle.lexopt_base.specs.declared.parser.Refusal.TheVariants.{OutOfMemory};
-
-    ghost from_gives = { λ _ refusal. refusal ≡ OutOfMemory };
-
-    fn from(_error: AllocError) -> Refusal {
-        Refusal::OutOfMemory
-    }
-}
-
-impl From<Refusal> for Error {
-    ghost use Rattle.std.specs.Prelude.{◌≡◌, Some};
-    ghost use Rattle.lexopt_base.specs.Found.{refusal_reply};
-    ghost use Rattle.lexopt_base.specs.Replies.{error_reply};
-
-    ghost from_gives = { λ refusal e. error_reply e ≡ Some (refusal_reply refusal) };
-
-    fn from(refusal: Refusal) -> Error {
-        match refusal {
-            Refusal::UnexpectedValue { option, value } => Error::UnexpectedValue { option, value },
-            Refusal::OutOfMemory => Error::OutOfMemory,
-        }
-    }
-}
-
 /// A command line of which some is read. Contracts see it as its unread line.
 #[derive(Drop)]
 pub struct Parser {
@@ -96,6 +66,7 @@ pub struct Parser {
     // The name of the long option that was read last, which is lent from here.
     name: String,
     short_equals: bool,
+    bin_name: Option<String>,
 }
 
 impl Model for Parser {
@@ -128,14 +99,47 @@ impl Parser {
         ensures err { IfErr result (λ e. e ≡ Error.OutOfMemory) }
     {
         let words = args.into_iter().collect(alloc)?;
-        Ok(Parser {
-            alloc,
-            words: KeptWords::new(alloc, words),
-            state: State::Ready,
-            last_option: LastOption::Nothing,
-            name: String::new(alloc),
-            short_equals: true,
-        })
+        Ok(Parser::unread(alloc, KeptWords::new(alloc, words), None))
+    }
+
+    /// A parser of these words but the first, of which none is read. The first word, if there is one, is the binary name.
+    ///
+    /// Of the words `ls -l` the parser reads `-l`, and its `bin_name` is `ls`. All items are taken at once, so the iterator
+    /// has to end. The only error is `OutOfMemory`, after which the items are gone.
+    pub fn from_iter<I>(alloc: Global, args: I) -> Result<Parser, Error>
+    where
+        I: IntoIterator<Item = OsString> + Drop,
+        I::IntoIter: Drop,
+        requires { IsFiniteIterable I.into_iter_gives I.IntoIter.can_next I.IntoIter.remaining args }
+        ensures ok { IfOk result (λ parser. (items : I.IntoIter) × I.into_iter_gives args items
+            × WholeRun I.IntoIter.next_gives items (λ run. parser ≡ invoked run.items)) }
+        ensures err { IfErr result (λ e. e ≡ Error.OutOfMemory) }
+    {
+        let all = args.into_iter().collect(alloc)?;
+        Ok(Parser::invoked(alloc, all)?)
+    }
+
+    /// A parser of the words that the program was called with, of which none is read. The first is the binary name.
+    ///
+    /// The words come as text, by `std::env::args`. A word that is no UTF-8 is a `Custom` error that says
+    /// `arguments unavailable`, and so is any other failure of that call but want of memory, which is `OutOfMemory`.
+    /// `from_iter` takes words of any bytes.
+    pub fn from_env<R: Env + AllocGlobal>(rt: &R, alloc: Global) -> Result<Parser, Error>
+        ensures { IfOk result (λ parser. (words : List (List ℕ)) × (parser ≡ invoked words)) }
+    {
+        match env::args(rt) {
+            Ok(words) => Parser::from_iter(alloc, words.map(OsString::from_string)),
+            Err(error) if error.kind() == ErrorKind::OutOfMemory => Err(Error::OutOfMemory),
+            Err(_) => Err(Error::from("arguments unavailable")),
+        }
+    }
+
+    /// The binary name that `from_iter` and `from_env` keep: the first word as text, in which each damaged piece is one
+    /// U+FFFD. `None` where there was no word, and behind `from_args`. No call changes it.
+    pub fn bin_name(&self) -> Option<&str>
+        ensures { option_map (λ name. name.now) result ≡ self.now.bin_name }
+    {
+        self.bin_name.as_deref()
     }
 
     /// Sets whether `=` stands between a short option and its value, as it does at the start. It counts from the next call
@@ -192,6 +196,33 @@ impl Parser {
         ensures { OptionalStep self.old (maybe result) self.new }
     {
         self.take_pending()
+    }
+
+    // A parser of these words, the first of which is its name.
+    fn invoked(alloc: Global, words: Vec<OsString>) -> Result<Parser, AllocError>
+        ensures { IfOk result (λ parser. parser ≡ invoked words.items) }
+    {
+        let mut words = KeptWords::new(alloc, words);
+        let bin_name = match words.take_next() {
+            Some(word) => Some(lossy_text(alloc, word.as_bytes())?),
+            None => None,
+        };
+        Ok(Parser::unread(alloc, words, bin_name))
+    }
+
+    // A parser of the words behind the cursor.
+    fn unread(alloc: Global, words: KeptWords, bin_name: Option<String>) -> Parser
+        ensures { result ≡ record (fresh words.left) { bin_name = option_map string_bytes bin_name } }
+    {
+        Parser {
+            alloc,
+            words,
+            state: State::Ready,
+            last_option: LastOption::Nothing,
+            name: String::new(alloc),
+            short_equals: true,
+            bin_name,
+        }
     }
 
     // Reads the next option or positional argument. A long option is then the last option, whose name can be lent.
@@ -421,8 +452,12 @@ impl Clone for Parser {
 
     ghost is_clone = { λ parser copy. copy ≡ parser };
 
-    /// A parser of the same unread line.
+    /// A parser of the same unread line, with the same binary name.
     fn clone(&self) -> Result<Parser, AllocError> {
+        let bin_name = match &self.bin_name {
+            Some(name) => Some(String::from_str(self.alloc, name)?),
+            None => None,
+        };
         Ok(Parser {
             alloc: self.alloc,
             words: self.words.copied()?,
@@ -430,7 +465,41 @@ impl Clone for Parser {
             last_option: self.last_option,
             name: String::from_str(self.alloc, &self.name)?,
             short_equals: self.short_equals,
+            bin_name,
         })
+    }
+}
+
+// Why nothing was found. An `Error` has room for a cause, so it is made where it is handed out.
+#[derive(Drop)]
+enum Refusal {
+    UnexpectedValue { option: String, value: OsString },
+    OutOfMemory,
+}
+
+impl From<AllocError> for Refusal {
+    ghost use Rattle.std.specs.Prelude.{◌≡◌};
+    ghost use Rattle.lexopt_base.specs.declared.parser.Refusal.TheVariants.{OutOfMemory};
+
+    ghost from_gives = { λ _ refusal. refusal ≡ OutOfMemory };
+
+    fn from(_error: AllocError) -> Refusal {
+        Refusal::OutOfMemory
+    }
+}
+
+impl From<Refusal> for Error {
+    ghost use Rattle.std.specs.Prelude.{◌≡◌, Some};
+    ghost use Rattle.lexopt_base.specs.Found.{refusal_reply};
+    ghost use Rattle.lexopt_base.specs.Replies.{error_reply};
+
+    ghost from_gives = { λ refusal e. error_reply e ≡ Some (refusal_reply refusal) };
+
+    fn from(refusal: Refusal) -> Error {
+        match refusal {
+            Refusal::UnexpectedValue { option, value } => Error::UnexpectedValue { option, value },
+            Refusal::OutOfMemory => Error::OutOfMemory,
+        }
     }
 }
 

@@ -1,5 +1,5 @@
 -- The first character of a cluster, and what the rest shows.
-use Rattle.std.proofs.Common.{◌≡◌, ◌≢◌, ℕ, Bool, true, false, List, [], ◌∷◌, ◌++◌, Some, None, refl, sym, ap, subst, ◌∙◌, arith, ⊎_elim}
+use Rattle.std.proofs.Common.{◌≡◌, ◌≢◌, ℕ, Bool, true, false, List, [], ◌∷◌, ◌++◌, Some, Option, None, refl, sym, ap, subst, ◌∙◌, arith, ⊎_elim}
 use Rattle.std.proofs.lemmas.Bool.{cases_eq, eq-eqb, ne_eqb}
 use Rattle.lexopt_spec.specs.Pieces.{first_piece, after_first_piece, shown}
 use Rattle.lexopt_spec.specs.UnreadLine.{equals, Tail, no_tail, rest, LastOption, short_option, UnreadLine, rest_of, pending_in}
@@ -47,20 +47,20 @@ nothing_left true (b ∷ bs) is = ⊎_elim
 
 -- ---- an option, by its kind
 
-abbrev pub line_of : Tail → List (List ℕ) → Bool → LastOption → Bool → UnreadLine
-line_of tail words ended last switch = record { tail = tail; words = words; ended = ended; last = last; short_equals = switch }
+abbrev pub line_of : Tail → List (List ℕ) → Bool → LastOption → Bool → Option (List ℕ) → UnreadLine
+line_of tail words ended last switch bin = record { tail = tail; words = words; ended = ended; last = last; short_equals = switch; bin_name = bin }
 
 -- an option that completes, where this tail is left of its word
-pub completed : (t : Table) (name : Name) (k : Kind) (tail : Tail) (words left : List (List ℕ)) (last : LastOption) (switch : Bool) (behind : Behind) (item : Item)
+pub completed : (t : Table) (name : Name) (k : Kind) (tail : Tail) (words left : List (List ℕ)) (last : LastOption) (bin : Option (List ℕ)) (switch : Bool) (behind : Behind) (item : Item)
     (others : List Item) → kind t name ≡ k → behind ≡ behind_of (pending_in switch tail) → (nothing ≡ behind_of (pending_in switch tail) → tail ≡ no_tail)
-    → Completes k name behind words item left → Shows t switch left others → GoesOnShowing t k name (line_of tail words false last switch) (item ∷ others)
-completed t name flag tail words left last switch behind item others k is none (no_value alone item_is left_is) line = record {
+    → Completes k name behind words item left → Shows t switch left others → GoesOnShowing t k name (line_of tail words false last switch bin) (item ∷ others)
+completed t name flag tail words left last bin switch behind item others k is none (no_value alone item_is left_is) line = record {
   others = others;
   shows = subst (λ (x : Tail). PartsShow t switch x false words others) (sym (none (sym alone ∙ is)))
       (subst (λ (ws : List (List ℕ)). Shows t switch ws others) left_is line);
   items_are = ap (λ x. x ∷ others) item_is;
 }
-completed t name value_kind tail words left last switch behind item others k is none completes line = record {
+completed t name value_kind tail words left last bin switch behind item others k is none completes line = record {
   left = left;
   item = item;
   others = others;
@@ -89,14 +89,14 @@ letter_step u c bytes behind read = record {
       ∙ ap (λ (l : List ℕ). record u { last = short_option (shown (first_piece (bytes ++ behind)).char); tail = rest_of l }) (sym read.after);
 }
 
-pub cluster_reads : (t : Table) (switch : Bool) (words left : List (List ℕ)) (bytes : List ℕ) (front : List Item) (tail : Tail) (last : LastOption) (others : List Item)
+pub cluster_reads : (t : Table) (switch : Bool) (words left : List (List ℕ)) (bytes : List ℕ) (front : List Item) (tail : Tail) (last : LastOption) (bin : Option (List ℕ)) (others : List Item)
     → Cluster damaged t switch words left bytes front → Shows t switch left others
-    → (r : Reply) × (v : UnreadLine) × ReadsShort bytes (line_of tail words false last switch) r v × NextShows t r v (front ++ others)
-cluster_reads t switch words left bytes front tail last others (flag_first c character behind items letter k no_mark cluster) line =
-    let v = line_of (rest_of behind) words false (short_option c) switch in (
+    → (r : Reply) × (v : UnreadLine) × ReadsShort bytes (line_of tail words false last switch bin) r v × NextShows t r v (front ++ others)
+cluster_reads t switch words left bytes front tail last bin others (flag_first c character behind items letter k no_mark cluster) line =
+    let v = line_of (rest_of behind) words false (short_option c) switch bin in (
       _,
       _,
-      letter_step (line_of tail words false last switch) c character behind (letter_read c character behind letter),
+      letter_step (line_of tail words false last switch bin) c character behind (letter_read c character behind letter),
       subst (λ (x : Kind). GoesOnShowing t x (short c) v (option (short c) None ∷ (items ++ others))) (sym k)
           (record {
             others = items ++ others;
@@ -105,20 +105,20 @@ cluster_reads t switch words left bytes front tail last others (flag_first c cha
             items_are = refl;
           }),
     )
-cluster_reads t switch words left bytes front tail last others (last_option c character behind_it behind item letter ends completes) line = (
+cluster_reads t switch words left bytes front tail last bin others (last_option c character behind_it behind item letter ends completes) line = (
   _,
   _,
-  letter_step (line_of tail words false last switch) c character behind_it (letter_read c character behind_it letter),
-  completed t (short c) (kind t (short c)) (rest_of behind_it) words left (short_option c) switch behind item others refl
+  letter_step (line_of tail words false last switch bin) c character behind_it (letter_read c character behind_it letter),
+  completed t (short c) (kind t (short c)) (rest_of behind_it) words left (short_option c) bin switch behind item others refl
       (is_behind switch behind_it behind ends) (nothing_left switch behind_it) completes line,
 )
 
 -- ---- from the step to items
 
-built : (t : Table) (switch : Bool) (c : ℕ) (piece behind : List ℕ) (words : List (List ℕ)) (last : LastOption) (items : List Item) (k : Kind)
-    → damaged.character c piece behind → kind t (short c) ≡ k → GoesOnShowing t k (short c) (line_of (rest_of behind) words false last switch) items
+built : (t : Table) (switch : Bool) (c : ℕ) (piece behind : List ℕ) (words : List (List ℕ)) (last : LastOption) (bin : Option (List ℕ)) (items : List Item) (k : Kind)
+    → damaged.character c piece behind → kind t (short c) ≡ k → GoesOnShowing t k (short c) (line_of (rest_of behind) words false last switch bin) items
     → ClusterShows t switch (piece ++ behind) words items
-built t switch c piece [] words last items flag letter k leads = record {
+built t switch c piece [] words last bin items flag letter k leads = record {
   left = words;
   front = option (short c) None ∷ [];
   others = leads.others;
@@ -127,7 +127,7 @@ built t switch c piece [] words last items flag letter k leads = record {
   line = leads.shows;
   items_are = leads.items_are;
 }
-built t switch c piece (b ∷ bs) words last items flag letter k leads =
+built t switch c piece (b ∷ bs) words last bin items flag letter k leads =
     let goes = leads.shows in
     let s = goes.1 in
     record {
@@ -138,7 +138,7 @@ built t switch c piece (b ∷ bs) words last items flag letter k leads =
       line = s.line;
       items_are = leads.items_are ∙ ap (λ l. option (short c) None ∷ l) s.items_are;
     }
-built t switch c piece behind words last items value_kind letter k shows = record {
+built t switch c piece behind words last bin items value_kind letter k shows = record {
   left = shows.left;
   front = shows.item ∷ [];
   others = shows.others;
@@ -147,15 +147,15 @@ built t switch c piece behind words last items value_kind letter k shows = recor
   items_are = shows.items_are;
 }
 
-pub cluster_built : (t : Table) (switch : Bool) (b : ℕ) (bs : List ℕ) (words : List (List ℕ)) (tail : Tail) (last : LastOption)
-    → (r : Reply) × (v : UnreadLine) × ReadsShort (b ∷ bs) (line_of tail words false last switch) r v
+pub cluster_built : (t : Table) (switch : Bool) (b : ℕ) (bs : List ℕ) (words : List (List ℕ)) (tail : Tail) (last : LastOption) (bin : Option (List ℕ))
+    → (r : Reply) × (v : UnreadLine) × ReadsShort (b ∷ bs) (line_of tail words false last switch bin) r v
     × ((items : List Item) → NextShows t r v items → ClusterShows t switch (b ∷ bs) words items)
-cluster_built t switch b bs words tail last =
+cluster_built t switch b bs words tail last bin =
     let letter = read_letter (b ∷ bs) (omega arith) in
     let c = shown (first_piece (b ∷ bs)).char in (
       _,
       _,
       record { some = λ none. let e : b ∷ bs ≡ [] = none in cc; reply_is = refl; after_is = refl },
       λ items shows. subst (λ (l : List ℕ). ClusterShows t switch l words items) letter.whole
-          (built t switch c (first_piece (b ∷ bs)).bytes (after_first_piece (b ∷ bs)) words (short_option c) items (kind t (short c)) letter.letter refl shows),
+          (built t switch c (first_piece (b ∷ bs)).bytes (after_first_piece (b ∷ bs)) words (short_option c) bin items (kind t (short c)) letter.letter refl shows),
     )

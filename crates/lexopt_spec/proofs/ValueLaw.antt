@@ -71,10 +71,10 @@ own_law t name u value by k is items = (
   },
 )
 
-word_law : (t : Table) (name : Name) (ended : Bool) (last : LastOption) (switch : Bool) (w : List ℕ) (ws : List (List ℕ)) → kind t name ≡ one
-    → ValueLaw t name (record { tail = no_tail; words = w ∷ ws; ended = ended; last = last; short_equals = switch }) (taken w)
-    (record { tail = no_tail; words = ws; ended = ended; last = last; short_equals = switch })
-word_law t name ended last switch w ws k items = (
+word_law : (t : Table) (name : Name) (ended : Bool) (last : LastOption) (switch : Bool) (bin : Option (List ℕ)) (w : List ℕ) (ws : List (List ℕ)) → kind t name ≡ one
+    → ValueLaw t name (record { tail = no_tail; words = w ∷ ws; ended = ended; last = last; short_equals = switch; bin_name = bin }) (taken w)
+    (record { tail = no_tail; words = ws; ended = ended; last = last; short_equals = switch; bin_name = bin })
+word_law t name ended last switch bin w ws k items = (
   λ s.
       let other = other_value name (w ∷ ws) s.left s.item (is_one t name nothing (w ∷ ws) s.item s.left k s.completes) in
       let word : other.0 ≡ w = let e = other.2 in cc in
@@ -94,23 +94,23 @@ word_law t name ended last switch w ws k items = (
   },
 )
 
-none_law : (t : Table) (name : Name) (ended : Bool) (last : LastOption) (switch : Bool) → kind t name ≡ one
-    → let u : UnreadLine = record { tail = no_tail; words = []; ended = ended; last = last; short_equals = switch } in
+none_law : (t : Table) (name : Name) (ended : Bool) (last : LastOption) (switch : Bool) (bin : Option (List ℕ)) → kind t name ≡ one
+    → let u : UnreadLine = record { tail = no_tail; words = []; ended = ended; last = last; short_equals = switch; bin_name = bin } in
     ValueLaw t name u (missing (spelling last)) u
-none_law t name ended last switch k items =
+none_law t name ended last switch bin k items =
     (λ s. let e = (other_value name [] s.left s.item (is_one t name nothing [] s.item s.left k s.completes)).2 in cc, λ l. absurd l)
 
-parts_answer : (t : Table) (name : Name) (p : Option (List ℕ × Bool)) (tail : Tail) (words : List (List ℕ)) (ended : Bool) (last : LastOption) (switch : Bool)
-    → kind t name ≡ one → pending (record { tail = tail; words = words; ended = ended; last = last; short_equals = switch }) ≡ p
-    → TailStands tail last ended → Answer t name (record { tail = tail; words = words; ended = ended; last = last; short_equals = switch })
-parts_answer t name (Some value) tail words ended last switch k is stands =
-    let u : UnreadLine = record { tail = tail; words = words; ended = ended; last = last; short_equals = switch } in
+parts_answer : (t : Table) (name : Name) (p : Option (List ℕ × Bool)) (tail : Tail) (words : List (List ℕ)) (ended : Bool) (last : LastOption) (switch : Bool) (bin : Option (List ℕ))
+    → kind t name ≡ one → pending (record { tail = tail; words = words; ended = ended; last = last; short_equals = switch; bin_name = bin }) ≡ p
+    → TailStands tail last ended → Answer t name (record { tail = tail; words = words; ended = ended; last = last; short_equals = switch; bin_name = bin })
+parts_answer t name (Some value) tail words ended last switch bin k is stands =
+    let u : UnreadLine = record { tail = tail; words = words; ended = ended; last = last; short_equals = switch; bin_name = bin } in
     (_, _, pending_value value.0 value.1 is refl refl, own_law t name u value.0 value.1 k is)
-parts_answer t name None no_tail [] ended last switch k is stands = (_, _, nothing_to_take refl refl refl refl, none_law t name ended last switch k)
-parts_answer t name None no_tail (w ∷ ws) ended last switch k is stands = (_, _, takes_word w ws refl refl refl refl, word_law t name ended last switch w ws k)
-parts_answer t name None (joined value) words ended last switch k is stands = absurd (let e : Some (value, true) ≡ None = is in cc)
-parts_answer t name None (rest []) words ended last switch k is stands = absurd (stands.2 refl)
-parts_answer t name None (rest (b ∷ bs)) words ended last switch k is stands = absurd (is_some_rest switch b bs is)
+parts_answer t name None no_tail [] ended last switch bin k is stands = (_, _, nothing_to_take refl refl refl refl, none_law t name ended last switch bin k)
+parts_answer t name None no_tail (w ∷ ws) ended last switch bin k is stands = (_, _, takes_word w ws refl refl refl refl, word_law t name ended last switch bin w ws k)
+parts_answer t name None (joined value) words ended last switch bin k is stands = absurd (let e : Some (value, true) ≡ None = is in cc)
+parts_answer t name None (rest []) words ended last switch bin k is stands = absurd (stands.2 refl)
+parts_answer t name None (rest (b ∷ bs)) words ended last switch bin k is stands = absurd (is_some_rest switch b bs is)
 
 -- ---- each answer
 
@@ -118,7 +118,7 @@ parts_answer t name None (rest (b ∷ bs)) words ended last switch k is stands =
 pub value_law : (t : Table) (name : Name) (u v : UnreadLine) (r : Reply) (items : List Item) → kind t name ≡ one → IsLine u → ValueStep u r v
     → ShowsBehind t name u items ↔ ValueShows t name r v items
 value_law t name u v r items k line step =
-    let a = parts_answer t name (pending u) u.tail u.words u.ended u.last u.short_equals k refl line in
+    let a = parts_answer t name (pending u) u.tail u.words u.ended u.last u.short_equals u.bin_name k refl line in
     let same = value_same u a.0 r a.1 v a.2 step in
     subst (λ (s : Reply). ShowsBehind t name u items ↔ ValueShows t name s v items) same.0
     (subst (λ (w : UnreadLine). ShowsBehind t name u items ↔ ValueShows t name a.0 w items) same.1 (a.3 items))

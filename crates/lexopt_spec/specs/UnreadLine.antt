@@ -2,6 +2,7 @@
 -- The source is `docs/behaviour.md`. A word is a list of bytes, a name is the UTF-8 of its text.
 use Rattle.std.specs.Prelude.{◌≡◌, ◌≢◌, ℕ, Bool, true, false, ◌==◌, ◌&&◌, ◌||◌, not, ◌⊎◌, List, [], ◌∷◌, ◌++◌, Option, Some, None, encode_utf8, if◌then◌else◌}
 use Rattle.std.specs.List.{All}
+use Rattle.lexopt_spec.specs.Pieces.{lossy}
 
 abbrev pub dash : ℕ
 dash = 0x2D
@@ -32,6 +33,8 @@ pub record UnreadLine : Type 0 where
   pub last : LastOption
   -- in a cluster, `=` stands between an option and its value
   pub short_equals : Bool
+  -- the binary name, if the line had one: no rule changes it
+  pub bin_name : Option (List ℕ)
 
 -- a tail stands only with a last option and never behind the separator, and the rest of a cluster is never empty
 abbrev pub TailStands : Tail → LastOption → Bool → Type 0
@@ -45,7 +48,12 @@ IsLine u = TailStands u.tail u.last u.ended
 
 -- the line of these words, of which none was read
 abbrev pub fresh : List (List ℕ) → UnreadLine
-fresh words = record { tail = no_tail; words = words; ended = false; last = no_option; short_equals = true }
+fresh words = record { tail = no_tail; words = words; ended = false; last = no_option; short_equals = true; bin_name = None }
+
+-- the same, where the first of the words, if there is one, is the binary name: damage in it is shown as U+FFFD
+abbrev pub invoked : List (List ℕ) → UnreadLine
+invoked [] = fresh []
+invoked (word ∷ words) = record (fresh words) { bin_name = Some (lossy word) }
 
 -- an option with its dashes
 abbrev pub spelling : LastOption → Option (List ℕ)

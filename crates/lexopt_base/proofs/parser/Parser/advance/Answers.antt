@@ -47,7 +47,7 @@ returns-else-is_joined c =
       reply_is = ap short read.shown_is;
       after_is = same_parts _ _ read.tail (ap (λ (l : UnreadLine). l.words) c.self.view_is)
           (read.ended ∙ sym (ap ended_of c.in-Shorts.is) ∙ ap (λ (l : UnreadLine). l.ended) c.self.view_is)
-          (ap short_option read.shown_is) (ap (λ (l : UnreadLine). l.short_equals) c.self.view_is);
+          (ap short_option read.shown_is) (ap (λ (l : UnreadLine). l.short_equals) c.self.view_is) (ap (λ (l : UnreadLine). l.bin_name) c.self.view_is);
     }))
 
 pub returns-in-FinishedOpts : goal.returns-in-FinishedOpts

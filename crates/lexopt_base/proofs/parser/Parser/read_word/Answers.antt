@@ -37,7 +37,7 @@ returns-in-Separator c =
     let same = same_parts _ (record u { words = now.left; ended = true })
     (sym c.requires.tail) refl refl
     (ap (λ (l : UnreadLine). l.last) c.self.view_is)
-    (ap (λ (l : UnreadLine). l.short_equals) c.self.view_is) in
+    (ap (λ (l : UnreadLine). l.short_equals) c.self.view_is) (ap (λ (l : UnreadLine). l.bin_name) c.self.view_is) in
     gives_step ReadsPositional ReadsWord _ u
     (λ r v reads. reads_separator now.left is (subst (λ (l : UnreadLine). ReadsPositional l r v) same reads))
     (found_as c.read_positional.new.self.last c.read_positional.result) c.read_positional.new.self c.read_positional.ensures
@@ -59,7 +59,7 @@ returns-in_ok-keep_name-in-Long c =
     let option = subst (λ (l : List ℕ). IsLongOption l name (tail_of now.current state)) (ap (drop 2) text.1)
     (subst (λ (l : List ℕ). IsLongOption (drop 2 c.as_bytes-word.result.now) name (tail_of l state)) (text.1 ∙ sym got) read.option) in
     inl (reads_long text.0 name (tail_of now.current state) now.left is text.2 option (ap long shown)
-    (same_parts _ _ refl refl (read.ended ∙ sym c.requires.ended) (ap long_option shown) (ap (λ (l : UnreadLine). l.short_equals) c.self.view_is)))
+    (same_parts _ _ refl refl (read.ended ∙ sym c.requires.ended) (ap long_option shown) (ap (λ (l : UnreadLine). l.short_equals) c.self.view_is) (ap (λ (l : UnreadLine). l.bin_name) c.self.view_is)))
 
 pub returns-in-Shorts : goal.returns-in-Shorts
 returns-in-Shorts c =
@@ -80,7 +80,7 @@ returns-in-Shorts c =
       some = text.2;
       reply_is = ap short shows;
       after_is = same_parts _ _ (read.tail ∙ ap (λ (l : List ℕ). rest_of (after_first_piece l)) bytes) refl (read.ended ∙ sym c.requires.ended)
-          (ap short_option shows) (ap (λ (l : UnreadLine). l.short_equals) c.self.view_is);
+          (ap short_option shows) (ap (λ (l : UnreadLine). l.short_equals) c.self.view_is) (ap (λ (l : UnreadLine). l.bin_name) c.self.view_is);
     }))
 
 pub returns-in-Positional : goal.returns-in-Positional

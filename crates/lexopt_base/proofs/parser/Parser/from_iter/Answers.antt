@@ -1,0 +1,8 @@
+use Rattle.std.proofs.Common.{ap, ◌∙◌}
+use Rattle.lexopt_spec.specs.UnreadLine.{invoked}
+use Rattle.lexopt_base.proofs.parser.Parser.from_iter.Goals as goal
+
+pub returns-clause-ok : goal.returns-clause-ok
+returns-clause-ok g c =
+    let run = c.in_ok-all.ensures.runs tt in
+    (c.into_iter.result, c.into_iter.ensures.into_iter_gives, (run.0, run.1, run.2, c.in_ok-invoked.ensures ∙ ap invoked run.3.0))
