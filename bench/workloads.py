@@ -91,6 +91,7 @@ WORKLOADS = [
     Workload("{size} empty words", 10_000, repeated([b""])),
     Workload("`-n` and {size} values", 10_000, behind(b"-n", [b"value"]), work="values"),
     Workload("{size} words taken unread", 10_000, repeated(A_LINE), work="raw"),
+    Workload("{size} numbers parsed", 10_000, repeated([b"10", b"4096", b"65535", b"1000000007"]), work="parse"),
     Workload("no words", 0, repeated([b""]), times=100),
 ]
 

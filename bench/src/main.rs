@@ -3,7 +3,7 @@
 
 mod seen;
 
-use lexopt::{Arg, Error, Parser};
+use lexopt::{Arg, Error, Parser, ValueExt};
 use seen::Seen;
 use std::env;
 use std::ffi::{OsStr, OsString};
@@ -17,6 +17,7 @@ enum Work {
     Next,
     Values,
     Raw,
+    Parse,
 }
 
 impl Work {
@@ -26,6 +27,7 @@ impl Work {
             "next" => Some(Work::Next),
             "values" => Some(Work::Values),
             "raw" => Some(Work::Raw),
+            "parse" => Some(Work::Parse),
             _ => None,
         }
     }
@@ -70,6 +72,14 @@ fn read_raw(parser: &mut Parser, seen: &mut Seen) -> Result<(), Error> {
     Ok(())
 }
 
+// Parses the words as numbers.
+fn read_numbers(words: &[OsString], seen: &mut Seen) -> Result<(), Error> {
+    for word in words {
+        seen.number(word.parse::<u64>()?);
+    }
+    Ok(())
+}
+
 // Reads the whole line. Only `-n` and `--name` take a value, and `-n` several values where that is wanted.
 fn read_line(parser: &mut Parser, several: bool, seen: &mut Seen) -> Result<(), Error> {
     loop {
@@ -98,9 +108,9 @@ fn read_line(parser: &mut Parser, several: bool, seen: &mut Seen) -> Result<(), 
 fn main() -> Result<(), Box<dyn std::error::Error>> {
     let mut args = env::args();
     let (Some(_program), Some(work), Some(times)) = (args.next(), args.next(), args.next()) else {
-        return Err("usage: bench copy|next|values|raw TIMES".into());
+        return Err("usage: bench copy|next|values|raw|parse TIMES".into());
     };
-    let work = Work::of_name(&work).ok_or("the work is copy, next, values or raw")?;
+    let work = Work::of_name(&work).ok_or("the work is copy, next, values, raw or parse")?;
     let times = times.parse::<u64>()?;
 
     let mut input = Vec::new();
@@ -125,6 +135,7 @@ fn main() -> Result<(), Box<dyn std::error::Error>> {
                 let mut parser = Parser::from_args(copied);
                 read_raw(&mut parser, &mut seen)?;
             }
+            Work::Parse => read_numbers(&copied, &mut seen)?,
         }
         seen.stop_hashing();
     }

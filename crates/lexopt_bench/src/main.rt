@@ -1,14 +1,15 @@
 //! Reads words many times, so that the cost of a read can be measured. `bench/src/main.rs` does the same with the Rust crate.
 //!
-//! Arguments are `copy`, `next`, `values` or `raw`, and how many times. Standard input has the words, each ended by a NUL.
+//! Arguments are `copy`, `next`, `values`, `raw` or `parse`, and how many times. Standard input has the words, each ended by a NUL.
 //! Each time the words are copied; under `copy` that is all. Under `next` and `values` the copies are read as a command line,
-//! and `-n` takes one value or several; under `raw` they are taken unread. Last it prints what was seen.
+//! and `-n` takes one value or several; under `raw` they are taken unread. Under `parse` each copy is parsed as a number, and no
+//! line is read. Last it prints what was seen.
 #![tactic(auto)]
 
 mod seen;
 
 use anyhow::{Context, Result, bail};
-use lexopt::{Arg, Error, OsString, Parser};
+use lexopt::{Arg, Error, OsString, Parser, ValueExt};
 use seen::Seen;
 use std::alloc::{AllocError, Global};
 use std::env;
@@ -21,6 +22,7 @@ enum Work {
     Next,
     Values,
     Raw,
+    Parse,
 }
 
 impl Work {
@@ -30,6 +32,7 @@ impl Work {
             "next" => Some(Work::Next),
             "values" => Some(Work::Values),
             "raw" => Some(Work::Raw),
+            "parse" => Some(Work::Parse),
             _ => None,
         }
     }
@@ -74,6 +77,14 @@ fn read_raw(parser: &mut Parser, seen: &mut Seen) -> Result<(), Error> {
     Ok(())
 }
 
+// Parses the words as numbers.
+fn read_numbers(words: &[OsString], seen: &mut Seen) -> Result<(), Error> {
+    for word in words {
+        seen.number(word.parse::<u64>()?);
+    }
+    Ok(())
+}
+
 // Reads the whole line. Only `-n` and `--name` take a value, and `-n` several values where that is wanted.
 fn read_line(parser: &mut Parser, several: bool, seen: &mut Seen) -> Result<(), Error> {
     for _ in 0..u64::MAX {
@@ -104,9 +115,9 @@ fn main(rt: HostRuntime) -> Result<()> {
     let alloc = rt.alloc();
     let mut args = env::args(&rt)?;
     let (Some(_program), Some(work), Some(times)) = (args.next(), args.next(), args.next()) else {
-        bail!("usage: lexopt_bench copy|next|values|raw TIMES");
+        bail!("usage: lexopt_bench copy|next|values|raw|parse TIMES");
     };
-    let work = Work::of_name(&work).context("the work is copy, next, values or raw")?;
+    let work = Work::of_name(&work).context("the work is copy, next, values, raw or parse")?;
     let times = times.parse::<u64>().context("how many times")?;
 
     let mut input = Vec::new(alloc);
@@ -131,6 +142,7 @@ fn main(rt: HostRuntime) -> Result<()> {
                 let mut parser = Parser::from_args(alloc, copied)?;
                 read_raw(&mut parser, &mut seen)?;
             }
+            Work::Parse => read_numbers(&copied, &mut seen)?,
         }
         seen.stop_hashing();
     }

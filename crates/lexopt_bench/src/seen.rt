@@ -55,6 +55,11 @@ impl Seen {
         self.text(b'v', value);
     }
 
+    pub fn number(&mut self, number: u64) {
+        self.values = self.values.wrapping_add(1);
+        self.text(b'n', &number.to_le_bytes());
+    }
+
     pub fn positional(&mut self, word: &[u8]) {
         self.positionals = self.positionals.wrapping_add(1);
         self.text(b'p', word);
