@@ -16,6 +16,8 @@ mod example;
 #[cfg(test)]
 mod faults;
 #[cfg(test)]
+mod names;
+#[cfg(test)]
 mod refused_memory;
 #[cfg(test)]
 mod sizes;
