@@ -5,3 +5,4 @@ pub mod MeaningLemmas
 pub mod ReadsItems
 pub mod Numbers
 pub mod Views
+pub mod Parts

@@ -1,22 +1,26 @@
-//! Scripts of calls: `run` reads one, makes its calls, and writes a line for each reply.
-ghost use Rattle.std.specs.Prelude.{◌≡◌, ◌⊎◌, ◌+◌, ◌≤◌, ◌<◌, ℕ, List, Option, None, Some, Ok, Err, IfOk, IfErr, OnErr, OnOk, length, map, string_bytes};
+//! Lists of calls: `replay` makes them on a parser, and `run` reads a script, makes its calls, and writes a line for each
+//! reply.
+ghost use Rattle.std.specs.Prelude.{◌≡◌, ◌⊎◌, ◌+◌, ◌++◌, ◌≤◌, ◌<◌, ◌↔◌, ℕ, List, Option, None, Some, Ok, Err, IsTrue, IfOk, IfErr, OnErr, OnOk, length, map, string_bytes};
+ghost use Rattle.std.specs.List.{flat_map};
 ghost use Rattle.std.specs.Option.{option_map};
 ghost use Rattle.std.specs.Io.KnownBytes.{Appends, Consumes};
 ghost use Rattle.lexopt_spec.specs.Steps as steps;
 ghost use Rattle.lexopt_spec.specs.Steps.{Next, Value};
-ghost use Rattle.lexopt_spec.specs.Runs.{Run, Step, values, raw, try_raw, up_to};
+ghost use Rattle.lexopt_spec.specs.Account.{Segment, bytes_of, flat, handed, shown_of};
+ghost use Rattle.lexopt_spec.specs.Runs.{AccountedRun, Part, Run, Step, values, raw, raw_if, try_raw, up_to};
 ghost use Rattle.lexopt_spec.specs.Views.{ValueItems, WordItems};
 ghost use Rattle.lexopt_base.specs.Stages.{stage_of};
 ghost use Rattle.lexopt_spec.specs.Script.{bad_line, most_bytes};
 ghost use Rattle.lexopt.specs.Output.{IsOutput, ReadsWhole, read_room};
 ghost use Rattle.lexopt_base.specs.Replies.{Gives, error_reply, next_reply};
-ghost use Rattle.lexopt.specs.Replies.{call_view, reply_view};
+ghost use Rattle.lexopt.specs.Replies.{TakesThis, call_view, reply_view};
 
-use crate::reply::{Call, Reply, written};
+pub use crate::reply::{Call, Reply};
+use crate::reply::written;
 pub use crate::run_error::RunError;
 use crate::script::{parse_script, read_script};
 use lexopt_base::error::{Arg, Error};
-use lexopt_base::os_string::OsString;
+use lexopt_base::os_string::{OsStr, OsString};
 use lexopt_base::parser::Parser;
 use lexopt_base::raw::RawArgs;
 use lexopt_base::values::ValuesIter;
@@ -129,6 +133,32 @@ fn call_try_raw(alloc: Global, parser: &mut Parser, count: usize) -> Result<Repl
     }
 }
 
+// One call of `raw_args`, and its next word where it is this one.
+fn call_raw_if(parser: &mut Parser, wanted: &OsString) -> Option<Reply>
+    ensures { Gives (Step (raw_if wanted.now)) parser.old (option_map reply_view result) parser.new }
+{
+    match parser.raw_args() {
+        Ok(mut view) => Some(Reply::Maybe(take_if(&mut view, wanted, |word| {
+            word.as_bytes() == wanted.as_bytes()
+        }))),
+        Err(error) => refusal(error),
+    }
+}
+
+// Takes the next word of a view where `is_wanted` says that it is this one.
+fn take_if<F: FnOnce(OsStr<'_>) -> bool + Drop>(
+    view: &mut RawArgs<'_>,
+    wanted: &OsString,
+    is_wanted: F,
+) -> Option<OsString>
+    requires callable { F.IsAlwaysCallable is_wanted }
+    requires exact { (word : _) (answer : _) → F.post is_wanted word answer → (IsTrue answer ↔ (word.bytes.now ≡ wanted.now)) }
+    ensures same_parser { view.new.parser.ghost_name ≡ view.old.parser.ghost_name }
+    ensures taken { TakesThis wanted.now view.old.parser.now result view.new.parser.now }
+{
+    view.next_if(is_wanted)
+}
+
 // So many words of a view of words, or fewer where it ends before.
 fn words_of(
     alloc: Global,
@@ -151,19 +181,20 @@ fn words_of(
 }
 
 // One call, and its reply. Where a list of items finds no memory, some were taken.
-fn reply_to(alloc: Global, parser: &mut Parser, call: Call) -> Result<Reply, AllocError>
-    ensures { (m : ℕ) × (reply : steps.Reply) × Step (up_to m (call_view call)) parser.old reply parser.new
-        × IfOk result (λ copy. (up_to m (call_view call) ≡ call_view call) × (reply_view copy ≡ reply)) }
+fn reply_to(alloc: Global, parser: &mut Parser, call: &Call) -> Result<Reply, AllocError>
+    ensures { (m : ℕ) × (reply : steps.Reply) × Step (up_to m (call_view call.now)) parser.old reply parser.new
+        × IfOk result (λ copy. (up_to m (call_view call.now) ≡ call_view call.now) × (reply_view copy ≡ reply)) }
 {
     let reply = match call {
         Call::Next => call_next(alloc, parser)?,
         Call::Value => call_value(parser),
         Call::Optional => Some(Reply::Maybe(parser.optional_value())),
-        Call::Values(count) => call_values(alloc, parser, count)?,
-        Call::Raw(count) => call_raw(alloc, parser, count)?,
-        Call::TryRaw(count) => Some(call_try_raw(alloc, parser, count)?),
+        Call::Values(count) => call_values(alloc, parser, *count)?,
+        Call::Raw(count) => call_raw(alloc, parser, *count)?,
+        Call::TryRaw(count) => Some(call_try_raw(alloc, parser, *count)?),
+        Call::RawIf(word) => call_raw_if(parser, word),
         Call::Switch(on) => {
-            parser.set_short_equals(on);
+            parser.set_short_equals(*on);
             Some(Reply::Done)
         }
     };
@@ -173,14 +204,34 @@ fn reply_to(alloc: Global, parser: &mut Parser, call: Call) -> Result<Reply, All
     }
 }
 
-// A reply for each call, in order.
-fn replies_to(alloc: Global, parser: &mut Parser, calls: &[Call]) -> Result<Vec<Reply>, AllocError>
-    ensures { IfOk result (λ replies.
-        Run parser.old (map call_view calls.now) (map reply_view replies.items) parser.new) }
+/// Makes these calls on a parser, in order, and gives a reply for each.
+///
+/// On the words `-a=b --n=x` the calls `Next`, `Value`, `Next`, `Next` are answered `Short('a')`, `Taken` of `b`,
+/// `LongName` of `n`, and `Unexpected` of `--n` and `x`. An error of the parser is a reply like any other, `NoMemory` among
+/// them, and the calls behind it are made.
+///
+/// The only error is `OutOfMemory`, where the list of the replies or what is copied into it found no memory. The calls
+/// before were made then, and perhaps the next one, of whose items some may have been given; the replies are gone.
+pub fn replay(alloc: Global, parser: &mut Parser, calls: &[Call]) -> Result<Vec<Reply>, Error>
+    // The replies and the line that is left are those of the grammar.
+    ensures run { IfOk result (λ replies. Run parser.old (map call_view calls.now) (map reply_view replies.items) parser.new) }
+
+    // Each byte of the line is in one segment of what the calls read, or still unread, in order; what the replies hand out is
+    // what the segments show; and the words left are a suffix of those at the start.
+    ensures account { IfOk result (λ replies. (segments : List Segment)
+        × AccountedRun parser.old (map call_view calls.now) (map reply_view replies.items) segments parser.new
+        × (flat parser.old ≡ bytes_of segments ++ flat parser.new)
+        × (flat_map handed (map reply_view replies.items) ≡ shown_of segments)) }
+    ensures words_left { (gone : List (List ℕ)) × (parser.old.words ≡ gone ++ parser.new.words) }
+
+    // What an error leaves.
+    ensures err { IfErr result (λ e. e ≡ Error.OutOfMemory) }
+    ensures part { OnErr result (Part parser.old (map call_view calls.now) parser.new) }
 {
     let mut replies = Vec::new(alloc);
     for call in calls {
-        replies.push(reply_to(alloc, parser, *call)?)?;
+        let reply = reply_to(alloc, parser, call)?;
+        replies.push(reply)?;
     }
     Ok(replies)
 }
@@ -196,7 +247,9 @@ fn output(alloc: Global, script: &[u8]) -> Result<String, RunError>
     let Ok(mut parser) = Parser::from_args(alloc, script.words) else {
         return Err(RunError::NoMemory);
     };
-    let replies = replies_to(alloc, &mut parser, &script.calls)?;
+    let Ok(replies) = replay(alloc, &mut parser, &script.calls) else {
+        return Err(RunError::NoMemory);
+    };
     Ok(written(alloc, &replies)?)
 }
 

@@ -11,36 +11,38 @@ use lexopt_base::os_string::{OsString, Quoted};
 use std::alloc::{AllocError, Global};
 use std::fmt;
 
-/// A call on a command line.
-#[derive(Clone, Copy, Debug, PartialEq, Eq)]
+/// A call on a command line. A view that it asks for is dropped behind the items that are asked of it.
+#[derive(Debug, PartialEq, Eq, Drop)]
 pub enum Call {
-    /// Asks for the next option or positional argument.
+    /// `next`: asks for the next option or positional argument.
     Next,
-    /// Asks for the value of the last option.
+    /// `value`: asks for the value of the last option.
     Value,
-    /// Asks for a value of the last option that is left of its word.
+    /// `optional_value`: asks for a value of the last option that is left of its word.
     Optional,
-    /// Asks for several values of the last option, and for so many items of the view.
+    /// `values`: asks for several values of the last option, and for so many items of the view.
     Values(usize),
-    /// Asks for the words that are left, and for so many items of the view.
+    /// `raw_args`: asks for the words that are left, and for so many items of the view.
     Raw(usize),
-    /// Asks for the words that are left where no value is pending, and for so many items of the view.
+    /// `try_raw_args`: asks for the words that are left where no value is pending, and for so many items of the view.
     TryRaw(usize),
-    /// Sets whether `=` stands between a short option and its value.
+    /// `raw_args` and then `next_if`: asks for the next word where it is this one.
+    RawIf(OsString),
+    /// `set_short_equals`: sets whether `=` stands between a short option and its value.
     Switch(bool),
 }
 
 impl Call {
     /// Whether the call reads the line, which the switch alone does not.
-    pub fn reads_line(self) -> bool
-        ensures { result ≡ reads_line (call_view self) }
+    pub fn reads_line(&self) -> bool
+        ensures { result ≡ reads_line (call_view self.now) }
     {
         !matches!(self, Call::Switch(_))
     }
 }
 
 /// What a call answered.
-#[derive(PartialEq, Eq, Drop)]
+#[derive(Debug, PartialEq, Eq, Drop)]
 pub enum Reply {
     /// `next` read a short option.
     Short(char),
@@ -52,7 +54,7 @@ pub enum Reply {
     End,
     /// `value` took this word.
     Taken(OsString),
-    /// `optional_value` took this value, or found none.
+    /// `optional_value` took this value, or found none; or the next word was the one that was asked for, or was not.
     Maybe(Option<OsString>),
     /// A view gave these values or words, of those that it was asked for.
     Items(Vec<OsString>),

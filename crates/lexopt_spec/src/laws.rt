@@ -114,7 +114,8 @@ pub fn no_byte_is_lost()
         → (gone : List (List ℕ)) × (u.words ≡ gone ++ v.words) }
 {}
 
-/// Some front of a list of calls is a part of it, also with some items of the next call.
+/// Some front of a list of calls is a part of it, also with some items of the next call; and the words that a part leaves
+/// are a suffix.
 pub fn calls_cut_short_are_a_part()
     ensures front { (u v : UnreadLine) (calls more : List Call) (replies : List Reply) → Run u calls replies v → Part u (calls ++ more) v }
     ensures cut { (u v w : UnreadLine) (calls more : List Call) (replies : List Reply) (call : Call) (m : ℕ) (reply : Reply)
@@ -123,6 +124,7 @@ pub fn calls_cut_short_are_a_part()
     ensures nothing_else { (u v : UnreadLine) (calls : List Call) → Part u calls v
         → (front : List Call) × (more : List Call) × (replies : List Reply) × (w : UnreadLine) × Run u front replies w × (calls ≡ front ++ more)
         × ((v ≡ w) ⊎ ((call : Call) × (others : List Call) × (m : ℕ) × (reply : Reply) × (more ≡ call ∷ others) × Step (up_to m call) w reply v)) }
+    ensures words { (u v : UnreadLine) (calls : List Call) → Part u calls v → (gone : List (List ℕ)) × (u.words ≡ gone ++ v.words) }
 {}
 
 /// What a run answers is bounded by the words: so `next` comes to the end, unless memory is wanted.

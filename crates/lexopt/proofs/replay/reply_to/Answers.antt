@@ -1,7 +1,7 @@
 use Rattle.std.proofs.lemmas.Result.{IfOk-from_err}
 use Rattle.lexopt_spec.specs.Steps.{Next, Value, maybe, done}
 use Rattle.lexopt_spec.specs.Runs as runs
-use Rattle.lexopt_spec.specs.Runs.{Step, values, raw, try_raw, up_to}
+use Rattle.lexopt_spec.specs.Runs.{Step, values, raw, raw_if, try_raw, up_to}
 use Rattle.lexopt_spec.proofs.Parts.{up_to_values, up_to_raw, up_to_try_raw}
 use Rattle.lexopt.specs.declared.reply.Reply.TheVariants.{Maybe, Done}
 use Rattle.lexopt.proofs.StepReplies.{given}
@@ -9,7 +9,7 @@ use Rattle.std.proofs.Common.{◌≡◌, refl, sym, ap, subst, ◌∙◌, inl, I
 use Rattle.std.specs.Option.{option_map}
 use Rattle.lexopt_base.specs.Replies.{Gives}
 use Rattle.lexopt.specs.Replies.{call_view, reply_view}
-use Rattle.lexopt.proofs.replay.reply_to.Goals.{in-Next+in_ok-reply-in-Next, in-Value, in-Optional, in-Values+in_ok-reply-in-Values, in-Raw+in_ok-reply-in-Raw, in-TryRaw+in_ok-call_try_raw-in-TryRaw, in-Switch}
+use Rattle.lexopt.proofs.replay.reply_to.Goals.{in-Next+in_ok-reply-in-Next, in-Value, in-Optional, in-Values+in_ok-reply-in-Values, in-Raw+in_ok-reply-in-Raw, in-TryRaw+in_ok-call_try_raw-in-TryRaw, in-RawIf, in-Switch}
 use Rattle.lexopt.proofs.replay.reply_to.Goals as goal
 
 pub returns-in_err-reply-in-Next : goal.returns-in_err-reply-in-Next
@@ -102,6 +102,13 @@ returns c = elim c.match-call.branch [
             (subst (λ (it : runs.Call). Step it c.args.parser.now (reply_view c.in-Some.reply) w.call_try_raw.new.parser)
             (sym (up_to_try_raw h.0 w.in-TryRaw.count h.2) ∙ ap (λ it. up_to h.0 (call_view it)) (sym w.in-TryRaw.is)) (subst (λ r. Step (try_raw h.0) c.args.parser.now r w.call_try_raw.new.parser) known h.3)),
         (ap (λ it. up_to h.0 (call_view it)) w.in-TryRaw.is ∙ up_to_try_raw h.0 w.in-TryRaw.count h.2 ∙ ap try_raw h.4.0 ∙ ap call_view (sym w.in-TryRaw.is), refl),
+      )
+  | in-RawIf w ↦
+      let known = ap (λ o. option_map reply_view o) (sym w.reply-is ∙ c.in-Some.is) in (
+        0,
+        reply_view c.in-Some.reply,
+        rw (w.in-RawIf.is, w.parser-is) (subst (λ o. Gives (Step (raw_if w.in-RawIf.word)) c.args.parser.now o w.call_raw_if-reply.new.parser) known w.call_raw_if-reply.ensures),
+        (rw w.in-RawIf.is refl, refl),
       )
   | in-Switch w ↦
       let some = sym c.in-Some.is ∙ w.reply-is in
