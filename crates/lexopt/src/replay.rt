@@ -15,8 +15,8 @@ ghost use Rattle.lexopt.specs.Output.{IsOutput, ReadsWhole, read_room};
 ghost use Rattle.lexopt_base.specs.Replies.{Gives, error_reply, next_reply};
 ghost use Rattle.lexopt.specs.Replies.{TakesThis, call_view, reply_view};
 
-pub use crate::reply::{Call, Reply};
 use crate::reply::written;
+pub use crate::reply::{Call, Reply};
 pub use crate::run_error::RunError;
 use crate::script::{parse_script, read_script};
 use lexopt_base::error::{Arg, Error};
