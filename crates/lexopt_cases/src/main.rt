@@ -20,6 +20,8 @@ mod names;
 #[cfg(test)]
 mod refused_memory;
 #[cfg(test)]
+mod replays;
+#[cfg(test)]
 mod sizes;
 #[cfg(test)]
 mod views;

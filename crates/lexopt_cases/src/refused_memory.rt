@@ -4,9 +4,10 @@
 //! was refused. Where nothing is refused, each test passes.
 use crate::calls::{is_at_end, parser_of, reads_long, reads_short, reads_word, takes};
 use crate::faults::{SCRIPT, WRITTEN};
-use lexopt::Error;
-use lexopt::replay::{RunError, run};
-use std::alloc::Global;
+use crate::replays::left;
+use lexopt::replay::{Call, Reply, RunError, replay, run};
+use lexopt::{Error, OsString, Parser};
+use std::alloc::{AllocError, Global};
 use std::test::Fail;
 
 // What the stored script writes where its first `next` is refused.
@@ -247,4 +248,106 @@ fn script_of_values(rt: HostRuntime) -> Result<(), Fail> {
     let whole = b"Short \"a\"\n[\"b\"]\n[\"c\"]\nerror: missing argument for option '-a'\nNone\n";
     let refused = b"Short \"a\"\n[\"b\"]\n[\"c\"]\nerror: out of memory\nNone\n";
     replays(rt.alloc(), script, whole, refused, "values")
+}
+
+// The words and the calls of a list with every call, of which five can want memory in a reply or in a list of items.
+fn line(alloc: Global) -> Result<Parser, Error> {
+    parser_of(alloc, &[b"-a=b", b"--n=x", b"-cd", b"e", b"f", b"--", b"-g"])
+}
+
+fn every_call(alloc: Global) -> Result<Vec<Call>, AllocError> {
+    let mut calls = Vec::new(alloc);
+    for call in [
+        Call::Next,
+        Call::Value,
+        Call::Next,
+        Call::Optional,
+        Call::Next,
+        Call::TryRaw(1),
+        Call::Values(2),
+        Call::Switch(false),
+    ] {
+        calls.push(call)?;
+    }
+    calls.push(Call::RawIf(OsString::from_bytes(alloc, b"f")?))?;
+    for call in [Call::Next, Call::Raw(1), Call::TryRaw(1), Call::Value] {
+        calls.push(call)?;
+    }
+    Ok(calls)
+}
+
+// Whether the calls but the one at a place, made on a new parser, have the replies but the one there: so that call changed
+// nothing.
+fn changed_nothing(
+    alloc: Global,
+    calls: &[Call],
+    replies: &[Reply],
+    place: usize,
+) -> Result<bool, Error> {
+    let mut parser = line(alloc)?;
+    let (Some(before), Some(behind)) = (calls.get(..place), calls.get(place + 1..)) else {
+        return Ok(false);
+    };
+    let (Some(said_before), Some(said_behind)) = (replies.get(..place), replies.get(place + 1..))
+    else {
+        return Ok(false);
+    };
+    Ok(replay(alloc, &mut parser, before)?.as_slice() == said_before
+        && replay(alloc, &mut parser, behind)?.as_slice() == said_behind)
+}
+
+// Whether some front of the calls leaves what is left, or such a front and the next call with fewer of its items.
+fn is_part(alloc: Global, calls: &[Call], found: &[Reply]) -> Result<bool, Error> {
+    for count in 0..=calls.len() {
+        for items in 0..3 {
+            let mut parser = line(alloc)?;
+            let Some(front) = calls.get(..count) else {
+                return Ok(false);
+            };
+            let _replies = replay(alloc, &mut parser, front)?;
+            let cut = match calls.get(count) {
+                Some(Call::Values(_)) => Call::Values(items),
+                Some(Call::Raw(_)) => Call::Raw(items),
+                Some(Call::TryRaw(_)) => Call::TryRaw(items),
+                _ => Call::TryRaw(0),
+            };
+            let _reply = replay(alloc, &mut parser, &[cut])?;
+            if left(alloc, &mut parser)?.as_slice() == found {
+                return Ok(true);
+            }
+        }
+    }
+    Ok(false)
+}
+
+// With memory refused once, a list of calls has one reply `NoMemory`, of a call that changed nothing, or ends at a part.
+#[test]
+fn calls_of_every_kind(rt: HostRuntime) -> Result<(), Fail> {
+    let alloc = rt.alloc();
+    let Ok(calls) = every_call(alloc) else {
+        return told(true, "the list");
+    };
+    let Ok(mut parser) = line(alloc) else {
+        return told(true, "from_args");
+    };
+    match replay(alloc, &mut parser, &calls) {
+        Ok(replies) => {
+            let place = replies.iter().position(|reply| *reply == Reply::NoMemory);
+            match place {
+                Some(place) => {
+                    assert!(rt; changed_nothing(alloc, &calls, &replies, place)?);
+                    told(true, "a call")
+                }
+                None => {
+                    assert_eq!(rt; replies.len(), calls.len());
+                    Ok(())
+                }
+            }
+        }
+        Err(_) => {
+            let found = left(alloc, &mut parser)?;
+            assert!(rt; is_part(alloc, &calls, &found)?);
+            told(true, "replay")
+        }
+    }
 }
