@@ -1,0 +1,60 @@
+"""What the scripts of this folder share: how both programs are built, and how a command is run."""
+
+import os
+import shutil
+import subprocess
+import sys
+
+HERE = os.path.dirname(os.path.realpath(__file__))
+TOP = os.path.dirname(HERE)
+TARGET = f"{HERE}/target"
+
+
+def stop(why):
+    sys.exit(f"bench/{os.path.basename(sys.argv[0])}: {why}")
+
+
+def call(command, **how):
+    """Runs a command to its end, and gives what it wrote."""
+    try:
+        done = subprocess.run(command, stdout=subprocess.PIPE, stderr=subprocess.PIPE, **how)
+    except OSError as error:
+        stop(f"{command[0]}: {error.strerror}")
+    if done.returncode:
+        sys.stderr.write((done.stdout + done.stderr).decode(errors="replace")[-4000:])
+        stop(f"{' '.join(command)} ended with status {done.returncode}")
+    return done
+
+
+def first_line(*command):
+    return call(command).stdout.decode().partition("\n")[0]
+
+
+def want(**commands):
+    """Ends where one of these commands is not there."""
+    for command, whose in commands.items():
+        if not shutil.which(command):
+            stop(f"there is no {command}, {whose}")
+
+
+def build_port(name, *arguments):
+    """Proves and builds a program of this repository, by LLVM. Where nothing changed it is only run, on no input."""
+    folder = f"{TOP}/crates/{name}"
+    environment = {name: value for name, value in os.environ.items() if name != "RT_BACKEND"}
+    call(["rt", "run", "--", *arguments], cwd=folder, stdin=subprocess.DEVNULL, env=environment)
+    return f"{folder}/out/{name}"
+
+
+def build_crate(name):
+    """Builds a program over the Rust crate, which comes from its registry or from the folder that LEXOPT_SOURCE names."""
+    command = ["cargo", "build", "--quiet", "--release", "--bin", name, "--target-dir", TARGET]
+    # The processor that Rattle builds for.
+    command += ["--config", 'build.rustflags=["-Ctarget-cpu=x86-64-v2"]']
+    source = os.environ.get("LEXOPT_SOURCE")
+    if source:
+        source = os.path.abspath(source)
+        if not os.path.isfile(f"{source}/Cargo.toml"):
+            stop(f"LEXOPT_SOURCE: {source} has no Cargo.toml")
+        command += ["--offline", "--config", f"patch.crates-io.lexopt.path='{source}'"]
+    call(command, cwd=HERE)
+    return f"{TARGET}/release/{name}"

@@ -1,0 +1,168 @@
+"""The cases of the comparison: the words of a command line, and the calls that are made on it. Nothing in them is by chance.
+
+A case is a line, as `crates/lexopt_compare/src/main.rt` says. Run with no argument it lists the groups of cases.
+"""
+
+from dataclasses import dataclass
+from itertools import product
+from random import Random
+from typing import Callable
+
+# The words that lexopt tries in its own exhaustive test.
+WORDS = [
+    b"",
+    b"-",
+    b"--",
+    b"---",
+    b"a",
+    b"-a",
+    b"-aa",
+    b"\xff",
+    b"-\xff",
+    b"-a\xff",
+    b"-\xffa",
+    b"--a",
+    b"--\xff",
+    b"--a=a",
+    b"--a=",
+    b"--a=\xff",
+    b"--\xff=a",
+    b"--=",
+    b"--=\xff",
+    b"--=a",
+    b"-\xff\xff",
+    b"-a=a",
+    b"-a=",
+    b"-=",
+    b"-a-",
+]
+
+# Each end of a range of table 3-7, and its neighbours.
+EDGES = [
+    bytes([byte])
+    for byte in bytes.fromhex("41 7f 80 8f 90 9f a0 bf c1 c2 df e0 e1 ed ee f0 f1 f4 f5 ff")
+]
+
+# Bytes of which words are made by chance: each means something somewhere.
+BYTES = list(b"--==aab019+\"\\' \t\n\r\x00\x1b\x7f\x80\x9d\x9e\xa0\xbf\xc2\xcc\xe2\xed\xf0\xff")
+
+# Every call, and the calls of the longer lists: `next`, `value`, `optional_value` and all of `values`, and those and others.
+CALLS = (
+    "n0 u0 v0 p0 o0 s0 s1 s2 s9 r0 r1 r9 t0 t1 t9 l0 i0 i1 i2 e0 e1 c0".split()
+)
+READING = "n0 v0 o0 s9".split()
+MIXED = "n0 v0 o0 s2 r1 t1 i1 e0".split()
+
+# How many cases by chance have one seed.
+SEEDED = 20_000
+
+
+def words_in_case(words):
+    return "".join("." + word.hex() for word in words)
+
+
+def case(words, calls, constructor="a"):
+    return f"{constructor} {words_in_case(words)} {calls}\n"
+
+
+def each(words, lists):
+    """A case of these words for each of these lists of calls."""
+    front = f"a {words_in_case(words)} "
+    return front + ("\n" + front).join(lists) + "\n"
+
+
+def up_to(count, things):
+    """All lists of no more than so many of these things."""
+    for length in range(count + 1):
+        yield from product(things, repeat=length)
+
+
+def lists_of(count, calls, front=""):
+    """All lists of so many of these calls, behind some others."""
+    return [front + "".join(chosen) for chosen in product(calls, repeat=count)]
+
+
+def all_lists(most, lists, least=0):
+    """All lists of words of these lengths, each with all these lists of calls."""
+
+    def blocks(_cases):
+        for words in up_to(most, WORDS):
+            if len(words) >= least:
+                yield len(lists), each(words, lists)
+
+    return blocks
+
+
+def edges(_cases):
+    """All byte lists of length 1 to 4 over the edges, each in many places."""
+    cluster = ["n0n0n0n0n0", "n0v0n0", "n0n0v0n0", "u0u0u0u0u0", "n0s2n0", "n0c0n0c0v0"]
+    behind = ["n0n0n0n0n0n0", "n0v0n0", "n0o0n0", "n0p0n0", "n0l0n0", "e0n0s1n0"]
+    for length in range(1, 5):
+        for chosen in product(EDGES, repeat=length):
+            text = b"".join(chosen)
+            block = each([b"-" + text], cluster)
+            block += each([b"-a" + text], behind)
+            block += each([b"-a=" + text], ["n0n0n0", "n0l0l0"])
+            block += each([b"--" + text], ["n0v0n0", "u0u0"])
+            block += each([b"--=" + text], ["n0n0", "n0p0"])
+            block += each([text], ["u0u0", "p0p0", "n0n0"])
+            yield block.count("\n"), block
+
+
+def numbers(_cases):
+    """Values that are numbers, or nearly."""
+    texts = [b"".join(text) for text in up_to(5, [b"0", b"1", b"9", b"-", b"+"])]
+    for number in (1 << 31, 1 << 32, 1 << 63, 1 << 64):
+        for near in range(number - 2, number + 3):
+            texts += [b"%s%s%d" % (sign, zeros, near) for sign in (b"", b"+", b"-") for zeros in (b"", b"0")]
+    for text in texts:
+        block = each([b"-n", text], ["n0p0"]) + each([b"--n=" + text], ["n0p0"])
+        yield block.count("\n"), block
+
+
+def a_word(chance):
+    text = bytes(chance.choices(BYTES, k=chance.randrange(9)))
+    return text
+
+
+def some_words(chance):
+    """One to six words; in half of the lists most begin with a dash."""
+    words = [a_word(chance) for _ in range(chance.randrange(1, 7))]
+    if chance.random() < 0.5:
+        return [(chance.choice([b"-", b"-", b"--", b""]) + word)[:8] for word in words]
+    return words
+
+
+def by_chance(cases):
+    """Words and calls by fixed seeds."""
+    for seed in range(-(-cases // SEEDED)):
+        chance = Random(seed)
+        count = min(SEEDED, cases - seed * SEEDED)
+        lines = []
+        for _ in range(count):
+            calls = chance.choices(CALLS, k=chance.randrange(13))
+            lines.append(case(some_words(chance), "".join(calls)))
+        yield count, "".join(lines)
+
+
+@dataclass(frozen=True)
+class Group:
+    title: str
+    # From the number of cases by chance: blocks of cases, each with how many they are.
+    blocks: Callable
+
+
+GROUPS = [
+    Group("no to three words, six calls of four kinds", all_lists(3, lists_of(6, READING))),
+    Group("no to three words, four calls of eight kinds", all_lists(3, lists_of(4, MIXED))),
+    Group("no or one word, four calls of every kind", all_lists(1, lists_of(4, CALLS))),
+    Group("two words, three calls of every kind", all_lists(2, lists_of(3, CALLS), 2)),
+    Group("three words, `next` and two calls of every kind", all_lists(3, lists_of(2, CALLS, "n0"), 3)),
+    Group("byte lists of length 1 to 4 over the edges of UTF-8", edges),
+    Group("values that are numbers, or nearly", numbers),
+    Group("words and calls by chance", by_chance),
+]
+
+if __name__ == "__main__":
+    for group in GROUPS:
+        print(group.title)

@@ -1,0 +1,93 @@
+//! Answers as they are compared: a letter, and behind it bytes in hexadecimal digits.
+use lexopt::{Error, OsString};
+use std::alloc::{AllocError, Global};
+
+const DIGITS: [u8; 16] = *b"0123456789abcdef";
+
+#[derive(Drop)]
+pub struct Answers {
+    text: Vec<u8>,
+}
+
+impl Answers {
+    pub fn new(alloc: Global) -> Answers {
+        Answers {
+            text: Vec::new(alloc),
+        }
+    }
+
+    /// What was written so far.
+    pub fn text(&self) -> &[u8] {
+        self.text.as_slice()
+    }
+
+    /// The answers to a case are all there.
+    pub fn end_case(&mut self) -> Result<(), AllocError> {
+        Ok(self.text.push(b'\n')?)
+    }
+
+    /// An answer without bytes, or the beginning of one.
+    pub fn letter(&mut self, letter: u8) -> Result<(), AllocError> {
+        self.text.push(letter)?;
+        Ok(())
+    }
+
+    /// An answer with these bytes.
+    pub fn bytes(&mut self, letter: u8, bytes: &[u8]) -> Result<(), AllocError> {
+        self.letter(letter)?;
+        self.field(b':', bytes)
+    }
+
+    /// A word that there may be.
+    pub fn word(&mut self, word: Option<OsString>) -> Result<(), AllocError> {
+        match word {
+            Some(word) => self.bytes(b'V', word.as_bytes()),
+            None => self.letter(b'-'),
+        }
+    }
+
+    /// An answer with all these words.
+    pub fn words(&mut self, words: &[OsString]) -> Result<(), AllocError> {
+        self.letter(b'W')?;
+        for word in words {
+            self.field(b':', word.as_bytes())?;
+        }
+        Ok(())
+    }
+
+    /// What an error holds, and its message.
+    pub fn error(&mut self, error: &Error) -> Result<(), AllocError> {
+        self.parts(error)?;
+        let message = error.to_string(*self.text.allocator())?;
+        self.field(b'"', message.as_bytes())
+    }
+
+    // What an error holds.
+    fn parts(&mut self, error: &Error) -> Result<(), AllocError> {
+        match error {
+            Error::MissingValue { option: None } => self.letter(b'M'),
+            Error::MissingValue {
+                option: Some(option),
+            } => self.bytes(b'M', option.as_bytes()),
+            Error::UnexpectedOption(option) => self.bytes(b'O', option.as_bytes()),
+            Error::UnexpectedArgument(value) => self.bytes(b'A', value.as_bytes()),
+            Error::UnexpectedValue { option, value } => {
+                self.bytes(b'U', option.as_bytes())?;
+                self.field(b':', value.as_bytes())
+            }
+            Error::ParsingFailed { value, .. } => self.bytes(b'F', value.as_bytes()),
+            Error::NonUnicodeValue(value) => self.bytes(b'N', value.as_bytes()),
+            Error::Custom(_) => self.letter(b'C'),
+            Error::OutOfMemory => self.letter(b'X'),
+        }
+    }
+
+    fn field(&mut self, mark: u8, bytes: &[u8]) -> Result<(), AllocError> {
+        self.text.push(mark)?;
+        for byte in bytes {
+            self.text.push(DIGITS[usize::from(*byte >> 4)])?;
+            self.text.push(DIGITS[usize::from(*byte & 15)])?;
+        }
+        Ok(())
+    }
+}
