@@ -17,6 +17,7 @@ CALLS = {
     "i": "next_if",
     "e": "set_short_equals",
     "c": "clone",
+    "b": "bin_name",
 }
 
 # What stands before the value in the message of an error, and what behind it. An option stands in it as it is.

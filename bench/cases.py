@@ -47,9 +47,7 @@ EDGES = [
 BYTES = list(b"--==aab019+\"\\' \t\n\r\x00\x1b\x7f\x80\x9d\x9e\xa0\xbf\xc2\xcc\xe2\xed\xf0\xff")
 
 # Every call, and the calls of the longer lists: `next`, `value`, `optional_value` and all of `values`, and those and others.
-CALLS = (
-    "n0 u0 v0 p0 o0 s0 s1 s2 s9 r0 r1 r9 t0 t1 t9 l0 i0 i1 i2 e0 e1 c0".split()
-)
+CALLS = "n0 u0 v0 p0 o0 s0 s1 s2 s9 r0 r1 r9 t0 t1 t9 l0 i0 i1 i2 e0 e1 c0 b0".split()
 READING = "n0 v0 o0 s9".split()
 MIXED = "n0 v0 o0 s2 r1 t1 i1 e0".split()
 
@@ -61,14 +59,14 @@ def words_in_case(words):
     return "".join("." + word.hex() for word in words)
 
 
-def case(words, calls, constructor="a"):
-    return f"{constructor} {words_in_case(words)} {calls}\n"
-
-
-def each(words, lists):
+def each(words, lists, constructor="a"):
     """A case of these words for each of these lists of calls."""
-    front = f"a {words_in_case(words)} "
+    front = f"{constructor} {words_in_case(words)} "
     return front + ("\n" + front).join(lists) + "\n"
+
+
+def case(words, calls, constructor="a"):
+    return each(words, [calls], constructor)
 
 
 def up_to(count, things):
@@ -82,13 +80,13 @@ def lists_of(count, calls, front=""):
     return [front + "".join(chosen) for chosen in product(calls, repeat=count)]
 
 
-def all_lists(most, lists, least=0):
-    """All lists of words of these lengths, each with all these lists of calls."""
+def all_lists(least, most, lists, constructor="a"):
+    """All lists of so many words, each with all these lists of calls."""
 
     def blocks(_cases):
         for words in up_to(most, WORDS):
             if len(words) >= least:
-                yield len(lists), each(words, lists)
+                yield len(lists), each(words, lists, constructor)
 
     return blocks
 
@@ -106,6 +104,7 @@ def edges(_cases):
             block += each([b"--" + text], ["n0v0n0", "u0u0"])
             block += each([b"--=" + text], ["n0n0", "n0p0"])
             block += each([text], ["u0u0", "p0p0", "n0n0"])
+            block += each([text], ["b0n0"], "i")
             yield block.count("\n"), block
 
 
@@ -120,14 +119,9 @@ def numbers(_cases):
         yield block.count("\n"), block
 
 
-def a_word(chance):
-    text = bytes(chance.choices(BYTES, k=chance.randrange(9)))
-    return text
-
-
 def some_words(chance):
-    """One to six words; in half of the lists most begin with a dash."""
-    words = [a_word(chance) for _ in range(chance.randrange(1, 7))]
+    """One to six words of up to eight bytes; in half of the lists most begin with a dash."""
+    words = [bytes(chance.choices(BYTES, k=chance.randrange(9))) for _ in range(chance.randrange(1, 7))]
     if chance.random() < 0.5:
         return [(chance.choice([b"-", b"-", b"--", b""]) + word)[:8] for word in words]
     return words
@@ -141,7 +135,7 @@ def by_chance(cases):
         lines = []
         for _ in range(count):
             calls = chance.choices(CALLS, k=chance.randrange(13))
-            lines.append(case(some_words(chance), "".join(calls)))
+            lines.append(case(some_words(chance), "".join(calls), chance.choice("ai")))
         yield count, "".join(lines)
 
 
@@ -153,11 +147,13 @@ class Group:
 
 
 GROUPS = [
-    Group("no to three words, six calls of four kinds", all_lists(3, lists_of(6, READING))),
-    Group("no to three words, four calls of eight kinds", all_lists(3, lists_of(4, MIXED))),
-    Group("no or one word, four calls of every kind", all_lists(1, lists_of(4, CALLS))),
-    Group("two words, three calls of every kind", all_lists(2, lists_of(3, CALLS), 2)),
-    Group("three words, `next` and two calls of every kind", all_lists(3, lists_of(2, CALLS, "n0"), 3)),
+    Group("no to three words, six calls of four kinds", all_lists(0, 3, lists_of(6, READING))),
+    Group("no to three words, four calls of eight kinds", all_lists(0, 3, lists_of(4, MIXED))),
+    Group("no or one word, four calls of every kind", all_lists(0, 1, lists_of(4, CALLS))),
+    Group("two words, three calls of every kind", all_lists(2, 2, lists_of(3, CALLS))),
+    Group("three words, `next` and two calls of every kind", all_lists(3, 3, lists_of(2, CALLS, "n0"))),
+    Group("a binary name, or nothing, and no word, or one, three calls of every kind", all_lists(0, 2, lists_of(3, CALLS), "i")),
+    Group("a binary name and two words, `bin_name` and two calls of every kind", all_lists(3, 3, lists_of(2, CALLS, "b0"), "i")),
     Group("byte lists of length 1 to 4 over the edges of UTF-8", edges),
     Group("values that are numbers, or nearly", numbers),
     Group("words and calls by chance", by_chance),

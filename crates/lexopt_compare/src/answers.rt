@@ -1,6 +1,6 @@
 //! Answers as they are compared: a letter, and behind it bytes in hexadecimal digits.
 use lexopt::{Error, OsString};
-use std::alloc::{AllocError, Global};
+use std::alloc::Global;
 
 const DIGITS: [u8; 16] = *b"0123456789abcdef";
 
@@ -21,25 +21,20 @@ impl Answers {
         self.text.as_slice()
     }
 
-    /// The answers to a case are all there.
-    pub fn end_case(&mut self) -> Result<(), AllocError> {
-        Ok(self.text.push(b'\n')?)
-    }
-
-    /// An answer without bytes, or the beginning of one.
-    pub fn letter(&mut self, letter: u8) -> Result<(), AllocError> {
+    /// An answer without bytes, or the beginning of one; also what stands between answers.
+    pub fn letter(&mut self, letter: u8) -> Result<(), Error> {
         self.text.push(letter)?;
         Ok(())
     }
 
     /// An answer with these bytes.
-    pub fn bytes(&mut self, letter: u8, bytes: &[u8]) -> Result<(), AllocError> {
+    pub fn bytes(&mut self, letter: u8, bytes: &[u8]) -> Result<(), Error> {
         self.letter(letter)?;
         self.field(b':', bytes)
     }
 
     /// A word that there may be.
-    pub fn word(&mut self, word: Option<OsString>) -> Result<(), AllocError> {
+    pub fn word(&mut self, word: Option<OsString>) -> Result<(), Error> {
         match word {
             Some(word) => self.bytes(b'V', word.as_bytes()),
             None => self.letter(b'-'),
@@ -47,7 +42,7 @@ impl Answers {
     }
 
     /// An answer with all these words.
-    pub fn words(&mut self, words: &[OsString]) -> Result<(), AllocError> {
+    pub fn words(&mut self, words: &[OsString]) -> Result<(), Error> {
         self.letter(b'W')?;
         for word in words {
             self.field(b':', word.as_bytes())?;
@@ -56,14 +51,14 @@ impl Answers {
     }
 
     /// What an error holds, and its message.
-    pub fn error(&mut self, error: &Error) -> Result<(), AllocError> {
+    pub fn error(&mut self, error: &Error) -> Result<(), Error> {
         self.parts(error)?;
         let message = error.to_string(*self.text.allocator())?;
         self.field(b'"', message.as_bytes())
     }
 
     // What an error holds.
-    fn parts(&mut self, error: &Error) -> Result<(), AllocError> {
+    fn parts(&mut self, error: &Error) -> Result<(), Error> {
         match error {
             Error::MissingValue { option: None } => self.letter(b'M'),
             Error::MissingValue {
@@ -82,7 +77,7 @@ impl Answers {
         }
     }
 
-    fn field(&mut self, mark: u8, bytes: &[u8]) -> Result<(), AllocError> {
+    fn field(&mut self, mark: u8, bytes: &[u8]) -> Result<(), Error> {
         self.text.push(mark)?;
         for byte in bytes {
             self.text.push(DIGITS[usize::from(*byte >> 4)])?;

@@ -19,12 +19,7 @@ impl Answers {
         self.text.as_slice()
     }
 
-    /// The answers to a case are all there.
-    pub fn end_case(&mut self) {
-        self.text.push(b'\n');
-    }
-
-    /// An answer without bytes, or the beginning of one.
+    /// An answer without bytes, or the beginning of one; also what stands between answers.
     pub fn letter(&mut self, letter: u8) {
         self.text.push(letter);
     }
