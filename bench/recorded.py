@@ -64,19 +64,20 @@ CHOSEN = [
 ]
 
 # What words are made of by chance.
-PIECES = [b"-", b"-", b"-", b"=", b"=", b"a", b"b", b"\xc3\xa9", b"\xff", b"\xf0\x9d", b'"', b" "]
+PIECES = [b"-", b"-", b"-", b"=", b"=", b"a", b"b", b"\xc3\xa9", b"\xff", b"\xf0\x9d", b'"', b"\\"]
+
+
+def word_by_chance(chance):
+    return chance.choice([b"", b"-", b"-", b"--"]) + b"".join(chance.choices(PIECES, k=chance.randrange(6)))
 
 
 def by_chance(count):
     chance = Random(0)
     for _ in range(count):
-        words = [
-            b"".join(chance.choices([b"", b"-", b"--"])) + b"".join(chance.choices(PIECES, k=chance.randrange(5)))
-            for _ in range(chance.randrange(1, 5))
-        ]
-        calls = []
+        words = [word_by_chance(chance) for _ in range(chance.randrange(2, 6))]
+        calls = ["n0"]
         for _ in range(chance.randrange(3, 8)):
-            letter = chance.choice("nnnvosrte")
+            letter = chance.choice("nnnnvosrte")
             calls.append(letter + str(chance.randrange(2 if letter == "e" else 4)))
         yield words, "".join(calls)
 
