@@ -37,10 +37,10 @@ def want(**commands):
             stop(f"there is no {command}, {whose}")
 
 
-def build_port(name, *arguments):
-    """Proves and builds a program of this repository, by LLVM. Where nothing changed it is only run, on no input."""
+def build_port(name, *arguments, backend="llvm"):
+    """Proves and builds a program of this repository. Where nothing changed it is only run, on no input."""
     folder = f"{TOP}/crates/{name}"
-    environment = {name: value for name, value in os.environ.items() if name != "RT_BACKEND"}
+    environment = dict(os.environ, RT_BACKEND=backend)
     call(["rt", "run", "--", *arguments], cwd=folder, stdin=subprocess.DEVNULL, env=environment)
     return f"{folder}/out/{name}"
 

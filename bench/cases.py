@@ -46,7 +46,7 @@ EDGES = [
 # Bytes of which words are made by chance: each means something somewhere.
 BYTES = list(b"--==aab019+\"\\' \t\n\r\x00\x1b\x7f\x80\x9d\x9e\xa0\xbf\xc2\xcc\xe2\xed\xf0\xff")
 
-# Every call, and the calls of the longer lists: `next`, `value`, `optional_value` and all of `values`, and those and others.
+# Every call, and the calls of the longer lists: those that read a line as a program does, and some of many kinds.
 CALLS = "n0 u0 v0 p0 o0 s0 s1 s2 s9 r0 r1 r9 t0 t1 t9 l0 i0 i1 i2 e0 e1 c0 b0".split()
 READING = "n0 v0 o0 s9".split()
 MIXED = "n0 v0 o0 s2 r1 t1 i1 e0".split()
@@ -103,7 +103,7 @@ def edges(_cases):
             block += each([b"-a=" + text], ["n0n0n0", "n0l0l0"])
             block += each([b"--" + text], ["n0v0n0", "u0u0"])
             block += each([b"--=" + text], ["n0n0", "n0p0"])
-            block += each([text], ["u0u0", "p0p0", "n0n0"])
+            block += each([text], ["u0", "p0", "n0n0"])
             block += each([text], ["b0n0"], "i")
             yield block.count("\n"), block
 
@@ -113,7 +113,7 @@ def numbers(_cases):
     texts = [b"".join(text) for text in up_to(5, [b"0", b"1", b"9", b"-", b"+"])]
     for number in (1 << 31, 1 << 32, 1 << 63, 1 << 64):
         for near in range(number - 2, number + 3):
-            texts += [b"%s%s%d" % (sign, zeros, near) for sign in (b"", b"+", b"-") for zeros in (b"", b"0")]
+            texts += [b"%s%d" % (front, near) for front in (b"", b"+", b"-", b"0", b"+0", b"-0")]
     for text in texts:
         block = each([b"-n", text], ["n0p0"]) + each([b"--n=" + text], ["n0p0"])
         yield block.count("\n"), block
@@ -121,7 +121,8 @@ def numbers(_cases):
 
 def some_words(chance):
     """One to six words of up to eight bytes; in half of the lists most begin with a dash."""
-    words = [bytes(chance.choices(BYTES, k=chance.randrange(9))) for _ in range(chance.randrange(1, 7))]
+    count = chance.randrange(1, 7)
+    words = [bytes(chance.choices(BYTES, k=chance.randrange(9))) for _ in range(count)]
     if chance.random() < 0.5:
         return [(chance.choice([b"-", b"-", b"--", b""]) + word)[:8] for word in words]
     return words
@@ -152,8 +153,11 @@ GROUPS = [
     Group("no or one word, four calls of every kind", all_lists(0, 1, lists_of(4, CALLS))),
     Group("two words, three calls of every kind", all_lists(2, 2, lists_of(3, CALLS))),
     Group("three words, `next` and two calls of every kind", all_lists(3, 3, lists_of(2, CALLS, "n0"))),
-    Group("a binary name, or nothing, and no word, or one, three calls of every kind", all_lists(0, 2, lists_of(3, CALLS), "i")),
-    Group("a binary name and two words, `bin_name` and two calls of every kind", all_lists(3, 3, lists_of(2, CALLS, "b0"), "i")),
+    Group("no to two words by `from_iter`, three calls of every kind", all_lists(0, 2, lists_of(3, CALLS), "i")),
+    Group(
+        "three words by `from_iter`, `bin_name` and two calls of every kind",
+        all_lists(3, 3, lists_of(2, CALLS, "b0"), "i"),
+    ),
     Group("byte lists of length 1 to 4 over the edges of UTF-8", edges),
     Group("values that are numbers, or nearly", numbers),
     Group("words and calls by chance", by_chance),
