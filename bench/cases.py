@@ -110,7 +110,7 @@ def edges(_cases):
 
 def numbers(_cases):
     """Values that are numbers, or nearly."""
-    texts = [b"".join(text) for text in up_to(5, [b"0", b"1", b"9", b"-", b"+"])]
+    texts = [b"".join(text) for text in up_to(5, [b"0", b"1", b"9", b"f", b"-", b"+"])]
     for number in (1 << 31, 1 << 32, 1 << 63, 1 << 64):
         for near in range(number - 2, number + 3):
             texts += [b"%s%d" % (front, near) for front in (b"", b"+", b"-", b"0", b"+0", b"-0")]

@@ -7,9 +7,9 @@
 //! - The constructor is `a` for `from_args`, or `i` for `from_iter`.
 //! - Each word is a point and then its bytes, in hexadecimal digits.
 //! - Each call is a letter and a digit N: `n` is `next`; `u` is `next`, and then `unexpected` of what it gave; `v` is `value`;
-//!   `p` is `value`, and then `parse` and `string` of what it gave; `o` is `optional_value`; `s`, `r`, `t` are `values`,
-//!   `raw_args`, `try_raw_args`, and then N items; `l` is `peek` and `as_slice`, `i` is `next_if` with the Nth wanted word; `e`
-//!   is `set_short_equals`, off where N is 0; `c` is `clone`, and the copy goes on; `b` is `bin_name`.
+//!   `p` is `value`, and then `parse`, `parse_with` and `string` of what it gave; `o` is `optional_value`; `s`, `r`, `t` are
+//!   `values`, `raw_args`, `try_raw_args`, and then N items; `l` is `peek` and `as_slice`, `i` is `next_if` with the Nth wanted
+//!   word; `e` is `set_short_equals`, off where N is 0; `c` is `clone`, and the copy goes on; `b` is `bin_name`.
 #![tactic(auto)]
 
 mod answers;
@@ -40,13 +40,21 @@ fn unexpected(alloc: Global, parser: &mut Parser, answers: &mut Answers) -> Resu
     }
 }
 
-// A value as a number, and then as a text, of which an error of the program's own is made.
+fn number(number: Result<i32, Error>, answers: &mut Answers) -> Result<(), Error> {
+    match number {
+        Ok(number) => answers.bytes(b'I', &number.to_be_bytes()),
+        Err(error) => answers.error(&error),
+    }
+}
+
+// A value as a number, in two ways, and then as a text, of which an error of the program's own is made.
 fn converted(parser: &mut Parser, answers: &mut Answers) -> Result<(), Error> {
     let value = parser.value()?;
-    match value.parse::<i32>() {
-        Ok(number) => answers.bytes(b'I', &number.to_be_bytes())?,
-        Err(error) => answers.error(&error)?,
-    }
+    number(value.parse(), answers)?;
+    number(
+        value.parse_with(|text| i32::from_str_radix(text, 16)),
+        answers,
+    )?;
     Err(Error::from(value.string()?))
 }
 

@@ -31,13 +31,21 @@ fn unexpected(parser: &mut Parser, answers: &mut Answers) -> Result<(), Error> {
     Ok(())
 }
 
-// A value as a number, and then as a text, of which an error of the program's own is made.
-fn converted(parser: &mut Parser, answers: &mut Answers) -> Result<(), Error> {
-    let value = parser.value()?;
-    match value.parse::<i32>() {
+fn number(number: Result<i32, Error>, answers: &mut Answers) {
+    match number {
         Ok(number) => answers.bytes(b'I', &number.to_be_bytes()),
         Err(error) => answers.error(&error),
     }
+}
+
+// A value as a number, in two ways, and then as a text, of which an error of the program's own is made.
+fn converted(parser: &mut Parser, answers: &mut Answers) -> Result<(), Error> {
+    let value = parser.value()?;
+    number(value.parse(), answers);
+    number(
+        value.parse_with(|text| i32::from_str_radix(text, 16)),
+        answers,
+    );
     Err(Error::from(value.string()?))
 }
 
