@@ -1,6 +1,6 @@
-"""The cases of the comparison: the words of a command line, and the calls that are made on it. Nothing in them is by chance.
+"""The cases of the comparison: words of a command line, and calls. What is made by chance has fixed seeds.
 
-A case is a line, as `crates/lexopt_compare/src/main.rt` says. Run with no argument it lists the groups of cases.
+A case is a line, as `crates/lexopt_compare/src/main.rt` says. Run with no argument this lists the groups of cases.
 """
 
 from dataclasses import dataclass
@@ -37,7 +37,7 @@ WORDS = [
     b"-a-",
 ]
 
-# Each end of a range of table 3-7, and its neighbours.
+# Ends of the ranges of bytes that UTF-8 has, and their neighbours.
 EDGES = [
     bytes([byte])
     for byte in bytes.fromhex("41 7f 80 8f 90 9f a0 bf c1 c2 df e0 e1 ed ee f0 f1 f4 f5 ff")

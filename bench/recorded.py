@@ -113,7 +113,7 @@ def reply(letter, answers):
     if answer.letter == "-":
         return b"None"
     if answer.letter == "S":
-        character = chr(int.from_bytes(answer.value))
+        character = chr(int.from_bytes(answer.value, "big"))
         return b"Short " + quoted(character.encode())
     names = {"L": b"Long ", "P": b"Value ", "V": b""}
     return names[answer.letter] + quoted(answer.value)
