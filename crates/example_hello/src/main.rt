@@ -1,0 +1,84 @@
+//! Greets a thing: `example_hello [-n|--number=NUM] [--shout] THING`.
+//!
+//! The exit status is 0, or 2 where the command line was refused, or 1 where a line could not be printed; then standard
+//! error says why.
+#![tactic(auto)]
+
+use lexopt::prelude::{Long, Short, Value, ValueExt};
+use lexopt::{Error, Parser};
+use std::env::Env;
+use std::io;
+use std::process::ExitCode;
+
+// What to print, and how many times.
+#[derive(Drop)]
+struct Greeting {
+    thing: String,
+    number: u32,
+    shout: bool,
+}
+
+// What a command line asks for.
+#[derive(Drop)]
+enum Request {
+    Help,
+    Greet(Greeting),
+}
+
+fn read_request(rt: &(impl Env + AllocGlobal)) -> Result<Request, Error> {
+    let mut parser = Parser::from_env(rt, rt.alloc())?;
+    let mut thing = None;
+    let mut number = 1;
+    let mut shout = false;
+    for _ in 0..u64::MAX {
+        match parser.next()? {
+            Some(Short('n') | Long("number")) => number = parser.value()?.parse()?,
+            Some(Long("shout")) => shout = true,
+            Some(Long("help")) => return Ok(Request::Help),
+            Some(Value(word)) if thing.is_none() => thing = Some(word.string()?),
+            Some(argument) => return Err(argument.unexpected(rt.alloc())),
+            None => break,
+        }
+    }
+    let thing = thing.ok_or("missing argument THING")?;
+    Ok(Request::Greet(Greeting {
+        thing,
+        number,
+        shout,
+    }))
+}
+
+fn greet(rt: &(impl Print + AllocGlobal), greeting: Greeting) -> io::Result<()> {
+    let Greeting {
+        mut thing,
+        number,
+        shout,
+    } = greeting;
+    if shout {
+        thing = thing.to_uppercase(rt.alloc())?;
+    }
+    for _ in 0..number {
+        println!(rt; "Hello {thing}")?;
+    }
+    Ok(())
+}
+
+fn main(rt: HostRuntime) -> ExitCode {
+    let printed = match read_request(&rt) {
+        Ok(Request::Greet(greeting)) => greet(&rt, greeting),
+        Ok(Request::Help) => {
+            println!(rt; "usage: example_hello [-n|--number=NUM] [--shout] THING")
+        }
+        Err(error) => {
+            let _ = eprintln!(rt; "example_hello: {error}");
+            return ExitCode::from(2);
+        }
+    };
+    match printed {
+        Ok(()) => ExitCode::SUCCESS,
+        Err(error) => {
+            let _ = eprintln!(rt; "example_hello: {error}");
+            ExitCode::FAILURE
+        }
+    }
+}
