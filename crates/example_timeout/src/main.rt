@@ -1,0 +1,100 @@
+//! Reads its own options, and passes the rest of the line on unchanged:
+//! `example_timeout [-s|--signal=NAME] [-k|--kill-after=SECONDS] SECONDS COMMAND [ARG]..`, as of `timeout`.
+//!
+//! It starts no command: it prints what it has read, and then each word that the command would be started with, quoted.
+//!
+//! The exit status is 0, or 2 where the command line was refused, or 1 where a line could not be printed; then standard
+//! error says why.
+#![tactic(auto)]
+
+use lexopt::prelude::{Long, Short, Value, ValueExt};
+use lexopt::{Error, OsString, Parser, Quoted};
+use std::env::Env;
+use std::io;
+use std::process::ExitCode;
+
+// What stands before the command.
+#[derive(Drop)]
+struct Limits {
+    signal: Option<OsString>,
+    kill_after: Option<u32>,
+    seconds: u32,
+}
+
+// A command, and what limits it.
+#[derive(Drop)]
+struct Plan {
+    limits: Limits,
+    command: Vec<OsString>,
+}
+
+// Reads up to the first positional argument, which is the number of seconds.
+fn read_limits(rt: &impl AllocGlobal, parser: &mut Parser) -> Result<Limits, Error> {
+    let mut signal = None;
+    let mut kill_after = None;
+    for _ in 0..u64::MAX {
+        match parser.next()? {
+            Some(Short('s') | Long("signal")) => signal = Some(parser.value()?),
+            Some(Short('k') | Long("kill-after")) => kill_after = Some(parser.value()?.parse()?),
+            Some(Value(word)) => {
+                return Ok(Limits {
+                    signal,
+                    kill_after,
+                    seconds: word.parse()?,
+                });
+            }
+            Some(argument) => return Err(argument.unexpected(rt.alloc())),
+            None => break,
+        }
+    }
+    Err(Error::from("missing argument SECONDS"))
+}
+
+// Behind the number of seconds no word is read as an option: each one is the command's own.
+fn read_plan(rt: &(impl Env + AllocGlobal)) -> Result<Plan, Error> {
+    let mut parser = Parser::from_env(rt, rt.alloc())?;
+    let limits = read_limits(rt, &mut parser)?;
+    let command: Vec<OsString> = parser.raw_args()?.collect(rt.alloc())?;
+    if command.is_empty() {
+        return Err(Error::from("missing argument COMMAND"));
+    }
+    Ok(Plan { limits, command })
+}
+
+fn print_word(rt: &impl Print, name: &str, word: &OsString) -> io::Result<()> {
+    let word = Quoted::new(word.as_bytes());
+    println!(rt; "{name}: {word}")
+}
+
+fn print_plan(rt: &impl Print, plan: &Plan) -> io::Result<()> {
+    let limits = &plan.limits;
+    let seconds = limits.seconds;
+    println!(rt; "seconds: {seconds}")?;
+    if let Some(signal) = &limits.signal {
+        print_word(rt, "signal", signal)?;
+    }
+    if let Some(kill_after) = limits.kill_after {
+        println!(rt; "kill after: {kill_after}")?;
+    }
+    for word in &plan.command {
+        print_word(rt, "word", word)?;
+    }
+    Ok(())
+}
+
+fn main(rt: HostRuntime) -> ExitCode {
+    let printed = match read_plan(&rt) {
+        Ok(plan) => print_plan(&rt, &plan),
+        Err(error) => {
+            let _ = eprintln!(rt; "example_timeout: {error}");
+            return ExitCode::from(2);
+        }
+    };
+    match printed {
+        Ok(()) => ExitCode::SUCCESS,
+        Err(error) => {
+            let _ = eprintln!(rt; "example_timeout: {error}");
+            ExitCode::FAILURE
+        }
+    }
+}
