@@ -1,0 +1,91 @@
+//! Prints the first lines of standard input: `example_head [-NUM] [-n|--lines=NUM] [--number]`.
+//!
+//! `-NUM` is a number behind one dash, as in `head -10`, which `next` would read as the options `1` and `0`.
+//!
+//! The exit status is 0, or 2 where the command line was refused, or 1 where a line could not be read or printed; then
+//! standard error says why.
+#![tactic(auto)]
+
+use lexopt::prelude::{Long, Short, ValueExt};
+use lexopt::{Error, OsStr, Parser};
+use std::env::Env;
+use std::io;
+use std::process::ExitCode;
+
+// How many lines to print, and whether each has its number before it.
+#[derive(Clone, Copy)]
+struct Options {
+    lines: usize,
+    is_numbered: bool,
+}
+
+// The number of a word that is a dash and digits.
+fn number_of(word: OsStr<'_>) -> Option<usize> {
+    let digits = word.to_str()?.strip_prefix('-')?;
+    if digits.starts_with('+') {
+        return None;
+    }
+    digits.parse().ok()
+}
+
+// Takes the next word, if it is a number behind one dash. In the middle of a word, as behind `-q` of `-q10`, there is none.
+fn take_dash_number(parser: &mut Parser) -> Option<usize> {
+    let mut words = parser.try_raw_args()?;
+    let number = number_of(words.peek()?)?;
+    let _word = words.next();
+    Some(number)
+}
+
+// No positional argument is wanted. A program that wants some stops looking for `-NUM` at the first of them: it may stand
+// behind `--`, where `-10` is a positional argument too.
+fn read_options(rt: &(impl Env + AllocGlobal)) -> Result<Options, Error> {
+    let mut parser = Parser::from_env(rt, rt.alloc())?;
+    let mut options = Options {
+        lines: 10,
+        is_numbered: false,
+    };
+    for _ in 0..u64::MAX {
+        if let Some(lines) = take_dash_number(&mut parser) {
+            options.lines = lines;
+            continue;
+        }
+        match parser.next()? {
+            Some(Short('n') | Long("lines")) => options.lines = parser.value()?.parse()?,
+            Some(Long("number")) => options.is_numbered = true,
+            Some(argument) => return Err(argument.unexpected(rt.alloc())),
+            None => break,
+        }
+    }
+    Ok(options)
+}
+
+fn print_lines(rt: &(impl Input + Print + AllocGlobal), options: Options) -> io::Result<()> {
+    let mut number = 0usize;
+    for line in rt.lines(rt.alloc()).take(options.lines) {
+        let line = line?;
+        number = number.saturating_add(1);
+        if options.is_numbered {
+            println!(rt; "{number} {line}")?;
+        } else {
+            println!(rt; "{line}")?;
+        }
+    }
+    Ok(())
+}
+
+fn main(rt: HostRuntime) -> ExitCode {
+    let printed = match read_options(&rt) {
+        Ok(options) => print_lines(&rt, options),
+        Err(error) => {
+            let _ = eprintln!(rt; "example_head: {error}");
+            return ExitCode::from(2);
+        }
+    };
+    match printed {
+        Ok(()) => ExitCode::SUCCESS,
+        Err(error) => {
+            let _ = eprintln!(rt; "example_head: {error}");
+            ExitCode::FAILURE
+        }
+    }
+}
