@@ -1,7 +1,8 @@
 //! Reads its own options, and passes the rest of the line on unchanged:
 //! `example_timeout [-s|--signal=NAME] [-k|--kill-after=SECONDS] SECONDS COMMAND [ARG]..`, as of `timeout`.
 //!
-//! It starts no command: it prints what it has read, and then each word that the command would be started with, quoted.
+//! It starts no command: it prints what it has read, and then each word that the command would be started with, quoted. A
+//! word may be of any bytes.
 //!
 //! The exit status is 0, or 2 where the command line was refused, or 1 where a line could not be printed; then standard
 //! error says why.
@@ -9,9 +10,12 @@
 
 use lexopt::prelude::{Long, Short, Value, ValueExt};
 use lexopt::{Error, OsString, Parser, Quoted};
-use std::env::Env;
+use std::env::{Env, FillError};
 use std::io;
 use std::process::ExitCode;
+
+// No argument of a Linux program is longer.
+const LONGEST_WORD: usize = 131_072;
 
 // What stands before the command.
 #[derive(Drop)]
@@ -50,9 +54,24 @@ fn read_limits(rt: &impl AllocGlobal, parser: &mut Parser) -> Result<Limits, Err
     Err(Error::from("missing argument SECONDS"))
 }
 
+// The words that the program was called with, of any bytes. The first is its name. `Parser::from_env` takes text alone.
+fn own_words(rt: &(impl Env + AllocGlobal)) -> Result<Vec<OsString>, Error> {
+    let alloc = rt.alloc();
+    let mut words = Vec::new(alloc);
+    let mut buffer = vec![in alloc; 0u8; LONGEST_WORD]?;
+    for place in 0..usize::MAX {
+        match rt.arg(place, &mut buffer) {
+            Ok(length) => words.push(OsString::from_bytes(alloc, &buffer[..length])?)?,
+            Err(FillError::NotPresent) => break,
+            Err(FillError::TooLong) => return Err(Error::from("an argument is too long")),
+        }
+    }
+    Ok(words)
+}
+
 // Behind the number of seconds no word is read as an option: each one is the command's own.
 fn read_plan(rt: &(impl Env + AllocGlobal)) -> Result<Plan, Error> {
-    let mut parser = Parser::from_env(rt, rt.alloc())?;
+    let mut parser = Parser::from_iter(rt.alloc(), own_words(rt)?)?;
     let limits = read_limits(rt, &mut parser)?;
     let command: Vec<OsString> = parser.raw_args()?.collect(rt.alloc())?;
     if command.is_empty() {
