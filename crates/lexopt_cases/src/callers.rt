@@ -1,13 +1,43 @@
-//! Two callers of views, with clauses of their own, which stand on the clauses of the public calls alone.
-ghost use Rattle.std.specs.Prelude.{◌≡◌, ◌↔◌, [], None, IfErr, IfOk, IsTrue};
+//! Callers of `next`, of `value` and of views, with clauses of their own, which stand on the clauses of the public calls alone.
+ghost use Rattle.std.specs.Prelude.{◌≡◌, ◌≢◌, ◌↔◌, ◌⊎◌, ℕ, List, [], Contains, None, Some, IfErr, IfNone, IfOk, IfSome, IsTrue};
 ghost use Rattle.std.specs.List.{cons_option};
 ghost use Rattle.lexopt_spec.specs.Runs.{Step, raw, values};
-ghost use Rattle.lexopt_spec.specs.Steps.{items};
-ghost use Rattle.lexopt_spec.specs.UnreadLine.{pending};
-ghost use Rattle.lexopt_base.specs.Replies.{Gives, error_reply};
+ghost use Rattle.lexopt_spec.specs.Steps.{Reply, Value, items, positional, short, taken};
+ghost use Rattle.lexopt_spec.specs.UnreadLine.{UnreadLine, pending};
+ghost use Rattle.lexopt_base.specs.Replies.{CanReply, Gives, error_reply};
 ghost use Rattle.lexopt_cases.specs.Callers.{IsNegative, TakesNegative};
 
-use lexopt::{Error, OsString, Parser};
+use lexopt::{Arg, Error, OsString, Parser};
+
+/// Takes the value of the next option, if that is this option of one character. Anything else that comes is dropped.
+pub fn value_of_next(parser: &mut Parser, wanted: char) -> Result<Option<OsString>, Error>
+    ensures value { IfOk result (λ found. IfSome found (λ value. CanReply parser.old (Some (short wanted))
+        × ((between : UnreadLine) × Value between (taken value) parser.new))) }
+    ensures other { IfOk result (λ found. IfNone found ((reply : Reply) × CanReply parser.old (Some reply) × (reply ≢ short wanted))) }
+    ensures err { IfErr result (λ e. CanReply parser.old (error_reply e)
+        ⊎ ((between : UnreadLine) × Gives Value between (error_reply e) parser.new)) }
+{
+    match parser.next()? {
+        Some(Arg::Short(option)) if option == wanted => Ok(Some(parser.value()?)),
+        Some(Arg::Value(_word)) => Ok(None),
+        Some(Arg::Short(_) | Arg::Long(_)) | None => Ok(None),
+    }
+}
+
+/// Takes the next argument where it is a positional one, which is then a word of the line, byte for byte. Anything else that
+/// comes is dropped.
+#[tactic(auto, using(crate::proofs::Words::positional_is_a_word))]
+pub fn next_file(parser: &mut Parser) -> Result<Option<OsString>, Error>
+    ensures file { IfOk result (λ found. IfSome found (λ word. Contains parser.old.words word)) }
+    ensures other { IfOk result (λ found. IfNone found ((reply : Reply) × CanReply parser.old (Some reply)
+        × ((word : List ℕ) → reply ≢ positional word))) }
+    ensures err { IfErr result (λ e. CanReply parser.old (error_reply e)) }
+{
+    match parser.next()? {
+        Some(Arg::Value(word)) => Ok(Some(word)),
+        Some(Arg::Short(_) | Arg::Long(_)) | None => Ok(None),
+    }
+}
 
 /// Takes two values of the last option, or one where there is no other. The words behind them stay.
 pub fn two_values(parser: &mut Parser) -> Result<(Option<OsString>, Option<OsString>), Error>

@@ -1,5 +1,5 @@
 //! Views: several values of one option, and the words that are left.
-use crate::callers::{negative_number, two_values};
+use crate::callers::{negative_number, next_file, two_values, value_of_next};
 use crate::calls::{is_at_end, parser_of, reads_short, reads_word, takes};
 use lexopt::{Error, OsStr, OsString, Parser, RawArgs, ValuesIter};
 use std::test::Fail;
@@ -134,5 +134,16 @@ fn callers(rt: HostRuntime) -> Result<(), Fail> {
     assert!(rt; takes(&mut parser, b"d")?);
     assert!(rt; gives(negative_number(&mut parser)?, b"-10"));
     assert!(rt; reads_short(&mut parser, 'e')?);
+    Ok(())
+}
+
+#[test]
+fn callers_of_next(rt: HostRuntime) -> Result<(), Fail> {
+    let mut parser = parser_of(rt.alloc(), &[b"-n10", b"-n", b"a", b"-x"])?;
+    assert!(rt; gives(value_of_next(&mut parser, 'n')?, b"10"));
+    assert!(rt; next_file(&mut parser)?.is_none());
+    assert!(rt; gives(next_file(&mut parser)?, b"a"));
+    assert!(rt; value_of_next(&mut parser, 'n')?.is_none());
+    assert!(rt; is_at_end(&mut parser)?);
     Ok(())
 }
