@@ -14,7 +14,7 @@ use std::env::{Env, FillError};
 use std::io;
 use std::process::ExitCode;
 
-// No argument of a Linux program is longer.
+// No argument of a program on x86-64 Linux is longer.
 const LONGEST_WORD: usize = 131_072;
 
 // What stands before the command.
