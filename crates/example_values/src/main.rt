@@ -3,10 +3,11 @@
 //!
 //! It prints what it has read.
 //!
-//! The exit status is 0, or 2 where the command line was refused, or 1 where a line could not be printed; then standard
-//! error says why.
+//! The exit status is 0, or 2 where the command line, or memory to read it, was refused, or 1 where a line could not be
+//! printed; then standard error says why.
 #![tactic(auto)]
 
+use anyhow::bail;
 use lexopt::prelude::{Long, Short, ValueExt};
 use lexopt::{Error, OsString, Parser, Quoted};
 use std::env::Env;
@@ -35,12 +36,12 @@ struct Options {
 }
 
 impl Color {
-    fn of_value(value: &OsString) -> Result<Color, Error> {
-        match value.to_str() {
-            Some("always") => Ok(Color::Always),
-            Some("auto") => Ok(Color::Auto),
-            Some("never") => Ok(Color::Never),
-            _ => Err(Error::from("the color is always, auto or never")),
+    fn of_name(name: &str) -> anyhow::Result<Color> {
+        match name {
+            "always" => Ok(Color::Always),
+            "auto" => Ok(Color::Auto),
+            "never" => Ok(Color::Never),
+            _ => bail!("it is always, auto or never"),
         }
     }
 
@@ -56,7 +57,7 @@ impl Color {
 // `--color=auto` has a value, `--color` has none, and `--color auto` is the option and a positional argument.
 fn read_color(parser: &mut Parser) -> Result<Color, Error> {
     match parser.optional_value() {
-        Some(value) => Color::of_value(&value),
+        Some(value) => value.parse_with(Color::of_name),
         None => Ok(Color::Always),
     }
 }
