@@ -2,8 +2,8 @@
 //!
 //! `-NUM` is a number behind one dash, as in `head -10`, which `next` would read as the options `1` and `0`.
 //!
-//! The exit status is 0, or 2 where the command line was refused, or 1 where a line could not be read or printed; then
-//! standard error says why.
+//! The exit status is 0, or 2 where the command line, or memory to read it, was refused, or 1 where a line could not be read
+//! or printed; then standard error says why.
 #![tactic(auto)]
 
 use lexopt::prelude::{Long, Short, ValueExt};

@@ -1,4 +1,5 @@
-//! Checks a command line, and reads on after an error: `example_lint [-v|--verbose] [-j|--jobs=NUM] [-o|--output=FILE] [FILE]..`.
+//! Checks a command line, and reads on after an error:
+//! `example_lint [-v|--verbose] [-j|--jobs=NUM] [-o|--output=FILE] [FILE]..`.
 //!
 //! It prints the message of each error on a line of its own. The exit status is 0 where there was none, 2 where there was
 //! one, and 1 where a line could not be printed or memory was refused; then standard error says why.

@@ -4,8 +4,8 @@
 //! It starts no command: it prints what it has read, and then each word that the command would be started with, quoted. A
 //! word may be of any bytes.
 //!
-//! The exit status is 0, or 2 where the command line was refused, or 1 where a line could not be printed; then standard
-//! error says why.
+//! The exit status is 0, or 2 where the command line, or memory to read it, was refused, or 1 where a line could not be
+//! printed; then standard error says why.
 #![tactic(auto)]
 
 use lexopt::prelude::{Long, Short, Value, ValueExt};
