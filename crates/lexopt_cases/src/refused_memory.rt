@@ -252,7 +252,10 @@ fn script_of_values(rt: HostRuntime) -> Result<(), Fail> {
 
 // The words and the calls of a list with every call, of which five can want memory in a reply or in a list of items.
 fn line(alloc: Global) -> Result<Parser, Error> {
-    parser_of(alloc, &[b"-a=b", b"--n=x", b"-cd", b"e", b"f", b"--", b"-g"])
+    parser_of(
+        alloc,
+        &[b"-a=b", b"--n=x", b"-cd", b"e", b"f", b"--", b"-g"],
+    )
 }
 
 fn every_call(alloc: Global) -> Result<Vec<Call>, AllocError> {
@@ -285,15 +288,19 @@ fn changed_nothing(
     place: usize,
 ) -> Result<bool, Error> {
     let mut parser = line(alloc)?;
-    let (Some(before), Some(behind)) = (calls.get(..place), calls.get(place + 1..)) else {
+    let (Some(before), Some([_, behind @ ..])) = (calls.get(..place), calls.get(place..)) else {
         return Ok(false);
     };
-    let (Some(said_before), Some(said_behind)) = (replies.get(..place), replies.get(place + 1..))
-    else {
+    let (Some(said_before), Some([_, said_behind @ ..])) = (
+        replies.get(..place),
+        replies.get(place..),
+    ) else {
         return Ok(false);
     };
-    Ok(replay(alloc, &mut parser, before)?.as_slice() == said_before
-        && replay(alloc, &mut parser, behind)?.as_slice() == said_behind)
+    Ok(
+        replay(alloc, &mut parser, before)?.as_slice() == said_before
+            && replay(alloc, &mut parser, behind)?.as_slice() == said_behind,
+    )
 }
 
 // Whether some front of the calls leaves what is left, or such a front and the next call with fewer of its items.
