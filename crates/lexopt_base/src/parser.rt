@@ -1,5 +1,5 @@
 //! The parser: a command line of which some is read.
-ghost use Rattle.std.specs.Prelude.{◌≡◌, ◌≢◌, ◌↔◌, ◌<◌, ◌≤◌, ℕ, List, [], ◌∷◌, Some, None, false, IsTrue, IsSome, IfOk, IfErr, OnErr, OnOk, length, string_bytes};
+ghost use Rattle.std.specs.Prelude.{◌≡◌, ◌≢◌, ◌↔◌, ◌⊎◌, ◌<◌, ◌≤◌, ℕ, List, [], ◌∷◌, Some, None, false, IsTrue, IsSome, IfOk, IfErr, OnErr, OnOk, codes, length, string_bytes};
 ghost use Rattle.std.specs.Option.{option_map};
 ghost use Rattle.std.specs.Iterator.{IsFiniteIterable};
 ghost use Rattle.std.specs.Iterator.Runs.{WholeRun};
@@ -8,6 +8,7 @@ ghost use Rattle.lexopt_spec.specs.UnreadLine.{IsNormalIn, dash, fresh, invoked,
 ghost use Rattle.lexopt_spec.specs.Steps.{Answers, Next, OptionalStep, Reply, Value, ReadsPositional, ReadsWord, maybe};
 ghost use Rattle.lexopt_base.specs.Replies.{CanReply, Gives, next_reply, value_reply};
 ghost use Rattle.lexopt_base.specs.Found.{found_as, found_reply};
+ghost use Rattle.lexopt_base.specs.Message.{IsCustom};
 ghost use Rattle.lexopt_spec.specs.Views.{WordItem, available};
 ghost use Rattle.lexopt_base.specs.Helpers.{IsJoined, RefusesPending, TakesPending};
 ghost use Rattle.lexopt_base.specs.Views.{RefusesRaw, RefusesValues};
@@ -125,7 +126,8 @@ impl Parser {
     /// `arguments unavailable`, and so is any other failure of that call but want of memory, which is `OutOfMemory`.
     /// `from_iter` takes words of any bytes.
     pub fn from_env<R: Env + AllocGlobal>(rt: &R, alloc: Global) -> Result<Parser, Error>
-        ensures { IfOk result (λ parser. (words : List (List ℕ)) × (parser ≡ invoked words)) }
+        ensures ok { IfOk result (λ parser. (words : List (List ℕ)) × (parser ≡ invoked words)) }
+        ensures err { IfErr result (λ e. (e ≡ Error.OutOfMemory) ⊎ IsCustom (codes "arguments unavailable") e) }
     {
         match env::args(rt) {
             Ok(words) => Parser::from_iter(alloc, words.map(OsString::from_string)),
