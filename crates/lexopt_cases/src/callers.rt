@@ -1,26 +1,31 @@
 //! Callers of `next`, of `value` and of views, with clauses of their own, which stand on the clauses of the public calls alone.
-ghost use Rattle.std.specs.Prelude.{◌≡◌, ◌≢◌, ◌↔◌, ◌⊎◌, ℕ, List, [], Contains, None, Some, IfErr, IfNone, IfOk, IfSome, IsTrue};
+ghost use Rattle.std.specs.Prelude.{◌≡◌, ◌≢◌, ◌↔◌, ℕ, List, [], ◌∷◌, Contains, None, Some, IfErr, IfNone, IfOk, IfSome, IsTrue};
 ghost use Rattle.std.specs.List.{cons_option};
-ghost use Rattle.lexopt_spec.specs.Runs.{Step, raw, values};
-ghost use Rattle.lexopt_spec.specs.Steps.{Reply, Value, items, positional, short, taken};
-ghost use Rattle.lexopt_spec.specs.UnreadLine.{UnreadLine, pending};
+ghost use Rattle.lexopt_spec.specs.Runs.{Run, Step, next, raw, value, values};
+ghost use Rattle.lexopt_spec.specs.Steps as steps;
+ghost use Rattle.lexopt_spec.specs.Steps.{items, positional, short, taken};
+ghost use Rattle.lexopt_spec.specs.UnreadLine.{pending};
 ghost use Rattle.lexopt_base.specs.Replies.{CanReply, Gives, error_reply};
 ghost use Rattle.lexopt_cases.specs.Callers.{IsNegative, TakesNegative};
 
+use lexopt::replay::{Call, Reply, replay};
 use lexopt::{Arg, Error, OsString, Parser};
+use std::alloc::Global;
 
-/// Takes the value of the next option, if that is this option of one character. Anything else that comes is dropped.
-pub fn value_of_next(parser: &mut Parser, wanted: char) -> Result<Option<OsString>, Error>
-    ensures value { IfOk result (λ found. IfSome found (λ value. CanReply parser.old (Some (short wanted))
-        × ((between : UnreadLine) × Value between (taken value) parser.new))) }
-    ensures other { IfOk result (λ found. IfNone found ((reply : Reply) × CanReply parser.old (Some reply) × (reply ≢ short wanted))) }
-    ensures err { IfErr result (λ e. CanReply parser.old (error_reply e)
-        ⊎ ((between : UnreadLine) × Gives Value between (error_reply e) parser.new)) }
+/// Reads an option of one character and takes its value, as of `-n 10`; none where anything else comes, or no value.
+pub fn option_and_value(
+    alloc: Global,
+    parser: &mut Parser,
+) -> Result<Option<(char, OsString)>, Error>
+    ensures { IfOk result (λ found. IfSome found (λ pair.
+        Run parser.old (next ∷ value ∷ []) (short pair.0 ∷ taken pair.1 ∷ []) parser.new)) }
 {
-    match parser.next()? {
-        Some(Arg::Short(option)) if option == wanted => Ok(Some(parser.value()?)),
-        Some(Arg::Value(_word)) => Ok(None),
-        Some(Arg::Short(_) | Arg::Long(_)) | None => Ok(None),
+    let mut replies = replay(alloc, parser, &[Call::Next, Call::Value])?;
+    let last = replies.pop();
+    let first = replies.pop();
+    match (first, last) {
+        (Some(Reply::Short(option)), Some(Reply::Taken(value))) => Ok(Some((option, value))),
+        _ => Ok(None),
     }
 }
 
@@ -29,7 +34,7 @@ pub fn value_of_next(parser: &mut Parser, wanted: char) -> Result<Option<OsStrin
 #[tactic(auto, using(crate::proofs::Words::positional_is_a_word))]
 pub fn next_file(parser: &mut Parser) -> Result<Option<OsString>, Error>
     ensures file { IfOk result (λ found. IfSome found (λ word. Contains parser.old.words word)) }
-    ensures other { IfOk result (λ found. IfNone found ((reply : Reply) × CanReply parser.old (Some reply)
+    ensures other { IfOk result (λ found. IfNone found ((reply : steps.Reply) × CanReply parser.old (Some reply)
         × ((word : List ℕ) → reply ≢ positional word))) }
     ensures err { IfErr result (λ e. CanReply parser.old (error_reply e)) }
 {

@@ -4,6 +4,7 @@
 //! was refused. Where nothing is refused, each test passes.
 use crate::calls::{is_at_end, parser_of, reads_long, reads_short, reads_word, takes};
 use crate::faults::{SCRIPT, WRITTEN};
+use crate::names::named;
 use crate::replays::left;
 use lexopt::replay::{Call, Reply, RunError, replay, run};
 use lexopt::{Error, OsString, Parser};
@@ -248,6 +249,46 @@ fn script_of_values(rt: HostRuntime) -> Result<(), Fail> {
     let whole = b"Short \"a\"\n[\"b\"]\n[\"c\"]\nerror: missing argument for option '-a'\nNone\n";
     let refused = b"Short \"a\"\n[\"b\"]\n[\"c\"]\nerror: out of memory\nNone\n";
     replays(rt.alloc(), script, whole, refused, "values")
+}
+
+#[test]
+fn named_parser(rt: HostRuntime) -> Result<(), Fail> {
+    match named(rt.alloc(), &[b"foo\xff", b"-x"]) {
+        Ok(mut parser) => {
+            assert_eq!(rt; parser.bin_name(), Some("foo\u{FFFD}"));
+            assert!(rt; reads_short(&mut parser, 'x')?);
+            Ok(())
+        }
+        Err(Error::OutOfMemory) => told(true, "from_iter"),
+        Err(_) => Err(Fail::new("from_iter gave another answer")),
+    }
+}
+
+#[test]
+fn parser_of_the_environment(rt: HostRuntime) -> Result<(), Fail> {
+    match Parser::from_env(&rt, rt.alloc()) {
+        Ok(parser) => {
+            assert!(rt; parser.bin_name().is_some());
+            Ok(())
+        }
+        Err(Error::OutOfMemory) => told(true, "from_env"),
+        Err(_) => Err(Fail::new("from_env gave another answer")),
+    }
+}
+
+#[test]
+fn copied_parser(rt: HostRuntime) -> Result<(), Fail> {
+    let Ok(mut parser) = named(rt.alloc(), &[b"foo", b"-x"]) else {
+        return told(true, "from_iter");
+    };
+    let copy: Result<_, _> = parser.clone();
+    let refused = copy.is_err();
+    assert!(rt; reads_short(&mut parser, 'x')?);
+    if let Ok(mut copy) = copy {
+        assert_eq!(rt; copy.bin_name(), Some("foo"));
+        assert!(rt; reads_short(&mut copy, 'x')?);
+    }
+    told(refused, "clone")
 }
 
 // The words and the calls of a list with every call, of which five can want memory in a reply or in a list of items.

@@ -103,6 +103,13 @@ fn views_and_the_switch(rt: HostRuntime) -> Result<(), Fail> {
     Ok(())
 }
 
+#[test]
+fn calls_that_read_the_line(rt: HostRuntime) {
+    assert!(rt; Call::Next.reads_line());
+    assert!(rt; Call::Raw(0).reads_line());
+    assert!(rt; !Call::Switch(true).reads_line());
+}
+
 // What is left of a line: what is pending, the words, and the last option.
 pub fn left(alloc: Global, parser: &mut Parser) -> Result<Vec<Reply>, Error> {
     replay(alloc, parser, &[Call::Optional, Call::Raw(9), Call::Value])

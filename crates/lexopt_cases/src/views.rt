@@ -1,5 +1,5 @@
 //! Views: several values of one option, and the words that are left.
-use crate::callers::{negative_number, next_file, two_values, value_of_next};
+use crate::callers::{negative_number, next_file, option_and_value, two_values};
 use crate::calls::{is_at_end, parser_of, reads_short, reads_word, takes};
 use lexopt::{Error, OsStr, OsString, Parser, RawArgs, ValuesIter};
 use std::test::Fail;
@@ -139,11 +139,18 @@ fn callers(rt: HostRuntime) -> Result<(), Fail> {
 
 #[test]
 fn callers_of_next(rt: HostRuntime) -> Result<(), Fail> {
-    let mut parser = parser_of(rt.alloc(), &[b"-n10", b"-n", b"a", b"-x"])?;
-    assert!(rt; gives(value_of_next(&mut parser, 'n')?, b"10"));
+    let alloc = rt.alloc();
+    let mut parser = parser_of(alloc, &[b"-n10", b"-n", b"a", b"b", b"c"])?;
+    match option_and_value(alloc, &mut parser)? {
+        Some((option, value)) => {
+            assert_eq!(rt; option, 'n');
+            assert_eq!(rt; value.as_bytes(), b"10".as_slice());
+        }
+        None => return Err(Fail::from("an option and its value")),
+    }
     assert!(rt; next_file(&mut parser)?.is_none());
     assert!(rt; gives(next_file(&mut parser)?, b"a"));
-    assert!(rt; value_of_next(&mut parser, 'n')?.is_none());
+    assert!(rt; option_and_value(alloc, &mut parser)?.is_none());
     assert!(rt; is_at_end(&mut parser)?);
     Ok(())
 }
