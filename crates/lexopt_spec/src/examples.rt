@@ -1,7 +1,7 @@
 //! Worked examples, computed by the definitions themselves: each clause is one example.
 ghost use Rattle.std.specs.Prelude.{◌≡◌, ◌++◌, [], ◌∷◌, true, false, Some, None, codes};
 ghost use Rattle.lexopt_spec.specs.Pieces.{first_piece, lossy, lossy_characters};
-ghost use Rattle.lexopt_spec.specs.UnreadLine.{fresh, joined, long_option, no_option, no_tail, pending, pending_in, rest, rest_of, short_option, spelling};
+ghost use Rattle.lexopt_spec.specs.UnreadLine.{fresh, invoked, joined, long_option, no_option, no_tail, pending, pending_in, rest, rest_of, short_option, spelling};
 ghost use Rattle.lexopt_spec.specs.Steps.{busy, done, end, items, long, maybe, missing, no_memory, positional, short, taken, unexpected};
 ghost use Rattle.lexopt_spec.specs.Runs.{next, optional, switch, value};
 ghost use Rattle.lexopt_spec.specs.Text.{missing_message, non_unicode_message, parsing_failed_message, quoted, unexpected_argument_message, unexpected_option_message, unexpected_value_message};
@@ -40,6 +40,7 @@ fn definitions_compute_the_worked_examples() {
     lossy_text_of_damaged_bytes();
     first_pieces_of_damaged_bytes();
     options_are_spelled();
+    lines_have_binary_names();
     values_are_pending();
     quoted_forms();
     messages();
@@ -78,6 +79,13 @@ fn options_are_spelled()
     ensures none { spelling no_option ≡ None }
     ensures short { spelling (short_option 0xB5) ≡ Some (0x2D ∷ 0xC2 ∷ 0xB5 ∷ []) }
     ensures long { spelling (long_option (codes "out")) ≡ Some (codes "--out") }
+{}
+
+#[tactic(auto, unfolding(crate::proofs::Computing::computing))]
+fn lines_have_binary_names()
+    ensures damaged { invoked ((0x61 ∷ 0xFF ∷ []) ∷ codes "-x" ∷ []) ≡ record (fresh (codes "-x" ∷ [])) { bin_name = Some (0x61 ∷ 0xEF ∷ 0xBF ∷ 0xBD ∷ []) } }
+    ensures empty { invoked ([] ∷ []) ≡ record (fresh []) { bin_name = Some [] } }
+    ensures none { invoked [] ≡ fresh [] }
 {}
 
 fn values_are_pending()
