@@ -1,7 +1,7 @@
 //! Greets a thing: `example_hello [-n|--number=NUM] [--shout] THING`.
 //!
 //! The exit status is 0, or 2 where the command line, or memory to read it, was refused, or 1 where a line could not be
-//! printed; then standard error says why.
+//! made or printed; then standard error says why.
 #![tactic(auto)]
 
 use lexopt::prelude::{Long, Short, Value, ValueExt};

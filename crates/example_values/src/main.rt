@@ -1,7 +1,7 @@
 //! Options with a value that may be left out, and an option with several values:
-//! `example_values [--color[=WHEN]] [-i[SUFFIX]|--in-place[=SUFFIX]] --files FILE..`.
+//! `example_values [--color[=WHEN]] [-i[SUFFIX]|--in-place[=SUFFIX]] [--files FILE..]`.
 //!
-//! It prints what it has read.
+//! It prints what it has read. Words come as text here; `example_timeout` takes words of any bytes.
 //!
 //! The exit status is 0, or 2 where the command line, or memory to read it, was refused, or 1 where a line could not be
 //! printed; then standard error says why.
@@ -41,7 +41,7 @@ impl Color {
             "always" => Ok(Color::Always),
             "auto" => Ok(Color::Auto),
             "never" => Ok(Color::Never),
-            _ => bail!("it is always, auto or never"),
+            _ => bail!("expected always, auto or never"),
         }
     }
 

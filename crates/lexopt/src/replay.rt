@@ -210,8 +210,8 @@ fn reply_to(alloc: Global, parser: &mut Parser, call: &Call) -> Result<Reply, Al
 /// `LongName` of `n`, and `Unexpected` of `--n` and `x`. An error of the parser is a reply like any other, `NoMemory` among
 /// them, and the calls behind it are made.
 ///
-/// The only error is `OutOfMemory`, where the list of the replies or what is copied into it found no memory. The calls
-/// before were made then, and perhaps the next one, of whose items some may have been given; the replies are gone.
+/// The only error is `OutOfMemory`, where the list of the replies or what is copied into it found no memory. Some front of
+/// the calls was made then, and perhaps the next one, of whose items some may have been given; the replies are gone.
 pub fn replay(alloc: Global, parser: &mut Parser, calls: &[Call]) -> Result<Vec<Reply>, Error>
     // The replies and the line that is left are those of the grammar.
     ensures run { IfOk result (λ replies. Run parser.old (map call_view calls.now) (map reply_view replies.items) parser.new) }
