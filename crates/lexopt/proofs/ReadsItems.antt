@@ -12,8 +12,8 @@ use Rattle.lexopt_spec.proofs.Rounds.{option_reply, says_flag, says_value, says_
 use Rattle.lexopt_spec.specs.Spelling.{Shows}
 use Rattle.lexopt_spec.proofs.WholeLines.{shown_said}
 use Rattle.lexopt_base.specs.Replies.{Gives, error_reply}
-use Rattle.lexopt_base.specs.declared.error.Error.{Error}
-use Rattle.lexopt_base.specs.declared.error.Error.TheVariants.{MissingValue, UnexpectedOption, UnexpectedArgument, UnexpectedValue, ParsingFailed, NonUnicodeValue, Custom, OutOfMemory}
+use Rattle.lexopt_words.specs.declared.error.Error.{Error}
+use Rattle.lexopt_words.specs.declared.error.Error.TheVariants.{MissingValue, UnexpectedOption, UnexpectedArgument, UnexpectedValue, ParsingFailed, NonUnicodeValue, Custom, OutOfMemory}
 use Rattle.std.specs.Prelude.{Result, Ok, Err, IfErr}
 use Rattle.std.specs.Result.{IsErrAnd}
 use Rattle.std.specs.Option.{option_map}

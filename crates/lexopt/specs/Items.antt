@@ -7,8 +7,8 @@ use Rattle.lexopt_spec.specs.Table.{short, long, option, positional, Kind, flag,
 use Rattle.lexopt_spec.specs.Readings.{IsReading, SaysUpTo}
 use Rattle.lexopt_spec.specs.Bound.{bound}
 use Rattle.lexopt_base.specs.Replies.{error_reply}
-use Rattle.lexopt_base.specs.declared.error.Error.{Error}
-use Rattle.lexopt_base.specs.declared.error.Error.TheVariants.{OutOfMemory}
+use Rattle.lexopt_words.specs.declared.error.Error.{Error}
+use Rattle.lexopt_words.specs.declared.error.Error.TheVariants.{OutOfMemory}
 use Rattle.lexopt.specs.declared.items.Item.{Item}
 use Rattle.lexopt.specs.declared.items.Item.TheVariants.{Short, Long, Positional}
 use Rattle.lexopt.specs.declared.items.Table.{Table}

@@ -11,9 +11,9 @@ ghost use Rattle.lexopt.specs.Items.{IsRefused, ReadsItem, TakesIf, item_view, k
 
 use crate::replay::call_next;
 use crate::reply::Reply;
-use lexopt_base::error::Error;
-use lexopt_base::os_string::OsString;
 use lexopt_base::parser::Parser;
+use lexopt_words::error::Error;
+use lexopt_words::os_string::OsString;
 use std::alloc::Global;
 
 /// The options that have a value, each of them one. Membership alone counts: a name that stands twice, or that holds an

@@ -4,13 +4,14 @@
 //! read. There is no table of options: a program asks, and decides.
 #![tactic(auto)]
 
-pub use lexopt_base::error::{Arg, Error};
-pub use lexopt_base::os_string::{OsStr, OsString, Quoted};
 pub use lexopt_base::parser::Parser;
 pub use lexopt_base::raw::RawArgs;
-pub use lexopt_base::value_ext::ValueExt;
 pub use lexopt_base::values::ValuesIter;
-pub use lexopt_base::{error, os_string, parser, raw, value_ext, values};
+pub use lexopt_base::{parser, raw, values};
+pub use lexopt_words::error::{Arg, Error};
+pub use lexopt_words::os_string::{OsStr, OsString, Quoted};
+pub use lexopt_words::value_ext::ValueExt;
+pub use lexopt_words::{error, os_string, value_ext};
 
 pub mod items;
 pub mod prelude;

@@ -19,11 +19,11 @@ use crate::reply::written;
 pub use crate::reply::{Call, Reply};
 pub use crate::run_error::RunError;
 use crate::script::{parse_script, read_script};
-use lexopt_base::error::{Arg, Error};
-use lexopt_base::os_string::{OsStr, OsString};
 use lexopt_base::parser::Parser;
 use lexopt_base::raw::RawArgs;
 use lexopt_base::values::ValuesIter;
+use lexopt_words::error::{Arg, Error};
+use lexopt_words::os_string::{OsStr, OsString};
 use std::alloc::{AllocError, Global};
 use std::io::{Read, Write};
 

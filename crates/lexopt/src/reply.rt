@@ -6,8 +6,8 @@ ghost use Rattle.lexopt_spec.specs.Text.{quoted};
 ghost use Rattle.lexopt_spec.specs.Script.{lines_written, reads_line};
 ghost use Rattle.lexopt.specs.Replies.{call_view, reply_view};
 
-use lexopt_base::message::{write_missing_value, write_no_memory, write_unexpected_value};
-use lexopt_base::os_string::{OsString, Quoted};
+use lexopt_words::message::{write_missing_value, write_no_memory, write_unexpected_value};
+use lexopt_words::os_string::{OsString, Quoted};
 use std::alloc::{AllocError, Global};
 use std::fmt;
 

@@ -20,7 +20,7 @@ ghost use Rattle.lexopt.specs.Replies.{call_view};
 
 use crate::reply::Call;
 use crate::run_error::RunError;
-use lexopt_base::os_string::OsString;
+use lexopt_words::os_string::OsString;
 use std::alloc::{AllocError, Global};
 use std::io::Read;
 use std::str;

@@ -14,8 +14,8 @@ use Rattle.lexopt_spec.specs.UnreadLine.{UnreadLine}
 use Rattle.lexopt_spec.specs.Steps.{Reply, Next}
 use Rattle.lexopt_base.specs.Replies.{Gives, next_reply}
 use Rattle.lexopt_base.specs.Ends.{EndsAfter}
-use Rattle.lexopt_base.specs.declared.error.Arg.{Arg}
-use Rattle.lexopt_base.specs.declared.error.Error.{Error}
+use Rattle.lexopt_words.specs.declared.error.Arg.{Arg}
+use Rattle.lexopt_words.specs.declared.error.Error.{Error}
 use Rattle.lexopt_base.specs.contracts.parser.Parser.{the_row as R}
 
 -- what was found is what is lent

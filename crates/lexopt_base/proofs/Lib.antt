@@ -1,5 +1,3 @@
-pub mod Hex
-pub mod QuotedPieces
 pub mod Refusals
 pub mod States
 pub mod Names
@@ -7,4 +5,3 @@ pub mod LongOptions
 pub mod Ends
 pub mod Fronts
 pub mod Stages
-pub mod Errors

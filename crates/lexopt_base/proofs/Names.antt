@@ -18,11 +18,6 @@ same_characters (suc most) (b ∷ bs) = ap (λ c. c ∷ map (λ (p : Piece). sho
 pub whole_name : (bs : List ℕ) → IsUtf8 bs → lossy bs ≡ bs
 whole_name bs utf8 = ap encode_utf8_all (same_characters _ bs) ∙ lossy_chars-utf8 bs utf8
 
--- what is added to a text, where that succeeds
-pub added : (r : Result (Unit {0}) AllocError) (old new bytes wanted : List ℕ) → new ≡ (if is_ok r then old ++ bytes else old) → bytes ≡ wanted → OnOk r (new ≡ old ++ wanted)
-added (Ok u) old new bytes wanted is same = is ∙ ap (λ l. old ++ l) same
-added (Err e) old new bytes wanted is same = tt
-
 -- where a name that is UTF-8 is put into an empty text, the text is that name
 pub kept_whole : (r : Result (Unit {0}) AllocError) (empty text name new : List ℕ) → empty ≡ [] → new ≡ (if is_ok r then empty ++ text else empty)
     → text ≡ name → IsUtf8 name → OnOk r (new ≡ lossy name)

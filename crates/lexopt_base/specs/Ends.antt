@@ -5,8 +5,8 @@ use Rattle.std.specs.Io.BufRead.{Rests}
 use Rattle.lexopt_spec.specs.UnreadLine.{UnreadLine}
 use Rattle.lexopt_spec.specs.Steps.{Next}
 use Rattle.lexopt_base.specs.Replies.{Gives, next_reply}
-use Rattle.lexopt_base.specs.declared.error.Arg.{Arg}
-use Rattle.lexopt_base.specs.declared.error.Error.{Error}
+use Rattle.lexopt_words.specs.declared.error.Arg.{Arg}
+use Rattle.lexopt_words.specs.declared.error.Error.{Error}
 use Rattle.lexopt_base.specs.contracts.parser.Parser.{the_row}
 
 -- the line goes on as `next` does with this answer

@@ -1,13 +1,8 @@
-pub mod Codepoint
-pub mod Message
-pub mod Arguments
 pub mod KeptWords
 pub mod View
 pub mod Replies
 pub mod Found
-pub mod WordKinds
 pub mod Helpers
 pub mod Ends
 pub mod Stages
 pub mod Views
-pub mod Conversions

@@ -2,10 +2,10 @@
 use Rattle.std.specs.Prelude.{Option, Some, None, Result, Ok, Err, List, ℕ, string_bytes}
 use Rattle.lexopt_spec.specs.UnreadLine.{UnreadLine}
 use Rattle.lexopt_spec.specs.Steps.{Reply, short, long, positional, end, taken, missing, unexpected, no_memory, Next}
-use Rattle.lexopt_base.specs.declared.error.Arg.{Arg}
-use Rattle.lexopt_base.specs.declared.error.Arg.TheVariants.{Short, Long, Value}
-use Rattle.lexopt_base.specs.declared.error.Error.{Error}
-use Rattle.lexopt_base.specs.declared.error.Error.TheVariants.{MissingValue, UnexpectedOption, UnexpectedArgument, UnexpectedValue, ParsingFailed, NonUnicodeValue, Custom, OutOfMemory}
+use Rattle.lexopt_words.specs.declared.error.Arg.{Arg}
+use Rattle.lexopt_words.specs.declared.error.Arg.TheVariants.{Short, Long, Value}
+use Rattle.lexopt_words.specs.declared.error.Error.{Error}
+use Rattle.lexopt_words.specs.declared.error.Error.TheVariants.{MissingValue, UnexpectedOption, UnexpectedArgument, UnexpectedValue, ParsingFailed, NonUnicodeValue, Custom, OutOfMemory}
 
 -- the reply of an error; none, where no call of a parser answers it
 abbrev pub error_reply : Error → Option Reply

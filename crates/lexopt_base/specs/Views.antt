@@ -6,8 +6,8 @@ use Rattle.lexopt_spec.specs.Runs.{Step, values, raw, raw_if}
 use Rattle.lexopt_spec.specs.Views.{ValueItem, WordItem}
 use Rattle.lexopt_base.specs.Stages.{stage_of}
 use Rattle.lexopt_base.specs.Replies.{Gives, error_reply}
-use Rattle.lexopt_base.specs.declared.error.Error.{Error}
-use Rattle.lexopt_base.specs.declared.os_string.OsStr.{OsStr}
+use Rattle.lexopt_words.specs.declared.error.Error.{Error}
+use Rattle.lexopt_words.specs.declared.os_string.OsStr.{OsStr}
 use Rattle.lexopt_base.specs.declared.values.ValuesIter.{ValuesIter}
 use Rattle.lexopt_base.specs.declared.raw.RawArgs.{RawArgs}
 use Rattle.lexopt_base.specs.contracts.parser.Parser.{the_row}

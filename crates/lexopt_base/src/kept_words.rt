@@ -5,7 +5,7 @@
 ghost use Rattle.std.specs.Prelude.{◌≡◌, ◌≢◌, ◌≤◌, ◌∷◌, [], IfOk, Some, drop, length, vec_len, option_map};
 ghost use Rattle.lexopt_base.specs.KeptWords.{IsFirst, TakesNext};
 
-use crate::os_string::OsString;
+use lexopt_words::os_string::OsString;
 use std::alloc::{AllocError, Global};
 use std::marker::Model;
 use std::mem;
@@ -120,10 +120,21 @@ impl KeptWords {
         ensures left { self.new.left ≡ self.old.left }
     {
         let empty = OsString::new(self.alloc);
-        let mut word = mem::replace(&mut self.words[self.count - 1], empty);
-        word.remove_front(count);
-        word
+        let word = mem::replace(&mut self.words[self.count - 1], empty);
+        without_front(word, count)
     }
+}
+
+// The word without its first `count` bytes, in the memory that it has.
+fn without_front(word: OsString, count: usize) -> OsString
+    requires { count ≤ length word }
+    ensures { result ≡ drop count word }
+{
+    let mut bytes = word.into_vec();
+    bytes.copy_within(count.., 0);
+    let len = bytes.len() - count;
+    bytes.truncate(len);
+    OsString::from_vec(bytes)
 }
 
 // A copy of these words.

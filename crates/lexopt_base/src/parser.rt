@@ -8,18 +8,18 @@ ghost use Rattle.lexopt_spec.specs.UnreadLine.{IsNormalIn, dash, fresh, invoked,
 ghost use Rattle.lexopt_spec.specs.Steps.{Answers, Next, OptionalStep, Reply, Value, ReadsPositional, ReadsWord, maybe};
 ghost use Rattle.lexopt_base.specs.Replies.{CanReply, Gives, next_reply, value_reply};
 ghost use Rattle.lexopt_base.specs.Found.{found_as, found_reply};
-ghost use Rattle.lexopt_base.specs.Message.{IsCustom};
+ghost use Rattle.lexopt_words.specs.Message.{IsCustom};
 ghost use Rattle.lexopt_spec.specs.Views.{WordItem, available};
 ghost use Rattle.lexopt_base.specs.Helpers.{IsJoined, RefusesPending, TakesPending};
 ghost use Rattle.lexopt_base.specs.Views.{RefusesRaw, RefusesValues};
 ghost use Rattle.lexopt_base.specs.View.{IsLongRead, IsShortRead};
 
-use crate::codepoint::{first_codepoint, lossy_text};
-use crate::error::{Arg, Error};
 use crate::kept_words::KeptWords;
-use crate::os_string::OsString;
-use crate::word::{WordKind, is_positional, kind_of};
 use bstr::ByteSlice;
+use lexopt_words::codepoint::{first_codepoint, lossy_text};
+use lexopt_words::error::{Arg, Error};
+use lexopt_words::os_string::OsString;
+use lexopt_words::word::{WordKind, is_positional, kind_of};
 use std::alloc::{AllocError, AllocGlobal, Global};
 use std::env;
 use std::env::Env;

@@ -5,9 +5,9 @@ ghost use Rattle.lexopt_spec.specs.UnreadLine.{pending};
 ghost use Rattle.lexopt_base.specs.KeptWords.{IsFirst};
 ghost use Rattle.lexopt_base.specs.Views.{RestsIfRawRefused, RestsIfBusy, TakesIf};
 
-use crate::error::Error;
-use crate::os_string::{OsStr, OsString};
 use crate::parser::Parser;
+use lexopt_words::error::Error;
+use lexopt_words::os_string::{OsStr, OsString};
 
 /// The words that are left, each of which is taken when it is asked for, whatever it looks like. What is not asked for
 /// stays with the parser.

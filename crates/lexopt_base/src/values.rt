@@ -6,9 +6,9 @@ ghost use Rattle.lexopt_spec.specs.Views.{ValueItem, at_start, available};
 ghost use Rattle.lexopt_base.specs.Stages.{stage_of};
 ghost use Rattle.lexopt_base.specs.Views.{RestsIfRefused};
 
-use crate::error::Error;
-use crate::os_string::OsString;
 use crate::parser::Parser;
+use lexopt_words::error::Error;
+use lexopt_words::os_string::OsString;
 
 // How far a view has come.
 #[derive(Clone, Copy)]

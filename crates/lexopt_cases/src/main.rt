@@ -8,6 +8,8 @@ mod callers;
 #[cfg(test)]
 mod calls;
 #[cfg(test)]
+mod codepoints;
+#[cfg(test)]
 mod conversions;
 #[cfg(test)]
 mod errors;

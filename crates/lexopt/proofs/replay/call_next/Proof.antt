@@ -36,10 +36,10 @@ use Rattle.std.proofs.option.Option.TheLaws as Option-laws
 use Rattle.std.proofs.alloc.Global.TheLaws as Global-laws
 use Rattle.std.proofs.alloc.AllocError.TheLaws as AllocError-laws
 use Rattle.lexopt_base.specs.contracts.parser.Parser.{the_row as R}
-use Rattle.lexopt_base.specs.contracts.error.Arg as Arg-type
-use Rattle.lexopt_base.specs.contracts.error.Error as Error-type
-use Rattle.lexopt_base.proofs.error.Arg.TheLaws as Arg-laws
-use Rattle.lexopt_base.proofs.error.Error.TheLaws as Error-laws
+use Rattle.lexopt_words.specs.contracts.error.Arg as Arg-type
+use Rattle.lexopt_words.specs.contracts.error.Error as Error-type
+use Rattle.lexopt_words.proofs.error.Arg.TheLaws as Arg-laws
+use Rattle.lexopt_words.proofs.error.Error.TheLaws as Error-laws
 use Rattle.lexopt_spec.specs.UnreadLine.{UnreadLine}
 use Rattle.lexopt_spec.specs.Steps.{Next}
 use Rattle.lexopt_base.specs.Replies.{CanReply, Gives, next_reply}

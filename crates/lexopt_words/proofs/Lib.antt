@@ -1,0 +1,4 @@
+pub mod Hex
+pub mod QuotedPieces
+pub mod Texts
+pub mod Errors

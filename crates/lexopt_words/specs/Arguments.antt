@@ -1,0 +1,30 @@
+-- What `next` reads: options, and what a program answers where it does not know one.
+use Rattle.std.specs.Prelude.{◌≡◌, Some, string_bytes}
+use Rattle.lexopt_spec.specs.UnreadLine.{LastOption, short_option, long_option, spelling}
+use Rattle.lexopt_words.specs.declared.error.Arg.{Arg}
+use Rattle.lexopt_words.specs.declared.error.Arg.TheVariants.{Short, Long, Value}
+use Rattle.lexopt_words.specs.declared.error.Error.{Error}
+use Rattle.lexopt_words.specs.declared.error.Error.TheVariants.{MissingValue, UnexpectedOption, UnexpectedArgument, UnexpectedValue, ParsingFailed, NonUnicodeValue, Custom, OutOfMemory}
+
+-- the argument is an option
+abbrev pub IsOption : Arg → Type 0
+IsOption (Short c) = Unit {0}
+IsOption (Long name) = Unit {0}
+IsOption (Value value) = ⊥
+
+-- the error says that this option was not expected, or that there was no memory to spell it
+abbrev pub RefusesOption : LastOption → Error → Type 0
+RefusesOption last (MissingValue spelled) = ⊥
+RefusesOption last (UnexpectedOption spelled) = spelling last ≡ Some (string_bytes spelled)
+RefusesOption last (UnexpectedArgument value) = ⊥
+RefusesOption last (UnexpectedValue spelled value) = ⊥
+RefusesOption last (ParsingFailed value error) = ⊥
+RefusesOption last (NonUnicodeValue value) = ⊥
+RefusesOption last (Custom error) = ⊥
+RefusesOption last OutOfMemory = Unit {0}
+
+-- the error says that this argument was not expected
+abbrev pub Refuses : Arg → Error → Type 0
+Refuses (Short c) e = RefusesOption (short_option c) e
+Refuses (Long name) e = RefusesOption (long_option name.now) e
+Refuses (Value value) e = e ≡ UnexpectedArgument value

@@ -1,0 +1,23 @@
+-- What `first_codepoint` answers.
+use Rattle.std.specs.Prelude.{◌≡◌, ℕ, List, [], Option, Some, None}
+use Rattle.lexopt_spec.specs.Pieces.{IsFirstPiece}
+use Rattle.lexopt_words.specs.declared.codepoint.FirstCodepoint.{FirstCodepoint}
+use Rattle.lexopt_words.specs.declared.codepoint.FirstCodepoint.TheVariants.{Empty, Character, Damage}
+
+-- the character, if it is one
+abbrev pub character_of : FirstCodepoint → Option ℕ
+character_of Empty = None
+character_of (Character c size) = Some c
+character_of (Damage size) = None
+
+-- how many bytes it takes
+abbrev pub size_of : FirstCodepoint → ℕ
+size_of Empty = 0
+size_of (Character c size) = size
+size_of (Damage size) = size
+
+-- the answer is the first piece of the bytes, by the table
+abbrev pub IsFirstOf : List ℕ → FirstCodepoint → Type 0
+IsFirstOf bytes Empty = bytes ≡ []
+IsFirstOf bytes (Character c size) = IsFirstPiece bytes size (Some c)
+IsFirstOf bytes (Damage size) = IsFirstPiece bytes size None

@@ -1,0 +1,5 @@
+pub mod Codepoint
+pub mod Message
+pub mod Arguments
+pub mod WordKinds
+pub mod Conversions

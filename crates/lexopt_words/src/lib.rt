@@ -1,0 +1,11 @@
+//! What the command line lexer reads and answers with: words of any bytes and their pieces, errors and their messages, and
+//! the conversions of values.
+#![tactic(auto)]
+
+pub mod codepoint;
+pub mod error;
+pub mod message;
+pub mod os_string;
+mod quoted;
+pub mod value_ext;
+pub mod word;

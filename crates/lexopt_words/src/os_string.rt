@@ -1,0 +1,295 @@
+//! Words of any bytes.
+//!
+//! A word of a command line is a list of bytes, which need not be UTF-8. Nothing here changes a byte.
+ghost use Rattle.std.specs.Prelude.{◌≡◌, ◌↔◌, ◌≤◌, ℕ, List, [], drop, length, string_bytes, IfOk, IfSome, IsOk, IsSome, IsTrue, IsUtf8, MatchResult};
+
+pub use crate::quoted::Quoted;
+use std::alloc::{AllocError, Global};
+use std::cmp::Ordering;
+use std::hash::{Hash, Hasher};
+use std::marker::Model;
+use std::{fmt, str};
+
+/// A word: a list of bytes, which contracts see as that list.
+#[derive(Drop)]
+pub struct OsString {
+    bytes: Vec<u8>,
+}
+
+impl Model for OsString {
+    ghost Value = { List ℕ };
+
+    ghost view = { λ word. word.bytes.items };
+}
+
+impl OsString {
+    /// The empty word. It takes no memory.
+    pub fn new(alloc: Global) -> OsString
+        ensures { result ≡ [] }
+    {
+        OsString {
+            bytes: Vec::new(alloc),
+        }
+    }
+
+    /// A copy of these bytes.
+    pub fn from_bytes(alloc: Global, bytes: &[u8]) -> Result<OsString, AllocError>
+        ensures { IfOk result (λ word. word ≡ bytes.now) }
+    {
+        Ok(OsString {
+            bytes: Vec::from_slice(alloc, bytes)?,
+        })
+    }
+
+    /// The bytes of a text, copied.
+    pub fn from_text(alloc: Global, text: &str) -> Result<OsString, AllocError>
+        ensures { IfOk result (λ word. word ≡ text.now) }
+    {
+        OsString::from_bytes(alloc, text.as_bytes())
+    }
+
+    /// The word of these bytes. It takes no memory.
+    pub fn from_vec(bytes: Vec<u8>) -> OsString
+        ensures { result ≡ bytes.items }
+    {
+        OsString { bytes }
+    }
+
+    /// The word of the bytes of this text. It takes no memory.
+    pub fn from_string(text: String) -> OsString
+        ensures { result ≡ string_bytes text }
+    {
+        OsString::from_vec(text.into_bytes())
+    }
+
+    /// The bytes of the word. It takes no memory.
+    pub fn into_vec(self) -> Vec<u8>
+        ensures { result.items ≡ self }
+    {
+        let OsString { bytes } = self;
+        bytes
+    }
+
+    /// The text of the word where its bytes are UTF-8, else the same word. It takes no memory.
+    ///
+    /// The bytes `66 6F 6F` give `foo`. The bytes `66 6F 6F FF` are given back.
+    pub fn into_string(self) -> Result<String, OsString>
+        ensures exactly_on_utf8 { IsOk result ↔ IsUtf8 self }
+        ensures same_bytes { MatchResult result (λ text. string_bytes text ≡ self) (λ word. word ≡ self) }
+    {
+        match String::from_utf8(self.into_vec()) {
+            Ok(text) => Ok(text),
+            Err(error) => Err(OsString::from_vec(error.into_bytes())),
+        }
+    }
+
+    /// The bytes of the word.
+    pub fn as_bytes(&self) -> &[u8]
+        ensures { result.now ≡ self.now }
+    {
+        self.bytes.as_slice()
+    }
+
+    /// A view of the word.
+    pub fn as_os_str(&self) -> OsStr<'_>
+        ensures { result.bytes.now ≡ self.now }
+    {
+        OsStr::from_bytes(self.as_bytes())
+    }
+
+    /// The text of the word, where its bytes are UTF-8. The bytes `66 6F 6F FF` have none.
+    pub fn to_str(&self) -> Option<&str>
+        ensures exactly_on_utf8 { IsSome result ↔ IsUtf8 self.now }
+        ensures same_bytes { IfSome result (λ text. text.now ≡ self.now) }
+    {
+        self.as_os_str().to_str()
+    }
+
+    /// How many bytes the word has.
+    pub fn len(&self) -> usize
+        ensures { result ≡ length self.now }
+    {
+        self.bytes.len()
+    }
+
+    /// Whether the word has no byte.
+    pub fn is_empty(&self) -> bool
+        ensures { IsTrue result ↔ (self.now ≡ []) }
+    {
+        self.bytes.is_empty()
+    }
+
+    // What the word takes its memory of.
+    pub(crate) fn allocator(&self) -> Global {
+        *self.bytes.allocator()
+    }
+}
+
+impl Clone for OsString {
+    ghost use Rattle.std.specs.Prelude.{◌≡◌};
+
+    ghost is_clone = { λ word copy. copy ≡ word };
+
+    /// A word of the same bytes, copied.
+    fn clone(&self) -> Result<OsString, AllocError> {
+        self.as_os_str().to_os_string(*self.bytes.allocator())
+    }
+}
+
+impl PartialEq for OsString {
+    ghost use Rattle.std.proofs.Common.{rules};
+    ghost use Rattle.std.specs.Prelude.{◌==◌};
+    ghost use Rattle.std.specs.Cmp.Lexicographic.{pointwise};
+    ghost use Rattle.std.specs.Cmp.Rules.{comparing};
+
+    ghost eq = { pointwise ◌==◌ };
+
+    ghost laws = { Prim.search (comparing, rules) };
+
+    fn eq(&self, other: &OsString) -> bool {
+        self.as_bytes() == other.as_bytes()
+    }
+}
+
+impl Eq for OsString {
+    ghost use Rattle.std.proofs.Common.{rules};
+    ghost use Rattle.std.specs.Cmp.Rules.{comparing};
+
+    ghost laws = { Prim.search (comparing, rules) };
+}
+
+// Words have the order of their lists of bytes: the first byte that differs decides, and a front comes first. `-b` comes
+// behind `-ab`.
+impl PartialOrd for OsString {
+    ghost use Rattle.std.proofs.Common.{rules};
+    ghost use Rattle.std.specs.Cmp.{partial_order_from_own_ties};
+    ghost use Rattle.std.specs.Cmp.Rules.{comparing};
+    ghost use Rattle.std.specs.Cmp.Lexicographic.{slice_cmp};
+    ghost use Rattle.std.specs.Ordering.{as_partial_cmp, nat_cmp};
+
+    ghost partial_cmp = { as_partial_cmp (slice_cmp nat_cmp) };
+
+    ghost laws = { partial_order_from_own_ties (Prim.search (comparing, rules)) (Prim.search (comparing, rules)) };
+
+    fn partial_cmp(&self, other: &OsString) -> Option<Ordering> {
+        Some(self.cmp(other))
+    }
+}
+
+impl Ord for OsString {
+    ghost use Rattle.std.proofs.Common.{rules};
+    ghost use Rattle.std.specs.Cmp.Rules.{comparing};
+    ghost use Rattle.std.specs.Cmp.Lexicographic.{slice_cmp};
+    ghost use Rattle.std.specs.Ordering.{nat_cmp};
+
+    ghost cmp = { slice_cmp nat_cmp };
+
+    ghost total = { Prim.search (comparing, rules) };
+
+    ghost matches_partial_cmp = { Prim.search (comparing, rules) };
+
+    ghost matches_eq = { Prim.search (comparing, rules) };
+
+    fn cmp(&self, other: &OsString) -> Ordering {
+        self.as_bytes().cmp(other.as_bytes())
+    }
+}
+
+// What is hashed is the number of bytes and then each byte, as of a `Vec<u8>`.
+impl Hash for OsString {
+    ghost use Rattle.std.proofs.Common.{rules};
+    ghost use Rattle.std.specs.Cmp.Rules.{hashing};
+    ghost use Rattle.std.specs.Hash.{slice, u8};
+
+    ghost hash_input = { slice u8 };
+
+    ghost respects_eq = { Prim.search (hashing, rules) };
+
+    fn hash<H: Hasher>(&self, state: &mut H) {
+        self.as_bytes().hash(state);
+    }
+}
+
+// The quoted form, as `Quoted` prints it.
+impl fmt::Debug for OsString {
+    ghost use Rattle.std.specs.Prelude.{Some};
+    ghost use Rattle.lexopt_spec.specs.Text.{quoted};
+
+    ghost debug_output = { λ word. Some (quoted word) };
+
+    fn fmt<W: fmt::Write>(&self, f: &mut fmt::Formatter<W>) -> fmt::Result {
+        fmt::Debug::fmt(&self.as_os_str(), f)
+    }
+}
+
+/// A view of a word's bytes. It goes by value, where Rust has `&OsStr`.
+#[derive(Clone, Copy)]
+pub struct OsStr<'a> {
+    /// The bytes of the word.
+    pub bytes: &'a [u8],
+}
+
+impl<'a> OsStr<'a> {
+    /// A view of these bytes.
+    pub fn from_bytes(bytes: &'a [u8]) -> OsStr<'a>
+        ensures { result.bytes.now ≡ bytes.now }
+    {
+        OsStr { bytes }
+    }
+
+    /// The bytes of the word, for as long as they were lent.
+    pub fn as_bytes(self) -> &'a [u8]
+        ensures { result.now ≡ self.entry.bytes.now }
+    {
+        let OsStr { bytes } = self;
+        bytes
+    }
+
+    /// The text of the word, where its bytes are UTF-8, for as long as they were lent.
+    pub fn to_str(self) -> Option<&'a str>
+        ensures exactly_on_utf8 { IsSome result ↔ IsUtf8 self.entry.bytes.now }
+        ensures same_bytes { IfSome result (λ text. text.now ≡ self.entry.bytes.now) }
+    {
+        str::from_utf8(self.bytes).ok()
+    }
+
+    /// A word of the same bytes, copied.
+    pub fn to_os_string(self, alloc: Global) -> Result<OsString, AllocError>
+        ensures { IfOk result (λ word. word ≡ self.entry.bytes.now) }
+    {
+        OsString::from_bytes(alloc, self.bytes)
+    }
+}
+
+impl PartialEq for OsStr<'_> {
+    ghost use Rattle.std.proofs.Common.{rules};
+    ghost use Rattle.std.specs.Prelude.{◌==◌};
+    ghost use Rattle.std.specs.Cmp.Lexicographic.{pointwise};
+    ghost use Rattle.std.specs.Cmp.Rules.{comparing};
+
+    ghost eq = { λ a b. pointwise ◌==◌ a.bytes.now b.bytes.now };
+
+    ghost laws = { Prim.search (comparing, rules) };
+
+    fn eq(&self, other: &Self) -> bool {
+        self.bytes == other.bytes
+    }
+}
+
+impl Eq for OsStr<'_> {
+    ghost use Rattle.std.proofs.Common.{rules};
+    ghost use Rattle.std.specs.Cmp.Rules.{comparing};
+
+    ghost laws = { Prim.search (comparing, rules) };
+}
+
+impl fmt::Debug for OsStr<'_> {
+    ghost use Rattle.std.specs.Prelude.{Some};
+    ghost use Rattle.lexopt_spec.specs.Text.{quoted};
+
+    ghost debug_output = { λ word. Some (quoted word.bytes.now) };
+
+    fn fmt<W: fmt::Write>(&self, f: &mut fmt::Formatter<W>) -> fmt::Result {
+        fmt::Display::fmt(&Quoted::new(self.bytes), f)
+    }
+}
