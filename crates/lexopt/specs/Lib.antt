@@ -1,5 +1,3 @@
 pub mod RunError
-pub mod Replies
 pub mod Meanings
 pub mod Output
-pub mod Items

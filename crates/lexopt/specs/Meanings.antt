@@ -1,6 +1,6 @@
 -- The meaning of a line as contracts see it.
 use Rattle.lexopt_spec.specs.Script as script
-use Rattle.lexopt.specs.Replies.{call_view}
+use Rattle.lexopt_calls.specs.Replies.{call_view}
 use Rattle.lexopt.specs.declared.script.Meaning.{Meaning}
 use Rattle.lexopt.specs.declared.script.Meaning.TheVariants.{Nothing, Word, Call, Bad}
 

@@ -8,14 +8,13 @@ pub use lexopt_base::parser::Parser;
 pub use lexopt_base::raw::RawArgs;
 pub use lexopt_base::values::ValuesIter;
 pub use lexopt_base::{parser, raw, values};
+pub use lexopt_calls::items;
 pub use lexopt_words::error::{Arg, Error};
 pub use lexopt_words::os_string::{OsStr, OsString, Quoted};
 pub use lexopt_words::value_ext::ValueExt;
 pub use lexopt_words::{error, os_string, value_ext};
 
-pub mod items;
 pub mod prelude;
 pub mod replay;
-mod reply;
 mod run_error;
 mod script;

@@ -16,10 +16,10 @@ ghost use Rattle.std.specs.Io.KnownBytes.{Consumes};
 ghost use Rattle.lexopt_spec.specs.Script.{bad_line, behind_backslash, calls_of, hexadecimal, in_front, meaning, meaning_with_text, most_bytes, number, unescaped, words_of};
 ghost use Rattle.lexopt.specs.Output.{ReadsWhole, read_room};
 ghost use Rattle.lexopt.specs.Meanings.{meaning_view};
-ghost use Rattle.lexopt.specs.Replies.{call_view};
+ghost use Rattle.lexopt_calls.specs.Replies.{call_view};
 
-use crate::reply::Call;
 use crate::run_error::RunError;
+use lexopt_calls::reply::Call;
 use lexopt_words::os_string::OsString;
 use std::alloc::{AllocError, Global};
 use std::io::Read;

@@ -3,8 +3,8 @@ use Rattle.std.proofs.Common.{◌≡◌, List, [], ◌∷◌, ◌++◌, map, Opt
 use Rattle.std.specs.Option.{option_to_list}
 use Rattle.lexopt_spec.specs.UnreadLine.{UnreadLine}
 use Rattle.lexopt_spec.specs.Runs.{Call, Run}
-use Rattle.lexopt.specs.declared.reply.Reply.{Reply}
-use Rattle.lexopt.specs.Replies.{reply_view}
+use Rattle.lexopt_calls.specs.declared.reply.Reply.{Reply}
+use Rattle.lexopt_calls.specs.Replies.{reply_view}
 
 no_others : (u v : UnreadLine) (a b : Call) (front : List Reply) (x y : Reply) → Run u (a ∷ b ∷ []) (map reply_view ((front ++ x ∷ []) ++ y ∷ [])) v
     → Run u (a ∷ b ∷ []) (reply_view x ∷ reply_view y ∷ []) v

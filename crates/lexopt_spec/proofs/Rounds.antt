@@ -1,11 +1,12 @@
 -- Readings, an item at a time.
-use Rattle.std.proofs.Common.{◌≡◌, ℕ, List, [], ◌∷◌, Some, None, refl, sym, ap, ◌∙◌}
+use Rattle.std.proofs.Common.{◌≡◌, ◌<◌, ℕ, List, [], ◌∷◌, length, Option, Some, None, refl, sym, ap, ◌∙◌}
 use Rattle.lexopt_spec.specs.UnreadLine.{UnreadLine}
 use Rattle.lexopt_spec.specs.Steps as steps
 use Rattle.lexopt_spec.specs.Steps.{Reply, Next, Value}
-use Rattle.lexopt_spec.specs.Runs.{next, value}
-use Rattle.lexopt_spec.specs.Table.{Name, short, long, option, positional, Kind, flag, one, kind, Table}
-use Rattle.lexopt_spec.specs.Readings.{IsLast, GoesOn, last, more, item_behind, items_said, IsReading, SaysUpTo}
+use Rattle.lexopt_spec.specs.Runs as calls
+use Rattle.lexopt_spec.specs.Runs.{Call, Step, next, value}
+use Rattle.lexopt_spec.specs.Table.{Name, short, long, Item, option, many, positional, Kind, flag, one, optional, several, kind, Table}
+use Rattle.lexopt_spec.specs.Readings.{IsDue, IsFull, IsLast, GoesOn, last, more, item_behind, items_said, IsReading, SaysUpTo}
 use Rattle.lexopt_spec.proofs.Readings.{flag_item}
 
 pub says_positional : (t : Table) (u v : UnreadLine) (word : List ℕ) → Next u (steps.positional word) v → SaysUpTo t u (positional word ∷ []) v
@@ -43,17 +44,34 @@ says_flag t u v name k step = λ final m reading. record {
       ∙ sym (option_items name reading.replies);
 }
 
-pub says_value : (t : Table) (u v w : UnreadLine) (name : Name) (word : List ℕ) → kind t name ≡ one → Next u (option_reply name) v → Value v (steps.taken word) w
-    → SaysUpTo t u (option name (Some word) ∷ []) w
-says_value t u v w name word k step takes = λ final m reading. record {
-  calls = next ∷ value ∷ reading.calls;
-  replies = option_reply name ∷ steps.taken word ∷ reading.replies;
+-- an option, and what the call for its values answers
+says_due : (t : Table) (u v w : UnreadLine) (name : Name) (k : Kind) (call : Call) (reply : Reply) (item : Item) → kind t name ≡ k → IsDue k call → IsFull call reply
+    → GoesOn t reply flag → ((replies : List Reply) → items_said (option_reply name ∷ reply ∷ replies) ≡ item ∷ items_said replies)
+    → Next u (option_reply name) v → Step call v reply w → SaysUpTo t u (item ∷ []) w
+says_due t u v w name k call reply item is due full goes said step takes = λ final m reading. record {
+  calls = next ∷ call ∷ reading.calls;
+  replies = option_reply name ∷ reply ∷ reading.replies;
   after = reading.after;
   run = (v, step, (w, takes, reading.run));
-  asked = more flag one next (option_reply name) (value ∷ reading.calls) (steps.taken word ∷ reading.replies) refl tt (goes_on t name one k)
-      (more one flag value (steps.taken word) reading.calls reading.replies refl tt refl reading.asked);
-  items_are = ap (λ l. option name (Some word) ∷ l) reading.items_are ∙ sym (option_items name (steps.taken word ∷ reading.replies));
+  asked = more flag k next (option_reply name) (call ∷ reading.calls) (reply ∷ reading.replies) refl tt (goes_on t name k is)
+      (more k flag call reply reading.calls reading.replies due full goes reading.asked);
+  items_are = ap (λ l. item ∷ l) reading.items_are ∙ sym (said reading.replies);
 }
+
+pub says_value : (t : Table) (u v w : UnreadLine) (name : Name) (word : List ℕ) → kind t name ≡ one → Next u (option_reply name) v → Value v (steps.taken word) w
+    → SaysUpTo t u (option name (Some word) ∷ []) w
+says_value t u v w name word is step takes =
+    says_due t u v w name one value (steps.taken word) _ is refl tt refl (λ replies. option_items name (steps.taken word ∷ replies)) step takes
+
+pub says_optional : (t : Table) (u v w : UnreadLine) (name : Name) (word : Option (List ℕ)) → kind t name ≡ optional → Next u (option_reply name) v
+    → Step calls.optional v (steps.maybe word) w → SaysUpTo t u (option name word ∷ []) w
+says_optional t u v w name word is step takes =
+    says_due t u v w name optional calls.optional (steps.maybe word) _ is refl tt refl (λ replies. option_items name (steps.maybe word ∷ replies)) step takes
+
+pub says_several : (t : Table) (u v w : UnreadLine) (name : Name) (n : ℕ) (words : List (List ℕ)) → kind t name ≡ several → length words < n → Next u (option_reply name) v
+    → Step (calls.values n) v (steps.items words) w → SaysUpTo t u (many name words ∷ []) w
+says_several t u v w name n words is few step takes =
+    says_due t u v w name several (calls.values n) (steps.items words) _ is (n, refl) few refl (λ replies. option_items name (steps.items words ∷ replies)) step takes
 
 -- the last reply is that of `next`
 pub reads_last : (t : Table) (u v : UnreadLine) (final : Reply) → IsLast final → Next u final v → IsReading t u final (items_said (final ∷ []))
@@ -66,14 +84,14 @@ reads_last t u v final is step = record {
   items_are = refl;
 }
 
--- the last reply is that of `value`
-pub reads_missing : (t : Table) (u v w : UnreadLine) (name : Name) (final : Reply) → kind t name ≡ one → IsLast final → Next u (option_reply name) v → Value v final w
-    → IsReading t u final (items_said (option_reply name ∷ final ∷ []))
-reads_missing t u v w name final k is step takes = record {
-  calls = next ∷ value ∷ [];
+-- the last reply is that of the call for an option's values
+pub reads_refused : (t : Table) (u v w : UnreadLine) (name : Name) (k : Kind) (call : Call) (final : Reply) → kind t name ≡ k → IsDue k call → IsLast final
+    → Next u (option_reply name) v → Step call v final w → IsReading t u final (items_said (option_reply name ∷ final ∷ []))
+reads_refused t u v w name k call final is due ends step takes = record {
+  calls = next ∷ call ∷ [];
   replies = option_reply name ∷ final ∷ [];
   after = w;
   run = (v, step, (w, takes, refl));
-  asked = more flag one next (option_reply name) (value ∷ []) (final ∷ []) refl tt (goes_on t name one k) (last one value refl is);
+  asked = more flag k next (option_reply name) (call ∷ []) (final ∷ []) refl tt (goes_on t name k is) (last k call due ends);
   items_are = refl;
 }

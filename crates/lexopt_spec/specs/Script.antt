@@ -5,8 +5,11 @@ use Rattle.std.specs.List.{filter_map, flat_map, join_by, slice_split}
 use Rattle.std.specs.Cmp.Lexicographic.{pointwise}
 use Rattle.std.specs.Str.{all_ascii_digits}
 use Rattle.std.specs.Str.Parse.{digits_value}
-use Rattle.lexopt_spec.specs.Runs.{Call, next, value, optional, values, raw, try_raw, switch}
-use Rattle.lexopt_spec.specs.Steps.{Reply, short, long, positional, end, taken, maybe, items, busy, done, missing, unexpected, no_memory}
+use Rattle.lexopt_spec.specs.Runs as calls
+use Rattle.lexopt_spec.specs.Runs.{Call, next, value, values, raw, try_raw, switch}
+use Rattle.lexopt_spec.specs.Steps as steps
+use Rattle.lexopt_spec.specs.Steps.{Reply, end, taken, maybe, items, busy, done, missing, unexpected, no_memory}
+use Rattle.lexopt_spec.specs.Table.{Name, short, long, Item, option, many, positional}
 use Rattle.lexopt_spec.specs.Text.{quoted, missing_message, unexpected_value_message, no_memory_message}
 
 abbrev pub newline : ℕ
@@ -99,7 +102,7 @@ meaning line =
     if pointwise ◌==◌ line [] then nothing
     else (if pointwise ◌==◌ line (codes "next") then call next
     else (if pointwise ◌==◌ line (codes "value") then call value
-    else (if pointwise ◌==◌ line (codes "optional") then call optional
+    else (if pointwise ◌==◌ line (codes "optional") then call calls.optional
     else (if pointwise ◌==◌ line (codes "on") then call (switch true)
     else (if pointwise ◌==◌ line (codes "off") then call (switch false)
     else (if pointwise ◌==◌ line (codes "w") then word []
@@ -161,21 +164,40 @@ calls_of script = filter_map (λ line. call_of (meaning line)) (lines_of script)
 
 -- ---- what is written
 
+-- these, with `, ` between them, in brackets
+abbrev pub bracketed : {X : Type 0} → (X → List ℕ) → List X → List ℕ
+bracketed text l = codes "[" ++ (join_by text (codes ", ") l ++ codes "]")
+
+abbrev pub name_text : Name → List ℕ
+name_text (short c) = codes "Short " ++ quoted (encode_utf8 c)
+name_text (long name) = codes "Long " ++ quoted name
+
 -- the text of a reply
 abbrev pub reply_text : Reply → List ℕ
-reply_text (short c) = codes "Short " ++ quoted (encode_utf8 c)
-reply_text (long name) = codes "Long " ++ quoted name
-reply_text (positional bytes) = codes "Value " ++ quoted bytes
+reply_text (steps.short c) = name_text (short c)
+reply_text (steps.long name) = name_text (long name)
+reply_text (steps.positional bytes) = codes "Value " ++ quoted bytes
 reply_text end = codes "None"
 reply_text (taken bytes) = quoted bytes
 reply_text (maybe None) = codes "None"
 reply_text (maybe (Some bytes)) = quoted bytes
-reply_text (items words) = codes "[" ++ (join_by quoted (codes ", ") words ++ codes "]")
+reply_text (items words) = bracketed quoted words
 reply_text busy = codes "None"
 reply_text done = codes "ok"
-reply_text (missing option) = codes "error: " ++ missing_message option
-reply_text (unexpected option bytes) = codes "error: " ++ unexpected_value_message option bytes
+reply_text (missing named) = codes "error: " ++ missing_message named
+reply_text (unexpected named bytes) = codes "error: " ++ unexpected_value_message named bytes
 reply_text no_memory = codes "error: " ++ no_memory_message
+
+-- an option's value, if it has one
+abbrev pub value_text : Option (List ℕ) → List ℕ
+value_text None = []
+value_text (Some bytes) = codes " = " ++ quoted bytes
+
+-- the text of what a line says
+abbrev pub item_text : Item → List ℕ
+item_text (option name found) = name_text name ++ value_text found
+item_text (many name all) = name_text name ++ (codes " = " ++ bracketed quoted all)
+item_text (positional bytes) = codes "Value " ++ quoted bytes
 
 -- a line for each reply, in order
 abbrev pub lines_written : List Reply → List ℕ

@@ -5,7 +5,7 @@ use Rattle.std.proofs.lemmas.List.{length_push, map-append}
 use Rattle.lexopt_spec.specs.Script.{nothing, word, call}
 use Rattle.lexopt_spec.proofs.ScriptLemmas.{called, called-append, ReadsTo-more, ReadsTo-bad, ReadsTo-end}
 use Rattle.lexopt.specs.Meanings.{meaning_view}
-use Rattle.lexopt.specs.Replies.{call_view}
+use Rattle.lexopt_calls.specs.Replies.{call_view}
 use Rattle.lexopt.proofs.NumberedLines.{IsLineAt, line_read, lines_read}
 use Rattle.lexopt.proofs.script.parse_script.Goals as goal
 use Rattle.lexopt.proofs.script.parse_script.Goals.{In_ok-meaning_of}

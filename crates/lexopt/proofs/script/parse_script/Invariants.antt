@@ -1,5 +1,5 @@
 use Rattle.std.proofs.Common.{◌≡◌, length, map}
-use Rattle.lexopt.specs.Replies.{call_view}
+use Rattle.lexopt_calls.specs.Replies.{call_view}
 use Rattle.lexopt_spec.proofs.ScriptLemmas.{ReadsTo, called}
 use Rattle.lexopt.proofs.script.parse_script.Given as goal
 

@@ -1,6 +1,6 @@
 use Rattle.std.proofs.Common.{rules}
 use Rattle.lexopt_spec.specs.Runs.{next, value}
-use Rattle.lexopt.specs.declared.reply.Reply.TheVariants.{Short, Taken}
+use Rattle.lexopt_calls.specs.declared.reply.Reply.TheVariants.{Short, Taken}
 use Rattle.lexopt_cases.proofs.Pairs.{two_replies}
 use Rattle.lexopt_cases.proofs.callers.option_and_value.Goals as goal
 

@@ -1,0 +1,4 @@
+pub mod StepReplies
+pub mod Views
+pub mod Parts
+pub mod ReadsItems

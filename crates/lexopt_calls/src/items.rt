@@ -1,0 +1,318 @@
+//! Whole lines, read by a table of options.
+ghost use Rattle.std.specs.Prelude.{◌≡◌, ◌⊎◌, [], List, IfErr, IfOk, map, string_bytes};
+ghost use Rattle.std.specs.Option.{option_map};
+ghost use Rattle.std.specs.Fmt.{WritesOnOk};
+ghost use Rattle.lexopt_spec.specs.Script.{value_text};
+ghost use Rattle.lexopt_spec.specs.Steps.{end};
+ghost use Rattle.lexopt_spec.specs.Table as spec;
+ghost use Rattle.lexopt_spec.specs.Table.{holds_in, kind, one_value};
+ghost use Rattle.lexopt_spec.specs.Readings.{IsReading, start};
+ghost use Rattle.lexopt_spec.specs.Spelling.{HaveWholeNames, Shows, Spells};
+ghost use Rattle.lexopt_spec.specs.Runs.{Step, values};
+ghost use Rattle.lexopt_base.specs.Replies.{Gives, error_reply};
+ghost use Rattle.lexopt_calls.specs.Items.{IsRefused, ReadsItem, ReadsValues, RefusesValues, item_view, item_with, kind_view, table_view};
+
+use crate::replay::{call_next, values_of};
+use crate::reply::{Reply, write_list, write_long, write_positional, write_short, write_word};
+use lexopt_base::parser::Parser;
+use lexopt_words::error::Error;
+use lexopt_words::os_string::OsString;
+use std::alloc::Global;
+use std::fmt;
+
+/// The options that have values, by how many they have; any other option has none. Names stand without their dashes.
+///
+/// Membership alone counts: a name that stands twice, or that holds an `=` and so can be no option's, does no harm. Where
+/// lists of several kinds hold an option, the kind that stands first here holds.
+///
+/// ```rust
+/// let mut table = Table::new(alloc);
+/// table.shorts.push('o')?;
+/// table.longs.push(String::from_str(alloc, "output")?)?;
+/// table.optional_longs.push(String::from_str(alloc, "color")?)?;
+/// table.several_shorts.push('e')?;
+/// ```
+#[derive(Debug, Drop)]
+pub struct Table {
+    /// Options of one character with one value, always: `o` for `-o`.
+    pub shorts: Vec<char>,
+    /// Options with a name and one value, always: `out` for `--out`.
+    pub longs: Vec<String>,
+    /// Options of one character with a value that may be left out: it stands in their word, never in the next.
+    pub optional_shorts: Vec<char>,
+    /// Options with a name and a value that may be left out: it stands behind `=`.
+    pub optional_longs: Vec<String>,
+    /// Options of one character with several values, one at least: up to the next word that looks like an option.
+    pub several_shorts: Vec<char>,
+    /// Options with a name and several values, one at least.
+    pub several_longs: Vec<String>,
+}
+
+/// What a line says, in order.
+#[derive(Debug, PartialEq, Eq, Drop)]
+pub enum Item {
+    /// An option of one character, with its value if it has one.
+    Short(char, Option<OsString>),
+    /// An option with a name, which stands here without its dashes, with its value if it has one.
+    Long(String, Option<OsString>),
+    /// An option of one character that has several values, with all of them: one at least.
+    ShortMany(char, Vec<OsString>),
+    /// An option with a name that has several values, with all of them: one at least.
+    LongMany(String, Vec<OsString>),
+    /// A word that is no option, or that stands behind the separator.
+    Positional(OsString),
+}
+
+impl fmt::Display for Item {
+    ghost use Rattle.std.specs.Prelude.{Some};
+    ghost use Rattle.lexopt_spec.specs.Script.{item_text};
+    ghost use Rattle.lexopt_calls.specs.Items.{item_view};
+
+    ghost output = { λ i. Some (item_text (item_view i)) };
+
+    fn fmt<W: fmt::Write>(&self, f: &mut fmt::Formatter<W>) -> fmt::Result {
+        match self {
+            Item::Short(option, value) => {
+                write_short(*option, f)?;
+                write_value(value, f)
+            }
+            Item::Long(name, value) => {
+                write_long(name, f)?;
+                write_value(value, f)
+            }
+            Item::ShortMany(option, values) => {
+                write_short(*option, f)?;
+                f.write_str(" = ")?;
+                write_list(values, f)
+            }
+            Item::LongMany(name, values) => {
+                write_long(name, f)?;
+                f.write_str(" = ")?;
+                write_list(values, f)
+            }
+            Item::Positional(word) => write_positional(word, f),
+        }
+    }
+}
+
+// Writes an option's value, if it has one.
+fn write_value<W: fmt::Write>(value: &Option<OsString>, f: &mut fmt::Formatter<W>) -> fmt::Result
+    ensures { WritesOnOk W.write_str_gives f.old result (value_text value.now) f.new }
+{
+    match value {
+        Some(value) => {
+            f.write_str(" = ")?;
+            write_word(value, f)
+        }
+        None => Ok(()),
+    }
+}
+
+// How many values an option has.
+#[derive(Clone, Copy)]
+enum Kind {
+    Flag,
+    One,
+    Optional,
+    Several,
+}
+
+// The values of an option.
+#[derive(Drop)]
+enum Values {
+    AtMostOne(Option<OsString>),
+    All(Vec<OsString>),
+}
+
+impl Table {
+    /// The table of no options. It takes no memory.
+    pub fn new(alloc: Global) -> Table
+        ensures { table_view result ≡ one_value [] [] }
+    {
+        Table::one_value(alloc, Vec::new(alloc), Vec::new(alloc))
+    }
+
+    /// The table of these options, each of one value. It takes no memory.
+    pub fn one_value(alloc: Global, shorts: Vec<char>, longs: Vec<String>) -> Table
+        ensures { table_view result ≡ one_value shorts.items (map string_bytes longs.items) }
+    {
+        Table {
+            shorts,
+            longs,
+            optional_shorts: Vec::new(alloc),
+            optional_longs: Vec::new(alloc),
+            several_shorts: Vec::new(alloc),
+            several_longs: Vec::new(alloc),
+        }
+    }
+
+    // How many values a short option has.
+    fn kind_of_short(&self, option: char) -> Kind
+        ensures { kind_view result ≡ kind (table_view self.now) (spec.short option) }
+    {
+        if self.shorts.contains(&option) {
+            Kind::One
+        } else if self.optional_shorts.contains(&option) {
+            Kind::Optional
+        } else if self.several_shorts.contains(&option) {
+            Kind::Several
+        } else {
+            Kind::Flag
+        }
+    }
+
+    // How many values a long option has.
+    fn kind_of_long(&self, name: &String) -> Kind
+        ensures { kind_view result ≡ kind (table_view self.now) (spec.long (string_bytes name.now)) }
+    {
+        if holds(&self.longs, name) {
+            Kind::One
+        } else if holds(&self.optional_longs, name) {
+            Kind::Optional
+        } else if holds(&self.several_longs, name) {
+            Kind::Several
+        } else {
+            Kind::Flag
+        }
+    }
+}
+
+// Whether this name is among these.
+fn holds(names: &Vec<String>, name: &String) -> bool
+    ensures { result ≡ holds_in [] (map string_bytes names.now.items) (spec.long (string_bytes name.now)) }
+{
+    names.contains(name)
+}
+
+impl Values {
+    // An option of one character with these values.
+    fn of_short(self, option: char) -> Item
+        ensures { item_view result ≡ item_with (spec.short option) self }
+    {
+        match self {
+            Values::AtMostOne(value) => Item::Short(option, value),
+            Values::All(values) => Item::ShortMany(option, values),
+        }
+    }
+
+    // An option with a name and these values.
+    fn of_long(self, name: String) -> Item
+        ensures { item_view result ≡ item_with (spec.long (string_bytes name)) self }
+    {
+        match self {
+            Values::AtMostOne(value) => Item::Long(name, value),
+            Values::All(values) => Item::LongMany(name, values),
+        }
+    }
+}
+
+// All values of the last option.
+fn all_values(alloc: Global, parser: &mut Parser) -> Result<Vec<OsString>, Error>
+    ensures ok { IfOk result (λ values. ReadsValues Kind.Several parser.old (Values.All values) parser.new) }
+    ensures err { IfErr result (λ e. (e ≡ Error.OutOfMemory) ⊎ Gives (Step (values 1)) parser.old (error_reply e) parser.new) }
+{
+    match parser.values() {
+        Ok(mut view) => Ok(values_of(alloc, &mut view, usize::MAX)?),
+        Err(error) => Err(error),
+    }
+}
+
+// The values of the last option, which is of this kind.
+fn read_values(alloc: Global, parser: &mut Parser, kind: Kind) -> Result<Values, Error>
+    ensures ok { IfOk result (λ values. ReadsValues kind parser.old values parser.new) }
+    ensures err { IfErr result (λ e. RefusesValues kind parser.old e) }
+{
+    match kind {
+        Kind::Flag => Ok(Values::AtMostOne(None)),
+        Kind::One => Ok(Values::AtMostOne(Some(parser.value()?))),
+        Kind::Optional => Ok(Values::AtMostOne(parser.optional_value())),
+        Kind::Several => Ok(Values::All(all_values(alloc, parser)?)),
+    }
+}
+
+// The next item of a line, and none at its end.
+fn read_item(alloc: Global, parser: &mut Parser, table: &Table) -> Result<Option<Item>, Error>
+    ensures ok { IfOk result (λ item. ReadsItem (table_view table.now) parser.old (option_map item_view item) parser.new) }
+    ensures err { IfErr result (λ e. IsRefused (table_view table.now) parser.old e) }
+{
+    match call_next(alloc, parser)? {
+        Some(Reply::Short(option)) => {
+            let values = read_values(alloc, parser, table.kind_of_short(option))?;
+            Ok(Some(values.of_short(option)))
+        }
+        Some(Reply::LongName(name)) => {
+            let values = read_values(alloc, parser, table.kind_of_long(&name))?;
+            Ok(Some(values.of_long(name)))
+        }
+        Some(Reply::Positional(word)) => Ok(Some(Item::Positional(word))),
+        Some(Reply::End) => Ok(None),
+        Some(Reply::Unexpected(option, value)) => Err(Error::UnexpectedValue { option, value }),
+        Some(Reply::NoMemory) => Err(Error::OutOfMemory),
+        Some(
+            Reply::Taken(_)
+            | Reply::Maybe(_)
+            | Reply::Items(_)
+            | Reply::Busy
+            | Reply::Done
+            | Reply::Missing(_),
+        )
+        | None => { unreachable!() }
+    }
+}
+
+// The items that are left of a line.
+fn items_of(alloc: Global, parser: &mut Parser, table: &Table) -> Result<Vec<Item>, Error>
+    ensures ok { IfOk result (λ items. IsReading (table_view table.now) parser.old end (map item_view items.items)) }
+    ensures err { IfErr result (λ e. IsRefused (table_view table.now) parser.old e) }
+{
+    let mut items = Vec::new(alloc);
+    while let Some(item) = read_item(alloc, parser, table)? {
+        if items.push(item).is_err() {
+            return Err(Error::OutOfMemory);
+        }
+    }
+    Ok(items)
+}
+
+/// Reads a whole line by a table: behind each option of the table its values are read, and any other option has none.
+///
+/// Under a table with `o` and `out` of one value, `color` of a value that may be left out, and `d` of several, the words
+/// `-vo=x --out y --color=z -d 1 2 -- file` give `Short('v', None)`, `Short('o', Some(x))`, `Long("out", Some(y))`,
+/// `Long("color", Some(z))`, `ShortMany('d', [1, 2])` and `Positional(file)`. The switch says whether `=` in a cluster
+/// stands between an option and its value. The forms are those of POSIX and GNU, as lexopt documents them;
+/// `docs/behaviour.md` has them all. A damaged piece of an option's name is read, and looked up, as U+FFFD.
+///
+/// Errors, each of which ends the reading: `MissingValue` where an option of one value has none and no word is left, or one
+/// of several values has none; `UnexpectedValue` where an option that the table does not have has a value joined to it by
+/// `=`; `OutOfMemory`. The words are spent.
+pub fn read_items(
+    alloc: Global,
+    words: Vec<OsString>,
+    short_equals: bool,
+    table: &Table,
+) -> Result<Vec<Item>, Error>
+    // Which calls and replies stand behind the answer.
+    ensures reading { IfOk result (λ items. IsReading (table_view table.now) (start short_equals words.items) end (map item_view items.items)) }
+    ensures refused { IfErr result (λ e. IsRefused (table_view table.now) (start short_equals words.items) e) }
+
+    // What is answered, the words show, and they spell it where no option has U+FFFD in its name.
+    ensures shown { IfOk result (λ items. Shows (table_view table.now) short_equals words.items (map item_view items.items)) }
+    ensures spelled { IfOk result (λ items. HaveWholeNames (map item_view items.items)
+        → Spells (table_view table.now) short_equals words.items (map item_view items.items)) }
+
+    // Words show at most one list, and what they show, and so what they spell, is answered, or memory is refused.
+    ensures one_list { (l m : List spec.Item) → Shows (table_view table.now) short_equals words.items l
+        → Shows (table_view table.now) short_equals words.items m → l ≡ m }
+    ensures answered { (l : List spec.Item) → Shows (table_view table.now) short_equals words.items l
+        → IfOk result (λ items. map item_view items.items ≡ l) × IfErr result (λ e. e ≡ Error.OutOfMemory) }
+    ensures answered_spelled { (l : List spec.Item) → Spells (table_view table.now) short_equals words.items l
+        → IfOk result (λ items. map item_view items.items ≡ l) × IfErr result (λ e. e ≡ Error.OutOfMemory) }
+
+    // Another error comes only where the words show no list.
+    ensures no_list { IfErr result (λ e. (e ≡ Error.OutOfMemory)
+        ⊎ ((l : List spec.Item) → Shows (table_view table.now) short_equals words.items l → ⊥)) }
+{
+    let mut parser = Parser::from_args(alloc, words)?;
+    parser.set_short_equals(short_equals);
+    items_of(alloc, &mut parser, table)
+}

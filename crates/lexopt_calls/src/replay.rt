@@ -1,0 +1,229 @@
+//! Lists of calls on a parser: `replay` makes them, and gives a reply for each.
+ghost use Rattle.std.specs.Prelude.{◌≡◌, ◌++◌, ◌≤◌, ◌↔◌, ℕ, List, Option, IsTrue, IfOk, IfErr, OnErr, map};
+ghost use Rattle.std.specs.List.{flat_map};
+ghost use Rattle.std.specs.Option.{option_map};
+ghost use Rattle.lexopt_spec.specs.Steps as steps;
+ghost use Rattle.lexopt_spec.specs.Steps.{Next, Value};
+ghost use Rattle.lexopt_spec.specs.Account.{Segment, bytes_of, flat, handed, shown_of};
+ghost use Rattle.lexopt_spec.specs.Runs.{AccountedRun, Part, Run, Step, values, raw, raw_if, try_raw, up_to};
+ghost use Rattle.lexopt_spec.specs.Views.{ValueItems, WordItems};
+ghost use Rattle.lexopt_base.specs.Stages.{stage_of};
+ghost use Rattle.lexopt_base.specs.Replies.{Gives, error_reply, next_reply};
+ghost use Rattle.lexopt_calls.specs.Replies.{TakesThis, call_view, reply_view};
+
+use crate::reply::{Call, Reply};
+use lexopt_base::parser::Parser;
+use lexopt_base::raw::RawArgs;
+use lexopt_base::values::ValuesIter;
+use lexopt_words::error::{Arg, Error};
+use lexopt_words::os_string::{OsStr, OsString};
+use std::alloc::{AllocError, Global};
+
+// Copies a reply of `next` out of the parser. It is none where no parser answers so.
+fn copied(alloc: Global, reply: Result<Option<Arg<'_>>, Error>) -> Result<Option<Reply>, AllocError>
+    ensures { IfOk result (λ copy. option_map reply_view copy ≡ next_reply reply.entry) }
+{
+    match reply {
+        Ok(None) => Ok(Some(Reply::End)),
+        Ok(Some(Arg::Short(option))) => Ok(Some(Reply::Short(option))),
+        Ok(Some(Arg::Long(name))) => Ok(Some(Reply::LongName(String::from_str(alloc, name)?))),
+        Ok(Some(Arg::Value(word))) => Ok(Some(Reply::Positional(word))),
+        Err(error) => Ok(refusal(error)),
+    }
+}
+
+// The reply of an error. It is none where no parser answers so.
+fn refusal(error: Error) -> Option<Reply>
+    ensures { option_map reply_view result ≡ error_reply error }
+{
+    match error {
+        Error::MissingValue { option } => Some(Reply::Missing(option)),
+        Error::UnexpectedOption(_)
+        | Error::UnexpectedArgument(_)
+        | Error::ParsingFailed { .. }
+        | Error::NonUnicodeValue(_)
+        | Error::Custom(_) => None,
+        Error::UnexpectedValue { option, value } => Some(Reply::Unexpected(option, value)),
+        Error::OutOfMemory => Some(Reply::NoMemory),
+    }
+}
+
+// One call of `next`.
+pub(crate) fn call_next(alloc: Global, parser: &mut Parser) -> Result<Option<Reply>, AllocError>
+    ensures { (reply : Option steps.Reply) × Gives Next parser.old reply parser.new
+        × IfOk result (λ copy. option_map reply_view copy ≡ reply) }
+{
+    let reply = parser.next();
+    copied(alloc, reply)
+}
+
+// One call of `value`.
+fn call_value(parser: &mut Parser) -> Option<Reply>
+    ensures { Gives Value parser.old (option_map reply_view result) parser.new }
+{
+    match parser.value() {
+        Ok(word) => Some(Reply::Taken(word)),
+        Err(error) => refusal(error),
+    }
+}
+
+// One call of `values`, and so many items of its view. Where the list of them finds no memory, some were taken.
+fn call_values(
+    alloc: Global,
+    parser: &mut Parser,
+    count: usize,
+) -> Result<Option<Reply>, AllocError>
+    ensures { (m : ℕ) × (reply : Option steps.Reply) × (m ≤ count) × Gives (Step (values m)) parser.old reply parser.new
+        × IfOk result (λ copy. (m ≡ count) × (option_map reply_view copy ≡ reply)) }
+{
+    match parser.values() {
+        Ok(mut view) => Ok(Some(Reply::Items(values_of(alloc, &mut view, count)?))),
+        Err(error) => Ok(refusal(error)),
+    }
+}
+
+// So many items of a view of values, or fewer where it ends before.
+pub(crate) fn values_of(
+    alloc: Global,
+    view: &mut ValuesIter<'_>,
+    count: usize,
+) -> Result<Vec<OsString>, AllocError>
+    ensures same_parser { view.new.parser.ghost_name ≡ view.old.parser.ghost_name }
+    ensures items { (m : ℕ) × (came : List (List ℕ)) × (m ≤ count)
+        × ValueItems m (stage_of view.old.stage) view.old.parser.now came view.new.parser.now (stage_of view.new.stage)
+        × IfOk result (λ items. (m ≡ count) × (items.items ≡ came)) }
+{
+    let mut items = Vec::new(alloc);
+    for _asked in 0..count {
+        match view.next() {
+            Some(value) => items.push(value)?,
+            None => break,
+        }
+    }
+    Ok(items)
+}
+
+// One call of `raw_args`, and so many words.
+fn call_raw(alloc: Global, parser: &mut Parser, count: usize) -> Result<Option<Reply>, AllocError>
+    ensures { (m : ℕ) × (reply : Option steps.Reply) × (m ≤ count) × Gives (Step (raw m)) parser.old reply parser.new
+        × IfOk result (λ copy. (m ≡ count) × (option_map reply_view copy ≡ reply)) }
+{
+    match parser.raw_args() {
+        Ok(mut view) => Ok(Some(Reply::Items(words_of(alloc, &mut view, count)?))),
+        Err(error) => Ok(refusal(error)),
+    }
+}
+
+// One call of `try_raw_args`, and so many words.
+fn call_try_raw(alloc: Global, parser: &mut Parser, count: usize) -> Result<Reply, AllocError>
+    ensures { (m : ℕ) × (reply : steps.Reply) × (m ≤ count) × Step (try_raw m) parser.old reply parser.new
+        × IfOk result (λ copy. (m ≡ count) × (reply_view copy ≡ reply)) }
+{
+    match parser.try_raw_args() {
+        Some(mut view) => Ok(Reply::Items(words_of(alloc, &mut view, count)?)),
+        None => Ok(Reply::Busy),
+    }
+}
+
+// One call of `raw_args`, and its next word where it is this one.
+fn call_raw_if(parser: &mut Parser, wanted: &OsString) -> Option<Reply>
+    ensures { Gives (Step (raw_if wanted.now)) parser.old (option_map reply_view result) parser.new }
+{
+    match parser.raw_args() {
+        Ok(mut view) => Some(Reply::Maybe(take_if(&mut view, wanted, |word| {
+            word.as_bytes() == wanted.as_bytes()
+        }))),
+        Err(error) => refusal(error),
+    }
+}
+
+// Takes the next word of a view where `is_wanted` says that it is this one.
+fn take_if<F: FnOnce(OsStr<'_>) -> bool + Drop>(
+    view: &mut RawArgs<'_>,
+    wanted: &OsString,
+    is_wanted: F,
+) -> Option<OsString>
+    requires callable { F.IsAlwaysCallable is_wanted }
+    requires exact { (word : _) (answer : _) → F.post is_wanted word answer → (IsTrue answer ↔ (word.bytes.now ≡ wanted.now)) }
+    ensures same_parser { view.new.parser.ghost_name ≡ view.old.parser.ghost_name }
+    ensures taken { TakesThis wanted.now view.old.parser.now result view.new.parser.now }
+{
+    view.next_if(is_wanted)
+}
+
+// So many words of a view of words, or fewer where it ends before.
+fn words_of(
+    alloc: Global,
+    view: &mut RawArgs<'_>,
+    count: usize,
+) -> Result<Vec<OsString>, AllocError>
+    ensures same_parser { view.new.parser.ghost_name ≡ view.old.parser.ghost_name }
+    ensures items { (m : ℕ) × (came : List (List ℕ)) × (m ≤ count)
+        × WordItems m view.old.parser.now came view.new.parser.now
+        × IfOk result (λ items. (m ≡ count) × (items.items ≡ came)) }
+{
+    let mut items = Vec::new(alloc);
+    for _asked in 0..count {
+        match view.next() {
+            Some(word) => items.push(word)?,
+            None => break,
+        }
+    }
+    Ok(items)
+}
+
+// One call, and its reply. Where a list of items finds no memory, some were taken.
+fn reply_to(alloc: Global, parser: &mut Parser, call: &Call) -> Result<Reply, AllocError>
+    ensures { (m : ℕ) × (reply : steps.Reply) × Step (up_to m (call_view call.now)) parser.old reply parser.new
+        × IfOk result (λ copy. (up_to m (call_view call.now) ≡ call_view call.now) × (reply_view copy ≡ reply)) }
+{
+    let reply = match call {
+        Call::Next => call_next(alloc, parser)?,
+        Call::Value => call_value(parser),
+        Call::Optional => Some(Reply::Maybe(parser.optional_value())),
+        Call::Values(count) => call_values(alloc, parser, *count)?,
+        Call::Raw(count) => call_raw(alloc, parser, *count)?,
+        Call::TryRaw(count) => Some(call_try_raw(alloc, parser, *count)?),
+        Call::RawIf(word) => call_raw_if(parser, word),
+        Call::Switch(on) => {
+            parser.set_short_equals(*on);
+            Some(Reply::Done)
+        }
+    };
+    match reply {
+        Some(reply) => Ok(reply),
+        None => unreachable!(),
+    }
+}
+
+/// Makes these calls on a parser, in order, and gives a reply for each.
+///
+/// On the words `-a=b --n=x` the calls `Next`, `Value`, `Next`, `Next` are answered `Short('a')`, `Taken` of `b`,
+/// `LongName` of `n`, and `Unexpected` of `--n` and `x`. An error of the parser is a reply like any other, `NoMemory` among
+/// them, and the calls behind it are made.
+///
+/// The only error is `OutOfMemory`, where the list of the replies or what is copied into it found no memory. Some front of
+/// the calls was made then, and perhaps the next one, of whose items some may have been given; the replies are gone.
+pub fn replay(alloc: Global, parser: &mut Parser, calls: &[Call]) -> Result<Vec<Reply>, Error>
+    // The replies and the line that is left are those of the grammar.
+    ensures run { IfOk result (λ replies. Run parser.old (map call_view calls.now) (map reply_view replies.items) parser.new) }
+
+    // Each byte of the line is in one segment of what the calls read, or still unread, in order; what the replies hand out is
+    // what the segments show; and the words left are a suffix of those at the start.
+    ensures account { IfOk result (λ replies. (segments : List Segment)
+        × AccountedRun parser.old (map call_view calls.now) (map reply_view replies.items) segments parser.new
+        × (flat parser.old ≡ bytes_of segments ++ flat parser.new)
+        × (flat_map handed (map reply_view replies.items) ≡ shown_of segments)) }
+    ensures words_left { (gone : List (List ℕ)) × (parser.old.words ≡ gone ++ parser.new.words) }
+
+    // What an error leaves.
+    ensures err { IfErr result (λ e. e ≡ Error.OutOfMemory) }
+    ensures part { OnErr result (Part parser.old (map call_view calls.now) parser.new) }
+{
+    let mut replies = Vec::new(alloc);
+    for call in calls {
+        let reply = reply_to(alloc, parser, call)?;
+        replies.push(reply)?;
+    }
+    Ok(replies)
+}
