@@ -1,3 +1,4 @@
 pub mod RunError
 pub mod Meanings
 pub mod Output
+pub mod Performed

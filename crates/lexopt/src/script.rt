@@ -9,17 +9,24 @@
 //! - `values N`, `raw N`, `try N`: a call of `values`, `raw_args` or `try_raw_args`, and how many items are asked of its
 //!   view: a number of one to nine decimal digits.
 //! - `on`, `off`: sets whether `=` stands between a short option and its value.
+//! - `t OPTION`, `topt OPTION`, `tmany OPTION`: an option of the table, of one value, of a value that may be left out, or of
+//!   several. OPTION is `-` and one character, which is no dash, or `--` and a name, which may be empty; both in UTF-8,
+//!   and there are no escapes in it.
+//! - `items`: all words are read by the table, under the switch as last set, and the parser is left alone.
 //!
-//! Every other line is bad, and so is a word behind the first call that reads the line.
-ghost use Rattle.std.specs.Prelude.{◌≡◌, ◌⊎◌, ℕ, ◌+◌, ◌<◌, ◌≤◌, List, None, Some, IfErr, IfOk, MatchOption, length, map};
+//! Every other line is bad, and so is a word or an option behind the first line that reads the words.
+ghost use Rattle.std.specs.Prelude.{◌≡◌, ◌⊎◌, ℕ, ◌+◌, ◌++◌, ◌<◌, ◌≤◌, List, None, Some, IfErr, IfOk, MatchOption, OnOk, drop, length, map};
+ghost use Rattle.std.specs.Option.{option_map};
 ghost use Rattle.std.specs.Io.KnownBytes.{Consumes};
-ghost use Rattle.lexopt_spec.specs.Script.{bad_line, behind_backslash, calls_of, hexadecimal, in_front, meaning, meaning_with_text, most_bytes, number, unescaped, words_of};
+ghost use Rattle.lexopt_spec.specs.Script.{bad_line, behind_backslash, commands_of, hexadecimal, in_front, is_bad, joined_to, meaning, meaning_of_call_or_word, meaning_with_option, meaning_with_text, most_bytes, number, one_character, option_named, reads_words, table_of, unescaped, words_of};
+ghost use Rattle.lexopt_calls.specs.Items.{table_view};
 ghost use Rattle.lexopt.specs.Output.{ReadsWhole, read_room};
-ghost use Rattle.lexopt.specs.Meanings.{meaning_view};
-ghost use Rattle.lexopt_calls.specs.Replies.{call_view};
+ghost use Rattle.lexopt.specs.Meanings.{command_view, entry_view, meaning_view, name_view};
 
 use crate::run_error::RunError;
+use lexopt_calls::items::Table;
 use lexopt_calls::reply::Call;
+use lexopt_words::codepoint::{FirstCodepoint, first_codepoint};
 use lexopt_words::os_string::OsString;
 use std::alloc::{AllocError, Global};
 use std::io::Read;
@@ -31,11 +38,33 @@ const LIMIT: usize = 1_048_576;
 // The room of one read: at most so many bytes are read past the limit.
 const ROOM: usize = 512;
 
-/// The words of a command line, and the calls that are made on it, each in order.
+/// The words of a command line, the table of its options, and what is done, in order.
 #[derive(Drop)]
 pub struct Script {
     pub words: Vec<OsString>,
-    pub calls: Vec<Call>,
+    pub table: Table,
+    pub commands: Vec<Command>,
+}
+
+/// What is done on the words of a script.
+#[derive(Drop)]
+pub enum Command {
+    /// A call on the parser of them.
+    Call(Call),
+    /// All of them are read by the table.
+    Items,
+}
+
+impl Command {
+    // Whether the words are read, which the switch alone does not.
+    fn reads_words(&self) -> bool
+        ensures { result ≡ reads_words (command_view self.now) }
+    {
+        match self {
+            Command::Call(call) => call.reads_line(),
+            Command::Items => true,
+        }
+    }
 }
 
 /// Reads a script, to the end or past the limit.
@@ -61,34 +90,39 @@ pub fn read_script<R: Read>(alloc: Global, reader: &mut R) -> Result<Vec<u8>, Ru
     }
 }
 
-/// The words and the calls of a script, or its first bad line.
+/// The words, the table and the commands of a script, or its first bad line.
 pub fn parse_script(alloc: Global, script: &[u8]) -> Result<Script, RunError>
     requires { length script.now ≤ most_bytes }
-    ensures ok { IfOk result (λ s. (s.words.items ≡ words_of script.now) × (map call_view s.calls.items ≡ calls_of script.now)
-        × (bad_line script.now ≡ None)) }
+    ensures ok { IfOk result (λ s. (s.words.items ≡ words_of script.now) × (table_view s.table ≡ table_of script.now)
+        × (map command_view s.commands.items ≡ commands_of script.now) × (bad_line script.now ≡ None)) }
     ensures err { IfErr result (λ e. (e ≡ RunError.NoMemory)
         ⊎ ((n : ℕ) × (e ≡ RunError.BadLine n) × (bad_line script.now ≡ Some n))) }
 {
     let mut words = Vec::new(alloc);
-    let mut calls = Vec::new(alloc);
+    let mut table = Table::new(alloc);
+    let mut commands = Vec::new(alloc);
     let mut is_read = false;
     for (index, line) in script.split(|byte| *byte == b'\n').enumerate() {
-        match meaning_of(alloc, line)? {
+        let meaning = meaning_of(alloc, line)?;
+        if meaning.is_bad(is_read) {
+            return Err(RunError::BadLine(index + 1));
+        }
+        match meaning {
             Meaning::Nothing => {}
-            Meaning::Word(word) => {
-                if is_read {
-                    return Err(RunError::BadLine(index + 1));
-                }
-                words.push(word)?;
+            Meaning::Bad => {}
+            Meaning::Word(word) => words.push(word)?,
+            Meaning::Entry(entry) => join(&mut table, entry)?,
+            Meaning::Command(command) => {
+                is_read |= command.reads_words();
+                commands.push(command)?;
             }
-            Meaning::Call(call) => {
-                is_read |= call.reads_line();
-                calls.push(call)?;
-            }
-            Meaning::Bad => return Err(RunError::BadLine(index + 1)),
         }
     }
-    Ok(Script { words, calls })
+    Ok(Script {
+        words,
+        table,
+        commands,
+    })
 }
 
 // What a line of a script says.
@@ -96,8 +130,52 @@ pub fn parse_script(alloc: Global, script: &[u8]) -> Result<Script, RunError>
 enum Meaning {
     Nothing,
     Word(OsString),
-    Call(Call),
+    Entry(Entry),
+    Command(Command),
     Bad,
+}
+
+// An option of the table, by how many values it has.
+#[derive(Drop)]
+enum Entry {
+    One(Name),
+    Optional(Name),
+    Several(Name),
+}
+
+// An option's name: a character, or a text without its dashes.
+#[derive(Drop)]
+enum Name {
+    Short(char),
+    Long(String),
+}
+
+impl Meaning {
+    // Whether the line is bad, where the words were read before it or were not.
+    fn is_bad(&self, is_read: bool) -> bool
+        ensures { result ≡ is_bad is_read (meaning_view self.now) }
+    {
+        match self {
+            Meaning::Nothing | Meaning::Command(_) => false,
+            Meaning::Word(_) | Meaning::Entry(_) => is_read,
+            Meaning::Bad => true,
+        }
+    }
+}
+
+// An option joins the table.
+fn join(table: &mut Table, entry: Entry) -> Result<(), AllocError>
+    ensures { OnOk result (table_view table.new ≡ joined_to (table_view table.old) (entry_view entry).kind (entry_view entry).name) }
+{
+    match entry {
+        Entry::One(Name::Short(option)) => table.shorts.push(option)?,
+        Entry::One(Name::Long(name)) => table.longs.push(name)?,
+        Entry::Optional(Name::Short(option)) => table.optional_shorts.push(option)?,
+        Entry::Optional(Name::Long(name)) => table.optional_longs.push(name)?,
+        Entry::Several(Name::Short(option)) => table.several_shorts.push(option)?,
+        Entry::Several(Name::Long(name)) => table.several_longs.push(name)?,
+    }
+    Ok(())
 }
 
 // The meaning of a line.
@@ -105,18 +183,28 @@ fn meaning_of(alloc: Global, line: &[u8]) -> Result<Meaning, AllocError>
     ensures { IfOk result (λ m. meaning_view m ≡ meaning line.now) }
 {
     match line {
+        b"items" => Ok(Meaning::Command(Command::Items)),
+        _ => meaning_of_call_or_word(alloc, line),
+    }
+}
+
+// The meaning of a line that is a call or a word, an empty line among them.
+fn meaning_of_call_or_word(alloc: Global, line: &[u8]) -> Result<Meaning, AllocError>
+    ensures { IfOk result (λ m. meaning_view m ≡ meaning_of_call_or_word line.now) }
+{
+    match line {
         [] => Ok(Meaning::Nothing),
-        b"next" => Ok(Meaning::Call(Call::Next)),
-        b"value" => Ok(Meaning::Call(Call::Value)),
-        b"optional" => Ok(Meaning::Call(Call::Optional)),
-        b"on" => Ok(Meaning::Call(Call::Switch(true))),
-        b"off" => Ok(Meaning::Call(Call::Switch(false))),
+        b"next" => Ok(Meaning::Command(Command::Call(Call::Next))),
+        b"value" => Ok(Meaning::Command(Command::Call(Call::Value))),
+        b"optional" => Ok(Meaning::Command(Command::Call(Call::Optional))),
+        b"on" => Ok(Meaning::Command(Command::Call(Call::Switch(true)))),
+        b"off" => Ok(Meaning::Command(Command::Call(Call::Switch(false)))),
         b"w" => Ok(Meaning::Word(OsString::new(alloc))),
         _ => meaning_with_text(alloc, line),
     }
 }
 
-// The meaning of a line that has a blank, and a text or a number behind it.
+// The meaning of a line that has a blank, and a text, a number or an option behind it.
 fn meaning_with_text(alloc: Global, line: &[u8]) -> Result<Meaning, AllocError>
     ensures { IfOk result (λ m. meaning_view m ≡ meaning_with_text line.now) }
 {
@@ -133,11 +221,56 @@ fn meaning_with_text(alloc: Global, line: &[u8]) -> Result<Meaning, AllocError>
     } else if let Some(digits) = line.strip_prefix(b"try ") {
         number(digits).map(Call::TryRaw)
     } else {
-        None
+        return meaning_with_option(alloc, line);
     };
     match call {
-        Some(call) => Ok(Meaning::Call(call)),
+        Some(call) => Ok(Meaning::Command(Command::Call(call))),
         None => Ok(Meaning::Bad),
+    }
+}
+
+// The meaning of a line that has a blank, and an option of the table behind it.
+fn meaning_with_option(alloc: Global, line: &[u8]) -> Result<Meaning, AllocError>
+    ensures { IfOk result (λ m. meaning_view m ≡ meaning_with_option line.now) }
+{
+    let entry = if let Some(text) = line.strip_prefix(b"t ") {
+        option_named(alloc, text)?.map(Entry::One)
+    } else if let Some(text) = line.strip_prefix(b"topt ") {
+        option_named(alloc, text)?.map(Entry::Optional)
+    } else if let Some(text) = line.strip_prefix(b"tmany ") {
+        option_named(alloc, text)?.map(Entry::Several)
+    } else {
+        None
+    };
+    match entry {
+        Some(entry) => Ok(Meaning::Entry(entry)),
+        None => Ok(Meaning::Bad),
+    }
+}
+
+// The option that a text names: `-` and a character, or `--` and a name.
+fn option_named(alloc: Global, text: &[u8]) -> Result<Option<Name>, AllocError>
+    ensures { IfOk result (λ name. option_map name_view name ≡ option_named text.now) }
+{
+    if let Some(name) = text.strip_prefix(b"--") {
+        return match str::from_utf8(name) {
+            Ok(name) => Ok(Some(Name::Long(String::from_str(alloc, name)?))),
+            Err(_) => Ok(None),
+        };
+    }
+    match text.strip_prefix(b"-") {
+        Some(character) => Ok(one_character(character).map(Name::Short)),
+        None => Ok(None),
+    }
+}
+
+// The character that these bytes encode, if they are one and no more.
+fn one_character(bytes: &[u8]) -> Option<char>
+    ensures { result ≡ one_character bytes.now }
+{
+    match first_codepoint(bytes) {
+        FirstCodepoint::Character(character, size) if size == bytes.len() => Some(character),
+        _ => None,
     }
 }
 

@@ -172,8 +172,8 @@ fn words_of(
     Ok(items)
 }
 
-// One call, and its reply. Where a list of items finds no memory, some were taken.
-fn reply_to(alloc: Global, parser: &mut Parser, call: &Call) -> Result<Reply, AllocError>
+/// Makes one call, and gives its reply. Where a list of items finds no memory, some were taken.
+pub fn reply_to(alloc: Global, parser: &mut Parser, call: &Call) -> Result<Reply, AllocError>
     ensures { (m : ℕ) × (reply : steps.Reply) × Step (up_to m (call_view call.now)) parser.old reply parser.new
         × IfOk result (λ copy. (up_to m (call_view call.now) ≡ call_view call.now) × (reply_view copy ≡ reply)) }
 {

@@ -1,15 +1,14 @@
 //! Calls on a command line, and what they answer.
-ghost use Rattle.std.specs.Prelude.{◌≡◌, IfOk, codes, map, string_bytes};
+ghost use Rattle.std.specs.Prelude.{◌≡◌, codes, string_bytes};
 ghost use Rattle.std.specs.Fmt.{WritesOnOk};
 ghost use Rattle.std.specs.List.{join_by};
 ghost use Rattle.lexopt_spec.specs.Text.{quoted};
 ghost use Rattle.lexopt_spec.specs.Table.{long, positional, short};
-ghost use Rattle.lexopt_spec.specs.Script.{bracketed, item_text, lines_written, name_text, reads_line};
-ghost use Rattle.lexopt_calls.specs.Replies.{call_view, reply_view};
+ghost use Rattle.lexopt_spec.specs.Script.{bracketed, item_text, name_text, reads_line};
+ghost use Rattle.lexopt_calls.specs.Replies.{call_view};
 
 use lexopt_words::message::{write_missing_value, write_no_memory, write_unexpected_value};
 use lexopt_words::os_string::{OsString, Quoted};
-use std::alloc::{AllocError, Global};
 use std::fmt;
 
 /// A call on a command line. A view that it asks for is dropped behind the items that are asked of it.
@@ -159,15 +158,4 @@ pub fn write_word<W: fmt::Write>(word: &OsString, f: &mut fmt::Formatter<W>) -> 
 {
     let word = Quoted::new(word.as_bytes());
     write!(f, "{word}")
-}
-
-/// The lines that are printed for these replies, in order.
-pub fn written(alloc: Global, replies: &[Reply]) -> Result<String, AllocError>
-    ensures { IfOk result (λ text. string_bytes text ≡ lines_written (map reply_view replies.now)) }
-{
-    let mut text = String::new(alloc);
-    for reply in replies {
-        writeln!(text, "{reply}")?;
-    }
-    Ok(text)
 }

@@ -3,6 +3,7 @@ pub mod Fronts
 pub mod PieceSteps
 pub mod LineLemmas
 pub mod ScriptLemmas
+pub mod WrittenLines
 pub mod RunLemmas
 pub mod Exact
 pub mod Lines

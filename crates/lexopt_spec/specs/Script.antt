@@ -1,15 +1,17 @@
 -- Scripts: what they mean, and what is written for them.
 -- The source is `docs/formats.md`. A script is a list of bytes.
-use Rattle.std.specs.Prelude.{ℕ, ◌+◌, ◌*◌, ◌-◌, Bool, true, false, nat_le, ◌==◌, ◌&&◌, ◌||◌, List, [], ◌∷◌, ◌++◌, length, take, drop, Option, Some, None, codes, encode_utf8, if◌then◌else◌}
-use Rattle.std.specs.List.{filter_map, flat_map, join_by, slice_split}
+use Rattle.std.specs.Prelude.{◌≡◌, ◌≢◌, ℕ, ◌+◌, ◌*◌, ◌-◌, Bool, true, false, nat_le, ◌==◌, ◌&&◌, ◌||◌, List, [], ◌∷◌, ◌++◌, length, take, drop, Option, Some, None, option_map, codes, encode_utf8, if◌then◌else◌}
+use Rattle.std.specs.List.{filter_map, join_by, slice_split}
 use Rattle.std.specs.Cmp.Lexicographic.{pointwise}
-use Rattle.std.specs.Str.{all_ascii_digits}
+use Rattle.std.specs.Str.{all_ascii_digits, is_utf8}
 use Rattle.std.specs.Str.Parse.{digits_value}
+use Rattle.lexopt_spec.specs.Pieces.{first_piece}
 use Rattle.lexopt_spec.specs.Runs as calls
 use Rattle.lexopt_spec.specs.Runs.{Call, next, value, values, raw, try_raw, switch}
 use Rattle.lexopt_spec.specs.Steps as steps
 use Rattle.lexopt_spec.specs.Steps.{Reply, end, taken, maybe, items, busy, done, missing, unexpected, no_memory}
-use Rattle.lexopt_spec.specs.Table.{Name, short, long, Item, option, many, positional}
+use Rattle.lexopt_spec.specs.Table.{Name, short, long, Item, option, many, positional, Kind, flag, one, optional, several, Table, one_value}
+use Rattle.lexopt_spec.specs.Readings.{IsReading, start}
 use Rattle.lexopt_spec.specs.Text.{quoted, missing_message, unexpected_value_message, no_memory_message}
 
 abbrev pub newline : ℕ
@@ -65,11 +67,24 @@ abbrev mutual
   behind_x (high ∷ []) = None
   behind_x (high ∷ low ∷ bs) = byte_in_front (hexadecimal high) (hexadecimal low) (unescaped bs)
 
+-- what is done on the words of a script
+pub data Command : Type 0 where
+  -- a call on the parser of them
+  call : Call → Command
+  -- all of them are read by the table, and the parser is left alone
+  whole_line : Command
+
+-- an option joins the table, in the list of this kind
+pub record Entry : Type 0 where
+  pub kind : Kind
+  pub name : Name
+
 -- what a line of a script says
 pub data Meaning : Type 0 where
   nothing : Meaning
   word : List ℕ → Meaning
-  call : Call → Meaning
+  entry : Entry → Meaning
+  command : Command → Meaning
   bad : Meaning
 
 abbrev pub word_or_bad : Option (List ℕ) → Meaning
@@ -82,11 +97,34 @@ number text = if nat_le 1 (length text) && (nat_le (length text) 9 && all_ascii_
 
 abbrev pub counted : (ℕ → Call) → Option ℕ → Meaning
 counted c None = bad
-counted c (Some n) = call (c n)
+counted c (Some n) = command (call (c n))
+
+-- the character that these bytes encode, if they are one and no more
+abbrev pub one_character : List ℕ → Option ℕ
+one_character bytes = if length (first_piece bytes).bytes == length bytes then (first_piece bytes).char else None
 
 -- the line begins with this text
 abbrev pub begins : List ℕ → List ℕ → Bool
 begins text line = pointwise ◌==◌ (take (length text) line) text
+
+-- the option that a text names: `--` and a name in UTF-8, or `-` and one character. A dash behind the dash begins a name
+abbrev pub option_named : List ℕ → Option Name
+option_named text =
+    if begins (codes "--") text then (if is_utf8 (drop 2 text) then Some (long (drop 2 text)) else None)
+    else (if begins (codes "-") text then option_map short (one_character (drop 1 text))
+    else None)
+
+abbrev pub entry_or_bad : Kind → Option Name → Meaning
+entry_or_bad k None = bad
+entry_or_bad k (Some name) = entry (record { kind = k; name = name })
+
+-- `t OPTION`, `topt OPTION` or `tmany OPTION`: one blank, and then the option
+abbrev pub meaning_with_option : List ℕ → Meaning
+meaning_with_option line =
+    if begins (codes "t ") line then entry_or_bad one (option_named (drop 2 line))
+    else (if begins (codes "topt ") line then entry_or_bad optional (option_named (drop 5 line))
+    else (if begins (codes "tmany ") line then entry_or_bad several (option_named (drop 6 line))
+    else bad))
 
 -- `w TEXT`, `values N`, `raw N` or `try N`: one blank, and then the text or the number
 abbrev pub meaning_with_text : List ℕ → Meaning
@@ -95,18 +133,21 @@ meaning_with_text line =
     else (if begins (codes "values ") line then counted values (number (drop 7 line))
     else (if begins (codes "raw ") line then counted raw (number (drop 4 line))
     else (if begins (codes "try ") line then counted try_raw (number (drop 4 line))
-    else bad)))
+    else meaning_with_option line)))
 
-abbrev pub meaning : List ℕ → Meaning
-meaning line =
+abbrev pub meaning_of_call_or_word : List ℕ → Meaning
+meaning_of_call_or_word line =
     if pointwise ◌==◌ line [] then nothing
-    else (if pointwise ◌==◌ line (codes "next") then call next
-    else (if pointwise ◌==◌ line (codes "value") then call value
-    else (if pointwise ◌==◌ line (codes "optional") then call calls.optional
-    else (if pointwise ◌==◌ line (codes "on") then call (switch true)
-    else (if pointwise ◌==◌ line (codes "off") then call (switch false)
+    else (if pointwise ◌==◌ line (codes "next") then command (call next)
+    else (if pointwise ◌==◌ line (codes "value") then command (call value)
+    else (if pointwise ◌==◌ line (codes "optional") then command (call calls.optional)
+    else (if pointwise ◌==◌ line (codes "on") then command (call (switch true))
+    else (if pointwise ◌==◌ line (codes "off") then command (call (switch false))
     else (if pointwise ◌==◌ line (codes "w") then word []
     else meaning_with_text line))))))
+
+abbrev pub meaning : List ℕ → Meaning
+meaning line = if pointwise ◌==◌ line (codes "items") then command whole_line else meaning_of_call_or_word line
 
 -- ---- a script
 
@@ -119,48 +160,80 @@ abbrev pub reads_line : Call → Bool
 reads_line (switch on) = false
 reads_line c = true
 
-abbrev pub is_call : Meaning → Bool
-is_call nothing = false
-is_call (word bytes) = false
-is_call (call c) = reads_line c
-is_call bad = false
+-- the words are read: words and options stand before such a command
+abbrev pub reads_words : Command → Bool
+reads_words (call c) = reads_line c
+reads_words whole_line = true
 
--- a word may not stand behind a call that reads the line
+abbrev pub is_reading : Meaning → Bool
+is_reading nothing = false
+is_reading (word bytes) = false
+is_reading (entry e) = false
+is_reading (command c) = reads_words c
+is_reading bad = false
+
+-- a word or an option may not stand behind a command that reads the words
 abbrev pub is_bad : Bool → Meaning → Bool
 is_bad called nothing = false
 is_bad called (word bytes) = called
-is_bad called (call c) = false
+is_bad called (entry e) = called
+is_bad called (command c) = false
 is_bad called bad = true
 
--- the number of the first bad line among these, the first of which has the number n; such a call stands before them where called is true
+-- the number of the first bad line among these, the first of which has the number n; such a command stands before them where called is true
 abbrev pub first_bad : ℕ → Bool → List (List ℕ) → Option ℕ
 first_bad n called [] = None
 first_bad n called (line ∷ lines) =
     if is_bad called (meaning line) then Some n
-    else first_bad (n + 1) (called || is_call (meaning line)) lines
+    else first_bad (n + 1) (called || is_reading (meaning line)) lines
 
 -- the number of the first bad line of a script: lines count from 1
 abbrev pub bad_line : List ℕ → Option ℕ
 bad_line script = first_bad 1 false (lines_of script)
 
 abbrev pub word_of : Meaning → Option (List ℕ)
-word_of nothing = None
 word_of (word bytes) = Some bytes
-word_of (call c) = None
-word_of bad = None
+word_of m = None
 
-abbrev pub call_of : Meaning → Option Call
-call_of nothing = None
-call_of (word bytes) = None
+abbrev pub entry_of : Meaning → Option Entry
+entry_of (entry e) = Some e
+entry_of m = None
+
+abbrev pub command_of : Meaning → Option Command
+command_of (command c) = Some c
+command_of m = None
+
+abbrev pub call_of : Command → Option Call
 call_of (call c) = Some c
-call_of bad = None
+call_of whole_line = None
 
--- the words of a script, and its calls, each in order
+-- the words of a script, its commands, and the calls among them, each in order
 abbrev pub words_of : List ℕ → List (List ℕ)
 words_of script = filter_map (λ line. word_of (meaning line)) (lines_of script)
 
+abbrev pub commands_of : List ℕ → List Command
+commands_of script = filter_map (λ line. command_of (meaning line)) (lines_of script)
+
 abbrev pub calls_of : List ℕ → List Call
-calls_of script = filter_map (λ line. call_of (meaning line)) (lines_of script)
+calls_of script = filter_map call_of (commands_of script)
+
+-- the table with one option more
+abbrev pub joined_to : Table → Kind → Name → Table
+joined_to t flag name = t
+joined_to t one (short c) = record t { shorts = t.shorts ++ c ∷ [] }
+joined_to t one (long name) = record t { longs = t.longs ++ name ∷ [] }
+joined_to t optional (short c) = record t { optional_shorts = t.optional_shorts ++ c ∷ [] }
+joined_to t optional (long name) = record t { optional_longs = t.optional_longs ++ name ∷ [] }
+joined_to t several (short c) = record t { several_shorts = t.several_shorts ++ c ∷ [] }
+joined_to t several (long name) = record t { several_longs = t.several_longs ++ name ∷ [] }
+
+abbrev pub table_with : Table → List Entry → Table
+table_with t [] = t
+table_with t (e ∷ entries) = table_with (joined_to t e.kind e.name) entries
+
+-- the table of a script
+abbrev pub table_of : List ℕ → Table
+table_of script = table_with (one_value [] []) (filter_map (λ line. entry_of (meaning line)) (lines_of script))
 
 -- ---- what is written
 
@@ -199,6 +272,27 @@ item_text (option name found) = name_text name ++ value_text found
 item_text (many name all) = name_text name ++ (codes " = " ++ bracketed quoted all)
 item_text (positional bytes) = codes "Value " ++ quoted bytes
 
--- a line for each reply, in order
-abbrev pub lines_written : List Reply → List ℕ
-lines_written replies = flat_map (λ reply. reply_text reply ++ newline ∷ []) replies
+abbrev pub line_of : List ℕ → List ℕ
+line_of text = text ++ newline ∷ []
+
+-- what may be written for the whole line of these words, read by the table: its items, or its error
+pub data WholeLineText (t : Table) (on : Bool) (words : List (List ℕ)) (text : List ℕ) : Type 0 where
+  items_read : (l : List Item) → IsReading t (start on words) end l → text ≡ bracketed item_text l → WholeLineText t on words text
+  line_refused : (final : Reply) (l : List Item) → IsReading t (start on words) final l → final ≢ end → text ≡ reply_text final
+      → WholeLineText t on words text
+  memory_refused : text ≡ reply_text no_memory → WholeLineText t on words text
+
+-- the switch behind a call
+abbrev pub switched : Bool → Call → Bool
+switched on (switch now) = now
+switched on c = on
+
+-- a line for each command, in order: that of the reply to a call, or that of the whole line under the switch as last set
+abbrev pub Written : Table → List (List ℕ) → Bool → List Command → List Reply → List ℕ → Type 0
+Written t words on [] [] text = text ≡ []
+Written t words on [] (reply ∷ replies) text = ⊥
+Written t words on (call c ∷ commands) [] text = ⊥
+Written t words on (call c ∷ commands) (reply ∷ replies) text =
+    (more : List ℕ) × Written t words (switched on c) commands replies more × (text ≡ line_of (reply_text reply) ++ more)
+Written t words on (whole_line ∷ commands) replies text =
+    (line : List ℕ) × (more : List ℕ) × WholeLineText t on words line × Written t words on commands replies more × (text ≡ line_of line ++ more)

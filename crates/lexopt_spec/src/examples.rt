@@ -1,11 +1,13 @@
 //! Worked examples, computed by the definitions themselves: each clause is one example.
 ghost use Rattle.std.specs.Prelude.{◌≡◌, ◌++◌, [], ◌∷◌, true, false, Some, None, codes};
+ghost use Rattle.std.specs.List.{flat_map};
 ghost use Rattle.lexopt_spec.specs.Pieces.{first_piece, lossy, lossy_characters};
 ghost use Rattle.lexopt_spec.specs.UnreadLine.{fresh, invoked, joined, long_option, no_option, no_tail, pending, pending_in, rest, rest_of, short_option, spelling};
 ghost use Rattle.lexopt_spec.specs.Steps.{busy, done, end, items, long, maybe, missing, no_memory, positional, short, taken, unexpected};
 ghost use Rattle.lexopt_spec.specs.Runs.{next, optional, switch, value};
 ghost use Rattle.lexopt_spec.specs.Text.{missing_message, non_unicode_message, parsing_failed_message, quoted, unexpected_argument_message, unexpected_option_message, unexpected_value_message};
-ghost use Rattle.lexopt_spec.specs.Script.{bad_line, calls_of, lines_written, unescaped, words_of};
+ghost use Rattle.lexopt_spec.specs.Table as table;
+ghost use Rattle.lexopt_spec.specs.Script.{bad_line, bracketed, call, calls_of, commands_of, item_text, line_of, reply_text, table_of, unescaped, whole_line, words_of};
 
 use crate::laws::{
     calls_cut_short_are_a_part, clusters_are_read_by_pieces, each_call_has_one_answer,
@@ -47,6 +49,9 @@ fn definitions_compute_the_worked_examples() {
     texts_are_unescaped();
     scripts_have_bad_lines();
     a_script_has_words_and_calls();
+    lines_name_options();
+    a_script_has_a_table_and_commands();
+    items_are_written();
     replies_are_written();
     more_replies_are_written();
 }
@@ -150,16 +155,51 @@ fn a_script_has_words_and_calls()
 {}
 
 #[tactic(auto, unfolding(crate::proofs::Computing::computing))]
+fn lines_name_options()
+    ensures two_characters { bad_line (codes "t --a\nt -ab") ≡ Some 2 }
+    ensures no_character { bad_line (codes "t -") ≡ Some 1 }
+    ensures no_option { bad_line (codes "t a") ≡ Some 1 }
+    ensures no_text { bad_line (codes "t") ≡ Some 1 }
+    ensures damaged_character { bad_line (codes "t -" ++ 0xC2 ∷ []) ≡ Some 1 }
+    ensures damaged_name { bad_line (codes "t --" ++ 0xFF ∷ []) ≡ Some 1 }
+    ensures empty_name { bad_line (codes "t --") ≡ None }
+    ensures two_bytes { bad_line (codes "topt -" ++ 0xC2 ∷ 0xB5 ∷ []) ≡ None }
+    ensures behind_items { bad_line (codes "items\nt -a") ≡ Some 2 }
+    ensures behind_the_whole_line { bad_line (codes "items\nw a") ≡ Some 2 }
+    ensures behind_a_call { bad_line (codes "tmany -a\nnext\ntmany -b") ≡ Some 3 }
+    ensures behind_a_switch { bad_line (codes "off\nt -a\nitems\non\nitems") ≡ None }
+{}
+
+#[tactic(auto, unfolding(crate::proofs::Computing::computing))]
+fn a_script_has_a_table_and_commands()
+    ensures table { table_of (codes "t -o\ntopt --color\nt -v\ntmany -d\nt --\ntopt -i\ntmany --cmd\nitems")
+        ≡ record { shorts = 0x6F ∷ 0x76 ∷ []; longs = [] ∷ []; optional_shorts = 0x69 ∷ []; optional_longs = codes "color" ∷ [];
+            several_shorts = 0x64 ∷ []; several_longs = codes "cmd" ∷ [] } }
+    ensures commands { commands_of (codes "w a\nitems\noff\nitems\nnext") ≡ whole_line ∷ call (switch false) ∷ whole_line ∷ call next ∷ [] }
+    ensures calls { calls_of (codes "w a\nitems\noff\nitems\nnext") ≡ switch false ∷ next ∷ [] }
+{}
+
+#[tactic(auto, unfolding(crate::proofs::Computing::computing))]
+fn items_are_written()
+    ensures none { bracketed item_text [] ≡ codes "[]" }
+    ensures values { bracketed item_text (table.option (table.short 0x76) None ∷ table.option (table.short 0x6F) (Some (codes "x"))
+        ∷ table.option (table.long (codes "out")) (Some (codes "y")) ∷ table.positional (codes "-z") ∷ [])
+        ≡ codes "[Short \"v\", Short \"o\" = \"x\", Long \"out\" = \"y\", Value \"-z\"]" }
+    ensures several { bracketed item_text (table.many (table.short 0x64) (codes "1" ∷ codes "2" ∷ []) ∷ table.many (table.long (codes "cmd")) (codes "a" ∷ []) ∷ [])
+        ≡ codes "[Short \"d\" = [\"1\", \"2\"], Long \"cmd\" = [\"a\"]]" }
+{}
+
+#[tactic(auto, unfolding(crate::proofs::Computing::computing))]
 fn replies_are_written()
-    ensures first_script { lines_written (long (codes "out") ∷ taken (codes "x") ∷ positional (codes "file") ∷ positional (codes "-y") ∷ end ∷ [])
+    ensures first_script { flat_map (λ r. line_of (reply_text r)) (long (codes "out") ∷ taken (codes "x") ∷ positional (codes "file") ∷ positional (codes "-y") ∷ end ∷ [])
         ≡ codes "Long \"out\"\n\"x\"\nValue \"file\"\nValue \"-y\"\nNone\n" }
-    ensures errors { lines_written (missing None ∷ unexpected (codes "-a") (codes "b") ∷ no_memory ∷ [])
+    ensures errors { flat_map (λ r. line_of (reply_text r)) (missing None ∷ unexpected (codes "-a") (codes "b") ∷ no_memory ∷ [])
         ≡ codes "error: missing argument\nerror: unexpected argument for option '-a': \"b\"\nerror: out of memory\n" }
-    ensures short { lines_written (short 0x61 ∷ []) ≡ codes "Short \"a\"\n" }
+    ensures short { flat_map (λ r. line_of (reply_text r)) (short 0x61 ∷ []) ≡ codes "Short \"a\"\n" }
 {}
 
 #[tactic(auto, unfolding(crate::proofs::Computing::computing))]
 fn more_replies_are_written()
-    ensures views { lines_written (items [] ∷ items (codes "a" ∷ codes "b c" ∷ []) ∷ maybe None ∷ maybe (Some (codes "x")) ∷ busy ∷ done ∷ [])
+    ensures views { flat_map (λ r. line_of (reply_text r)) (items [] ∷ items (codes "a" ∷ codes "b c" ∷ []) ∷ maybe None ∷ maybe (Some (codes "x")) ∷ busy ∷ done ∷ [])
         ≡ codes "[]\n[\"a\", \"b c\"]\nNone\n\"x\"\nNone\nok\n" }
 {}
