@@ -173,8 +173,14 @@ fn lines_name_options()
 #[tactic(auto, unfolding(crate::proofs::Computing::computing))]
 fn a_script_has_a_table_and_commands()
     ensures table { table_of (codes "t -o\ntopt --color\nt -v\ntmany -d\nt --\ntopt -i\ntmany --cmd\nitems")
-        ≡ record { shorts = 0x6F ∷ 0x76 ∷ []; longs = [] ∷ []; optional_shorts = 0x69 ∷ []; optional_longs = codes "color" ∷ [];
-            several_shorts = 0x64 ∷ []; several_longs = codes "cmd" ∷ [] } }
+        ≡ record {
+          shorts = 0x6F ∷ 0x76 ∷ [];
+          longs = [] ∷ [];
+          optional_shorts = 0x69 ∷ [];
+          optional_longs = codes "color" ∷ [];
+          several_shorts = 0x64 ∷ [];
+          several_longs = codes "cmd" ∷ [];
+        } }
     ensures commands { commands_of (codes "w a\nitems\noff\nitems\nnext") ≡ whole_line ∷ call (switch false) ∷ whole_line ∷ call next ∷ [] }
     ensures calls { calls_of (codes "w a\nitems\noff\nitems\nnext") ≡ switch false ∷ next ∷ [] }
 {}
