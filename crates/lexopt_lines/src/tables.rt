@@ -1,0 +1,167 @@
+//! The tables that the lists are read by.
+use lexopt::items::Table;
+use std::alloc::{AllocError, Global};
+
+/// In which lists of a table some options stand.
+#[derive(Clone, Copy)]
+pub struct Lists {
+    name: &'static str,
+    one: bool,
+    optional: bool,
+    several: bool,
+}
+
+/// Options stand in one list, or in none.
+pub const KINDS: [Lists; 4] = [
+    Lists {
+        name: "none",
+        one: false,
+        optional: false,
+        several: false,
+    },
+    Lists {
+        name: "one",
+        one: true,
+        optional: false,
+        several: false,
+    },
+    Lists {
+        name: "optional",
+        one: false,
+        optional: true,
+        several: false,
+    },
+    Lists {
+        name: "several",
+        one: false,
+        optional: false,
+        several: true,
+    },
+];
+
+/// Options stand in lists of two or three kinds.
+pub const OVERLAPS: [Lists; 4] = [
+    Lists {
+        name: "one and optional",
+        one: true,
+        optional: true,
+        several: false,
+    },
+    Lists {
+        name: "one and several",
+        one: true,
+        optional: false,
+        several: true,
+    },
+    Lists {
+        name: "optional and several",
+        one: false,
+        optional: true,
+        several: true,
+    },
+    Lists {
+        name: "all",
+        one: true,
+        optional: true,
+        several: true,
+    },
+];
+
+// Options, short and long.
+#[derive(Clone, Copy)]
+struct Options {
+    shorts: &'static str,
+    longs: &'static [&'static str],
+}
+
+const LETTER: Options = Options {
+    shorts: "a",
+    longs: &["a"],
+};
+
+const DAMAGE: Options = Options {
+    shorts: "\u{FFFD}",
+    longs: &["\u{FFFD}"],
+};
+
+const MARKS: Options = Options {
+    shorts: "-=",
+    longs: &["", "-"],
+};
+
+/// A table: in which lists the letter, the character of damage, and the marks stand.
+#[derive(Clone, Copy)]
+pub struct Choice {
+    pub letter: Lists,
+    pub damage: Lists,
+    pub marks: Lists,
+}
+
+fn add_to(
+    alloc: Global,
+    options: Options,
+    shorts: &mut Vec<char>,
+    longs: &mut Vec<String>,
+) -> Result<(), AllocError> {
+    for option in options.shorts.chars() {
+        shorts.push(option)?;
+    }
+    for name in options.longs {
+        longs.push(String::from_str(alloc, name)?)?;
+    }
+    Ok(())
+}
+
+impl Lists {
+    // Adds these options to these lists of the table.
+    fn add(self, alloc: Global, options: Options, table: &mut Table) -> Result<(), AllocError> {
+        if self.one {
+            add_to(alloc, options, &mut table.shorts, &mut table.longs)?;
+        }
+        if self.optional {
+            add_to(
+                alloc,
+                options,
+                &mut table.optional_shorts,
+                &mut table.optional_longs,
+            )?;
+        }
+        if self.several {
+            add_to(
+                alloc,
+                options,
+                &mut table.several_shorts,
+                &mut table.several_longs,
+            )?;
+        }
+        Ok(())
+    }
+}
+
+impl Choice {
+    /// All options stand in the same lists.
+    pub fn same(lists: Lists) -> Choice {
+        Choice {
+            letter: lists,
+            damage: lists,
+            marks: lists,
+        }
+    }
+
+    /// The table itself.
+    pub fn table(self, alloc: Global) -> Result<Table, AllocError> {
+        let mut table = Table::new(alloc);
+        self.letter.add(alloc, LETTER, &mut table)?;
+        self.damage.add(alloc, DAMAGE, &mut table)?;
+        self.marks.add(alloc, MARKS, &mut table)?;
+        Ok(table)
+    }
+
+    /// What is printed of it.
+    pub fn name(self, alloc: Global) -> Result<String, AllocError> {
+        let letter = self.letter.name;
+        let damage = self.damage.name;
+        let marks = self.marks.name;
+        format!(in alloc; "a in {letter}, U+FFFD in {damage}, marks in {marks}")
+    }
+}
