@@ -69,6 +69,11 @@ class Workload:
     times: int = 2  # over how many reads the cost of one is counted
     is_timed: bool = False  # whether its time is taken too
 
+    @property
+    def works(self):
+        """The calls that are counted. What `next` reads is read by a table of options too."""
+        return ["next", "items"] if self.work == "next" else [self.work]
+
 
 WORKLOADS = [
     Workload("a line of {size} words, as people type them", 12, repeated(A_LINE), times=100),
@@ -93,6 +98,8 @@ WORKLOADS = [
     Workload("{size} words taken unread", 10_000, repeated(A_LINE), work="raw"),
     Workload("{size} numbers parsed", 10_000, repeated([b"10", b"4096", b"65535", b"1000000007"]), work="parse"),
     Workload("no words", 0, repeated([b""]), times=100),
+    Workload("{size} words `-ovalue`", 10_000, repeated([b"-ovalue"]), work="items"),
+    Workload("`-x` and {size} values", 10_000, behind(b"-x", [b"value"]), work="items"),
 ]
 
 

@@ -1,14 +1,19 @@
 //! Reads words many times, so that the cost of a read can be measured. `crates/lexopt_bench/src/main.rt` does the same with
 //! this repository's port, and says what the arguments and standard input are.
 
+mod items;
 mod seen;
 
+use items::{Table, read_items};
 use lexopt::{Arg, Error, Parser, ValueExt};
 use seen::Seen;
 use std::env;
 use std::ffi::{OsStr, OsString};
 use std::io::{self, Read};
 use std::os::unix::ffi::OsStrExt;
+
+// What a damaged name of the workloads is read as, which has a value there.
+const DAMAGED_NAME: &str = "\u{fffd}\u{fffd}\u{fffd}size";
 
 // What is done with the copies of the words.
 #[derive(Clone, Copy)]
@@ -18,6 +23,7 @@ enum Work {
     Values,
     Raw,
     Parse,
+    Items,
 }
 
 impl Work {
@@ -28,6 +34,7 @@ impl Work {
             "values" => Some(Work::Values),
             "raw" => Some(Work::Raw),
             "parse" => Some(Work::Parse),
+            "items" => Some(Work::Items),
             _ => None,
         }
     }
@@ -105,12 +112,33 @@ fn read_line(parser: &mut Parser, several: bool, seen: &mut Seen) -> Result<(), 
     }
 }
 
+// The table that `read_items` reads by: one option of one character and one with a name for each number of values.
+fn options() -> Table {
+    Table {
+        shorts: vec!['n'],
+        longs: vec!["name".to_owned()],
+        optional_shorts: vec!['o'],
+        optional_longs: vec![DAMAGED_NAME.to_owned()],
+        several_shorts: vec!['x'],
+        several_longs: vec!["exec".to_owned()],
+    }
+}
+
+// Reads the whole line by the table.
+fn read_by_table(words: Vec<OsString>, table: &Table, seen: &mut Seen) -> Result<(), Error> {
+    match read_items(words, true, table) {
+        Ok(items) => seen.items(&items),
+        Err(error) => return seen.error(error),
+    }
+    Ok(())
+}
+
 fn main() -> Result<(), Box<dyn std::error::Error>> {
     let mut args = env::args();
     let (Some(_program), Some(work), Some(times)) = (args.next(), args.next(), args.next()) else {
-        return Err("usage: bench copy|next|values|raw|parse TIMES".into());
+        return Err("usage: bench copy|next|values|raw|parse|items TIMES".into());
     };
-    let work = Work::of_name(&work).ok_or("the work is copy, next, values, raw or parse")?;
+    let work = Work::of_name(&work).ok_or("the work is copy, next, values, raw, parse or items")?;
     let times = times.parse::<u64>()?;
 
     let mut input = Vec::new();
@@ -118,6 +146,7 @@ fn main() -> Result<(), Box<dyn std::error::Error>> {
     let mut words: Vec<&[u8]> = input.split(|byte| *byte == 0).collect();
     let _behind_the_last = words.pop();
 
+    let table = options();
     let mut seen = Seen::new();
     for _ in 0..times {
         let copied = copies(&words);
@@ -136,6 +165,7 @@ fn main() -> Result<(), Box<dyn std::error::Error>> {
                 read_raw(&mut parser, &mut seen)?;
             }
             Work::Parse => read_numbers(&copied, &mut seen)?,
+            Work::Items => read_by_table(copied, &table, &mut seen)?,
         }
         seen.stop_hashing();
     }

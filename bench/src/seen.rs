@@ -1,4 +1,5 @@
 //! What the reads saw: counts, and a hash of the first read, since one of every read would cost more than what is measured.
+use crate::items::Item;
 use lexopt::Error;
 use std::ffi::OsString;
 use std::fmt;
@@ -64,6 +65,45 @@ impl Seen {
     pub fn positional(&mut self, word: &[u8]) {
         self.positionals = self.positionals.wrapping_add(1);
         self.text(b'p', word);
+    }
+
+    pub fn items(&mut self, items: &[Item]) {
+        for item in items {
+            match item {
+                Item::Short(option, value) => {
+                    self.short(*option);
+                    self.one(value);
+                }
+                Item::Long(name, value) => {
+                    self.long(name);
+                    self.one(value);
+                }
+                Item::ShortMany(option, values) => {
+                    self.short(*option);
+                    self.several(values);
+                }
+                Item::LongMany(name, values) => {
+                    self.long(name);
+                    self.several(values);
+                }
+                Item::Positional(word) => self.positional(word.as_bytes()),
+            }
+        }
+    }
+
+    // The value of an option, if it has one.
+    fn one(&mut self, value: &Option<OsString>) {
+        if let Some(value) = value {
+            self.value(value.as_bytes());
+        }
+    }
+
+    // The values of an option that has several.
+    fn several(&mut self, values: &[OsString]) {
+        self.text(b'c', &(values.len() as u64).to_le_bytes());
+        for value in values {
+            self.value(value.as_bytes());
+        }
     }
 
     /// After an error of the command line reading goes on; another is handed back.

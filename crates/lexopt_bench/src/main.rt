@@ -1,19 +1,23 @@
 //! Reads words many times, so that the cost of a read can be measured. `bench/src/main.rs` does the same with the Rust crate.
 //!
-//! Arguments are `copy`, `next`, `values`, `raw` or `parse`, and how many times. Standard input has the words, each ended by a NUL.
-//! Each time the words are copied; under `copy` that is all. Under `next` and `values` the copies are read as a command line,
-//! and `-n` takes one value or several; under `raw` they are taken unread. Under `parse` each copy is parsed as a number, and no
-//! line is read. Last it prints what was seen.
+//! Arguments are `copy`, `next`, `values`, `raw`, `parse` or `items`, and how many times. Standard input has the words, each
+//! ended by a NUL. Each time the words are copied; under `copy` that is all. Under `next` and `values` the copies are read as a
+//! command line, and `-n` takes one value or several; under `raw` they are taken unread; under `items` they are read by a table
+//! of options. Under `parse` each copy is parsed as a number, and no line is read. Last it prints what was seen.
 #![tactic(auto)]
 
 mod seen;
 
 use anyhow::{Context, Result, bail};
+use lexopt::items::{Table, read_items};
 use lexopt::{Arg, Error, OsString, Parser, ValueExt};
 use seen::Seen;
 use std::alloc::{AllocError, Global};
 use std::env;
 use std::io::Read;
+
+// What a damaged name of the workloads is read as, which has a value there.
+const DAMAGED_NAME: &str = "\u{fffd}\u{fffd}\u{fffd}size";
 
 // What is done with the copies of the words.
 #[derive(Clone, Copy)]
@@ -23,6 +27,7 @@ enum Work {
     Values,
     Raw,
     Parse,
+    Items,
 }
 
 impl Work {
@@ -33,6 +38,7 @@ impl Work {
             "values" => Some(Work::Values),
             "raw" => Some(Work::Raw),
             "parse" => Some(Work::Parse),
+            "items" => Some(Work::Items),
             _ => None,
         }
     }
@@ -111,13 +117,39 @@ fn read_line(parser: &mut Parser, several: bool, seen: &mut Seen) -> Result<(), 
     Ok(())
 }
 
+// The table that `read_items` reads by: one option of one character and one with a name for each number of values.
+fn options(alloc: Global) -> Result<Table, AllocError> {
+    Ok(Table {
+        shorts: vec![in alloc; 'n']?,
+        longs: vec![in alloc; String::from_str(alloc, "name")?]?,
+        optional_shorts: vec![in alloc; 'o']?,
+        optional_longs: vec![in alloc; String::from_str(alloc, DAMAGED_NAME)?]?,
+        several_shorts: vec![in alloc; 'x']?,
+        several_longs: vec![in alloc; String::from_str(alloc, "exec")?]?,
+    })
+}
+
+// Reads the whole line by the table.
+fn read_by_table(
+    alloc: Global,
+    words: Vec<OsString>,
+    table: &Table,
+    seen: &mut Seen,
+) -> Result<(), Error> {
+    match read_items(alloc, words, true, table) {
+        Ok(items) => seen.items(&items),
+        Err(error) => return seen.error(error),
+    }
+    Ok(())
+}
+
 fn main(rt: HostRuntime) -> Result<()> {
     let alloc = rt.alloc();
     let mut args = env::args(&rt)?;
     let (Some(_program), Some(work), Some(times)) = (args.next(), args.next(), args.next()) else {
-        bail!("usage: lexopt_bench copy|next|values|raw|parse TIMES");
+        bail!("usage: lexopt_bench copy|next|values|raw|parse|items TIMES");
     };
-    let work = Work::of_name(&work).context("the work is copy, next, values, raw or parse")?;
+    let work = Work::of_name(&work).context("the work is copy, next, values, raw, parse or items")?;
     let times = times.parse::<u64>().context("how many times")?;
 
     let mut input = Vec::new(alloc);
@@ -125,6 +157,7 @@ fn main(rt: HostRuntime) -> Result<()> {
     let mut words: Vec<&[u8]> = input.split(|byte| *byte == 0).collect(alloc)?;
     let _behind_the_last = words.pop();
 
+    let table = options(alloc)?;
     let mut seen = Seen::new();
     for _ in 0..times {
         let copied = copies(alloc, &words)?;
@@ -143,6 +176,7 @@ fn main(rt: HostRuntime) -> Result<()> {
                 read_raw(&mut parser, &mut seen)?;
             }
             Work::Parse => read_numbers(&copied, &mut seen)?,
+            Work::Items => read_by_table(alloc, copied, &table, &mut seen)?,
         }
         seen.stop_hashing();
     }

@@ -1,0 +1,78 @@
+//! A whole line, read by a table of options: over the Rust crate what `lexopt::items` of this repository does.
+
+use lexopt::{Arg, Error, Parser};
+use std::ffi::OsString;
+
+/// The options that have values, by how many they have; any other option has none. Names stand without their dashes.
+pub struct Table {
+    /// Options of one character with one value, always.
+    pub shorts: Vec<char>,
+    /// Options with a name and one value, always.
+    pub longs: Vec<String>,
+    /// Options of one character with a value that may be left out.
+    pub optional_shorts: Vec<char>,
+    /// Options with a name and a value that may be left out.
+    pub optional_longs: Vec<String>,
+    /// Options of one character with several values, one at least.
+    pub several_shorts: Vec<char>,
+    /// Options with a name and several values, one at least.
+    pub several_longs: Vec<String>,
+}
+
+/// What a line says, in order.
+pub enum Item {
+    Short(char, Option<OsString>),
+    Long(String, Option<OsString>),
+    ShortMany(char, Vec<OsString>),
+    LongMany(String, Vec<OsString>),
+    Positional(OsString),
+}
+
+/// Reads a whole line by a table: behind each option of the table its values are read, and any other option has none.
+pub fn read_items(
+    words: Vec<OsString>,
+    short_equals: bool,
+    table: &Table,
+) -> Result<Vec<Item>, Error> {
+    let mut parser = Parser::from_args(words);
+    parser.set_short_equals(short_equals);
+    let mut items = Vec::new();
+    while let Some(argument) = parser.next()? {
+        let item = match argument {
+            Arg::Short(option) => read_short(&mut parser, option, table)?,
+            Arg::Long(name) => {
+                let name = name.to_owned();
+                read_long(&mut parser, name, table)?
+            }
+            Arg::Value(word) => Item::Positional(word),
+        };
+        items.push(item);
+    }
+    Ok(items)
+}
+
+// The values of an option of one character.
+fn read_short(parser: &mut Parser, option: char, table: &Table) -> Result<Item, Error> {
+    if table.shorts.contains(&option) {
+        Ok(Item::Short(option, Some(parser.value()?)))
+    } else if table.optional_shorts.contains(&option) {
+        Ok(Item::Short(option, parser.optional_value()))
+    } else if table.several_shorts.contains(&option) {
+        Ok(Item::ShortMany(option, parser.values()?.collect()))
+    } else {
+        Ok(Item::Short(option, None))
+    }
+}
+
+// The values of an option with a name.
+fn read_long(parser: &mut Parser, name: String, table: &Table) -> Result<Item, Error> {
+    if table.longs.contains(&name) {
+        Ok(Item::Long(name, Some(parser.value()?)))
+    } else if table.optional_longs.contains(&name) {
+        Ok(Item::Long(name, parser.optional_value()))
+    } else if table.several_longs.contains(&name) {
+        Ok(Item::LongMany(name, parser.values()?.collect()))
+    } else {
+        Ok(Item::Long(name, None))
+    }
+}
