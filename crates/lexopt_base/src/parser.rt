@@ -164,6 +164,7 @@ impl Parser {
     /// Errors: `UnexpectedValue` where a value is joined by `=` to the last option and was not taken; it is consumed.
     /// `OutOfMemory` only in place of a long option or of that error; nothing is consumed. Reading can go on after an
     /// error.
+    #[inline(always)]
     pub fn next(&mut self) -> Result<Option<Arg<'_>>, Error>
         ensures* after { sem 𝓛 (EndsAfter self.entry result) }
         ensures reply { CanReply self.old (next_reply result) }
@@ -178,6 +179,7 @@ impl Parser {
     ///
     /// Errors: `MissingValue` where no word is left; `OutOfMemory` only in its place, where it names an option. Neither
     /// consumes anything.
+    #[inline(always)]
     pub fn value(&mut self) -> Result<OsString, Error>
         ensures { Gives Value self.old (value_reply result) self.new }
     {

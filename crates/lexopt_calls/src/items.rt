@@ -218,6 +218,7 @@ fn all_values(alloc: Global, parser: &mut Parser) -> Result<Vec<OsString>, Error
 }
 
 // The values of the last option, which is of this kind.
+#[inline(always)]
 fn read_values(alloc: Global, parser: &mut Parser, kind: Kind) -> Result<Values, Error>
     ensures ok { IfOk result (λ values. ReadsValues kind parser.old values parser.new) }
     ensures err { IfErr result (λ e. RefusesValues kind parser.old e) }
@@ -231,6 +232,7 @@ fn read_values(alloc: Global, parser: &mut Parser, kind: Kind) -> Result<Values,
 }
 
 // The next item of a line, and none at its end.
+#[inline(always)]
 fn read_item(alloc: Global, parser: &mut Parser, table: &Table) -> Result<Option<Item>, Error>
     ensures ok { IfOk result (λ item. ReadsItem (table_view table.now) parser.old (option_map item_view item) parser.new) }
     ensures err { IfErr result (λ e. IsRefused (table_view table.now) parser.old e) }

@@ -20,6 +20,7 @@ use lexopt_words::os_string::{OsStr, OsString};
 use std::alloc::{AllocError, Global};
 
 // Copies a reply of `next` out of the parser. It is none where no parser answers so.
+#[inline(always)]
 fn copied(alloc: Global, reply: Result<Option<Arg<'_>>, Error>) -> Result<Option<Reply>, AllocError>
     ensures { IfOk result (λ copy. option_map reply_view copy ≡ next_reply reply.entry) }
 {
@@ -49,6 +50,7 @@ fn refusal(error: Error) -> Option<Reply>
 }
 
 // One call of `next`.
+#[inline(always)]
 pub(crate) fn call_next(alloc: Global, parser: &mut Parser) -> Result<Option<Reply>, AllocError>
     ensures { (reply : Option steps.Reply) × Gives Next parser.old reply parser.new
         × IfOk result (λ copy. option_map reply_view copy ≡ reply) }
