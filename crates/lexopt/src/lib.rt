@@ -1,7 +1,8 @@
 //! A lexer for command lines of any bytes.
 //!
 //! `Parser::next` reads the next option or positional argument, and `Parser::value` takes a value for the option just
-//! read. There is no table of options: a program asks, and decides.
+//! read. No table of options is needed: a program asks, and decides. `items::read_items`
+//! reads a whole line by a table.
 #![tactic(auto)]
 
 pub use lexopt_base::parser::Parser;

@@ -139,7 +139,8 @@ fn output(alloc: Global, script: &[u8]) -> Result<String, RunError>
 /// line `t --out` before them, `items` writes `[Long "out" = "x", Value "file"]`.
 ///
 /// Errors: `TooLong` where more bytes were read than a script may have, `BadLine` with the number of the first bad line,
-/// `ReadFailed`, `NoMemory` where a growth outside the calls was refused. Nothing was written then. `WriteFailed`: some of
+/// `ReadFailed`, `NoMemory` where a growth outside the calls of the parser
+/// and outside `read_items` was refused. Nothing was written then. `WriteFailed`: some of
 /// the output may have gone out.
 pub fn run<R: Read, W: Write>(alloc: Global, reader: &mut R, writer: &mut W) -> Result<(), RunError>
     ensures ok { OnOk result ((script text : List ℕ)

@@ -42,7 +42,8 @@ pub struct Table {
     pub optional_shorts: Vec<char>,
     /// Options with a name and a value that may be left out: it stands behind `=`.
     pub optional_longs: Vec<String>,
-    /// Options of one character with several values, one at least: up to the next word that looks like an option.
+    /// Options of one character with several values, one at least: a value joined by `=` alone,
+    /// or all up to the next word that looks like an option.
     pub several_shorts: Vec<char>,
     /// Options with a name and several values, one at least.
     pub several_longs: Vec<String>,
@@ -281,7 +282,7 @@ fn items_of(alloc: Global, parser: &mut Parser, table: &Table) -> Result<Vec<Ite
 /// Under a table with `o` and `out` of one value, `color` of a value that may be left out, and `d` of several, the words
 /// `-vo=x --out y --color=z -d 1 2 -- file` give `Short('v', None)`, `Short('o', Some(x))`, `Long("out", Some(y))`,
 /// `Long("color", Some(z))`, `ShortMany('d', [1, 2])` and `Positional(file)`. The switch says whether `=` in a cluster
-/// stands between an option and its value. The forms are those of POSIX and GNU, as lexopt documents them;
+/// stands between an option and its value. The forms are those that lexopt documents;
 /// `docs/behaviour.md` has them all. A damaged piece of an option's name is read, and looked up, as U+FFFD.
 ///
 /// Errors, each of which ends the reading: `MissingValue` where an option of one value has none and no word is left, or one
