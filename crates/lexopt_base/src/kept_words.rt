@@ -68,6 +68,7 @@ impl KeptWords {
     }
 
     /// Takes the word behind the cursor, which moves over its place.
+    #[inline(always)]
     pub fn take_next(&mut self) -> Option<OsString>
         ensures { TakesNext self.old result self.new }
     {

@@ -90,6 +90,7 @@ impl Parser {
     ///
     /// All items are taken at once, so the iterator has to end. The only error is `OutOfMemory`, after which the items are
     /// gone.
+    #[inline(always)]
     pub fn from_args<I>(alloc: Global, args: I) -> Result<Parser, Error>
     where
         I: IntoIterator<Item = OsString> + Drop,
@@ -99,7 +100,7 @@ impl Parser {
             × WholeRun I.IntoIter.next_gives items (λ run. parser ≡ fresh run.items)) }
         ensures err { IfErr result (λ e. e ≡ Error.OutOfMemory) }
     {
-        let words = args.into_iter().collect(alloc)?;
+        let words = collected(alloc, args)?;
         Ok(Parser::unread(alloc, KeptWords::new(alloc, words), None))
     }
 
@@ -116,7 +117,7 @@ impl Parser {
             × WholeRun I.IntoIter.next_gives items (λ run. parser ≡ invoked run.items)) }
         ensures err { IfErr result (λ e. e ≡ Error.OutOfMemory) }
     {
-        let all = args.into_iter().collect(alloc)?;
+        let all = collected(alloc, args)?;
         Ok(Parser::invoked(alloc, all)?)
     }
 
@@ -215,6 +216,7 @@ impl Parser {
     }
 
     // A parser of the words behind the cursor.
+    #[inline(always)]
     fn unread(alloc: Global, words: KeptWords, bin_name: Option<String>) -> Parser
         ensures { result ≡ record (fresh words.left) { bin_name = option_map string_bytes bin_name } }
     {
@@ -230,27 +232,28 @@ impl Parser {
     }
 
     // Reads the next option or positional argument. A long option is then the last option, whose name can be lent.
+    #[inline(always)]
     fn advance(&mut self) -> Result<Found, Refusal>
         ensures { Gives Next self.old (found_reply self.new.last result) self.new }
     {
+        if self.has_joined_value() {
+            return Err(self.refuse_pending());
+        }
         match self.state {
-            State::PendingValue(_) => Err(self.refuse_pending()),
+            State::Ready => self.read_word(),
+            State::FinishedOpts => Ok(self.read_positional()),
             State::Shorts(position) => {
-                let word = self.words.current();
-                if is_joined(&word[position..], self.short_equals) {
-                    return Err(self.refuse_pending());
-                }
-                let (option, state) = read_short(word, position);
+                let (option, state) = read_short(self.words.current(), position);
                 self.last_option = LastOption::Short(option);
                 self.state = state;
                 Ok(Found::Short(option))
             }
-            State::FinishedOpts => Ok(self.read_positional()),
-            State::Ready => self.read_word(),
+            State::PendingValue(_) => unreachable!(),
         }
     }
 
     // Reads a word before the separator. A long option is consumed once nothing can fail any more.
+    #[inline(always)]
     fn read_word(&mut self) -> Result<Found, Refusal>
         requires tail { self.old.tail ≡ no_tail }
         requires ended { self.old.ended ≡ false }
@@ -286,6 +289,7 @@ impl Parser {
     }
 
     // Reads a word as a positional argument.
+    #[inline(always)]
     fn read_positional(&mut self) -> Found
         requires { self.old.tail ≡ no_tail }
         ensures { Gives ReadsPositional self.old (found_as self.new.last result) self.new }
@@ -297,6 +301,7 @@ impl Parser {
     }
 
     // Lends what was found: the name of a long option is the last option's.
+    #[inline(always)]
     fn lend(&self, found: Result<Found, Refusal>) -> Result<Option<Arg<'_>>, Error>
         ensures { (reply : Reply) → found_reply self.now.last found ≡ Some reply → next_reply result ≡ Some reply }
     {
@@ -310,6 +315,7 @@ impl Parser {
     }
 
     // Takes the value that belongs to the last option, if one is left of its word.
+    #[inline(always)]
     pub(crate) fn take_pending(&mut self) -> Option<OsString>
         ensures { TakesPending self.old result self.new }
     {
@@ -329,6 +335,7 @@ impl Parser {
     }
 
     // Takes the next word, where nothing is left of the word before it.
+    #[inline(always)]
     fn take_word(&mut self) -> Option<OsString>
         requires { self.old.tail ≡ no_tail }
         ensures { WordItem self.old result self.new }
@@ -337,6 +344,7 @@ impl Parser {
     }
 
     // Takes the next word for a view. What is left of the word before it stays.
+    #[inline(always)]
     pub(crate) fn take_next_word(&mut self) -> Option<OsString>
         ensures { WordItem self.old result self.new }
     {
@@ -354,6 +362,7 @@ impl Parser {
     }
 
     // Whether a value is left of the word of the last option.
+    #[inline(always)]
     pub(crate) fn has_pending(&self) -> bool
         ensures value { IsTrue result ↔ IsSome (pending self.now) }
         ensures option { IsTrue result → IsSome (spelling self.now.last) }
@@ -365,6 +374,7 @@ impl Parser {
     }
 
     // Whether that value is joined to its option by `=`.
+    #[inline(always)]
     pub(crate) fn has_joined_value(&self) -> bool
         ensures { IsTrue result ↔ IsJoined (pending self.now) }
     {
@@ -378,6 +388,7 @@ impl Parser {
     }
 
     // Whether no word is half read, and the next one can be one of several values.
+    #[inline(always)]
     pub(crate) fn is_normal(&self) -> bool
         ensures { IsTrue result ↔ ((pending self.now ≡ None) × IsNormalIn self.now.ended self.now.words) }
     {
@@ -385,6 +396,7 @@ impl Parser {
     }
 
     // Whether the next word can be one of several values.
+    #[inline(always)]
     fn has_plain_word(&self) -> bool
         ensures { IsTrue result ↔ IsNormalIn self.now.ended self.now.words }
     {
@@ -396,6 +408,7 @@ impl Parser {
     }
 
     // Refuses the pending value, which is then consumed.
+    #[cold]
     fn refuse_pending(&mut self) -> Refusal
         requires value { IsSome (pending self.old) }
         requires option { IsSome (spelling self.old.last) }
@@ -507,6 +520,19 @@ impl From<Refusal> for Error {
     }
 }
 
+// All items of these.
+fn collected<I>(alloc: Global, args: I) -> Result<Vec<OsString>, AllocError>
+where
+    I: IntoIterator<Item = OsString> + Drop,
+    I::IntoIter: Drop,
+    requires { IsFiniteIterable I.into_iter_gives I.IntoIter.can_next I.IntoIter.remaining args }
+    ensures { IfOk result (λ words. (items : I.IntoIter) × I.into_iter_gives args items
+        × WholeRun I.IntoIter.next_gives items (λ run. words.items ≡ run.items)) }
+{
+    let items = args.into_iter().collect(alloc)?;
+    Ok(items)
+}
+
 // Whether the rest of a cluster is a value that `=` joins to the option before it.
 fn is_joined(rest: &[u8], short_equals: bool) -> bool
     ensures { IsTrue result ↔ IsJoined (pending_in short_equals (rest_of rest.now)) }
@@ -530,6 +556,7 @@ fn read_short(word: &[u8], position: usize) -> (char, State)
 }
 
 // The name of the long option in a word, and the state behind it.
+#[inline(always)]
 fn read_long(word: &[u8]) -> (&[u8], State)
     requires { 2 ≤ length word.now }
     ensures { IsLongRead word.now result.0.now result.1 }

@@ -62,6 +62,7 @@ impl Iterator for ValuesIter<'_> {
     ghost remaining = { item_count (λ view. values_left (stage_of view.stage) view.parser.now) };
 
     /// The next value. After the first `None` there is no other.
+    #[inline(always)]
     fn next(&mut self) -> Option<OsString> {
         match self.stage {
             Stage::Start => self.first(),
@@ -73,6 +74,7 @@ impl Iterator for ValuesIter<'_> {
 
 impl ValuesIter<'_> {
     // The first value: what is left of the word of the option, or else a word.
+    #[inline(always)]
     fn first(&mut self) -> Option<OsString>
         requires { self.old.stage ≡ Stage.Start }
         ensures same_parser { self.new.parser.ghost_name ≡ self.old.parser.ghost_name }
@@ -87,6 +89,7 @@ impl ValuesIter<'_> {
     }
 
     // The next word, if it can be a value.
+    #[inline(always)]
     fn another(&mut self) -> Option<OsString>
         requires on { self.old.stage ≢ Stage.End }
         requires first { self.old.stage ≡ Stage.Start → pending self.old.parser.now ≡ None }

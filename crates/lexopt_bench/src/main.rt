@@ -129,20 +129,6 @@ fn options(alloc: Global) -> Result<Table, AllocError> {
     })
 }
 
-// Reads the whole line by the table.
-fn read_by_table(
-    alloc: Global,
-    words: Vec<OsString>,
-    table: &Table,
-    seen: &mut Seen,
-) -> Result<(), Error> {
-    match read_items(alloc, words, true, table) {
-        Ok(items) => seen.items(&items),
-        Err(error) => return seen.error(error),
-    }
-    Ok(())
-}
-
 fn main(rt: HostRuntime) -> Result<()> {
     let alloc = rt.alloc();
     let mut args = env::args(&rt)?;
@@ -176,7 +162,10 @@ fn main(rt: HostRuntime) -> Result<()> {
                 read_raw(&mut parser, &mut seen)?;
             }
             Work::Parse => read_numbers(&copied, &mut seen)?,
-            Work::Items => read_by_table(alloc, copied, &table, &mut seen)?,
+            Work::Items => match read_items(alloc, copied, true, &table) {
+                Ok(items) => seen.items(&items),
+                Err(error) => seen.error(error)?,
+            },
         }
         seen.stop_hashing();
     }

@@ -1,5 +1,5 @@
 -- The turns of `read_items`.
-use Rattle.std.proofs.Common.{◌≡◌, ◌<◌, ◌||◌, ℕ, Bool, true, false, List, [], ◌∷◌, map, Option, Some, None, refl, sym, ap, subst, ◌∙◌, arith, inl, inr, ⊎_elim, ◌⊎◌, append-nil, string_bytes}
+use Rattle.std.proofs.Common.{◌≡◌, ◌<◌, ◌||◌, ℕ, Bool, true, false, List, [], ◌∷◌, map, Option, Some, None, refl, sym, ap, subst, ◌∙◌, arith, inl, inr, ⊎_elim, ◌⊎◌, append-nil, string_bytes, String, Global}
 use Rattle.std.specs.List.{list_any}
 use Rattle.lexopt_spec.specs.UnreadLine.{UnreadLine}
 use Rattle.lexopt_spec.specs.Steps as steps
@@ -16,16 +16,18 @@ use Rattle.lexopt_spec.proofs.WholeLines.{shown_said}
 use Rattle.lexopt_base.specs.Replies.{Gives, error_reply}
 use Rattle.lexopt_words.specs.declared.error.Error.{Error}
 use Rattle.lexopt_words.specs.declared.error.Error.TheVariants.{MissingValue, UnexpectedOption, UnexpectedArgument, UnexpectedValue, ParsingFailed, NonUnicodeValue, Custom, OutOfMemory}
-use Rattle.std.specs.Prelude.{Result, Ok, Err, IfErr}
+use Rattle.std.specs.Prelude.{Result, Ok, Err, IfErr, IfOk}
 use Rattle.std.specs.Result.{IsErrAnd}
 use Rattle.std.specs.Option.{option_map}
 use Rattle.lexopt_calls.specs.declared.reply.Reply as replies
 use Rattle.lexopt_calls.specs.declared.items.Kind as copies
 use Rattle.lexopt_calls.specs.declared.items.Kind.TheVariants.{Flag, One, Optional, Several}
+use Rattle.lexopt_calls.specs.declared.items.Ending.{Ending}
+use Rattle.lexopt_calls.specs.declared.items.Ending.TheVariants.{Missing, Unexpected, NoMemory}
 use Rattle.lexopt_calls.specs.declared.items.Values.{Values}
 use Rattle.lexopt_calls.specs.declared.items.Values.TheVariants.{AtMostOne, All}
 use Rattle.lexopt_calls.specs.Replies.{reply_view}
-use Rattle.lexopt_calls.specs.Items.{ReadsItem, ReadsValues, RefusesValues, IsRefused, item_with, kind_view}
+use Rattle.lexopt_calls.specs.Items.{ReadsItem, ReadsValues, RefusesValues, EndsBy, IsErrorOf, IsRefused, ending_view, item_with, kind_view}
 
 pub list_any-map : {X Y : Type 0} (f : X → Y) (p : Y → Bool) (xs : List X) → list_any p (map f xs) ≡ list_any (λ x. p (f x)) xs
 list_any-map f p [] = refl
@@ -91,33 +93,47 @@ option_read t u v w name k values is step reads = absurd reads
 
 -- ---- errors
 
--- a call ends the reading, or memory is refused
-pub value_refused : (k : copies.Kind) (u v : UnreadLine) (e : Error) (call : Call) → IsDue (kind_view k) call → Gives (Step call) u (error_reply e) v → RefusesValues k u e
-value_refused k u v (MissingValue None) call due gives = inr (call, steps.missing None, v, due, tt, gives, refl)
-value_refused k u v (MissingValue (Some o)) call due gives = inr (call, steps.missing (Some (string_bytes o)), v, due, tt, gives, refl)
-value_refused k u v (UnexpectedOption o) call due gives = absurd gives
-value_refused k u v (UnexpectedArgument x) call due gives = absurd gives
-value_refused k u v (UnexpectedValue o x) call due gives = inr (call, steps.unexpected (string_bytes o) x, v, due, tt, gives, refl)
-value_refused k u v (ParsingFailed x c) call due gives = absurd gives
-value_refused k u v (NonUnicodeValue x) call due gives = absurd gives
-value_refused k u v (Custom c) call due gives = absurd gives
-value_refused k u v OutOfMemory call due gives = inl refl
+-- an error of the call for the values of an option ends the reading
+pub value_refused : (k : copies.Kind) (u v : UnreadLine) (e : Error) (ending : Ending) (call : Call) → IsDue (kind_view k) call → error_reply e ≡ Some (ending_view ending)
+    → Gives (Step call) u (error_reply e) v → RefusesValues k u ending
+value_refused k u v e ending call due is gives = inr (call, v, due, subst (λ (o : Option Reply). Gives (Step call) u o v) is gives)
+
+no_memory_ends : (ending : Ending) → Some steps.no_memory ≡ Some (ending_view ending) → ending ≡ NoMemory
+no_memory_ends (Missing o) is = let f : Some steps.no_memory ≡ Some (ending_view (Missing o)) = is in cc
+no_memory_ends (Unexpected o x) is = let f : Some steps.no_memory ≡ Some (ending_view (Unexpected o x)) = is in cc
+no_memory_ends NoMemory is = refl
+
+-- or memory is refused
+pub values_refused : (k : copies.Kind) (u v : UnreadLine) (e : Error) (ending : Ending) (call : Call) → IsDue (kind_view k) call → error_reply e ≡ Some (ending_view ending)
+    → (e ≡ OutOfMemory) ⊎ Gives (Step call) u (error_reply e) v → RefusesValues k u ending
+values_refused k u v e ending call due is (inl none) = inl (no_memory_ends ending (ap error_reply (sym none) ∙ is))
+values_refused k u v e ending call due is (inr gives) = value_refused k u v e ending call due is gives
 
 -- the call for the values of an option ends the reading
-pub option_refused : (t : Table) (u v : UnreadLine) (name : Name) (k : copies.Kind) (e : Error) → kind_view k ≡ kind t name → Next u (option_reply name) v → RefusesValues k v e
-    → IsRefused t u e
-option_refused t u v name k e is step (inl none) = inl none
-option_refused t u v name k e is step (inr refused) =
-    inr (refused.1, _, reads_refused t u v refused.2 name (kind_view k) refused.0 refused.1 (sym is) refused.3 refused.4 step refused.5, refused.6)
+pub option_refused : (t : Table) (u v : UnreadLine) (name : Name) (k : copies.Kind) (ending : Ending) → kind_view k ≡ kind t name → Next u (option_reply name) v → RefusesValues k v ending
+    → EndsBy t u ending
+option_refused t u v name k ending is step (inl none) = inl none
+option_refused t u v name k (Missing o) is step (inr r) = inr (_, reads_refused t u v r.1 name (kind_view k) r.0 (ending_view (Missing o)) (sym is) r.2 tt step r.3)
+option_refused t u v name k (Unexpected o x) is step (inr r) = inr (_, reads_refused t u v r.1 name (kind_view k) r.0 (ending_view (Unexpected o x)) (sym is) r.2 tt step r.3)
+option_refused t u v name k NoMemory is step (inr r) = inl refl
 
 -- `next` ends the reading
-pub next_refused : (t : Table) (u v : UnreadLine) (e : Error) (o x : List ℕ) → error_reply e ≡ Some (steps.unexpected o x) → Next u (steps.unexpected o x) v → IsRefused t u e
-next_refused t u v e o x is step = inr (steps.unexpected o x, _, reads_last t u v (steps.unexpected o x) tt step, is)
+pub next_refused : (t : Table) (u v : UnreadLine) (o : String Global) (x : List ℕ) → Next u (ending_view (Unexpected o x)) v → EndsBy t u (Unexpected o x)
+next_refused t u v o x step = inr (_, reads_last t u v (ending_view (Unexpected o x)) tt step)
 
 -- what was read before
-pub refused_later : (t : Table) (u v : UnreadLine) (l : List Item) (e : Error) → SaysUpTo t u l v → IsRefused t v e → IsRefused t u e
-refused_later t u v l e says (inl is) = inl is
-refused_later t u v l e says (inr reading) = inr (reading.0, _, says reading.0 reading.1 reading.2, reading.3)
+pub refused_later : (t : Table) (u v : UnreadLine) (l : List Item) (ending : Ending) → SaysUpTo t u l v → EndsBy t v ending → EndsBy t u ending
+refused_later t u v l ending says (inl is) = inl is
+refused_later t u v l ending says (inr reading) = inr (_, says (ending_view ending) reading.0 reading.1)
+
+-- the error of what ended it
+pub is_refused : (t : Table) (u : UnreadLine) (ending : Ending) (e : Error) → EndsBy t u ending → IsErrorOf ending e → IsRefused t u e
+is_refused t u NoMemory e ends is = inl is
+is_refused t u (Missing o) e (inl none) is = let f : Missing o ≡ NoMemory = none in cc
+is_refused t u (Missing None) e (inr r) is = inr (_, r.0, r.1, ap error_reply is)
+is_refused t u (Missing (Some o)) e (inr r) is = inr (_, r.0, r.1, ap error_reply is)
+is_refused t u (Unexpected o x) e (inl none) is = let f : Unexpected o x ≡ NoMemory = none in cc
+is_refused t u (Unexpected o x) e (inr r) is = inr (_, r.0, r.1, ap error_reply is)
 
 -- the end
 pub end_read : (t : Table) (u v w : UnreadLine) (l : List Item) → SaysUpTo t u l v → Next v steps.end w → IsReading t u steps.end l
@@ -129,10 +145,18 @@ pub gave : (u v : UnreadLine) (copy : Option replies.Reply) (x : replies.Reply) 
     → copy ≡ Some x → Next u (reply_view x) v
 gave u v copy x h is = subst (λ (r : Option Reply). Gives Next u r v) (sym h.2 ∙ ap (option_map reply_view) is) h.1
 
+-- an error, of which more is known
+pub err_says : {X Y : Type 0} (r : Result X Y) (P Q : Y → Type 0) → IsErrAnd r P → ((y : Y) → P y → Q y) → IfErr r Q
+err_says (Ok x) P Q h more = tt
+err_says (Err y) P Q h more = more y h
+
+pub err_alone : {X Y : Type 0} (r : Result X Y) (P : Y → Type 0) (Q : X → Type 0) → IsErrAnd r P → IfOk r Q
+err_alone (Ok x) P Q h = absurd h
+err_alone (Err y) P Q h = tt
+
 -- an error that a `?` hands on
 pub handed_on : {X Y : Type 0} (r : Result X Y) (e : Y) (Q : Y → Type 0) → IsErrAnd r (λ y. y ≡ e) → Q e → IfErr r Q
-handed_on (Ok x) e Q is h = tt
-handed_on (Err y) e Q is h = subst Q (sym is) h
+handed_on r e Q is h = err_says r (λ y. y ≡ e) Q is (λ y same. subst Q (sym same) h)
 
 -- ---- what a whole reading shows
 

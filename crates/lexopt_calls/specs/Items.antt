@@ -1,21 +1,23 @@
 -- Tables, items and errors as contracts see them, and what one turn of `read_items` reads.
-use Rattle.std.specs.Prelude.{◌≡◌, ◌<◌, ◌⊎◌, ℕ, List, [], ◌∷◌, length, map, Option, Some, None, string_bytes}
+use Rattle.std.specs.Prelude.{◌≡◌, ◌<◌, ◌⊎◌, ℕ, List, [], ◌∷◌, length, map, Option, Some, None, option_map, string_bytes}
 use Rattle.lexopt_spec.specs.UnreadLine.{UnreadLine}
-use Rattle.lexopt_spec.specs.Steps.{Reply, Next, Value, end, taken, maybe, items}
+use Rattle.lexopt_spec.specs.Steps.{Reply, Next, Value, end, taken, maybe, items, missing, unexpected, no_memory}
 use Rattle.lexopt_spec.specs.Runs as calls
 use Rattle.lexopt_spec.specs.Runs.{Step}
 use Rattle.lexopt_spec.specs.Table as spec
 use Rattle.lexopt_spec.specs.Table.{short, long, option, many, positional}
-use Rattle.lexopt_spec.specs.Readings.{IsDue, IsLast, IsReading, SaysUpTo}
+use Rattle.lexopt_spec.specs.Readings.{IsDue, IsReading, SaysUpTo}
 use Rattle.lexopt_spec.specs.Bound.{bound}
 use Rattle.lexopt_base.specs.Replies.{error_reply}
 use Rattle.lexopt_words.specs.declared.error.Error.{Error}
-use Rattle.lexopt_words.specs.declared.error.Error.TheVariants.{OutOfMemory}
+use Rattle.lexopt_words.specs.declared.error.Error.TheVariants.{MissingValue, UnexpectedValue, OutOfMemory}
 use Rattle.lexopt_calls.specs.declared.items.Item.{Item}
 use Rattle.lexopt_calls.specs.declared.items.Item.TheVariants.{Short, Long, ShortMany, LongMany, Positional}
 use Rattle.lexopt_calls.specs.declared.items.Table.{Table}
 use Rattle.lexopt_calls.specs.declared.items.Kind.{Kind}
 use Rattle.lexopt_calls.specs.declared.items.Kind.TheVariants.{Flag, One, Optional, Several}
+use Rattle.lexopt_calls.specs.declared.items.Ending.{Ending}
+use Rattle.lexopt_calls.specs.declared.items.Ending.TheVariants.{Missing, Unexpected, NoMemory}
 use Rattle.lexopt_calls.specs.declared.items.Values.{Values}
 use Rattle.lexopt_calls.specs.declared.items.Values.TheVariants.{AtMostOne, All}
 
@@ -55,16 +57,31 @@ ReadsValues Optional u (AtMostOne value) v = Step calls.optional u (maybe value)
 ReadsValues Several u (All values) v = (n : ℕ) × (length values.items < n) × Step (calls.values n) u (items values.items) v
 ReadsValues k u values v = ⊥
 
--- memory is refused, or the call for the values of an option of this kind answers this error
-abbrev pub RefusesValues : Kind → UnreadLine → Error → Type 0
-RefusesValues k u e =
-    (e ≡ OutOfMemory)
-    ⊎ ((call : calls.Call) × (final : Reply) × (v : UnreadLine) × IsDue (kind_view k) call × IsLast final × Step call u final v × (error_reply e ≡ Some final))
+-- what ends a reading, as a reply
+abbrev pub ending_view : Ending → Reply
+ending_view (Missing o) = missing (option_map string_bytes o)
+ending_view (Unexpected o word) = unexpected (string_bytes o) word
+ending_view NoMemory = no_memory
+
+-- memory is refused, or the call for the values of an option of this kind ends the reading so
+abbrev pub RefusesValues : Kind → UnreadLine → Ending → Type 0
+RefusesValues k u ending =
+    (ending ≡ NoMemory) ⊎ ((call : calls.Call) × (v : UnreadLine) × IsDue (kind_view k) call × Step call u (ending_view ending) v)
 
 -- the item that is read next, and none at the end
 abbrev pub ReadsItem : spec.Table → UnreadLine → Option spec.Item → UnreadLine → Type 0
 ReadsItem t u None v = Next u end v
 ReadsItem t u (Some item) v = SaysUpTo t u (item ∷ []) v × (bound v < bound u)
+
+-- memory is refused, or a reading of the line ends so
+abbrev pub EndsBy : spec.Table → UnreadLine → Ending → Type 0
+EndsBy t u ending = (ending ≡ NoMemory) ⊎ ((l : List spec.Item) × IsReading t u (ending_view ending) l)
+
+-- the error that says what ended a reading
+abbrev pub IsErrorOf : Ending → Error → Type 0
+IsErrorOf (Missing o) e = e ≡ MissingValue o
+IsErrorOf (Unexpected o word) e = e ≡ UnexpectedValue o word
+IsErrorOf NoMemory e = e ≡ OutOfMemory
 
 -- memory is refused, or a reading of the line ends with this error
 abbrev pub IsRefused : spec.Table → UnreadLine → Error → Type 0

@@ -1,6 +1,7 @@
 //! Whole lines, read by a table of options.
-ghost use Rattle.std.specs.Prelude.{◌≡◌, ◌⊎◌, [], List, IfErr, IfOk, map, string_bytes};
+ghost use Rattle.std.specs.Prelude.{◌≡◌, ◌⊎◌, [], List, Some, IsSome, IfErr, IfOk, map, string_bytes};
 ghost use Rattle.std.specs.Option.{option_map};
+ghost use Rattle.std.specs.Result.{IsErrAnd};
 ghost use Rattle.std.specs.Fmt.{WritesOnOk};
 ghost use Rattle.lexopt_spec.specs.Script.{value_text};
 ghost use Rattle.lexopt_spec.specs.Steps.{end};
@@ -10,14 +11,14 @@ ghost use Rattle.lexopt_spec.specs.Readings.{IsReading, start};
 ghost use Rattle.lexopt_spec.specs.Spelling.{HaveWholeNames, Shows, Spells};
 ghost use Rattle.lexopt_spec.specs.Runs.{Step, values};
 ghost use Rattle.lexopt_base.specs.Replies.{Gives, error_reply};
-ghost use Rattle.lexopt_calls.specs.Items.{IsRefused, ReadsItem, ReadsValues, RefusesValues, item_view, item_with, kind_view, table_view};
+ghost use Rattle.lexopt_calls.specs.Items.{EndsBy, IsErrorOf, IsRefused, ReadsItem, ReadsValues, RefusesValues, ending_view, item_view, item_with, kind_view, table_view};
 
 use crate::replay::{call_next, values_of};
 use crate::reply::{Reply, write_list, write_long, write_positional, write_short, write_word};
 use lexopt_base::parser::Parser;
 use lexopt_words::error::Error;
 use lexopt_words::os_string::OsString;
-use std::alloc::Global;
+use std::alloc::{AllocError, Global};
 use std::fmt;
 
 /// The options that have values, by how many they have; any other option has none. Names stand without their dashes.
@@ -207,6 +208,56 @@ impl Values {
     }
 }
 
+// What ends a reading before the end of the line. An `Error` has room for a cause, so it is made where it is handed out.
+#[derive(Drop)]
+enum Ending {
+    Missing(Option<String>),
+    Unexpected(String, OsString),
+    NoMemory,
+}
+
+impl From<AllocError> for Ending {
+    ghost use Rattle.std.specs.Prelude.{◌≡◌};
+    ghost use Rattle.lexopt_calls.specs.declared.items.Ending.TheVariants.{NoMemory};
+
+    ghost from_gives = { λ _ ending. ending ≡ NoMemory };
+
+    fn from(_error: AllocError) -> Ending {
+        Ending::NoMemory
+    }
+}
+
+impl From<Ending> for Error {
+    ghost use Rattle.lexopt_calls.specs.Items.{IsErrorOf};
+
+    ghost from_gives = { IsErrorOf };
+
+    fn from(ending: Ending) -> Error {
+        match ending {
+            Ending::Missing(option) => Error::MissingValue { option },
+            Ending::Unexpected(option, value) => Error::UnexpectedValue { option, value },
+            Ending::NoMemory => Error::OutOfMemory,
+        }
+    }
+}
+
+// What an error of the parser ends a reading with.
+fn ending_of(error: Error) -> Ending
+    requires { IsSome (error_reply error) }
+    ensures { error_reply error ≡ Some (ending_view result) }
+{
+    match error {
+        Error::MissingValue { option } => Ending::Missing(option),
+        Error::UnexpectedValue { option, value } => Ending::Unexpected(option, value),
+        Error::OutOfMemory => Ending::NoMemory,
+        Error::UnexpectedOption(_)
+        | Error::UnexpectedArgument(_)
+        | Error::ParsingFailed { .. }
+        | Error::NonUnicodeValue(_)
+        | Error::Custom(_) => unreachable!(),
+    }
+}
+
 // All values of the last option.
 fn all_values(alloc: Global, parser: &mut Parser) -> Result<Vec<OsString>, Error>
     ensures ok { IfOk result (λ values. ReadsValues Kind.Several parser.old (Values.All values) parser.new) }
@@ -220,23 +271,29 @@ fn all_values(alloc: Global, parser: &mut Parser) -> Result<Vec<OsString>, Error
 
 // The values of the last option, which is of this kind.
 #[inline(always)]
-fn read_values(alloc: Global, parser: &mut Parser, kind: Kind) -> Result<Values, Error>
+fn read_values(alloc: Global, parser: &mut Parser, kind: Kind) -> Result<Values, Ending>
     ensures ok { IfOk result (λ values. ReadsValues kind parser.old values parser.new) }
-    ensures err { IfErr result (λ e. RefusesValues kind parser.old e) }
+    ensures err { IfErr result (λ ending. RefusesValues kind parser.old ending) }
 {
     match kind {
         Kind::Flag => Ok(Values::AtMostOne(None)),
-        Kind::One => Ok(Values::AtMostOne(Some(parser.value()?))),
+        Kind::One => match parser.value() {
+            Ok(word) => Ok(Values::AtMostOne(Some(word))),
+            Err(error) => Err(ending_of(error)),
+        },
         Kind::Optional => Ok(Values::AtMostOne(parser.optional_value())),
-        Kind::Several => Ok(Values::All(all_values(alloc, parser)?)),
+        Kind::Several => match all_values(alloc, parser) {
+            Ok(values) => Ok(Values::All(values)),
+            Err(error) => Err(ending_of(error)),
+        },
     }
 }
 
 // The next item of a line, and none at its end.
 #[inline(always)]
-fn read_item(alloc: Global, parser: &mut Parser, table: &Table) -> Result<Option<Item>, Error>
+fn read_item(alloc: Global, parser: &mut Parser, table: &Table) -> Result<Option<Item>, Ending>
     ensures ok { IfOk result (λ item. ReadsItem (table_view table.now) parser.old (option_map item_view item) parser.new) }
-    ensures err { IfErr result (λ e. IsRefused (table_view table.now) parser.old e) }
+    ensures err { IfErr result (λ ending. EndsBy (table_view table.now) parser.old ending) }
 {
     match call_next(alloc, parser)? {
         Some(Reply::Short(option)) => {
@@ -249,8 +306,8 @@ fn read_item(alloc: Global, parser: &mut Parser, table: &Table) -> Result<Option
         }
         Some(Reply::Positional(word)) => Ok(Some(Item::Positional(word))),
         Some(Reply::End) => Ok(None),
-        Some(Reply::Unexpected(option, value)) => Err(Error::UnexpectedValue { option, value }),
-        Some(Reply::NoMemory) => Err(Error::OutOfMemory),
+        Some(Reply::Unexpected(option, value)) => Err(Ending::Unexpected(option, value)),
+        Some(Reply::NoMemory) => Err(Ending::NoMemory),
         Some(
             Reply::Taken(_)
             | Reply::Maybe(_)
@@ -263,18 +320,37 @@ fn read_item(alloc: Global, parser: &mut Parser, table: &Table) -> Result<Option
     }
 }
 
+// The items that are left of a line, up to what ends its reading.
+fn gathered(alloc: Global, parser: &mut Parser, table: &Table) -> Result<Vec<Item>, Ending>
+    ensures ok { IfOk result (λ items. IsReading (table_view table.now) parser.old end (map item_view items.items)) }
+    ensures err { IfErr result (λ ending. EndsBy (table_view table.now) parser.old ending) }
+{
+    let mut items = Vec::new(alloc);
+    while let Some(item) = read_item(alloc, parser, table)? {
+        if items.push(item).is_err() {
+            return Err(Ending::NoMemory);
+        }
+    }
+    Ok(items)
+}
+
 // The items that are left of a line.
 fn items_of(alloc: Global, parser: &mut Parser, table: &Table) -> Result<Vec<Item>, Error>
     ensures ok { IfOk result (λ items. IsReading (table_view table.now) parser.old end (map item_view items.items)) }
     ensures err { IfErr result (λ e. IsRefused (table_view table.now) parser.old e) }
 {
-    let mut items = Vec::new(alloc);
-    while let Some(item) = read_item(alloc, parser, table)? {
-        if items.push(item).is_err() {
-            return Err(Error::OutOfMemory);
-        }
+    match gathered(alloc, parser, table) {
+        Ok(items) => Ok(items),
+        Err(ending) => refused(ending),
     }
-    Ok(items)
+}
+
+// No items, for what ended their reading.
+#[cold]
+fn refused(ending: Ending) -> Result<Vec<Item>, Error>
+    ensures { IsErrAnd result (IsErrorOf ending) }
+{
+    Err(Error::from(ending))
 }
 
 /// Reads a whole line by a table: behind each option of the table its values are read, and any other option has none.
@@ -315,7 +391,9 @@ pub fn read_items(
     ensures no_list { IfErr result (λ e. (e ≡ Error.OutOfMemory)
         ⊎ ((l : List spec.Item) → Shows (table_view table.now) short_equals words.items l → ⊥)) }
 {
-    let mut parser = Parser::from_args(alloc, words)?;
+    let Ok(mut parser) = Parser::from_args(alloc, words) else {
+        return Err(Error::OutOfMemory);
+    };
     parser.set_short_equals(short_equals);
     items_of(alloc, &mut parser, table)
 }

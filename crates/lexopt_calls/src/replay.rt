@@ -34,6 +34,7 @@ fn copied(alloc: Global, reply: Result<Option<Arg<'_>>, Error>) -> Result<Option
 }
 
 // The reply of an error. It is none where no parser answers so.
+#[inline(always)]
 fn refusal(error: Error) -> Option<Reply>
     ensures { option_map reply_view result ≡ error_reply error }
 {

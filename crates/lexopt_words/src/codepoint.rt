@@ -58,7 +58,8 @@ pub fn first_codepoint(bytes: &[u8]) -> FirstCodepoint
 pub fn lossy_text(alloc: Global, bytes: &[u8]) -> Result<String, AllocError>
     ensures { IfOk result (λ text. string_bytes text ≡ lossy bytes.now) }
 {
-    let mut text = String::with_capacity(alloc, bytes.len())?;
+    // Room for one damaged piece of one byte, which most such texts have.
+    let mut text = String::with_capacity(alloc, bytes.len().saturating_add(2))?;
     let mut rest = bytes;
     while !rest.is_empty() {
         let piece = first_codepoint(rest);

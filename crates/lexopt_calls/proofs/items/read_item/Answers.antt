@@ -1,4 +1,4 @@
-use Rattle.std.proofs.Common.{◌≡◌, Some, string_bytes, refl, subst, sym}
+use Rattle.std.proofs.Common.{◌≡◌, Some, string_bytes, subst, sym}
 use Rattle.lexopt_spec.specs.Table.{Item, short, long}
 use Rattle.lexopt_calls.specs.Items.{ReadsItem, table_view}
 use Rattle.lexopt_calls.specs.declared.reply.Reply.TheVariants.{Short, LongName, Positional, Unexpected}
@@ -29,7 +29,7 @@ returns-in-Some-Positional-clause-ok c =
 pub returns-in-Some-Unexpected-clause-err : goal.returns-in-Some-Unexpected-clause-err
 returns-in-Some-Unexpected-clause-err c =
     let is : c.in_ok-option.field-0 ≡ Some (Unexpected c.in-Some-Unexpected.option c.in-Some-Unexpected.value) = cc in
-    next_refused (table_view c.args.table.now) c.args.parser.now c.call_next.new.parser _ (string_bytes c.in-Some-Unexpected.option) c.in-Some-Unexpected.value refl (gave _ _ _ _ c.in_ok-option.ensures is)
+    next_refused (table_view c.args.table.now) c.args.parser.now c.call_next.new.parser c.in-Some-Unexpected.option c.in-Some-Unexpected.value (gave _ _ _ _ c.in_ok-option.ensures is)
 
 pub returns-in_err-values-in-Some-Short-clause-err :
     goal.returns-in_err-values-in-Some-Short-clause-err

@@ -1,8 +1,7 @@
 use Rattle.std.proofs.Common.{◌≡◌, ◌<◌, List, ℕ, drop, length, refl, sym, ap, subst, ◌∙◌, inl, true≢false, arith, length-drop}
-use Rattle.lexopt_spec.specs.UnreadLine.{UnreadLine, pending, pending_in, rest_of, short_option}
+use Rattle.lexopt_spec.specs.UnreadLine.{UnreadLine, short_option}
 use Rattle.lexopt_spec.specs.Steps.{short, NextStep, ReadsPositional, ReadsWord, next_in_cluster, after_separator, next_word}
 use Rattle.lexopt_spec.proofs.LineLemmas.{goes_on, rest_of-some, same_parts}
-use Rattle.lexopt_spec.proofs.PieceSteps.{rest_is}
 use Rattle.lexopt_base.specs.View.{tail_of, ended_of, IsPlaced, IsShortRead}
 use Rattle.lexopt_base.specs.Helpers.{IsJoined}
 use Rattle.lexopt_base.specs.Found.{found_as, found_reply}
@@ -10,38 +9,24 @@ use Rattle.lexopt_base.specs.declared.parser.State.{State}
 use Rattle.lexopt_base.proofs.Refusals.{refuses, gives_map, gives_step}
 use Rattle.lexopt_base.proofs.parser.Parser.advance.Goals as goal
 
-pub returns-in-PendingValue : goal.returns-in-PendingValue
-returns-in-PendingValue c =
-    let p = c.self.inside in
-    let is = ap pending (sym c.self.view_is) ∙ ap (λ (s : State). pending_in p.short_equals (tail_of p.words.current s)) c.in-PendingValue.is in
-    refuses c.args.self.now c.refuse_pending.new.self c.refuse_pending.result (subst IsJoined (sym is) refl) c.refuse_pending.ensures
+pub returns-then-has_joined_value : goal.returns-then-has_joined_value
+returns-then-has_joined_value c =
+    refuses c.args.self.now c.refuse_pending.new.self c.refuse_pending.result (c.has_joined_value.ensures.0 c.if-has_joined_value.true) c.refuse_pending.ensures
 
-pub returns-then-is_joined : goal.returns-then-is_joined
-returns-then-is_joined c =
-    let p = c.self.inside in
-    let at = c.in-Shorts.position in
-    let behind = rest_is c.current-word.result.now at ∙ ap (drop at) c.current-word.ensures in
-    let is = ap pending (sym c.self.view_is) ∙ ap (λ (s : State). pending_in p.short_equals (tail_of p.words.current s)) c.in-Shorts.is
-    ∙ ap (λ (l : List ℕ). pending_in p.short_equals (rest_of l)) (sym behind) in
-    refuses c.args.self.now c.refuse_pending-then-is_joined.new.self c.refuse_pending-then-is_joined.result
-    (subst IsJoined (sym is) (c.is_joined.ensures.0 c.if-is_joined.true)) c.refuse_pending-then-is_joined.ensures
-
-pub returns-else-is_joined : goal.returns-else-is_joined
-returns-else-is_joined c =
+pub returns-in-Shorts : goal.returns-in-Shorts
+returns-in-Shorts c =
     let u = c.args.self.now in
     let p = c.self.inside in
     let word = p.words.current in
     let at = c.in-Shorts.position in
     let bytes = drop at word in
-    let behind = rest_is c.current-word.result.now at ∙ ap (drop at) c.current-word.ensures in
     let below : at < length word = subst (λ (s : State). IsPlaced word s) c.in-Shorts.is c.self.invariant.placed in
     let some : 0 < length bytes = omega (arith, length-drop at word) in
     let is = ap (λ (s : State). tail_of word s) c.in-Shorts.is in
     let tail = ap (λ (l : UnreadLine). l.tail) (sym c.self.view_is) ∙ is ∙ rest_of-some bytes some in
-    let joins = ap pending (sym c.self.view_is) ∙ ap (λ t. pending_in p.short_equals t) is ∙ ap (λ (l : List ℕ). pending_in p.short_equals (rest_of l)) (sym behind) in
-    let read = subst (λ (l : List ℕ). IsShortRead l at c.read_short-option.result.0 c.read_short-option.result.1) c.current-word.ensures c.read_short-option.ensures in
+    let read = subst (λ (l : List ℕ). IsShortRead l at c.read_short-option.result.0 c.read_short-option.result.1) c.current.ensures c.read_short-option.ensures in
     inl (next_in_cluster bytes tail
-    (goes_on u bytes tail (λ value known. true≢false (sym (c.is_joined.ensures.1 (subst IsJoined (sym known ∙ joins) refl)) ∙ c.if-is_joined.false)))
+    (goes_on u bytes tail (λ value known. true≢false (sym (c.has_joined_value.ensures.1 (subst IsJoined (sym known) refl)) ∙ c.if-has_joined_value.false)))
     (record {
       some = λ none. let e : length bytes ≡ 0 = ap length none in omega arith;
       reply_is = ap short read.shown_is;

@@ -4,5 +4,5 @@ use Rattle.lexopt_base.proofs.parser.Parser.from_iter.Goals as goal
 
 pub returns-clause-ok : goal.returns-clause-ok
 returns-clause-ok g c =
-    let run = c.in_ok-all.ensures.runs tt in
-    (c.into_iter.result, c.into_iter.ensures.into_iter_gives, (run.0, run.1, run.2, c.in_ok-invoked.ensures ∙ ap invoked run.3.0))
+    let run = c.in_ok-all.ensures in
+    (run.0, run.1, (run.2.0, run.2.1, run.2.2, c.in_ok-invoked.ensures ∙ ap invoked run.2.3))

@@ -2,7 +2,7 @@ use Rattle.std.proofs.Common.{map}
 use Rattle.lexopt_spec.specs.Readings.{SaysUpTo}
 use Rattle.lexopt_spec.specs.Bound.{bound}
 use Rattle.lexopt_calls.specs.Items.{item_view, table_view}
-use Rattle.lexopt_calls.proofs.items.items_of.Given as goal
+use Rattle.lexopt_calls.proofs.items.gathered.Given as goal
 
 abbrev pub invariant-loop-items : goal.invariant-loop-items
 invariant-loop-items l = SaysUpTo (table_view l.table) l.initial.parser (map item_view l.items.items) l.parser
