@@ -1,15 +1,16 @@
 //! Lists of calls on a parser: `replay` makes them, and gives a reply for each.
-ghost use Rattle.std.specs.Prelude.{◌≡◌, ◌++◌, ◌≤◌, ◌↔◌, ℕ, List, Option, IsTrue, IfOk, IfErr, OnErr, map};
+ghost use Rattle.std.specs.Prelude.{◌≡◌, ◌+◌, ◌++◌, ◌≤◌, ◌↔◌, ℕ, List, Option, IsTrue, IfOk, IfErr, OnErr, map};
 ghost use Rattle.std.specs.List.{flat_map};
 ghost use Rattle.std.specs.Option.{option_map};
 ghost use Rattle.lexopt_spec.specs.Steps as steps;
 ghost use Rattle.lexopt_spec.specs.Steps.{Next, Value};
 ghost use Rattle.lexopt_spec.specs.Account.{Segment, bytes_of, flat, handed, shown_of};
+ghost use Rattle.lexopt_spec.specs.Bound.{bound, replies_count};
 ghost use Rattle.lexopt_spec.specs.Runs.{AccountedRun, Part, Run, Step, values, raw, raw_if, try_raw, up_to};
 ghost use Rattle.lexopt_spec.specs.Views.{ValueItems, WordItems};
 ghost use Rattle.lexopt_base.specs.Stages.{stage_of};
 ghost use Rattle.lexopt_base.specs.Replies.{Gives, error_reply, next_reply};
-ghost use Rattle.lexopt_calls.specs.Replies.{TakesThis, call_view, reply_view};
+ghost use Rattle.lexopt_calls.specs.Replies.{ReadsPieces, TakesThis, call_view, reply_view};
 
 use crate::reply::{Call, Reply};
 use lexopt_base::parser::Parser;
@@ -218,6 +219,11 @@ pub fn replay(alloc: Global, parser: &mut Parser, calls: &[Call]) -> Result<Vec<
         × (flat parser.old ≡ bytes_of segments ++ flat parser.new)
         × (flat_map handed (map reply_view replies.items) ≡ shown_of segments)) }
     ensures words_left { (gone : List (List ℕ)) × (parser.old.words ≡ gone ++ parser.new.words) }
+
+    // A cluster that is read by `next` alone is its lossy characters. And the options, values and words that are handed out
+    // number what the line can still give at the start, less what it can still give at the end, at most.
+    ensures pieces { IfOk result (λ replies. ReadsPieces parser.old (map call_view calls.now) (map reply_view replies.items) parser.new) }
+    ensures bounded { IfOk result (λ replies. replies_count (map reply_view replies.items) + bound parser.new ≤ bound parser.old) }
 
     // What an error leaves.
     ensures err { IfErr result (λ e. e ≡ Error.OutOfMemory) }

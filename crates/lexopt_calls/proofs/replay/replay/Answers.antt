@@ -1,8 +1,10 @@
-use Rattle.std.proofs.Common.{map, get_or, refl, sym, ap, subst, ◌∙◌}
+use Rattle.std.proofs.Common.{List, map, get_or, refl, sym, ap, subst, ◌∙◌}
 use Rattle.std.proofs.lemmas.List.{map-append, take_all, take_more}
 use Rattle.lexopt_spec.specs.Steps.{Reply}
 use Rattle.lexopt_spec.specs.Runs as runs
 use Rattle.lexopt_spec.specs.Runs.{Run, Step, segments, up_to}
+use Rattle.lexopt_spec.proofs.Bounds.{run_bound}
+use Rattle.lexopt_spec.proofs.Clusters.{cluster_read}
 use Rattle.lexopt_spec.proofs.Parts.{part_suffix}
 use Rattle.lexopt_spec.proofs.RunAccounts.{run_keeps, run_shown, run_suffix}
 use Rattle.lexopt_spec.proofs.RunLemmas.{Run-more}
@@ -57,3 +59,14 @@ returns-clause-account c =
 pub returns-clause-words_left : goal.returns-clause-words_left
 returns-clause-words_left c =
     run_suffix c.args.parser.now (map call_view c.args.calls.now) (map reply_view c.loop-call.replies.items) c.loop-call.parser (returns-clause-run c)
+
+pub returns-clause-pieces : goal.returns-clause-pieces
+returns-clause-pieces c =
+    let run = returns-clause-run c in
+    λ b bs words none open_line is other free calls_are.
+    cluster_read c.args.parser.now c.loop-call.parser b bs words (map reply_view c.loop-call.replies.items) none open_line is other free
+    (subst (λ (calls : List runs.Call). Run c.args.parser.now calls (map reply_view c.loop-call.replies.items) c.loop-call.parser) calls_are run)
+
+pub returns-clause-bounded : goal.returns-clause-bounded
+returns-clause-bounded c =
+    run_bound c.args.parser.now (map call_view c.args.calls.now) (map reply_view c.loop-call.replies.items) c.loop-call.parser (returns-clause-run c)
