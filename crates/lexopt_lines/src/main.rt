@@ -7,12 +7,16 @@
 //!
 //! For each table it prints how many readings agreed and how many differed, with the switch on and off, and the first list
 //! that differed. Items are compared as they are, and errors by their messages.
+//!
+//! Last it reads clusters, with the switch off: each list of one to four of twenty bytes, by `next` and by the plain pieces.
 #![tactic(auto)]
 
+mod clusters;
 mod pieces;
 mod plain;
 mod tables;
 
+use clusters::Counts;
 use lexopt::items::{Table, read_items};
 use lexopt::{Error, OsString};
 use pieces::push_quoted;
@@ -217,5 +221,9 @@ fn main(rt: HostRuntime) -> io::Result<()> {
     for lists in OVERLAPS {
         read_by(&rt, Choice::same(lists), &mut total)?;
     }
-    total.print(&rt, "total")
+    total.print(&rt, "total")?;
+    let Ok(Counts { agreed, differed }) = Counts::of_all(rt.alloc()) else {
+        return Err(io::Error::from(io::ErrorKind::Other));
+    };
+    println!(rt; "clusters: {agreed} agreed, {differed} differed")
 }
