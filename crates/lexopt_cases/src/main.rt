@@ -1,4 +1,5 @@
-//! Replays cases: scripts of calls, each with the text that it is to write. It also has the tests that cross crates.
+//! Replays cases: scripts of calls, each with the text that it is to write. It also has tests of calls, views, lists of
+//! calls and whole lines.
 //!
 //! Standard input holds the cases; the head of the file `stdin` says how they are written. Each case that comes to something
 //! else is printed, and behind each section the number of its cases that agree and that differ.
@@ -8,19 +9,7 @@ mod callers;
 #[cfg(test)]
 mod calls;
 #[cfg(test)]
-mod codepoints;
-#[cfg(test)]
-mod conversions;
-#[cfg(test)]
-mod errors;
-#[cfg(test)]
 mod example;
-#[cfg(test)]
-mod faults;
-#[cfg(test)]
-mod names;
-#[cfg(test)]
-mod refused_memory;
 #[cfg(test)]
 mod replays;
 #[cfg(test)]

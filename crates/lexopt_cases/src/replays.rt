@@ -1,7 +1,7 @@
 //! Lists of calls.
-use crate::calls::parser_of;
 use lexopt::replay::{Call, Reply, replay};
-use lexopt::{Error, OsString, Parser};
+use lexopt::{Error, OsString};
+use lexopt_testing::parsers::parser_of;
 use std::alloc::{AllocError, Global};
 use std::test::Fail;
 
@@ -108,9 +108,4 @@ fn calls_that_read_the_line(rt: HostRuntime) {
     assert!(rt; Call::Next.reads_line());
     assert!(rt; Call::Raw(0).reads_line());
     assert!(rt; !Call::Switch(true).reads_line());
-}
-
-// What is left of a line: what is pending, the words, and the last option.
-pub fn left(alloc: Global, parser: &mut Parser) -> Result<Vec<Reply>, Error> {
-    replay(alloc, parser, &[Call::Optional, Call::Raw(9), Call::Value])
 }

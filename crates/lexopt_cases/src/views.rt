@@ -1,7 +1,8 @@
 //! Views: several values of one option, and the words that are left.
 use crate::callers::{negative_number, next_file, option_and_value, two_values};
-use crate::calls::{is_at_end, parser_of, reads_short, reads_word, takes};
 use lexopt::{Error, OsStr, OsString, Parser, RawArgs, ValuesIter};
+use lexopt_testing::calls::{is_at_end, reads_short, reads_word, takes};
+use lexopt_testing::parsers::parser_of;
 use std::test::Fail;
 
 // Whether a view gives this item.

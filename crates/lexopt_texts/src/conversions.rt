@@ -1,8 +1,9 @@
 //! Conversions of values.
-use crate::calls::{parser_of, reads_short};
-use crate::errors::prints;
 use lexopt::prelude::{Value, ValueExt};
 use lexopt::{Error, OsString};
+use lexopt_testing::calls::reads_short;
+use lexopt_testing::errors::prints;
+use lexopt_testing::parsers::parser_of;
 use std::alloc::Global;
 use std::fmt;
 use std::test::Fail;

@@ -1,21 +1,12 @@
 //! Binary names, and the words of the environment.
-use crate::calls::{is_at_end, parser_of, reads_short, takes};
-use crate::errors::prints;
-use lexopt::{Error, OsString, Parser};
+use lexopt::{Error, Parser};
+use lexopt_testing::calls::{is_at_end, reads_short, takes};
+use lexopt_testing::errors::prints;
+use lexopt_testing::parsers::{named, parser_of};
 use std::alloc::Global;
 use std::env;
 use std::env::{Env, FillError};
 use std::test::Fail;
-
-// A parser of these words, the first of which is its name.
-pub fn named(alloc: Global, words: &[&[u8]]) -> Result<Parser, Error> {
-    let mut list = Vec::new(alloc);
-    for word in words {
-        let word = OsString::from_bytes(alloc, word)?;
-        list.push(word)?;
-    }
-    Parser::from_iter(alloc, list)
-}
 
 // Whether this is the name of the parser of these words.
 fn is_name(alloc: Global, words: &[&[u8]], name: &str) -> Result<bool, Error> {

@@ -1,14 +1,9 @@
-//! Errors: what each prints, what it holds, and what becomes one.
+//! Errors: what each prints, what it holds, and what becomes one. Those of scripts, with their status.
+use lexopt::replay::RunError;
 use lexopt::{Arg, Error, OsString};
+use lexopt_testing::errors::prints;
 use std::alloc::{AllocError, AllocFailed, Global};
 use std::test::Fail;
-
-// Whether `Display` and `Debug` of an error both write this message.
-pub fn prints(alloc: Global, error: &Error, message: &str) -> Result<bool, AllocError> {
-    let displayed = error.to_string(alloc)?;
-    let debugged = format!(in alloc; "{error:?}")?;
-    Ok(displayed.as_str() == message && debugged.as_str() == message)
-}
 
 // Whether a word that no program wanted is told so.
 fn refused_as(alloc: Global, word: &[u8], message: &str) -> Result<bool, AllocError> {
@@ -171,5 +166,24 @@ fn refused_memory(rt: HostRuntime) -> Result<(), Fail> {
     assert!(rt; prints(rt.alloc(), &Error::from(AllocError), "out of memory")?);
     let failed = AllocFailed { value: 0u8 };
     assert!(rt; prints(rt.alloc(), &Error::from(failed), "out of memory")?);
+    Ok(())
+}
+
+#[test]
+fn run_errors(rt: HostRuntime) -> Result<(), Fail> {
+    for (error, message, status) in [
+        (RunError::BadLine(12), "line 12 refused", 2),
+        (RunError::TooLong, "script too long", 2),
+        (RunError::ReadFailed, "read failed", 1),
+        (RunError::WriteFailed, "write failed", 1),
+        (RunError::from(AllocError), "out of memory", 1),
+    ] {
+        assert_eq!(rt; error.to_string(rt.alloc())?.as_str(), message);
+        assert_eq!(rt; error.status(), status);
+    }
+    assert_eq!(rt;
+        RunError::from(AllocFailed { value: 0u8 }),
+        RunError::NoMemory
+    );
     Ok(())
 }

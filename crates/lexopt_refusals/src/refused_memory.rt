@@ -2,12 +2,11 @@
 //!
 //! One request of a test is refused in a run. Each test checks what stands afterwards, and then fails and says which call
 //! was refused. Where nothing is refused, each test passes.
-use crate::calls::{is_at_end, parser_of, reads_long, reads_short, reads_word, takes};
-use crate::faults::{SCRIPT, WRITTEN};
-use crate::names::named;
-use crate::replays::left;
 use lexopt::replay::{Call, Reply, RunError, replay, run};
 use lexopt::{Error, OsString, Parser};
+use lexopt_testing::calls::{is_at_end, left, reads_long, reads_short, reads_word, takes};
+use lexopt_testing::parsers::{named, parser_of};
+use lexopt_testing::scripts::{SCRIPT, WRITTEN};
 use std::alloc::{AllocError, Global};
 use std::test::Fail;
 

@@ -1,12 +1,9 @@
 //! Readers and writers that fail, that are slow and that never end, and scripts that a case file cannot say.
 use lexopt::replay::{RunError, run};
+use lexopt_testing::scripts::{SCRIPT, WRITTEN};
 use std::io;
 use std::io::{Read, Write};
 use std::test::Fail;
-
-pub const SCRIPT: &[u8] = b"w --out=x\nw file\nw --\nw -y\nnext\nvalue\nnext\nnext\nnext\n";
-
-pub const WRITTEN: &[u8] = b"Long \"out\"\n\"x\"\nValue \"file\"\nValue \"-y\"\nNone\n";
 
 // Gives one byte at a time, and fails at this read, counted from 1; at 0 none fails.
 #[derive(Drop)]

@@ -1,0 +1,8 @@
+//! Tests of refused memory, of readers and writers that fail, and of scripts that a case file cannot say. It has nothing
+//! else.
+#![tactic(auto)]
+
+#[cfg(test)]
+mod faults;
+#[cfg(test)]
+mod refused_memory;

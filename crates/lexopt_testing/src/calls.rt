@@ -1,0 +1,43 @@
+//! Calls of a parser, compared with what is wanted.
+use lexopt::replay::{Call, Reply, replay};
+use lexopt::{Arg, Error, Parser};
+use std::alloc::Global;
+
+/// Whether the next argument is this short option.
+pub fn reads_short(parser: &mut Parser, wanted: char) -> Result<bool, Error> {
+    match parser.next()? {
+        Some(Arg::Short(option)) => Ok(option == wanted),
+        _ => Ok(false),
+    }
+}
+
+/// Whether the next argument is this long option.
+pub fn reads_long(parser: &mut Parser, wanted: &str) -> Result<bool, Error> {
+    match parser.next()? {
+        Some(Arg::Long(name)) => Ok(name == wanted),
+        _ => Ok(false),
+    }
+}
+
+/// Whether the next argument is no option but this word.
+pub fn reads_word(parser: &mut Parser, wanted: &[u8]) -> Result<bool, Error> {
+    match parser.next()? {
+        Some(Arg::Value(word)) => Ok(word.as_bytes() == wanted),
+        _ => Ok(false),
+    }
+}
+
+/// Whether all is read.
+pub fn is_at_end(parser: &mut Parser) -> Result<bool, Error> {
+    Ok(parser.next()?.is_none())
+}
+
+/// Whether these bytes are the value.
+pub fn takes(parser: &mut Parser, wanted: &[u8]) -> Result<bool, Error> {
+    Ok(parser.value()?.as_bytes() == wanted)
+}
+
+/// What is left of a line: what is pending, the words, and the last option.
+pub fn left(alloc: Global, parser: &mut Parser) -> Result<Vec<Reply>, Error> {
+    replay(alloc, parser, &[Call::Optional, Call::Raw(9), Call::Value])
+}

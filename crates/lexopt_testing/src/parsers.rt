@@ -1,0 +1,34 @@
+//! Words, and parsers of them.
+use lexopt::{Error, OsString, Parser};
+use std::alloc::{AllocError, Global};
+
+/// The words that stand in these lines.
+pub fn words_of(alloc: Global, lines: &[u8]) -> Result<Vec<OsString>, AllocError> {
+    let mut words = Vec::new(alloc);
+    if !lines.is_empty() {
+        for line in lines.split(|byte| *byte == b'\n') {
+            words.push(OsString::from_bytes(alloc, line)?)?;
+        }
+    }
+    Ok(words)
+}
+
+/// A parser of these words, with no name.
+pub fn parser_of(alloc: Global, words: &[&[u8]]) -> Result<Parser, Error> {
+    let mut list = Vec::new(alloc);
+    for word in words {
+        let word = OsString::from_bytes(alloc, word)?;
+        list.push(word)?;
+    }
+    Parser::from_args(alloc, list)
+}
+
+/// A parser of these words, the first of which is its name.
+pub fn named(alloc: Global, words: &[&[u8]]) -> Result<Parser, Error> {
+    let mut list = Vec::new(alloc);
+    for word in words {
+        let word = OsString::from_bytes(alloc, word)?;
+        list.push(word)?;
+    }
+    Parser::from_iter(alloc, list)
+}

@@ -1,0 +1,13 @@
+//! Tests of words, arguments, conversions, errors, code points and names. It has nothing else.
+#![tactic(auto)]
+
+#[cfg(test)]
+mod codepoints;
+#[cfg(test)]
+mod conversions;
+#[cfg(test)]
+mod errors;
+#[cfg(test)]
+mod names;
+#[cfg(test)]
+mod words;
