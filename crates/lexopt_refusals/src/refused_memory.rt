@@ -2,10 +2,11 @@
 //!
 //! One request of a test is refused in a run. Each test checks what stands afterwards, and then fails and says which call
 //! was refused. Where nothing is refused, each test passes.
+use lexopt::items::{Table, read_items};
 use lexopt::replay::{Call, Reply, RunError, replay, run};
 use lexopt::{Error, OsString, Parser};
 use lexopt_testing::calls::{is_at_end, left, reads_long, reads_short, reads_word, takes};
-use lexopt_testing::parsers::{named, parser_of};
+use lexopt_testing::parsers::{named, parser_of, words_of};
 use lexopt_testing::scripts::{SCRIPT, WRITTEN};
 use std::alloc::{AllocError, Global};
 use std::test::Fail;
@@ -397,4 +398,85 @@ fn calls_of_every_kind(rt: HostRuntime) -> Result<(), Fail> {
             told(true, "replay")
         }
     }
+}
+
+fn table_of_each_kind(alloc: Global) -> Result<Table, AllocError> {
+    let mut table = Table::new(alloc);
+    table.shorts.push('o')?;
+    table.longs.push(String::from_str(alloc, "out")?)?;
+    table.optional_shorts.push('i')?;
+    table.several_longs.push(String::from_str(alloc, "cmd")?)?;
+    Ok(table)
+}
+
+// What a line says, or that its reading was refused memory.
+fn read_so(alloc: Global, lines: &[u8], wanted: &str) -> Result<(), Fail> {
+    let Ok(table) = table_of_each_kind(alloc) else {
+        return told(true, "the table");
+    };
+    let Ok(words) = words_of(alloc, lines) else {
+        return told(true, "the list");
+    };
+    let mut text = String::with_capacity(alloc, 200)?;
+    match read_items(alloc, words, true, &table) {
+        Ok(items) => {
+            for item in items.iter() {
+                writeln!(text, "{item}")?;
+            }
+        }
+        Err(Error::OutOfMemory) => return told(true, "read_items"),
+        Err(error) => writeln!(text, "{error}")?,
+    }
+    if text.as_str() == wanted {
+        Ok(())
+    } else {
+        Err(Fail::new("read_items gave another answer"))
+    }
+}
+
+// A whole line is read whole, or refused for memory: no item is left out, and no value is another one.
+#[test]
+fn whole_line(rt: HostRuntime) -> Result<(), Fail> {
+    read_so(
+        rt.alloc(),
+        b"-vo=x\n--out\ny\n-i\n--n\xff\n--cmd\n1\n2\n3\n4\n5\n--\n-f",
+        "Short \"v\"\nShort \"o\" = \"x\"\nLong \"out\" = \"y\"\nShort \"i\"\nLong \"n\u{fffd}\"\nLong \"cmd\" = [\"1\", \"2\", \"3\", \"4\", \"5\"]\nValue \"-f\"\n",
+    )
+}
+
+#[test]
+fn line_without_a_value(rt: HostRuntime) -> Result<(), Fail> {
+    read_so(
+        rt.alloc(),
+        b"-v\n--out",
+        "missing argument for option '--out'\n",
+    )
+}
+
+#[test]
+fn line_without_values(rt: HostRuntime) -> Result<(), Fail> {
+    read_so(
+        rt.alloc(),
+        b"--cmd\n-v",
+        "missing argument for option '--cmd'\n",
+    )
+}
+
+#[test]
+fn line_with_an_unexpected_value(rt: HostRuntime) -> Result<(), Fail> {
+    read_so(
+        rt.alloc(),
+        b"-v=1",
+        "unexpected argument for option '-v': \"1\"\n",
+    )
+}
+
+// The line of a script that stands for the whole line is an error where its reading is refused memory; the calls behind it
+// want none.
+#[test]
+fn script_of_a_whole_line(rt: HostRuntime) -> Result<(), Fail> {
+    let script = b"w -ox\nw -d\nw 1\nw 2\nt -o\ntmany -d\nitems\nnext\noptional\n";
+    let whole = b"[Short \"o\" = \"x\", Short \"d\" = [\"1\", \"2\"]]\nShort \"o\"\n\"x\"\n";
+    let refused = b"error: out of memory\nShort \"o\"\n\"x\"\n";
+    replays(rt.alloc(), script, whole, refused, "read_items")
 }

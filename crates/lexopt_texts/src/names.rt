@@ -25,6 +25,27 @@ fn names(rt: HostRuntime) -> Result<(), Fail> {
 }
 
 #[test]
+fn names_of_damage(rt: HostRuntime) -> Result<(), Fail> {
+    for (bytes, name) in [
+        (b"a\xffc".as_slice(), "a\u{FFFD}c"),
+        (b"\xc2", "\u{FFFD}"),
+        (b"\xc2a", "\u{FFFD}a"),
+        (b"\xc2\xb5", "µ"),
+        (b"\xf0", "\u{FFFD}"),
+        (b"\xf0\x9d", "\u{FFFD}"),
+        (b"\xf0\x9d\x84", "\u{FFFD}"),
+        (b"\xf0\x9da", "\u{FFFD}a"),
+        (b"\xf0\x9d\x84a", "\u{FFFD}a"),
+        (b"\xf0\x9d\x84\x9e", "\u{1D11E}"),
+        (b"\xed\xa0\x80", "\u{FFFD}\u{FFFD}\u{FFFD}"),
+        (b"\xef\xbf\xbd", "\u{FFFD}"),
+    ] {
+        assert!(rt; is_name(rt.alloc(), &[bytes], name)?, "{name}");
+    }
+    Ok(())
+}
+
+#[test]
 fn words_behind_a_name(rt: HostRuntime) -> Result<(), Fail> {
     let mut parser = named(rt.alloc(), &[b"foo", b"-x"])?;
     assert!(rt; reads_short(&mut parser, 'x')?);
