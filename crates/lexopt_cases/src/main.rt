@@ -1,5 +1,5 @@
-//! Replays cases: scripts of calls, each with the text that it is to write. It also has tests of calls, views, lists of
-//! calls and whole lines.
+//! Replays cases: scripts of calls and whole lines, each with the text that it is to write. It also has tests of calls, views,
+//! lists of calls and whole lines.
 //!
 //! Standard input holds the cases; the head of the file `stdin` says how they are written. Each case that comes to something
 //! else is printed, and behind each section the number of its cases that agree and that differ.

@@ -19,40 +19,12 @@ mod tables;
 use clusters::Counts;
 use lexopt::items::{Table, read_items};
 use lexopt::{Error, OsString};
+use lexopt_testing::words::WORDS;
 use pieces::push_quoted;
 use plain::Refusal;
 use std::alloc::{AllocError, Global};
 use std::io;
 use tables::{Choice, KINDS, OVERLAPS};
-
-// Words that are no option, the separator, clusters and long options, with values, without, and with damage.
-const WORDS: [&[u8]; 25] = [
-    b"",
-    b"-",
-    b"--",
-    b"---",
-    b"a",
-    b"-a",
-    b"-aa",
-    b"\xFF",
-    b"-\xFF",
-    b"-a\xFF",
-    b"-\xFFa",
-    b"--a",
-    b"--\xFF",
-    b"--a=a",
-    b"--a=",
-    b"--a=\xFF",
-    b"--\xFF=a",
-    b"--=",
-    b"--=\xFF",
-    b"--=a",
-    b"-\xFF\xFF",
-    b"-a=a",
-    b"-a=",
-    b"-=",
-    b"-a-",
-];
 
 // How many readings agreed and differed, and the first that differed.
 #[derive(Drop)]

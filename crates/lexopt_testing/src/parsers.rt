@@ -13,6 +13,15 @@ pub fn words_of(alloc: Global, lines: &[u8]) -> Result<Vec<OsString>, AllocError
     Ok(words)
 }
 
+/// A copy of these words.
+pub fn copies(alloc: Global, words: &[OsString]) -> Result<Vec<OsString>, AllocError> {
+    let mut copied = Vec::with_capacity(alloc, words.len())?;
+    for word in words {
+        copied.push(word.clone()?)?;
+    }
+    Ok(copied)
+}
+
 /// A parser of these words, with no name.
 pub fn parser_of(alloc: Global, words: &[&[u8]]) -> Result<Parser, Error> {
     let mut list = Vec::new(alloc);
