@@ -10,6 +10,7 @@ pub use lexopt_base::raw::RawArgs;
 pub use lexopt_base::values::ValuesIter;
 pub use lexopt_base::{parser, raw, values};
 pub use lexopt_calls::items;
+pub use lexopt_spell::spell;
 pub use lexopt_words::error::{Arg, Error};
 pub use lexopt_words::os_string::{OsStr, OsString, Quoted};
 pub use lexopt_words::value_ext::ValueExt;

@@ -20,8 +20,8 @@ use Rattle.std.specs.Prelude.{Result, Ok, Err, IfErr, IfOk}
 use Rattle.std.specs.Result.{IsErrAnd}
 use Rattle.std.specs.Option.{option_map}
 use Rattle.lexopt_calls.specs.declared.reply.Reply as replies
-use Rattle.lexopt_calls.specs.declared.items.Kind as copies
-use Rattle.lexopt_calls.specs.declared.items.Kind.TheVariants.{Flag, One, Optional, Several}
+use Rattle.lexopt_calls.specs.declared.kinds.Kind as copies
+use Rattle.lexopt_calls.specs.declared.kinds.Kind.TheVariants.{Flag, One, Optional, Several}
 use Rattle.lexopt_calls.specs.declared.items.Ending.{Ending}
 use Rattle.lexopt_calls.specs.declared.items.Ending.TheVariants.{Missing, Unexpected, NoMemory}
 use Rattle.lexopt_calls.specs.declared.items.Values.{Values}

@@ -14,8 +14,8 @@ use Rattle.lexopt_words.specs.declared.error.Error.TheVariants.{MissingValue, Un
 use Rattle.lexopt_calls.specs.declared.items.Item.{Item}
 use Rattle.lexopt_calls.specs.declared.items.Item.TheVariants.{Short, Long, ShortMany, LongMany, Positional}
 use Rattle.lexopt_calls.specs.declared.items.Table.{Table}
-use Rattle.lexopt_calls.specs.declared.items.Kind.{Kind}
-use Rattle.lexopt_calls.specs.declared.items.Kind.TheVariants.{Flag, One, Optional, Several}
+use Rattle.lexopt_calls.specs.declared.kinds.Kind.{Kind}
+use Rattle.lexopt_calls.specs.declared.kinds.Kind.TheVariants.{Flag, One, Optional, Several}
 use Rattle.lexopt_calls.specs.declared.items.Ending.{Ending}
 use Rattle.lexopt_calls.specs.declared.items.Ending.TheVariants.{Missing, Unexpected, NoMemory}
 use Rattle.lexopt_calls.specs.declared.items.Values.{Values}

@@ -6,13 +6,14 @@ ghost use Rattle.std.specs.Fmt.{WritesOnOk};
 ghost use Rattle.lexopt_spec.specs.Script.{value_text};
 ghost use Rattle.lexopt_spec.specs.Steps.{end};
 ghost use Rattle.lexopt_spec.specs.Table as spec;
-ghost use Rattle.lexopt_spec.specs.Table.{holds_in, kind, one_value};
+ghost use Rattle.lexopt_spec.specs.Table.{one_value};
 ghost use Rattle.lexopt_spec.specs.Readings.{IsReading, start};
 ghost use Rattle.lexopt_spec.specs.Spelling.{HaveWholeNames, Shows, Spells};
 ghost use Rattle.lexopt_spec.specs.Runs.{Step, values};
 ghost use Rattle.lexopt_base.specs.Replies.{Gives, error_reply};
-ghost use Rattle.lexopt_calls.specs.Items.{EndsBy, IsErrorOf, IsRefused, ReadsItem, ReadsValues, RefusesValues, ending_view, item_view, item_with, kind_view, table_view};
+ghost use Rattle.lexopt_calls.specs.Items.{EndsBy, IsErrorOf, IsRefused, ReadsItem, ReadsValues, RefusesValues, ending_view, item_view, item_with, table_view};
 
+use crate::kinds::{Kind, kind_of_long, kind_of_short};
 use crate::replay::{call_next, values_of};
 use crate::reply::{Reply, write_list, write_long, write_positional, write_short, write_word};
 use lexopt_base::parser::Parser;
@@ -110,15 +111,6 @@ fn write_value<W: fmt::Write>(value: &Option<OsString>, f: &mut fmt::Formatter<W
     }
 }
 
-// How many values an option has.
-#[derive(Clone, Copy)]
-enum Kind {
-    Flag,
-    One,
-    Optional,
-    Several,
-}
-
 // The values of an option.
 #[derive(Drop)]
 enum Values {
@@ -147,43 +139,6 @@ impl Table {
             several_longs: Vec::new(alloc),
         }
     }
-
-    // How many values a short option has.
-    fn kind_of_short(&self, option: char) -> Kind
-        ensures { kind_view result ≡ kind (table_view self.now) (spec.short option) }
-    {
-        if self.shorts.contains(&option) {
-            Kind::One
-        } else if self.optional_shorts.contains(&option) {
-            Kind::Optional
-        } else if self.several_shorts.contains(&option) {
-            Kind::Several
-        } else {
-            Kind::Flag
-        }
-    }
-
-    // How many values a long option has.
-    fn kind_of_long(&self, name: &String) -> Kind
-        ensures { kind_view result ≡ kind (table_view self.now) (spec.long (string_bytes name.now)) }
-    {
-        if holds(&self.longs, name) {
-            Kind::One
-        } else if holds(&self.optional_longs, name) {
-            Kind::Optional
-        } else if holds(&self.several_longs, name) {
-            Kind::Several
-        } else {
-            Kind::Flag
-        }
-    }
-}
-
-// Whether this name is among these.
-fn holds(names: &Vec<String>, name: &String) -> bool
-    ensures { result ≡ holds_in [] (map string_bytes names.now.items) (spec.long (string_bytes name.now)) }
-{
-    names.contains(name)
 }
 
 impl Values {
@@ -297,11 +252,11 @@ fn read_item(alloc: Global, parser: &mut Parser, table: &Table) -> Result<Option
 {
     match call_next(alloc, parser)? {
         Some(Reply::Short(option)) => {
-            let values = read_values(alloc, parser, table.kind_of_short(option))?;
+            let values = read_values(alloc, parser, kind_of_short(table, option))?;
             Ok(Some(values.of_short(option)))
         }
         Some(Reply::LongName(name)) => {
-            let values = read_values(alloc, parser, table.kind_of_long(&name))?;
+            let values = read_values(alloc, parser, kind_of_long(table, &name))?;
             Ok(Some(values.of_long(name)))
         }
         Some(Reply::Positional(word)) => Ok(Some(Item::Positional(word))),

@@ -2,5 +2,6 @@
 #![tactic(auto)]
 
 pub mod items;
+pub mod kinds;
 pub mod replay;
 pub mod reply;

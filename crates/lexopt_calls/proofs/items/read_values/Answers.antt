@@ -1,6 +1,6 @@
 use Rattle.std.proofs.Common.{refl, inl}
 use Rattle.lexopt_spec.specs.Runs.{value, values}
-use Rattle.lexopt_calls.specs.declared.items.Kind.TheVariants.{One, Several}
+use Rattle.lexopt_calls.specs.declared.kinds.Kind.TheVariants.{One, Several}
 use Rattle.lexopt_calls.proofs.ReadsItems.{value_refused, values_refused}
 use Rattle.lexopt_calls.proofs.items.read_values.Goals as goal
 

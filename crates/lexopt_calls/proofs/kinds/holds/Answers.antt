@@ -2,7 +2,7 @@ use Rattle.std.proofs.Common.{◌==◌, string_bytes, Global, String, sym, ap, �
 use Rattle.std.specs.List.{list_any}
 use Rattle.std.specs.Cmp.Lexicographic.{pointwise}
 use Rattle.lexopt_calls.proofs.ReadsItems.{list_any-map}
-use Rattle.lexopt_calls.proofs.items.holds.Goals as goal
+use Rattle.lexopt_calls.proofs.kinds.holds.Goals as goal
 
 pub returns : goal.returns
 returns c =

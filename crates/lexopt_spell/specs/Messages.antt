@@ -1,0 +1,24 @@
+-- What the errors of `spell` print.
+use Rattle.std.specs.Prelude.{ℕ, List, ◌++◌, codes}
+use Rattle.std.specs.Fmt.{decimal}
+use Rattle.lexopt_spec.specs.Text.{no_memory_message}
+use Rattle.lexopt_spell.specs.declared.spell.Reason.{Reason}
+use Rattle.lexopt_spell.specs.declared.spell.Reason.TheVariants.{EqualsInName, UnexpectedValue, MissingValue, WantsMany, NotMany, EmptyValue, OptionAmongValues, EmptyName, BehindSeparator, DashWithoutFlag}
+use Rattle.lexopt_spell.specs.declared.spell.SpellError.{SpellError}
+use Rattle.lexopt_spell.specs.declared.spell.SpellError.TheVariants.{AtFault, OutOfMemory}
+
+abbrev pub reason_message : Reason → List ℕ
+reason_message EqualsInName = codes "a long option cannot have `=` in its name"
+reason_message UnexpectedValue = codes "the option has no value, and is given one"
+reason_message MissingValue = codes "the option wants a value, and is given none"
+reason_message WantsMany = codes "the option has several values: give them as a list"
+reason_message NotMany = codes "the option does not have several values"
+reason_message EmptyValue = codes "an empty value cannot stand right behind a character, unless `=` may stand between"
+reason_message OptionAmongValues = codes "one of several values would be read as an option"
+reason_message EmptyName = codes "a long option without a value wants a name"
+reason_message BehindSeparator = codes "an option cannot stand behind a positional that needs `--` before it"
+reason_message DashWithoutFlag = codes "the option `-` can only follow a flag of one character"
+
+abbrev pub message : SpellError → List ℕ
+message (AtFault index reason) = codes "item " ++ (decimal index ++ (codes ": " ++ reason_message reason))
+message OutOfMemory = no_memory_message

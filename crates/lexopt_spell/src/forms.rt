@@ -1,0 +1,203 @@
+//! Where the values of an option stand: behind its name in its word, or in words of their own.
+ghost use Rattle.std.specs.Prelude.{◌≡◌, ◌∷◌, false};
+ghost use Rattle.std.specs.List.{list_all};
+ghost use Rattle.lexopt_spec.specs.Speller as spec;
+ghost use Rattle.lexopt_spec.specs.UnreadLine as line;
+ghost use Rattle.lexopt_calls.specs.Items.{kind_view};
+ghost use Rattle.lexopt_spell.specs.Views.{behind_view, form_answer, form_view, place_view};
+
+use crate::spell::Reason;
+use lexopt_calls::kinds::Kind;
+use lexopt_words::os_string::OsString;
+use lexopt_words::word::is_positional;
+use std::slice;
+
+/// What the next item follows.
+#[derive(Clone, Copy)]
+pub enum Place {
+    /// Nothing that it has to do with.
+    Open,
+    /// A flag, which is the last of its cluster.
+    InCluster,
+    /// Words that are the values of an option that has several.
+    BehindValues,
+    /// The separator, and perhaps positionals.
+    Ended,
+}
+
+/// What stands behind an option's name in its word.
+#[derive(Clone, Copy)]
+pub enum Behind<'a> {
+    Nothing,
+    /// A value, right behind a character.
+    Attached(&'a OsString),
+    /// A value, behind `=`.
+    Joined(&'a OsString),
+}
+
+/// What stands behind an option's name in its word, the words behind that word, and what the next item follows then.
+#[derive(Clone, Copy)]
+pub struct Form<'a> {
+    pub behind: Behind<'a>,
+    pub words: &'a [OsString],
+    pub place: Place,
+}
+
+// Nothing but the name.
+fn name_only<'a>(place: Place) -> Form<'a>
+    ensures { form_view result ≡ spec.name_only (place_view place) }
+{
+    Form {
+        behind: Behind::Nothing,
+        words: &[],
+        place,
+    }
+}
+
+// All in one word.
+fn in_word(behind: Behind<'_>) -> Form<'_>
+    ensures { form_view result ≡ spec.in_word (behind_view behind.entry) }
+{
+    Form {
+        behind,
+        words: &[],
+        place: Place::Open,
+    }
+}
+
+// A value right behind a character. It stands behind `=` where it would be lost, or begins with `=`, if the switch is on.
+fn attached_form(short_equals: bool, value: &OsString) -> Result<Form<'_>, Reason>
+    ensures { form_answer result ≡ spec.attached_form short_equals value.now }
+{
+    match value.as_bytes() {
+        [] => {
+            if short_equals {
+                Ok(in_word(Behind::Joined(value)))
+            } else {
+                Err(Reason::EmptyValue)
+            }
+        }
+        [first, ..] => {
+            if short_equals && *first == b'=' {
+                Ok(in_word(Behind::Joined(value)))
+            } else {
+                Ok(in_word(Behind::Attached(value)))
+            }
+        }
+    }
+}
+
+/// The form of a short option with one value or none.
+pub fn short_form(
+    short_equals: bool,
+    kind: Kind,
+    value: &Option<OsString>,
+) -> Result<Form<'_>, Reason>
+    ensures { form_answer result ≡ spec.short_form short_equals (kind_view kind) value.now }
+{
+    match (kind, value) {
+        (Kind::Flag, None) => Ok(name_only(Place::InCluster)),
+        (Kind::Flag, Some(_)) => Err(Reason::UnexpectedValue),
+        (Kind::One, None) => Err(Reason::MissingValue),
+        (Kind::One, Some(value)) => Ok(Form {
+            behind: Behind::Nothing,
+            words: slice::from_ref(value),
+            place: Place::Open,
+        }),
+        (Kind::Optional, None) => Ok(name_only(Place::Open)),
+        (Kind::Optional, Some(value)) => attached_form(short_equals, value),
+        (Kind::Several, _) => Err(Reason::WantsMany),
+    }
+}
+
+/// The form of a long option with one value or none.
+pub fn long_form(kind: Kind, value: &Option<OsString>) -> Result<Form<'_>, Reason>
+    ensures { form_answer result ≡ spec.long_form (kind_view kind) value.now }
+{
+    match (kind, value) {
+        (Kind::Flag, None) => Ok(name_only(Place::Open)),
+        (Kind::Flag, Some(_)) => Err(Reason::UnexpectedValue),
+        (Kind::One, None) => Err(Reason::MissingValue),
+        (Kind::One, Some(value)) => Ok(in_word(Behind::Joined(value))),
+        (Kind::Optional, None) => Ok(name_only(Place::Open)),
+        (Kind::Optional, Some(value)) => Ok(in_word(Behind::Joined(value))),
+        (Kind::Several, _) => Err(Reason::WantsMany),
+    }
+}
+
+// Whether a word is no option, as one of several values is to be.
+fn is_plain(word: &OsString) -> bool
+    ensures { result ≡ line.is_plain false word.now }
+{
+    is_positional(word.as_bytes())
+}
+
+fn all_plain(words: &[OsString]) -> bool
+    ensures { result ≡ list_all (line.is_plain false) words.now }
+{
+    words.iter().all(|word| is_plain(word))
+}
+
+// Values in words of their own.
+fn words_form(values: &[OsString]) -> Result<Form<'_>, Reason>
+    ensures { form_answer result ≡ spec.words_form (list_all (line.is_plain false) values.now) values.now }
+{
+    if !all_plain(values) {
+        return Err(Reason::OptionAmongValues);
+    }
+    Ok(Form {
+        behind: Behind::Nothing,
+        words: values,
+        place: Place::BehindValues,
+    })
+}
+
+// The same behind a character: a first value that would be an option stands in its word.
+fn short_words_form<'a>(
+    first: &'a OsString,
+    others: &'a [OsString],
+    values: &'a [OsString],
+) -> Result<Form<'a>, Reason>
+    requires { values.now ≡ first.now ∷ others.now }
+    ensures { form_answer result ≡ spec.short_words_form (line.is_plain false first.now) (list_all (line.is_plain false) others.now) first.now others.now }
+{
+    if is_plain(first) {
+        return words_form(values);
+    }
+    if !all_plain(others) {
+        return Err(Reason::OptionAmongValues);
+    }
+    Ok(Form {
+        behind: Behind::Attached(first),
+        words: others,
+        place: Place::BehindValues,
+    })
+}
+
+/// The form of a short option with several values. A lone one may have to be joined.
+pub fn short_many_form(joins: bool, kind: Kind, values: &[OsString]) -> Result<Form<'_>, Reason>
+    ensures { form_answer result ≡ spec.short_many_form joins (kind_view kind) values.now }
+{
+    let Kind::Several = kind else {
+        return Err(Reason::NotMany);
+    };
+    match values {
+        [] => Err(Reason::MissingValue),
+        [value] if joins => Ok(in_word(Behind::Joined(value))),
+        [first, others @ ..] => short_words_form(first, others, values),
+    }
+}
+
+/// The form of a long option with several values.
+pub fn long_many_form(kind: Kind, values: &[OsString]) -> Result<Form<'_>, Reason>
+    ensures { form_answer result ≡ spec.long_many_form (kind_view kind) values.now }
+{
+    let Kind::Several = kind else {
+        return Err(Reason::NotMany);
+    };
+    match values {
+        [] => Err(Reason::MissingValue),
+        [value] => Ok(in_word(Behind::Joined(value))),
+        _ => words_form(values),
+    }
+}

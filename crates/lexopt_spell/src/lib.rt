@@ -1,0 +1,6 @@
+//! Words that spell what a line is to say. The crate `lexopt` hands on its public items.
+#![tactic(auto)]
+
+mod added;
+mod forms;
+pub mod spell;
