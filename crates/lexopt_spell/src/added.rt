@@ -1,6 +1,6 @@
 //! What one item adds to the words that spell those before it.
 ghost use Rattle.std.specs.Prelude.{◌≡◌, ◌==◌, ◌++◌, [], false, true, Ok, IfOk, OnOk, map, string_bytes};
-ghost use Rattle.std.specs.List.{list_any};
+ghost use Rattle.std.specs.List.{list_all, list_any};
 ghost use Rattle.lexopt_spec.specs.UnreadLine as line;
 ghost use Rattle.lexopt_spec.specs.Speller as spec;
 ghost use Rattle.lexopt_calls.specs.Items.{item_view, table_view};
@@ -114,20 +114,29 @@ fn positional_added(place: Place, word: &OsString) -> Added<'_>
     }
 }
 
+// Whether an item is no option.
+fn is_no_option(item: &Item) -> bool
+    ensures { result ≡ spec.is_positional (item_view item.now) }
+{
+    matches!(item, Item::Positional(_))
+}
+
+// Whether no item is an option.
+fn are_no_options(items: &[Item]) -> bool
+    ensures { result ≡ list_all (λ item. spec.is_positional (item_view item)) items.now }
+{
+    items.iter().all(|item| is_no_option(item))
+}
+
 // Whether the separator would stand before an option, if it stood before the first of these items.
 //
-// It looks at the positionals that these items begin with, and at the option behind them. It is asked behind options alone,
-// so each positional is looked at once.
+// It reads on to the first option. It is asked behind options alone, so a whole line of items costs one more pass at most.
 fn separator_comes_too_early(items: &[Item]) -> bool
     ensures { result ≡ spec.separator_comes_too_early (map item_view items.now) }
 {
     match items {
-        [Item::Positional(_), others @ ..] => {
-            !others
-                .iter()
-                .all(|item| matches!(item, Item::Positional(_)))
-        }
-        _ => false,
+        [] => false,
+        [first, others @ ..] => is_no_option(first) && !are_no_options(others),
     }
 }
 

@@ -1,0 +1,3 @@
+mod Behind
+mod Resumed
+mod Words

@@ -1,0 +1,21 @@
+use Rattle.std.proofs.Common.{sym, ap, ◌∙◌}
+use Rattle.lexopt_calls.specs.Items.{item_view, table_view}
+use Rattle.lexopt_spell.specs.Views.{added_answer, added_view, place_view, reason_view}
+use Rattle.lexopt_spell.proofs.Resumed.{item_at_fault, item_spelled, items_spelled}
+use Rattle.lexopt_spell.proofs.spell.spell.Goals as goal
+
+pub returns-in-Err-clause-fault : goal.returns-in-Err-clause-fault
+returns-in-Err-clause-fault c =
+    item_at_fault item_view (table_view c.args.table.now) c.args.short_equals c.args.items.now c.loop-index.index c.index-items-index.result (place_view c.loop-index.place)
+    c.loop-index.words.items (reason_view c.in-Err.reason) _ c.loop-index-test.true c.index-items-index.is (sym c.adds.ensures ∙ ap added_answer c.in-Err.is) c.loop-index.invariant
+
+pub loop-index-preserved : goal.loop-index-preserved
+loop-index-preserved c =
+    item_spelled item_view (table_view c.args.table.now) c.args.short_equals c.args.items.now c.loop-index.index c.index-items-index.result (place_view c.loop-index.place)
+    c.loop-index.words.items c.push.new.words.items (added_view c.in-Ok.added) _ c.loop-index-test.true c.index-items-index.is (sym c.adds.ensures ∙ ap added_answer c.in-Ok.is)
+    c.in_ok-push-in-Ok.ensures c.loop-index.invariant
+
+pub returns-clause-form : goal.returns-clause-form
+returns-clause-form c =
+    items_spelled item_view (table_view c.args.table.now) c.args.short_equals c.args.items.now c.loop-index.index (place_view c.loop-index.place) c.loop-index.words.items _
+    c.loop-index-test.false c.loop-index.invariant
