@@ -39,6 +39,12 @@ pub mod WholeLines
 pub mod Rounds
 pub mod Names
 pub mod OneValueLaw
+pub mod SpellerTests
+pub mod SpellerForms
+pub mod SpellerSound
+pub mod SpellerPlaces
+pub mod SpellerComplete
+pub mod SpellerFaults
 pub mod Computing
 pub mod Worked
 pub mod WorkedDamage

@@ -14,7 +14,7 @@ use Rattle.lexopt_spec.proofs.Letters.{exact_read, read_letter}
 
 -- ---- text and its characters
 
-step : (bs : List ℕ) → 0 < length bs → lossy_characters bs ≡ shown (first_piece bs).char ∷ lossy_characters (after_first_piece bs)
+pub step : (bs : List ℕ) → 0 < length bs → lossy_characters bs ≡ shown (first_piece bs).char ∷ lossy_characters (after_first_piece bs)
 step bs some = ap (map (λ p. shown p.char)) (pieces-step bs some)
 
 some_bytes : (bs : List ℕ) → bs ≢ [] → 0 < length bs
@@ -36,18 +36,18 @@ encoded (c ∷ cs) is =
     ∙ ap (λ l. c ∷ lossy_characters l) read.after
     ∙ ap (λ l. c ∷ l) (encoded cs scalar_and.1)
 
-shorter : (bs : List ℕ) (n : ℕ) → 0 < length bs → length bs ≤ suc n → length (after_first_piece bs) ≤ n
+pub shorter : (bs : List ℕ) (n : ℕ) → 0 < length bs → length bs ≤ suc n → length (after_first_piece bs) ≤ n
 shorter bs n some le = let bounds = piece-bounds bs some in let left = length-drop (decoded bs).size bs in omega arith
 
 joined : (c : ℕ) (cs : List ℕ) → scalar c ≡ true → scalars cs ≡ true → scalars (c ∷ cs) ≡ true
 joined c cs a b = rw a b
 
-letter_scalar : (c : ℕ) (bytes behind : List ℕ) → damaged.character c bytes behind → scalar c ≡ true
+pub letter_scalar : (c : ℕ) (bytes behind : List ℕ) → damaged.character c bytes behind → scalar c ≡ true
 letter_scalar c bytes behind (inl is) = is.0
 letter_scalar c bytes behind (inr is) = subst (λ (x : ℕ). scalar x ≡ true) (sym is.0) refl
 
 -- lossy text is text
-characters : (n : ℕ) (bs : List ℕ) → length bs ≤ n → scalars (lossy_characters bs) ≡ true
+pub characters : (n : ℕ) (bs : List ℕ) → length bs ≤ n → scalars (lossy_characters bs) ≡ true
 characters n [] le = ap (λ ps. scalars (map (λ p. shown p.char) ps)) pieces-nil
 characters zero (b ∷ bs) le = absurd (omega arith)
 characters (suc n) (b ∷ bs) le =

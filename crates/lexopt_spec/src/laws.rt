@@ -1,5 +1,5 @@
 //! Laws of the definitions.
-ghost use Rattle.std.specs.Prelude.{◌≡◌, ◌≢◌, ◌⊎◌, ◌<◌, ◌≤◌, ◌+◌, ◌∷◌, ◌++◌, [], ℕ, Bool, true, false, List, Option, None, Some, length, map, take};
+ghost use Rattle.std.specs.Prelude.{◌≡◌, ◌≢◌, ◌⊎◌, ◌<◌, ◌≤◌, ◌+◌, ◌∷◌, ◌++◌, [], ℕ, Bool, true, false, List, Option, None, Some, Ok, Err, length, map, take};
 ghost use Rattle.std.specs.List.{All, Contains, IsAmong, cons_option, flat_map};
 ghost use Rattle.lexopt_spec.specs.Account.{NamesOption, bytes_of, flat, given_of, handed, handed_items, shown_of};
 ghost use Rattle.lexopt_spec.specs.Bound.{bound, replies_count};
@@ -10,6 +10,7 @@ ghost use Rattle.lexopt_spec.specs.UnreadLine.{IsLine, IsNormal, IsPlain, IsPlai
 ghost use Rattle.lexopt_spec.specs.Table.{Item, Table};
 ghost use Rattle.lexopt_spec.specs.Readings.{IsReading, start};
 ghost use Rattle.lexopt_spec.specs.Spelling.{HaveWholeNames, Shows, Spells};
+ghost use Rattle.lexopt_spec.specs.Speller.{Fault, IsAtFault, spelled};
 ghost use Rattle.lexopt_spec.specs.OneValueSpelling.{OneValueShows, OneValueSpells, OneValueTable, widened};
 ghost use Rattle.lexopt_spec.specs.Views.{Stage, ValueItem, ValueItems, WordItems, at_end, at_start, available, plain_front, values_left};
 
@@ -174,4 +175,15 @@ pub fn one_value_tables_agree()
         → (OneValueSpells t switch words l → Spells (widened t) switch words l) × (Spells (widened t) switch words l → OneValueSpells t switch words l) }
     ensures shown { (t : OneValueTable) (switch : Bool) (words : List (List ℕ)) (l : List Item)
         → (OneValueShows t switch words l → Shows (widened t) switch words l) × (Shows (widened t) switch words l → OneValueShows t switch words l) }
+{}
+
+/// Items are spelled, where some words spell them; else one item is at fault, and no other: those before it can be
+/// spelled, and with it they cannot. What some words show, damage let in, can be spelled.
+pub fn items_are_spelled_or_one_is_at_fault()
+    ensures spells { (t : Table) (switch : Bool) (words : List (List ℕ)) (l : List Item) → spelled t switch l ≡ Ok words → Spells t switch words l }
+    ensures shown { (t : Table) (switch : Bool) (words : List (List ℕ)) (l : List Item) → Shows t switch words l
+        → (others : List (List ℕ)) × (spelled t switch l ≡ Ok others) × Spells t switch others l }
+    ensures fault { (t : Table) (switch : Bool) (l : List Item) (f : Fault) → spelled t switch l ≡ Err f → IsAtFault t switch l f.index }
+    ensures one_fault { (t : Table) (switch : Bool) (l : List Item) (i j : ℕ) → IsAtFault t switch l i → IsAtFault t switch l j → i ≡ j }
+    ensures none { (t : Table) (switch : Bool) (words : List (List ℕ)) (l : List Item) (i : ℕ) → IsAtFault t switch l i → Spells t switch words l → ⊥ }
 {}
