@@ -1,6 +1,7 @@
 -- What the speller's functions answer, as contracts see it.
 use Rattle.std.specs.Prelude.{◌≡◌, ℕ, Bool, true, false, List, ◌∷◌, [], ◌++◌, Result, Ok, Err, encode_utf8, string_bytes}
 use Rattle.lexopt_spec.specs.UnreadLine.{dash}
+use Rattle.lexopt_spec.specs.Table.{Item, Table}
 use Rattle.lexopt_spec.specs.Spelling as how
 use Rattle.lexopt_spec.specs.Speller as spec
 use Rattle.lexopt_spec.specs.Speller.{behind_bytes}
@@ -34,6 +35,11 @@ reason_view DashWithoutFlag = spec.dash_without_flag
 abbrev pub IsFault : Result (List (List ℕ)) spec.Fault → SpellError → Type 0
 IsFault answer (AtFault index reason) = answer ≡ Err (record { index = index; reason = reason_view reason })
 IsFault answer OutOfMemory = Unit {0}
+
+-- those before the item that the error names can be spelled, and with it they cannot
+abbrev pub NamesItemAtFault : Table → Bool → List Item → SpellError → Type 0
+NamesItemAtFault t switch items (AtFault index reason) = spec.IsAtFault t switch items index
+NamesItemAtFault t switch items OutOfMemory = Unit {0}
 
 abbrev pub place_view : Place → spec.Place
 place_view Open = spec.open_line

@@ -1,4 +1,6 @@
-use Rattle.std.proofs.Common.{sym, ap, ◌∙◌}
+use Rattle.std.proofs.Common.{map, sym, ap, ◌∙◌}
+use Rattle.lexopt_spec.proofs.SpellerSound.{spelled_spells}
+use Rattle.lexopt_spec.proofs.SpellerFaults.{shown_words, named_at_fault, same_fault, words_read, words_said}
 use Rattle.lexopt_calls.specs.Items.{item_view, table_view}
 use Rattle.lexopt_spell.specs.Views.{added_answer, added_view, place_view, reason_view}
 use Rattle.lexopt_spell.proofs.Resumed.{item_at_fault, item_spelled, items_spelled}
@@ -19,3 +21,16 @@ pub returns-clause-form : goal.returns-clause-form
 returns-clause-form c =
     items_spelled item_view (table_view c.args.table.now) c.args.short_equals c.args.items.now c.loop-index.index (place_view c.loop-index.place) c.loop-index.words.items _
     c.loop-index-test.false c.loop-index.invariant
+
+pub returns-clause-spelled : goal.returns-clause-spelled
+returns-clause-spelled c = spelled_spells (table_view c.args.table.now) c.args.short_equals (map item_view c.args.items.now) c.loop-index.words.items (returns-clause-form c)
+
+pub returns-clause-read : goal.returns-clause-read
+returns-clause-read c = words_read (table_view c.args.table.now) c.args.short_equals c.loop-index.words.items (map item_view c.args.items.now) (returns-clause-spelled c)
+
+pub returns-clause-said : goal.returns-clause-said
+returns-clause-said c = λ final l reading.
+    words_said (table_view c.args.table.now) c.args.short_equals c.loop-index.words.items (map item_view c.args.items.now) l final (returns-clause-spelled c) reading
+
+pub returns-in-Err-clause-at_fault : goal.returns-in-Err-clause-at_fault
+returns-in-Err-clause-at_fault c = named_at_fault (table_view c.args.table.now) c.args.short_equals (map item_view c.args.items.now) _ (returns-in-Err-clause-fault c)
