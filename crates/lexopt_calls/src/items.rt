@@ -1,5 +1,5 @@
 //! Whole lines, read by a table of options.
-ghost use Rattle.std.specs.Prelude.{◌≡◌, ◌⊎◌, [], List, Some, IsSome, IfErr, IfOk, map, string_bytes};
+ghost use Rattle.std.specs.Prelude.{◌≡◌, ◌⊎◌, ℕ, [], List, Some, IsSome, IfErr, IfOk, map, string_bytes};
 ghost use Rattle.std.specs.Option.{option_map};
 ghost use Rattle.std.specs.Result.{IsErrAnd};
 ghost use Rattle.std.specs.Fmt.{WritesOnOk};
@@ -333,6 +333,9 @@ pub fn read_items(
     ensures shown { IfOk result (λ items. Shows (table_view table.now) short_equals words.items (map item_view items.items)) }
     ensures spelled { IfOk result (λ items. HaveWholeNames (map item_view items.items)
         → Spells (table_view table.now) short_equals words.items (map item_view items.items)) }
+
+    // What is answered, some words legally spell, also where these words do not.
+    ensures spellable { IfOk result (λ items. (others : List (List ℕ)) × Spells (table_view table.now) short_equals others (map item_view items.items)) }
 
     // Words show at most one list, and what they show, and so what they spell, is answered, or memory is refused.
     ensures one_list { (l m : List spec.Item) → Shows (table_view table.now) short_equals words.items l

@@ -11,6 +11,8 @@ mod examples;
 mod laws;
 #[cfg(test)]
 mod line_examples;
+#[cfg(test)]
+mod spell_examples;
 
 pub use laws::{
     calls_cut_short_are_a_part, clusters_are_read_by_pieces, each_call_has_one_answer,

@@ -2,6 +2,7 @@ use Rattle.std.proofs.Common.{rules, map, sym}
 use Rattle.std.proofs.lemmas.Result.{IfOk-weaker, IfErr-weaker}
 use Rattle.lexopt_spec.proofs.WholeLines.{said_shows, shown_said}
 use Rattle.lexopt_spec.proofs.Names.{shown_spells, spelled_shows}
+use Rattle.lexopt_spec.proofs.SpellerFaults.{shown_spelled}
 use Rattle.lexopt_calls.specs.Items.{item_view, table_view}
 use Rattle.lexopt_spec.specs.Readings.{start}
 use Rattle.lexopt_spec.proofs.Existence.{only_one}
@@ -21,6 +22,10 @@ returns-clause-shown c = IfOk-weaker c.items_of.result _ _
 pub returns-clause-spelled : goal.returns-clause-spelled
 returns-clause-spelled c = IfOk-weaker c.items_of.result _ _
     (λ items shows whole. shown_spells (table_view c.args.table.now) c.args.short_equals c.args.words.items (map item_view items.items) shows whole) (returns-clause-shown c)
+
+pub returns-clause-spellable : goal.returns-clause-spellable
+returns-clause-spellable c = IfOk-weaker c.items_of.result _ _
+    (λ items shows. shown_spelled (table_view c.args.table.now) c.args.short_equals c.args.words.items (map item_view items.items) shows) (returns-clause-shown c)
 
 pub returns-clause-answered : goal.returns-clause-answered
 returns-clause-answered c = λ l shows. (
