@@ -4,8 +4,9 @@ ghost use Rattle.lexopt_spec.specs.Speller.{spelled};
 ghost use Rattle.lexopt_calls.specs.Items.{item_view, table_view};
 ghost use Rattle.lexopt_spell.specs.Views.{IsFault};
 
-use crate::added::{adds, push};
+use crate::added::adds;
 use crate::forms::Place;
+use crate::words::push;
 use lexopt_calls::items::{Item, Table};
 use lexopt_words::message::write_no_memory;
 use lexopt_words::os_string::OsString;
@@ -68,8 +69,13 @@ impl fmt::Display for Reason {
 /// Why no words are answered.
 #[derive(Debug, PartialEq, Eq, Drop)]
 pub enum SpellError {
-    /// The item at this index, counted from 0, cannot be spelled behind those before it, and those before it can.
-    AtFault { index: usize, reason: Reason },
+    /// An item cannot be spelled behind those before it, and those before it can.
+    AtFault {
+        /// Which item it is, counted from 0.
+        index: usize,
+        /// Why it cannot be spelled.
+        reason: Reason,
+    },
     /// Memory was refused. It says nothing of the items.
     OutOfMemory,
 }
@@ -127,7 +133,7 @@ pub fn spell(
         match adds(place, item, &items[index + 1..], short_equals, table) {
             Ok(added) => {
                 place = added.place;
-                push(alloc, &mut words, added)?;
+                push(alloc, &mut words, added.word, added.words)?;
             }
             Err(reason) => return Err(SpellError::AtFault { index, reason }),
         }
