@@ -1,3 +1,3 @@
 mod Behind
+mod LastWord
 mod Resumed
-mod Words

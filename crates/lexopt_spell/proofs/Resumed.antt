@@ -10,7 +10,7 @@ use Rattle.lexopt_spec.specs.Spelling.{attached, joined}
 use Rattle.lexopt_spec.specs.Speller.{Reason, Place, open_line, in_cluster, behind_values, ended, Form, in_word, attached_form, short_form, long_form, words_form, short_words_form, short_many_form, long_many_form, Added, is_named, short_added, long_placed, long_added, positional_added, adds, separator_comes_too_early, Fault, Rest, glued, with_rest, with_rests, spelled_from, words_of, spelled}
 use Rattle.lexopt_spell.specs.Words.{onto_last, pushed}
 use Rattle.lexopt_spell.proofs.Behind.{from_on, from_on_is, at_item}
-use Rattle.lexopt_spell.proofs.Words.{onto_snoc, onto_nil, onto_twice}
+use Rattle.lexopt_spell.proofs.LastWord.{onto_snoc, onto_nil, onto_twice}
 
 -- ---- only a flag is followed by bytes that go on, and it has no words behind its own
 

@@ -10,8 +10,8 @@ use Rattle.lexopt_spell.specs.declared.forms.Place.TheVariants.{Open, InCluster,
 use Rattle.lexopt_spell.specs.declared.forms.Behind.{Behind}
 use Rattle.lexopt_spell.specs.declared.forms.Behind.TheVariants.{Nothing, Attached, Joined}
 use Rattle.lexopt_spell.specs.declared.forms.Form.{Form}
-use Rattle.lexopt_spell.specs.declared.added.Word.{Word}
-use Rattle.lexopt_spell.specs.declared.added.Word.TheVariants.{Short, Dash, Long, Separator, Positional}
+use Rattle.lexopt_spell.specs.declared.words.Word.{Word}
+use Rattle.lexopt_spell.specs.declared.words.Word.TheVariants.{Short, Dash, Long, Separator, Positional}
 use Rattle.lexopt_spell.specs.declared.added.Added.{Added}
 use Rattle.lexopt_spell.specs.declared.spell.Reason.{Reason}
 use Rattle.lexopt_spell.specs.declared.spell.Reason.TheVariants.{EqualsInName, UnexpectedValue, MissingValue, WantsMany, NotMany, EmptyValue, OptionAmongValues, EmptyName, BehindSeparator, DashWithoutFlag}

@@ -1,35 +1,20 @@
 //! What one item adds to the words that spell those before it.
-ghost use Rattle.std.specs.Prelude.{◌≡◌, ◌==◌, ◌++◌, [], false, true, Ok, IfOk, OnOk, map, string_bytes};
+ghost use Rattle.std.specs.Prelude.{◌≡◌, ◌==◌, false, true, Ok, map, string_bytes};
 ghost use Rattle.std.specs.List.{list_all, list_any};
 ghost use Rattle.lexopt_spec.specs.UnreadLine as line;
 ghost use Rattle.lexopt_spec.specs.Speller as spec;
 ghost use Rattle.lexopt_calls.specs.Items.{item_view, table_view};
-ghost use Rattle.lexopt_spell.specs.Views.{added_answer, added_view, behind_view, form_answer, form_view, goes_on, place_view, word_bytes};
-ghost use Rattle.lexopt_spell.specs.Words.{onto_last, pushed};
+ghost use Rattle.lexopt_spell.specs.Views.{added_answer, added_view, behind_view, form_answer, form_view, place_view};
 
-use crate::forms::{Behind, Form, Place, long_form, long_many_form, short_form, short_many_form};
+use crate::forms::{
+    Behind, Form, Place, is_plain, long_form, long_many_form, short_form, short_many_form,
+};
 use crate::spell::Reason;
+use crate::words::Word;
 use lexopt_calls::items::{Item, Table};
 use lexopt_calls::kinds::{kind_of_long, kind_of_short};
 use lexopt_words::os_string::OsString;
-use lexopt_words::word::is_positional;
-use std::alloc::{AllocError, Global};
 use std::slice;
-
-/// A word, or bytes that go on with the word before.
-#[derive(Clone, Copy)]
-pub enum Word<'a> {
-    /// An option of one character.
-    Short(char, Behind<'a>),
-    /// The option `-`, which goes on with the cluster of the flag before it.
-    Dash(Behind<'a>),
-    /// An option with a name.
-    Long(&'a String, Behind<'a>),
-    /// `--`
-    Separator,
-    /// A word that is no option.
-    Positional(&'a OsString),
-}
 
 /// What an item adds: a word, and more words; and what the next item follows then.
 #[derive(Clone, Copy)]
@@ -56,7 +41,7 @@ fn short_added(place: Place, option: char, form: Form<'_>) -> Result<Added<'_>, 
     })
 }
 
-// An option with a name that is no `=`, with this behind its name.
+// An option whose name has no `=`, with this behind it.
 fn long_placed<'a>(place: Place, name: &'a String, form: Form<'a>) -> Result<Added<'a>, Reason>
     ensures { added_answer result ≡ spec.long_placed (spec.is_named (string_bytes name.now) (behind_view form.entry.behind)) (place_view place) (string_bytes name.now) (form_view form.entry) }
 {
@@ -73,7 +58,7 @@ fn long_placed<'a>(place: Place, name: &'a String, form: Form<'a>) -> Result<Add
     })
 }
 
-// An option with a name, with this behind it, if it has a form.
+// An option with a name, if its values have a form.
 fn long_added<'a>(
     place: Place,
     name: &'a String,
@@ -95,7 +80,7 @@ fn positional_added(place: Place, word: &OsString) -> Added<'_>
     let stands = match place {
         Place::Ended => true,
         Place::BehindValues => false,
-        Place::Open | Place::InCluster => is_positional(word.as_bytes()),
+        Place::Open | Place::InCluster => is_plain(word),
     };
     if !stands {
         return Added {
@@ -130,7 +115,7 @@ fn are_no_options(items: &[Item]) -> bool
 
 // Whether the separator would stand before an option, if it stood before the first of these items.
 //
-// It reads on to the first option. It is asked behind options alone, so a whole line of items costs one more pass at most.
+// It reads on to the first option, and is asked behind options alone: it reads each item of a line once at most.
 fn separator_comes_too_early(items: &[Item]) -> bool
     ensures { result ≡ spec.separator_comes_too_early (map item_view items.now) }
 {
@@ -171,67 +156,4 @@ pub fn adds<'a>(
         }
         Item::Positional(word) => Ok(positional_added(place, word)),
     }
-}
-
-// Adds to the bytes of a name what stands behind it.
-fn with_behind(name: String, behind: Behind<'_>) -> Result<OsString, AllocError>
-    ensures { IfOk result (λ word. word ≡ string_bytes name ++ spec.behind_bytes (behind_view behind.entry)) }
-{
-    let mut bytes = name.into_bytes();
-    match behind {
-        Behind::Nothing => {}
-        Behind::Attached(value) => bytes.extend_from_slice(value.as_bytes())?,
-        Behind::Joined(value) => {
-            bytes.push(b'=')?;
-            bytes.extend_from_slice(value.as_bytes())?;
-        }
-    }
-    Ok(OsString::from_vec(bytes))
-}
-
-// The bytes of a word.
-fn spelled(alloc: Global, word: Word<'_>) -> Result<OsString, AllocError>
-    ensures { IfOk result (λ bytes. bytes ≡ word_bytes word.entry) }
-{
-    match word {
-        Word::Short(option, behind) => with_behind(format!(in alloc; "-{option}")?, behind),
-        Word::Dash(behind) => with_behind(String::from_str(alloc, "-")?, behind),
-        Word::Long(name, behind) => with_behind(format!(in alloc; "--{name}")?, behind),
-        Word::Separator => OsString::from_text(alloc, "--"),
-        Word::Positional(word) => OsString::from_bytes(alloc, word.as_bytes()),
-    }
-}
-
-// The last word goes on with these bytes.
-fn extend_last(words: &mut Vec<OsString>, bytes: &OsString) -> Result<(), AllocError>
-    ensures { OnOk result (words.new.items ≡ onto_last words.old.items bytes.now) }
-{
-    if let Some(last) = words.pop() {
-        let mut longer = last.into_vec();
-        longer.extend_from_slice(bytes.as_bytes())?;
-        words.push(OsString::from_vec(longer))?;
-    }
-    Ok(())
-}
-
-// Adds a word, or bytes to the last word.
-fn push_word(alloc: Global, words: &mut Vec<OsString>, word: Word<'_>) -> Result<(), AllocError>
-    ensures { OnOk result (words.new.items ≡ pushed (goes_on word.entry) words.old.items (word_bytes word.entry) []) }
-{
-    let bytes = spelled(alloc, word)?;
-    match word {
-        Word::Dash(_) => extend_last(words, &bytes),
-        _ => Ok(words.push(bytes)?),
-    }
-}
-
-/// Adds to the words what an item adds.
-pub fn push(alloc: Global, words: &mut Vec<OsString>, added: Added<'_>) -> Result<(), AllocError>
-    ensures { OnOk result (words.new.items ≡ pushed (goes_on added.entry.word) words.old.items (word_bytes added.entry.word) added.entry.words.now) }
-{
-    push_word(alloc, words, added.word)?;
-    for word in added.words {
-        words.push(OsString::from_bytes(alloc, word.as_bytes())?)?;
-    }
-    Ok(())
 }

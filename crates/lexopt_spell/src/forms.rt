@@ -1,5 +1,5 @@
 //! Where the values of an option stand: behind its name in its word, or in words of their own.
-ghost use Rattle.std.specs.Prelude.{◌≡◌, ◌∷◌, false};
+ghost use Rattle.std.specs.Prelude.{◌≡◌, false};
 ghost use Rattle.std.specs.List.{list_all};
 ghost use Rattle.lexopt_spec.specs.Speller as spec;
 ghost use Rattle.lexopt_spec.specs.UnreadLine as line;
@@ -125,13 +125,14 @@ pub fn long_form(kind: Kind, value: &Option<OsString>) -> Result<Form<'_>, Reaso
     }
 }
 
-// Whether a word is no option, as one of several values is to be.
-fn is_plain(word: &OsString) -> bool
+/// Whether a word is no option, as one of several values is to be.
+pub fn is_plain(word: &OsString) -> bool
     ensures { result ≡ line.is_plain false word.now }
 {
     is_positional(word.as_bytes())
 }
 
+// Whether no word is an option.
 fn all_plain(words: &[OsString]) -> bool
     ensures { result ≡ list_all (line.is_plain false) words.now }
 {
@@ -152,18 +153,10 @@ fn words_form(values: &[OsString]) -> Result<Form<'_>, Reason>
     })
 }
 
-// The same behind a character: a first value that would be an option stands in its word.
-fn short_words_form<'a>(
-    first: &'a OsString,
-    others: &'a [OsString],
-    values: &'a [OsString],
-) -> Result<Form<'a>, Reason>
-    requires { values.now ≡ first.now ∷ others.now }
-    ensures { form_answer result ≡ spec.short_words_form (line.is_plain false first.now) (list_all (line.is_plain false) others.now) first.now others.now }
+// A first value that would be an option, right behind a character, and the others in words of their own.
+fn attached_words_form<'a>(first: &'a OsString, others: &'a [OsString]) -> Result<Form<'a>, Reason>
+    ensures { form_answer result ≡ spec.short_words_form false (list_all (line.is_plain false) others.now) first.now others.now }
 {
-    if is_plain(first) {
-        return words_form(values);
-    }
     if !all_plain(others) {
         return Err(Reason::OptionAmongValues);
     }
@@ -184,7 +177,8 @@ pub fn short_many_form(joins: bool, kind: Kind, values: &[OsString]) -> Result<F
     match values {
         [] => Err(Reason::MissingValue),
         [value] if joins => Ok(in_word(Behind::Joined(value))),
-        [first, others @ ..] => short_words_form(first, others, values),
+        [first, ..] if is_plain(first) => words_form(values),
+        [first, others @ ..] => attached_words_form(first, others),
     }
 }
 

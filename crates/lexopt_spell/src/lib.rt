@@ -4,3 +4,4 @@
 mod added;
 mod forms;
 pub mod spell;
+mod words;

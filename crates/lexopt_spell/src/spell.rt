@@ -8,8 +8,9 @@ ghost use Rattle.lexopt_spec.specs.Table as spec;
 ghost use Rattle.lexopt_calls.specs.Items.{item_view, table_view};
 ghost use Rattle.lexopt_spell.specs.Views.{IsFault, NamesItemAtFault};
 
-use crate::added::{adds, push};
+use crate::added::adds;
 use crate::forms::Place;
+use crate::words::push;
 use lexopt_calls::items::{Item, Table};
 use lexopt_words::message::write_no_memory;
 use lexopt_words::os_string::OsString;
@@ -72,8 +73,13 @@ impl fmt::Display for Reason {
 /// Why no words are answered.
 #[derive(Debug, PartialEq, Eq, Drop)]
 pub enum SpellError {
-    /// The item at this index, counted from 0, cannot be spelled behind those before it, and those before it can.
-    AtFault { index: usize, reason: Reason },
+    /// An item cannot be spelled behind those before it, and those before it can.
+    AtFault {
+        /// Which item it is, counted from 0.
+        index: usize,
+        /// Why it cannot be spelled.
+        reason: Reason,
+    },
     /// Memory was refused. It says nothing of the items.
     OutOfMemory,
 }
@@ -112,6 +118,8 @@ impl From<AllocError> for SpellError {
 /// and `Positional(-f)` give the words `-v`, `-o`, `x`, `--out=y`, `--color=z`, `-d`, `1`, `2`, `--` and `-f`. Each option has a
 /// word of its own, except for `-` as an option of one character, which goes on with the flag before it: `-v-`. The
 /// separator stands only where a positional needs it: before one that would be an option, or one more of several values.
+/// Where it would then stand before an option too, a lone value of a short option of several is joined to it, as `-d=1`, if
+/// the switch is on.
 ///
 /// The switch says whether `=` in a cluster stands between an option and its value, and is to be the one that the words
 /// are read under. Items that no words spell, as an option behind a positional `-f`, are refused.
@@ -148,7 +156,7 @@ pub fn spell(
         match adds(place, item, &items[index + 1..], short_equals, table) {
             Ok(added) => {
                 place = added.place;
-                push(alloc, &mut words, added)?;
+                push(alloc, &mut words, added.word, added.words)?;
             }
             Err(reason) => return Err(SpellError::AtFault { index, reason }),
         }

@@ -1,4 +1,4 @@
--- Words with more behind them.
+-- The last word, and words behind it.
 use Rattle.std.proofs.Common.{◌≡◌, ℕ, Bool, true, false, List, [], ◌∷◌, ◌++◌, Option, Some, refl, sym, ap, ◌∙◌, append-nil, append_assoc}
 use Rattle.std.specs.Option.{option_to_list}
 use Rattle.lexopt_spell.specs.Words.{onto_last, pushed}

@@ -1,6 +1,6 @@
 use Rattle.std.proofs.Common.{◌++◌, ◌∷◌, [], ap, ◌∙◌}
-use Rattle.lexopt_spell.proofs.Words.{extended}
-use Rattle.lexopt_spell.proofs.added.extend_last.Goals as goal
+use Rattle.lexopt_spell.proofs.LastWord.{extended}
+use Rattle.lexopt_spell.proofs.words.extend_last.Goals as goal
 
 pub returns-in_ok-push : goal.returns-in_ok-push
 returns-in_ok-push c =
