@@ -1,37 +1,52 @@
-//! Reads every list of at most three of some words by `read_items`, and by a plain reader that is written from the rules
+//! Reads every list of at most three of 25 words by `read_items`, and by a plain reader that is written from the rules
 //! alone, and compares the two.
 //!
 //! The tables have the letter `a`, the character U+FFFD, which stands for damage, and the marks, which are `-` and `=` as short
 //! options and `-` and the empty name as long ones. Each of the three is of no value, of one, of one that may be left out, or of
 //! several, in all 64 ways; and in four more tables all stand in lists of several kinds.
 //!
+//! Wherever the plain reader finds items, they are spelled by `spell`; the words are read as these items, and are the words of
+//! what is read.
+//!
+//! By each table it also spells every list of at most three of 27 items, with the switch on and off. Where there are words, they
+//! are read as the items. Where an item is at fault, those before it have words, and with it they have none; nor are they what
+//! any short list of words is read as. Where words that are spelled with one setting are read alike with the other, both
+//! settings have the same words.
+//!
 //! For each table it prints how many readings agreed and how many differed, with the switch on and off, and the first list
-//! that differed. Items are compared as they are, and errors by their messages.
+//! that differed; the same of the items that were spelled again; and the counts of the lists of items. Items are compared as
+//! they are, and errors by their messages.
 //!
 //! Last it reads clusters, with the switch off: each list of one to four of twenty bytes, by `next` and by the plain pieces.
 #![tactic(auto)]
 
 mod clusters;
+mod lists;
 mod pieces;
 mod plain;
+mod short_lists;
+mod shown;
+mod spelled;
 mod tables;
+mod tally;
 
 use clusters::Counts;
-use lexopt::items::{Table, read_items};
+use lexopt::items::{Item, Table, read_items};
 use lexopt::{Error, OsString};
 use lexopt_testing::words::WORDS;
-use pieces::push_quoted;
 use plain::Refusal;
+use shown::{shown_items, shown_words};
+use spelled::Reading;
 use std::alloc::{AllocError, Global};
 use std::io;
 use tables::{Choice, KINDS, OVERLAPS};
+use tally::Tally;
 
-// How many readings agreed and differed, and the first that differed.
+// How lists of words were read in both ways, and how the items of those that have some were spelled.
 #[derive(Drop)]
 struct Found {
-    agreed: u64,
-    differed: u64,
-    first: Option<String>,
+    read: Tally,
+    spelled: Tally,
 }
 
 // A copy of these words.
@@ -41,17 +56,6 @@ fn copies(alloc: Global, words: &[&[u8]]) -> Result<Vec<OsString>, AllocError> {
         copied.push(OsString::from_bytes(alloc, word)?)?;
     }
     Ok(copied)
-}
-
-// The words in quotes, and the switch.
-fn shown(alloc: Global, words: &[&[u8]], short_equals: bool) -> Result<String, AllocError> {
-    let mut text = String::new(alloc);
-    for word in words {
-        push_quoted(&mut text, word)?;
-        text.push(' ')?;
-    }
-    text.push_str(if short_equals { "on" } else { "off" })?;
-    Ok(text)
 }
 
 // Whether `read_items` refuses the line by this message.
@@ -69,23 +73,21 @@ fn is_refused_so(
     }
 }
 
-// Whether both readers say the same of the words.
+// Whether `read_items` reads the words as what the plain reader says of them.
 fn agree(
     alloc: Global,
-    words: &[&[u8]],
+    plain: &Result<Vec<Item>, Refusal>,
+    words: Vec<OsString>,
     short_equals: bool,
     table: &Table,
 ) -> Result<bool, AllocError> {
-    let copied = copies(alloc, words)?;
-    match plain::read(alloc, words, short_equals, table) {
-        Ok(items) => match read_items(alloc, copied, short_equals, table) {
-            Ok(found) => Ok(found == items),
+    match plain {
+        Ok(items) => match read_items(alloc, words, short_equals, table) {
+            Ok(found) => Ok(found == *items),
             Err(Error::OutOfMemory) => Err(AllocError),
             Err(_error) => Ok(false),
         },
-        Err(Refusal::Message(message)) => {
-            is_refused_so(alloc, &message, copied, short_equals, table)
-        }
+        Err(Refusal::Message(message)) => is_refused_so(alloc, message, words, short_equals, table),
         Err(Refusal::NoMemory) => Err(AllocError),
     }
 }
@@ -93,13 +95,28 @@ fn agree(
 impl Found {
     fn new() -> Found {
         Found {
-            agreed: 0,
-            differed: 0,
-            first: None,
+            read: Tally::new(),
+            spelled: Tally::new(),
         }
     }
 
-    // Reads these words in both ways.
+    // Spells these items, reads the words, and spells what is read.
+    fn spell(&mut self, reading: Reading<'_>, items: &[Item]) -> Result<(), AllocError> {
+        if reading.comes_back(items)? {
+            self.spelled.agree();
+        } else {
+            let Reading {
+                alloc,
+                short_equals,
+                ..
+            } = reading;
+            self.spelled
+                .differ(shown_items(alloc, items, short_equals)?);
+        }
+        Ok(())
+    }
+
+    // Reads these words in both ways, and spells what they say.
     fn read(
         &mut self,
         alloc: Global,
@@ -107,15 +124,22 @@ impl Found {
         short_equals: bool,
         table: &Table,
     ) -> Result<(), AllocError> {
-        if agree(alloc, words, short_equals, table)? {
-            self.agreed = self.agreed.saturating_add(1);
+        let copied = copies(alloc, words)?;
+        let plain = plain::read(alloc, words, short_equals, table);
+        if agree(alloc, &plain, copied, short_equals, table)? {
+            self.read.agree();
         } else {
-            self.differed = self.differed.saturating_add(1);
-            if self.first.is_none() {
-                self.first = Some(shown(alloc, words, short_equals)?);
-            }
+            self.read.differ(shown_words(alloc, words, short_equals)?);
         }
-        Ok(())
+        let reading = Reading {
+            alloc,
+            table,
+            short_equals,
+        };
+        match plain {
+            Ok(items) => self.spell(reading, &items),
+            Err(_) => Ok(()),
+        }
     }
 
     // Reads these words with the switch on and off.
@@ -151,33 +175,48 @@ impl Found {
     }
 
     fn add(&mut self, other: &Found) {
-        self.agreed = self.agreed.saturating_add(other.agreed);
-        self.differed = self.differed.saturating_add(other.differed);
+        self.read.add(&other.read);
+        self.spelled.add(&other.spelled);
     }
 
     fn print(&self, rt: &impl Print, name: &str) -> io::Result<()> {
-        let agreed = self.agreed;
-        let differed = self.differed;
-        match &self.first {
-            None => println!(rt; "{name}: {agreed} agreed, {differed} differed"),
-            Some(first) => {
-                println!(rt; "{name}: {agreed} agreed, {differed} differed, first {first}")
-            }
-        }
+        self.read.print(rt, name)?;
+        self.spelled.print(rt, "spelled again")
     }
 }
 
-// Reads all lists by this table, and adds what is found to the total.
-fn read_by(rt: &(impl Print + AllocGlobal), choice: Choice, total: &mut Found) -> io::Result<()> {
-    let table = choice.table(rt.alloc())?;
-    let mut found = Found::new();
-    found.read_all(rt.alloc(), &table)?;
-    total.add(&found);
-    found.print(rt, choice.name(rt.alloc())?.as_str())
+// What was found by all tables.
+#[derive(Drop)]
+struct Total {
+    found: Found,
+    lists: lists::Counts,
+}
+
+impl Total {
+    fn new() -> Total {
+        Total {
+            found: Found::new(),
+            lists: lists::Counts::new(),
+        }
+    }
+
+    // Reads all lists of words by this table, spells all lists of items by it, and adds what is found.
+    fn read_by(&mut self, rt: &(impl Print + AllocGlobal), choice: Choice) -> io::Result<()> {
+        let alloc = rt.alloc();
+        let table = choice.table(alloc)?;
+        let mut found = Found::new();
+        found.read_all(alloc, &table)?;
+        self.found.add(&found);
+        found.print(rt, choice.name(alloc)?.as_str())?;
+        let mut lists = lists::Counts::new();
+        lists.spell_all(alloc, &table)?;
+        self.lists.add(&lists);
+        lists.print(rt)
+    }
 }
 
 fn main(rt: HostRuntime) -> io::Result<()> {
-    let mut total = Found::new();
+    let mut total = Total::new();
     for letter in KINDS {
         for damage in KINDS {
             for marks in KINDS {
@@ -186,14 +225,15 @@ fn main(rt: HostRuntime) -> io::Result<()> {
                     damage,
                     marks,
                 };
-                read_by(&rt, choice, &mut total)?;
+                total.read_by(&rt, choice)?;
             }
         }
     }
     for lists in OVERLAPS {
-        read_by(&rt, Choice::same(lists), &mut total)?;
+        total.read_by(&rt, Choice::same(lists))?;
     }
-    total.print(&rt, "total")?;
+    total.found.print(&rt, "total")?;
+    total.lists.print(&rt)?;
     let Ok(Counts { agreed, differed }) = Counts::of_all(rt.alloc()) else {
         return Err(io::Error::from(io::ErrorKind::Other));
     };

@@ -2,10 +2,15 @@
 //!
 //! One request of a test is refused in a run. Each test checks what stands afterwards, and then fails and says which call
 //! was refused. Where nothing is refused, each test passes.
-use lexopt::items::{Table, read_items};
+use lexopt::items::read_items;
 use lexopt::replay::{Call, Reply, RunError, replay, run};
+use lexopt::spell::{Reason, SpellError, spell};
 use lexopt::{Error, OsString, Parser};
 use lexopt_testing::calls::{is_at_end, left, reads_long, reads_short, reads_word, takes};
+use lexopt_testing::items::Given::{
+    Long, LongMany, LongValue, Positional, Short, ShortMany, ShortValue,
+};
+use lexopt_testing::items::{Given, are_words, items_of, table_of_each_kind};
 use lexopt_testing::parsers::{named, parser_of, words_of};
 use lexopt_testing::scripts::{SCRIPT, WRITTEN};
 use std::alloc::{AllocError, Global};
@@ -400,15 +405,6 @@ fn calls_of_every_kind(rt: HostRuntime) -> Result<(), Fail> {
     }
 }
 
-fn table_of_each_kind(alloc: Global) -> Result<Table, AllocError> {
-    let mut table = Table::new(alloc);
-    table.shorts.push('o')?;
-    table.longs.push(String::from_str(alloc, "out")?)?;
-    table.optional_shorts.push('i')?;
-    table.several_longs.push(String::from_str(alloc, "cmd")?)?;
-    Ok(table)
-}
-
 // What a line says, or that its reading was refused memory.
 fn read_so(alloc: Global, lines: &[u8], wanted: &str) -> Result<(), Fail> {
     let Ok(table) = table_of_each_kind(alloc) else {
@@ -439,8 +435,8 @@ fn read_so(alloc: Global, lines: &[u8], wanted: &str) -> Result<(), Fail> {
 fn whole_line(rt: HostRuntime) -> Result<(), Fail> {
     read_so(
         rt.alloc(),
-        b"-vo=x\n--out\ny\n-i\n--n\xff\n--cmd\n1\n2\n3\n4\n5\n--\n-f",
-        "Short \"v\"\nShort \"o\" = \"x\"\nLong \"out\" = \"y\"\nShort \"i\"\nLong \"n\u{fffd}\"\nLong \"cmd\" = [\"1\", \"2\", \"3\", \"4\", \"5\"]\nValue \"-f\"\n",
+        b"-vo=x\n--out\ny\n-c\n--n\xff\n--cmd\n1\n2\n3\n4\n5\n--\n-f",
+        "Short \"v\"\nShort \"o\" = \"x\"\nLong \"out\" = \"y\"\nShort \"c\"\nLong \"n\u{fffd}\"\nLong \"cmd\" = [\"1\", \"2\", \"3\", \"4\", \"5\"]\nValue \"-f\"\n",
     )
 }
 
@@ -479,4 +475,104 @@ fn script_of_a_whole_line(rt: HostRuntime) -> Result<(), Fail> {
     let whole = b"[Short \"o\" = \"x\", Short \"d\" = [\"1\", \"2\"]]\nShort \"o\"\n\"x\"\n";
     let refused = b"error: out of memory\nShort \"o\"\n\"x\"\n";
     replays(rt.alloc(), script, whole, refused, "read_items")
+}
+
+// What `spell` is to answer: these words, or which item is at fault and why.
+#[derive(Clone, Copy)]
+enum Wanted {
+    Words(&'static [&'static [u8]]),
+    Fault(usize, Reason),
+}
+
+// Whether this is the answer.
+fn is_spelled_so(answer: &Result<Vec<OsString>, SpellError>, wanted: Wanted) -> bool {
+    match (answer, wanted) {
+        (Ok(words), Wanted::Words(wanted)) => are_words(words, wanted),
+        (Err(SpellError::AtFault { index, reason }), Wanted::Fault(place, why)) => {
+            *index == place && *reason == why
+        }
+        _ => false,
+    }
+}
+
+// The answer to these items; asked again where their spelling was refused memory, the same answer.
+fn spells_so(alloc: Global, given: &[Given], wanted: Wanted) -> Result<(), Fail> {
+    let Ok(table) = table_of_each_kind(alloc) else {
+        return told(true, "the table");
+    };
+    let Ok(items) = items_of(alloc, given) else {
+        return told(true, "the list");
+    };
+    let mut answer = spell(alloc, &items, true, &table);
+    let refused = matches!(answer, Err(SpellError::OutOfMemory));
+    if refused {
+        answer = spell(alloc, &items, true, &table);
+    }
+    if is_spelled_so(&answer, wanted) {
+        told(refused, "spell")
+    } else {
+        Err(Fail::new("spell gave another answer"))
+    }
+}
+
+// One item of each kind, with values in words of their own, behind a character and behind `=`.
+#[test]
+fn spelled_items(rt: HostRuntime) -> Result<(), Fail> {
+    spells_so(
+        rt.alloc(),
+        &[
+            Short('v'),
+            Long("name"),
+            ShortValue('o', b"x"),
+            LongValue("out", b"y"),
+            ShortValue('c', b"z"),
+            ShortValue('c', b""),
+            LongMany("cmd", &[b"1", b"2", b"3"]),
+            Positional(b"f"),
+        ],
+        Wanted::Words(&[
+            b"-v", b"--name", b"-o", b"x", b"--out=y", b"-cz", b"-c=", b"--cmd", b"1", b"2", b"3",
+            b"--", b"f",
+        ]),
+    )
+}
+
+// A word that goes on twice.
+#[test]
+fn spelled_cluster(rt: HostRuntime) -> Result<(), Fail> {
+    spells_so(
+        rt.alloc(),
+        &[
+            Short('v'),
+            Short('-'),
+            Short('-'),
+            Positional(b"-f"),
+            Positional(b"g"),
+        ],
+        Wanted::Words(&[b"-v--", b"--", b"-f", b"g"]),
+    )
+}
+
+// A first value behind its character, and a lone value that is joined.
+#[test]
+fn spelled_values(rt: HostRuntime) -> Result<(), Fail> {
+    spells_so(
+        rt.alloc(),
+        &[
+            ShortMany('d', &[b"1"]),
+            Positional(b"f"),
+            ShortMany('d', &[b"-1", b"2"]),
+        ],
+        Wanted::Words(&[b"-d=1", b"f", b"-d-1", b"2"]),
+    )
+}
+
+// Items at fault are told so, or memory is refused: no words are answered.
+#[test]
+fn items_at_fault(rt: HostRuntime) -> Result<(), Fail> {
+    spells_so(
+        rt.alloc(),
+        &[ShortValue('o', b"x"), Positional(b"-f"), Short('v')],
+        Wanted::Fault(2, Reason::BehindSeparator),
+    )
 }

@@ -4,6 +4,7 @@
 
 pub mod calls;
 pub mod errors;
+pub mod items;
 pub mod parsers;
 pub mod scripts;
 pub mod words;

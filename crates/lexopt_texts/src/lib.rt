@@ -1,4 +1,4 @@
-//! Tests of words, arguments, conversions, errors, code points and names. It has nothing else.
+//! Tests of words, arguments, conversions, errors, code points and names, and of items that are spelled. It has nothing else.
 #![tactic(auto)]
 
 #[cfg(test)]
@@ -9,5 +9,7 @@ mod conversions;
 mod errors;
 #[cfg(test)]
 mod names;
+#[cfg(test)]
+mod spelled_items;
 #[cfg(test)]
 mod words;

@@ -1,0 +1,51 @@
+//! Counts of what agreed and of what differed.
+use std::io;
+
+/// How many agreed and differed, and the first that differed.
+#[derive(Drop)]
+pub struct Tally {
+    agreed: u64,
+    differed: u64,
+    first: Option<String>,
+}
+
+impl Tally {
+    pub fn new() -> Tally {
+        Tally {
+            agreed: 0,
+            differed: 0,
+            first: None,
+        }
+    }
+
+    /// Counts one that agreed.
+    pub fn agree(&mut self) {
+        self.agreed = self.agreed.saturating_add(1);
+    }
+
+    /// Counts one that differed, which is shown so if it is the first.
+    pub fn differ(&mut self, shown: String) {
+        self.differed = self.differed.saturating_add(1);
+        if self.first.is_none() {
+            self.first = Some(shown);
+        }
+    }
+
+    /// Adds the counts of another.
+    pub fn add(&mut self, other: &Tally) {
+        self.agreed = self.agreed.saturating_add(other.agreed);
+        self.differed = self.differed.saturating_add(other.differed);
+    }
+
+    /// Prints the counts behind a name.
+    pub fn print(&self, rt: &impl Print, name: &str) -> io::Result<()> {
+        let agreed = self.agreed;
+        let differed = self.differed;
+        match &self.first {
+            None => println!(rt; "{name}: {agreed} agreed, {differed} differed"),
+            Some(first) => {
+                println!(rt; "{name}: {agreed} agreed, {differed} differed, first {first}")
+            }
+        }
+    }
+}

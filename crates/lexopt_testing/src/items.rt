@@ -1,0 +1,81 @@
+//! Items that a test writes down, and tables that read them.
+use lexopt::OsString;
+use lexopt::items::{Item, Table};
+use std::alloc::{AllocError, Global};
+
+/// An item as a test writes it, which has no memory of its own.
+#[derive(Clone, Copy)]
+pub enum Given {
+    /// An option of one character, with no value.
+    Short(char),
+    ShortValue(char, &'static [u8]),
+    ShortMany(char, &'static [&'static [u8]]),
+    /// An option with a name, and no value.
+    Long(&'static str),
+    LongValue(&'static str, &'static [u8]),
+    LongMany(&'static str, &'static [&'static [u8]]),
+    Positional(&'static [u8]),
+}
+
+// Words of these bytes.
+fn words(alloc: Global, list: &[&[u8]]) -> Result<Vec<OsString>, AllocError> {
+    let mut words = Vec::new(alloc);
+    for bytes in list {
+        words.push(OsString::from_bytes(alloc, bytes)?)?;
+    }
+    Ok(words)
+}
+
+impl Given {
+    /// The item itself.
+    pub fn item(self, alloc: Global) -> Result<Item, AllocError> {
+        Ok(match self {
+            Given::Short(option) => Item::Short(option, None),
+            Given::ShortValue(option, value) => {
+                Item::Short(option, Some(OsString::from_bytes(alloc, value)?))
+            }
+            Given::ShortMany(option, values) => Item::ShortMany(option, words(alloc, values)?),
+            Given::Long(name) => Item::Long(String::from_str(alloc, name)?, None),
+            Given::LongValue(name, value) => {
+                let name = String::from_str(alloc, name)?;
+                Item::Long(name, Some(OsString::from_bytes(alloc, value)?))
+            }
+            Given::LongMany(name, values) => {
+                Item::LongMany(String::from_str(alloc, name)?, words(alloc, values)?)
+            }
+            Given::Positional(word) => Item::Positional(OsString::from_bytes(alloc, word)?),
+        })
+    }
+}
+
+/// The items themselves.
+pub fn items_of(alloc: Global, list: &[Given]) -> Result<Vec<Item>, AllocError> {
+    let mut items = Vec::new(alloc);
+    for given in list {
+        items.push(given.item(alloc)?)?;
+    }
+    Ok(items)
+}
+
+/// Whether these are the words, in their order.
+pub fn are_words(words: &[OsString], wanted: &[&[u8]]) -> bool {
+    words.len() == wanted.len()
+        && words
+            .iter()
+            .zip(wanted)
+            .all(|(word, bytes)| word.as_bytes() == *bytes)
+}
+
+/// The table of `o` and `out` of one value, `c` and `color` of a value that may be left out, and `d` and `cmd` of several.
+pub fn table_of_each_kind(alloc: Global) -> Result<Table, AllocError> {
+    let mut table = Table::new(alloc);
+    table.shorts.push('o')?;
+    table.longs.push(String::from_str(alloc, "out")?)?;
+    table.optional_shorts.push('c')?;
+    table
+        .optional_longs
+        .push(String::from_str(alloc, "color")?)?;
+    table.several_shorts.push('d')?;
+    table.several_longs.push(String::from_str(alloc, "cmd")?)?;
+    Ok(table)
+}

@@ -1,0 +1,853 @@
+//! Items and the words that spell them, by the form of each kind of option and of positionals. Each reason why items have no
+//! words, and what it prints.
+use lexopt::items::Table;
+use lexopt::spell::{Reason, SpellError, spell};
+use lexopt_testing::items::Given::{
+    Long, LongMany, LongValue, Positional, Short, ShortMany, ShortValue,
+};
+use lexopt_testing::items::{Given, are_words, items_of, table_of_each_kind};
+use std::alloc::{AllocError, Global};
+use std::test::Fail;
+
+// Items, and the words that are to spell them.
+#[derive(Clone, Copy)]
+struct Row {
+    items: &'static [Given],
+    words: &'static [&'static [u8]],
+}
+
+// Items that no words spell: which of them is at fault, why, and what the error prints.
+#[derive(Clone, Copy)]
+struct Fault {
+    items: &'static [Given],
+    index: usize,
+    reason: Reason,
+    printed: &'static str,
+}
+
+// The place of the first row whose items other words spell, or none.
+fn first_otherwise(
+    alloc: Global,
+    rows: &[Row],
+    short_equals: bool,
+    table: &Table,
+) -> Result<Option<usize>, Fail> {
+    for (place, row) in rows.iter().enumerate() {
+        let items = items_of(alloc, row.items)?;
+        let words = spell(alloc, &items, short_equals, table)?;
+        if !are_words(&words, row.words) {
+            return Ok(Some(place));
+        }
+    }
+    Ok(None)
+}
+
+// The same by the table of each kind, with this setting of the switch.
+fn otherwise(alloc: Global, rows: &[Row], short_equals: bool) -> Result<Option<usize>, Fail> {
+    let table = table_of_each_kind(alloc)?;
+    first_otherwise(alloc, rows, short_equals, &table)
+}
+
+// The same with both settings.
+fn otherwise_in_either(alloc: Global, rows: &[Row]) -> Result<Option<usize>, Fail> {
+    match otherwise(alloc, rows, true)? {
+        Some(place) => Ok(Some(place)),
+        None => otherwise(alloc, rows, false),
+    }
+}
+
+// A table in which the marks have one value: the option `-`, and the long option with no name.
+fn table_of_marks(alloc: Global) -> Result<Table, AllocError> {
+    let mut table = table_of_each_kind(alloc)?;
+    table.shorts.push('-')?;
+    table.longs.push(String::new(alloc))?;
+    Ok(table)
+}
+
+// Whether the items are refused so, and the error and its reason print that.
+fn is_refused_so(
+    alloc: Global,
+    fault: &Fault,
+    short_equals: bool,
+    table: &Table,
+) -> Result<bool, Fail> {
+    let Some((_, message)) = fault.printed.split_once(": ") else {
+        return Ok(false);
+    };
+    let items = items_of(alloc, fault.items)?;
+    let Err(error) = spell(alloc, &items, short_equals, table) else {
+        return Ok(false);
+    };
+    let index = fault.index;
+    let reason = fault.reason;
+    Ok(
+        error == SpellError::AtFault { index, reason }
+            && error.to_string(alloc)?.as_str() == fault.printed
+            && reason.to_string(alloc)?.as_str() == message,
+    )
+}
+
+// The place of the first fault that is told otherwise, with this setting of the switch, or none.
+fn told_otherwise(
+    alloc: Global,
+    faults: &[Fault],
+    short_equals: bool,
+) -> Result<Option<usize>, Fail> {
+    let table = table_of_each_kind(alloc)?;
+    for (place, fault) in faults.iter().enumerate() {
+        if !is_refused_so(alloc, fault, short_equals, &table)? {
+            return Ok(Some(place));
+        }
+    }
+    Ok(None)
+}
+
+// The same with both settings.
+fn told_otherwise_in_either(alloc: Global, faults: &[Fault]) -> Result<Option<usize>, Fail> {
+    match told_otherwise(alloc, faults, true)? {
+        Some(place) => Ok(Some(place)),
+        None => told_otherwise(alloc, faults, false),
+    }
+}
+
+#[test]
+fn no_items(rt: HostRuntime) -> Result<(), Fail> {
+    let rows = [Row {
+        items: &[],
+        words: &[],
+    }];
+    assert_eq!(rt; otherwise_in_either(rt.alloc(), &rows)?, None);
+    Ok(())
+}
+
+const FLAGS: [Row; 4] = [
+    Row {
+        items: &[Short('v')],
+        words: &[b"-v"],
+    },
+    Row {
+        items: &[Short('v'), Short('w')],
+        words: &[b"-v", b"-w"],
+    },
+    Row {
+        items: &[Short('=')],
+        words: &[b"-="],
+    },
+    Row {
+        items: &[Long("name")],
+        words: &[b"--name"],
+    },
+];
+
+#[test]
+fn flags(rt: HostRuntime) -> Result<(), Fail> {
+    assert_eq!(rt; otherwise_in_either(rt.alloc(), &FLAGS)?, None);
+    Ok(())
+}
+
+// Whatever it looks like, the value is the next word.
+const SHORT_OF_ONE: [Row; 5] = [
+    Row {
+        items: &[ShortValue('o', b"v")],
+        words: &[b"-o", b"v"],
+    },
+    Row {
+        items: &[ShortValue('o', b"-x")],
+        words: &[b"-o", b"-x"],
+    },
+    Row {
+        items: &[ShortValue('o', b"--")],
+        words: &[b"-o", b"--"],
+    },
+    Row {
+        items: &[ShortValue('o', b"")],
+        words: &[b"-o", b""],
+    },
+    Row {
+        items: &[ShortValue('o', b"=x"), Positional(b"f")],
+        words: &[b"-o", b"=x", b"f"],
+    },
+];
+
+#[test]
+fn short_option_of_one_value(rt: HostRuntime) -> Result<(), Fail> {
+    assert_eq!(rt; otherwise_in_either(rt.alloc(), &SHORT_OF_ONE)?, None);
+    Ok(())
+}
+
+const SHORT_OPTIONAL: [Row; 4] = [
+    Row {
+        items: &[Short('c')],
+        words: &[b"-c"],
+    },
+    Row {
+        items: &[Short('c'), Positional(b"f")],
+        words: &[b"-c", b"f"],
+    },
+    Row {
+        items: &[ShortValue('c', b"v")],
+        words: &[b"-cv"],
+    },
+    Row {
+        items: &[ShortValue('c', b"-x")],
+        words: &[b"-c-x"],
+    },
+];
+
+#[test]
+fn short_option_of_a_value_that_may_be_left_out(rt: HostRuntime) -> Result<(), Fail> {
+    assert_eq!(rt; otherwise_in_either(rt.alloc(), &SHORT_OPTIONAL)?, None);
+    Ok(())
+}
+
+// With the switch on, `=` stands between where the value is empty or begins with `=`.
+const SHORT_OPTIONAL_ON: [Row; 3] = [
+    Row {
+        items: &[ShortValue('c', b"")],
+        words: &[b"-c="],
+    },
+    Row {
+        items: &[ShortValue('c', b"=x")],
+        words: &[b"-c==x"],
+    },
+    Row {
+        items: &[ShortValue('c', b"x=")],
+        words: &[b"-cx="],
+    },
+];
+
+// With the switch off, `=` is a byte as others.
+const SHORT_OPTIONAL_OFF: [Row; 2] = [
+    Row {
+        items: &[ShortValue('c', b"=x")],
+        words: &[b"-c=x"],
+    },
+    Row {
+        items: &[ShortValue('c', b"=")],
+        words: &[b"-c="],
+    },
+];
+
+#[test]
+fn values_behind_a_character_with_the_switch_on(rt: HostRuntime) -> Result<(), Fail> {
+    assert_eq!(rt; otherwise(rt.alloc(), &SHORT_OPTIONAL_ON, true)?, None);
+    Ok(())
+}
+
+#[test]
+fn values_behind_a_character_with_the_switch_off(rt: HostRuntime) -> Result<(), Fail> {
+    assert_eq!(rt; otherwise(rt.alloc(), &SHORT_OPTIONAL_OFF, false)?, None);
+    Ok(())
+}
+
+const LONG: [Row; 6] = [
+    Row {
+        items: &[LongValue("out", b"v")],
+        words: &[b"--out=v"],
+    },
+    Row {
+        items: &[LongValue("out", b"")],
+        words: &[b"--out="],
+    },
+    Row {
+        items: &[LongValue("out", b"=-x")],
+        words: &[b"--out==-x"],
+    },
+    Row {
+        items: &[Long("color")],
+        words: &[b"--color"],
+    },
+    Row {
+        items: &[LongValue("color", b"v")],
+        words: &[b"--color=v"],
+    },
+    Row {
+        items: &[LongValue("color", b"")],
+        words: &[b"--color="],
+    },
+];
+
+#[test]
+fn long_options(rt: HostRuntime) -> Result<(), Fail> {
+    assert_eq!(rt; otherwise_in_either(rt.alloc(), &LONG)?, None);
+    Ok(())
+}
+
+const MARKS: [Row; 3] = [
+    Row {
+        items: &[LongValue("", b"v")],
+        words: &[b"--=v"],
+    },
+    Row {
+        items: &[Short('v'), ShortValue('-', b"x")],
+        words: &[b"-v-", b"x"],
+    },
+    Row {
+        items: &[Short('v'), Short('='), ShortValue('-', b""), Short('w')],
+        words: &[b"-v", b"-=-", b"", b"-w"],
+    },
+];
+
+#[test]
+fn marks_of_one_value(rt: HostRuntime) -> Result<(), Fail> {
+    let table = table_of_marks(rt.alloc())?;
+    assert_eq!(rt; first_otherwise(rt.alloc(), &MARKS, true, &table)?, None);
+    assert_eq!(rt; first_otherwise(rt.alloc(), &MARKS, false, &table)?, None);
+    Ok(())
+}
+
+// The option `-` goes on with the cluster of the flag before it.
+const DASHES: [Row; 3] = [
+    Row {
+        items: &[Short('v'), Short('-')],
+        words: &[b"-v-"],
+    },
+    Row {
+        items: &[Short('v'), Short('-'), Short('-')],
+        words: &[b"-v--"],
+    },
+    Row {
+        items: &[Short('v'), Short('-'), Short('w'), Short('-')],
+        words: &[b"-v-", b"-w-"],
+    },
+];
+
+#[test]
+fn dash_behind_a_flag(rt: HostRuntime) -> Result<(), Fail> {
+    assert_eq!(rt; otherwise_in_either(rt.alloc(), &DASHES)?, None);
+    Ok(())
+}
+
+const SEVERAL: [Row; 8] = [
+    Row {
+        items: &[ShortMany('d', &[b"1", b"2"])],
+        words: &[b"-d", b"1", b"2"],
+    },
+    Row {
+        items: &[ShortMany('d', &[b"-1", b"2"])],
+        words: &[b"-d-1", b"2"],
+    },
+    Row {
+        items: &[ShortMany('d', &[b"1"])],
+        words: &[b"-d", b"1"],
+    },
+    Row {
+        items: &[ShortMany('d', &[b"-1"])],
+        words: &[b"-d-1"],
+    },
+    Row {
+        items: &[ShortMany('d', &[b"", b"-", b"=x"]), Short('v')],
+        words: &[b"-d", b"", b"-", b"=x", b"-v"],
+    },
+    Row {
+        items: &[LongMany("cmd", &[b"a", b"b"])],
+        words: &[b"--cmd", b"a", b"b"],
+    },
+    Row {
+        items: &[LongMany("cmd", &[b"a"])],
+        words: &[b"--cmd=a"],
+    },
+    Row {
+        items: &[LongMany("cmd", &[b"-x"]), Positional(b"f")],
+        words: &[b"--cmd=-x", b"f"],
+    },
+];
+
+#[test]
+fn several_values(rt: HostRuntime) -> Result<(), Fail> {
+    assert_eq!(rt; otherwise_in_either(rt.alloc(), &SEVERAL)?, None);
+    Ok(())
+}
+
+// A lone value is joined where a positional comes next and an option stands somewhere behind that.
+const JOINED: [Row; 3] = [
+    Row {
+        items: &[ShortMany('d', &[b"1"]), Positional(b"f"), Short('v')],
+        words: &[b"-d=1", b"f", b"-v"],
+    },
+    Row {
+        items: &[
+            ShortMany('d', &[b"1"]),
+            Positional(b"f"),
+            Positional(b"g"),
+            LongValue("out", b"x"),
+        ],
+        words: &[b"-d=1", b"f", b"g", b"--out=x"],
+    },
+    Row {
+        items: &[ShortMany('d', &[b"-1"]), Positional(b"f"), Short('v')],
+        words: &[b"-d=-1", b"f", b"-v"],
+    },
+];
+
+// It stands in a word of its own elsewhere.
+const NOT_JOINED: [Row; 3] = [
+    Row {
+        items: &[ShortMany('d', &[b"1"]), Positional(b"f")],
+        words: &[b"-d", b"1", b"--", b"f"],
+    },
+    Row {
+        items: &[ShortMany('d', &[b"1"]), Short('v'), Positional(b"f")],
+        words: &[b"-d", b"1", b"-v", b"f"],
+    },
+    Row {
+        items: &[ShortMany('d', &[b"1"]), ShortMany('d', &[b"2"])],
+        words: &[b"-d", b"1", b"-d", b"2"],
+    },
+];
+
+#[test]
+fn lone_value_before_a_positional_and_an_option(rt: HostRuntime) -> Result<(), Fail> {
+    assert_eq!(rt; otherwise(rt.alloc(), &JOINED, true)?, None);
+    Ok(())
+}
+
+#[test]
+fn lone_value_elsewhere(rt: HostRuntime) -> Result<(), Fail> {
+    assert_eq!(rt; otherwise_in_either(rt.alloc(), &NOT_JOINED)?, None);
+    Ok(())
+}
+
+// The separator stands once, before the first positional that would be an option, or one more of several values.
+const POSITIONALS: [Row; 7] = [
+    Row {
+        items: &[Positional(b"f"), Positional(b"g=h")],
+        words: &[b"f", b"g=h"],
+    },
+    Row {
+        items: &[Positional(b"-"), Short('v'), Positional(b"")],
+        words: &[b"-", b"-v", b""],
+    },
+    Row {
+        items: &[Positional(b"-x")],
+        words: &[b"--", b"-x"],
+    },
+    Row {
+        items: &[
+            Positional(b"f"),
+            Positional(b"--"),
+            Positional(b"g"),
+            Positional(b"-y"),
+        ],
+        words: &[b"f", b"--", b"--", b"g", b"-y"],
+    },
+    Row {
+        items: &[Short('v'), Positional(b"-x"), Positional(b"--")],
+        words: &[b"-v", b"--", b"-x", b"--"],
+    },
+    Row {
+        items: &[
+            ShortMany('d', &[b"1", b"2"]),
+            Positional(b"f"),
+            Positional(b"g"),
+        ],
+        words: &[b"-d", b"1", b"2", b"--", b"f", b"g"],
+    },
+    Row {
+        items: &[LongMany("cmd", &[b"a", b"b"]), Positional(b"")],
+        words: &[b"--cmd", b"a", b"b", b"--", b""],
+    },
+];
+
+#[test]
+fn positionals(rt: HostRuntime) -> Result<(), Fail> {
+    assert_eq!(rt; otherwise_in_either(rt.alloc(), &POSITIONALS)?, None);
+    Ok(())
+}
+
+// Damage stays as it is in a value and in a positional. U+FFFD in a name is that character, in three bytes.
+const DAMAGE: [Row; 7] = [
+    Row {
+        items: &[ShortValue('c', b"\xFF")],
+        words: &[b"-c\xFF"],
+    },
+    Row {
+        items: &[LongValue("out", b"a\xFF")],
+        words: &[b"--out=a\xFF"],
+    },
+    Row {
+        items: &[ShortValue('o', b"\xFF"), Positional(b"\xFF-")],
+        words: &[b"-o", b"\xFF", b"\xFF-"],
+    },
+    Row {
+        items: &[ShortMany('d', &[b"-\xFF", b"\xFF"])],
+        words: &[b"-d-\xFF", b"\xFF"],
+    },
+    Row {
+        items: &[Positional(b"-\xFF")],
+        words: &[b"--", b"-\xFF"],
+    },
+    Row {
+        items: &[Short('\u{FFFD}')],
+        words: &[b"-\xEF\xBF\xBD"],
+    },
+    Row {
+        items: &[Long("n\u{FFFD}")],
+        words: &[b"--n\xEF\xBF\xBD"],
+    },
+];
+
+#[test]
+fn damage(rt: HostRuntime) -> Result<(), Fail> {
+    assert_eq!(rt; otherwise_in_either(rt.alloc(), &DAMAGE)?, None);
+    Ok(())
+}
+
+const EQUALS_IN_NAME: [Fault; 3] = [
+    Fault {
+        items: &[Short('v'), Long("a=b")],
+        index: 1,
+        reason: Reason::EqualsInName,
+        printed: "item 1: a long option cannot have `=` in its name",
+    },
+    Fault {
+        items: &[LongValue("=", b"v")],
+        index: 0,
+        reason: Reason::EqualsInName,
+        printed: "item 0: a long option cannot have `=` in its name",
+    },
+    Fault {
+        items: &[LongMany("out=", &[b"v"])],
+        index: 0,
+        reason: Reason::EqualsInName,
+        printed: "item 0: a long option cannot have `=` in its name",
+    },
+];
+
+#[test]
+fn equals_in_name(rt: HostRuntime) -> Result<(), Fail> {
+    assert_eq!(rt;
+        told_otherwise_in_either(rt.alloc(), &EQUALS_IN_NAME)?,
+        None
+    );
+    Ok(())
+}
+
+const UNEXPECTED_VALUE: [Fault; 2] = [
+    Fault {
+        items: &[ShortValue('v', b"x")],
+        index: 0,
+        reason: Reason::UnexpectedValue,
+        printed: "item 0: the option has no value, and is given one",
+    },
+    Fault {
+        items: &[Short('v'), Positional(b"f"), LongValue("name", b"")],
+        index: 2,
+        reason: Reason::UnexpectedValue,
+        printed: "item 2: the option has no value, and is given one",
+    },
+];
+
+#[test]
+fn unexpected_value(rt: HostRuntime) -> Result<(), Fail> {
+    assert_eq!(rt;
+        told_otherwise_in_either(rt.alloc(), &UNEXPECTED_VALUE)?,
+        None
+    );
+    Ok(())
+}
+
+const MISSING_VALUE: [Fault; 4] = [
+    Fault {
+        items: &[Short('v'), Long("name"), Short('o')],
+        index: 2,
+        reason: Reason::MissingValue,
+        printed: "item 2: the option wants a value, and is given none",
+    },
+    Fault {
+        items: &[Long("out"), Positional(b"f")],
+        index: 0,
+        reason: Reason::MissingValue,
+        printed: "item 0: the option wants a value, and is given none",
+    },
+    Fault {
+        items: &[ShortMany('d', &[])],
+        index: 0,
+        reason: Reason::MissingValue,
+        printed: "item 0: the option wants a value, and is given none",
+    },
+    Fault {
+        items: &[Positional(b"f"), LongMany("cmd", &[])],
+        index: 1,
+        reason: Reason::MissingValue,
+        printed: "item 1: the option wants a value, and is given none",
+    },
+];
+
+#[test]
+fn missing_value(rt: HostRuntime) -> Result<(), Fail> {
+    assert_eq!(rt; told_otherwise_in_either(rt.alloc(), &MISSING_VALUE)?, None);
+    Ok(())
+}
+
+const WANTS_MANY: [Fault; 3] = [
+    Fault {
+        items: &[ShortValue('d', b"1")],
+        index: 0,
+        reason: Reason::WantsMany,
+        printed: "item 0: the option has several values: give them as a list",
+    },
+    Fault {
+        items: &[Short('v'), Short('d')],
+        index: 1,
+        reason: Reason::WantsMany,
+        printed: "item 1: the option has several values: give them as a list",
+    },
+    Fault {
+        items: &[LongValue("cmd", b"a")],
+        index: 0,
+        reason: Reason::WantsMany,
+        printed: "item 0: the option has several values: give them as a list",
+    },
+];
+
+#[test]
+fn wants_many(rt: HostRuntime) -> Result<(), Fail> {
+    assert_eq!(rt; told_otherwise_in_either(rt.alloc(), &WANTS_MANY)?, None);
+    Ok(())
+}
+
+const NOT_MANY: [Fault; 4] = [
+    Fault {
+        items: &[ShortMany('v', &[b"1"])],
+        index: 0,
+        reason: Reason::NotMany,
+        printed: "item 0: the option does not have several values",
+    },
+    Fault {
+        items: &[ShortMany('o', &[])],
+        index: 0,
+        reason: Reason::NotMany,
+        printed: "item 0: the option does not have several values",
+    },
+    Fault {
+        items: &[Short('c'), LongMany("color", &[b"a", b"b"])],
+        index: 1,
+        reason: Reason::NotMany,
+        printed: "item 1: the option does not have several values",
+    },
+    Fault {
+        items: &[LongMany("name", &[b"a"])],
+        index: 0,
+        reason: Reason::NotMany,
+        printed: "item 0: the option does not have several values",
+    },
+];
+
+#[test]
+fn not_many(rt: HostRuntime) -> Result<(), Fail> {
+    assert_eq!(rt; told_otherwise_in_either(rt.alloc(), &NOT_MANY)?, None);
+    Ok(())
+}
+
+const EMPTY_VALUE: [Fault; 1] = [Fault {
+    items: &[Short('v'), ShortValue('c', b"")],
+    index: 1,
+    reason: Reason::EmptyValue,
+    printed: "item 1: an empty value cannot stand right behind a character, unless `=` may stand between",
+}];
+
+#[test]
+fn empty_value_with_the_switch_off(rt: HostRuntime) -> Result<(), Fail> {
+    assert_eq!(rt; told_otherwise(rt.alloc(), &EMPTY_VALUE, false)?, None);
+    Ok(())
+}
+
+const OPTION_AMONG_VALUES: [Fault; 4] = [
+    Fault {
+        items: &[ShortMany('d', &[b"1", b"-x"])],
+        index: 0,
+        reason: Reason::OptionAmongValues,
+        printed: "item 0: one of several values would be read as an option",
+    },
+    Fault {
+        items: &[ShortMany('d', &[b"-x", b"1", b"--"])],
+        index: 0,
+        reason: Reason::OptionAmongValues,
+        printed: "item 0: one of several values would be read as an option",
+    },
+    Fault {
+        items: &[Short('v'), LongMany("cmd", &[b"-x", b"a"])],
+        index: 1,
+        reason: Reason::OptionAmongValues,
+        printed: "item 1: one of several values would be read as an option",
+    },
+    Fault {
+        items: &[LongMany("cmd", &[b"a", b"-x"])],
+        index: 0,
+        reason: Reason::OptionAmongValues,
+        printed: "item 0: one of several values would be read as an option",
+    },
+];
+
+#[test]
+fn option_among_values(rt: HostRuntime) -> Result<(), Fail> {
+    assert_eq!(rt;
+        told_otherwise_in_either(rt.alloc(), &OPTION_AMONG_VALUES)?,
+        None
+    );
+    Ok(())
+}
+
+const EMPTY_NAME: [Fault; 1] = [Fault {
+    items: &[Positional(b"f"), Long("")],
+    index: 1,
+    reason: Reason::EmptyName,
+    printed: "item 1: a long option without a value wants a name",
+}];
+
+#[test]
+fn empty_name(rt: HostRuntime) -> Result<(), Fail> {
+    assert_eq!(rt; told_otherwise_in_either(rt.alloc(), &EMPTY_NAME)?, None);
+    Ok(())
+}
+
+const BEHIND_SEPARATOR: [Fault; 4] = [
+    Fault {
+        items: &[Positional(b"-x"), Short('v')],
+        index: 1,
+        reason: Reason::BehindSeparator,
+        printed: "item 1: an option cannot stand behind a positional that needs `--` before it",
+    },
+    Fault {
+        items: &[Positional(b"--"), Positional(b"f"), LongValue("out", b"x")],
+        index: 2,
+        reason: Reason::BehindSeparator,
+        printed: "item 2: an option cannot stand behind a positional that needs `--` before it",
+    },
+    Fault {
+        items: &[ShortMany('d', &[b"1", b"2"]), Positional(b"f"), Short('v')],
+        index: 2,
+        reason: Reason::BehindSeparator,
+        printed: "item 2: an option cannot stand behind a positional that needs `--` before it",
+    },
+    Fault {
+        items: &[
+            LongMany("cmd", &[b"a", b"b"]),
+            Positional(b"f"),
+            Long("name"),
+        ],
+        index: 2,
+        reason: Reason::BehindSeparator,
+        printed: "item 2: an option cannot stand behind a positional that needs `--` before it",
+    },
+];
+
+#[test]
+fn behind_separator(rt: HostRuntime) -> Result<(), Fail> {
+    assert_eq!(rt;
+        told_otherwise_in_either(rt.alloc(), &BEHIND_SEPARATOR)?,
+        None
+    );
+    Ok(())
+}
+
+// Only with the switch on can a lone value be joined, so that no separator is needed.
+const LONE_VALUE: [Fault; 1] = [Fault {
+    items: &[ShortMany('d', &[b"1"]), Positional(b"f"), Short('v')],
+    index: 2,
+    reason: Reason::BehindSeparator,
+    printed: "item 2: an option cannot stand behind a positional that needs `--` before it",
+}];
+
+#[test]
+fn lone_value_with_the_switch_off(rt: HostRuntime) -> Result<(), Fail> {
+    assert_eq!(rt; told_otherwise(rt.alloc(), &LONE_VALUE, false)?, None);
+    Ok(())
+}
+
+const DASH_WITHOUT_FLAG: [Fault; 6] = [
+    Fault {
+        items: &[Short('-')],
+        index: 0,
+        reason: Reason::DashWithoutFlag,
+        printed: "item 0: the option `-` can only follow a flag of one character",
+    },
+    Fault {
+        items: &[ShortValue('o', b"v"), Short('-')],
+        index: 1,
+        reason: Reason::DashWithoutFlag,
+        printed: "item 1: the option `-` can only follow a flag of one character",
+    },
+    Fault {
+        items: &[Short('v'), Short('c'), Short('-')],
+        index: 2,
+        reason: Reason::DashWithoutFlag,
+        printed: "item 2: the option `-` can only follow a flag of one character",
+    },
+    Fault {
+        items: &[Long("name"), Short('-')],
+        index: 1,
+        reason: Reason::DashWithoutFlag,
+        printed: "item 1: the option `-` can only follow a flag of one character",
+    },
+    Fault {
+        items: &[ShortMany('d', &[b"1"]), Short('-')],
+        index: 1,
+        reason: Reason::DashWithoutFlag,
+        printed: "item 1: the option `-` can only follow a flag of one character",
+    },
+    Fault {
+        items: &[Short('v'), Positional(b"f"), Short('-')],
+        index: 2,
+        reason: Reason::DashWithoutFlag,
+        printed: "item 2: the option `-` can only follow a flag of one character",
+    },
+];
+
+#[test]
+fn dash_without_flag(rt: HostRuntime) -> Result<(), Fail> {
+    assert_eq!(rt;
+        told_otherwise_in_either(rt.alloc(), &DASH_WITHOUT_FLAG)?,
+        None
+    );
+    Ok(())
+}
+
+// Of two reasons, that of the name comes before that of the values, and that of the place comes last.
+const TWO_REASONS: [Fault; 5] = [
+    Fault {
+        items: &[LongValue("a=", b"x")],
+        index: 0,
+        reason: Reason::EqualsInName,
+        printed: "item 0: a long option cannot have `=` in its name",
+    },
+    Fault {
+        items: &[Positional(b"-x"), Short('o')],
+        index: 1,
+        reason: Reason::MissingValue,
+        printed: "item 1: the option wants a value, and is given none",
+    },
+    Fault {
+        items: &[Positional(b"-x"), Long("")],
+        index: 1,
+        reason: Reason::EmptyName,
+        printed: "item 1: a long option without a value wants a name",
+    },
+    Fault {
+        items: &[Positional(b"-x"), Short('-')],
+        index: 1,
+        reason: Reason::BehindSeparator,
+        printed: "item 1: an option cannot stand behind a positional that needs `--` before it",
+    },
+    Fault {
+        items: &[Short('o'), Long("a=b")],
+        index: 0,
+        reason: Reason::MissingValue,
+        printed: "item 0: the option wants a value, and is given none",
+    },
+];
+
+#[test]
+fn first_of_two_reasons(rt: HostRuntime) -> Result<(), Fail> {
+    assert_eq!(rt; told_otherwise_in_either(rt.alloc(), &TWO_REASONS)?, None);
+    Ok(())
+}
+
+#[test]
+fn refused_memory_is_told(rt: HostRuntime) -> Result<(), Fail> {
+    let error = SpellError::from(AllocError);
+    assert!(rt; matches!(error, SpellError::OutOfMemory));
+    assert_eq!(rt; error.to_string(rt.alloc())?.as_str(), "out of memory");
+    Ok(())
+}
