@@ -1,15 +1,18 @@
 //! Reads words many times, so that the cost of a read can be measured. `bench/src/main.rs` does the same with the Rust crate.
 //!
-//! Arguments are `copy`, `next`, `values`, `raw`, `parse` or `items`, and how many times. Standard input has the words, each
-//! ended by a NUL. Each time the words are copied; under `copy` that is all. Under `next` and `values` the copies are read as a
-//! command line, and `-n` takes one value or several; under `raw` they are taken unread; under `items` they are read by a table
-//! of options. Under `parse` each copy is parsed as a number, and no line is read. Last it prints what was seen.
+//! Arguments are `copy`, `next`, `values`, `raw`, `parse`, `items`, `spell` or `spelled`, and how many times. Standard input has
+//! the words, each ended by a NUL. Each time the words are copied; under `copy` that is all. Under `next` and `values` the copies
+//! are read as a command line, and `-n` takes one value or several; under `raw` they are taken unread; under `items` they are
+//! read by a table of options. Under `parse` each copy is parsed as a number, and no line is read. Under `spell` they are read by
+//! the table once, and each time the items are spelled; under `spelled` each time the words that spell them are copied, and that
+//! is all. Last it prints what was seen.
 #![tactic(auto)]
 
 mod seen;
 
 use anyhow::{Context, Result, bail};
 use lexopt::items::{Table, read_items};
+use lexopt::spell::spell;
 use lexopt::{Arg, Error, OsString, Parser, ValueExt};
 use seen::Seen;
 use std::alloc::{AllocError, Global};
@@ -19,7 +22,7 @@ use std::io::Read;
 // What a damaged name of the workloads is read as, which has a value there.
 const DAMAGED_NAME: &str = "\u{fffd}\u{fffd}\u{fffd}size";
 
-// What is done with the copies of the words.
+// What is done with the words.
 #[derive(Clone, Copy)]
 enum Work {
     Copy,
@@ -28,6 +31,8 @@ enum Work {
     Raw,
     Parse,
     Items,
+    Spell,
+    Spelled,
 }
 
 impl Work {
@@ -39,6 +44,8 @@ impl Work {
             "raw" => Some(Work::Raw),
             "parse" => Some(Work::Parse),
             "items" => Some(Work::Items),
+            "spell" => Some(Work::Spell),
+            "spelled" => Some(Work::Spelled),
             _ => None,
         }
     }
@@ -129,13 +136,71 @@ fn options(alloc: Global) -> Result<Table, AllocError> {
     })
 }
 
+// Reads the whole line by the table.
+fn read_by_table(
+    alloc: Global,
+    words: Vec<OsString>,
+    table: &Table,
+    seen: &mut Seen,
+) -> Result<(), Error> {
+    match read_items(alloc, words, true, table) {
+        Ok(items) => seen.items(&items),
+        Err(error) => return seen.error(error),
+    }
+    Ok(())
+}
+
+// Spells what the words say, or copies the words that spell it.
+fn spell_times(
+    alloc: Global,
+    words: &[&[u8]],
+    work: Work,
+    times: u64,
+    table: &Table,
+    seen: &mut Seen,
+) -> Result<()> {
+    let items = read_items(alloc, copies(alloc, words)?, true, table)?;
+    let answered = spell(alloc, &items, true, table)?;
+    let spelled: Vec<&[u8]> = answered.iter().map(|word| word.as_bytes()).collect(alloc)?;
+    for _ in 0..times {
+        match work {
+            Work::Spelled => seen.copies(&copies(alloc, &spelled)?),
+            _ => seen.words(&spell(alloc, &items, true, table)?),
+        }
+        seen.stop_hashing();
+    }
+    Ok(())
+}
+
+// Copies the words, and reads the copies.
+fn read(
+    alloc: Global,
+    words: &[&[u8]],
+    work: Work,
+    table: &Table,
+    seen: &mut Seen,
+) -> Result<(), Error> {
+    let copied = copies(alloc, words)?;
+    match work {
+        Work::Next => read_line(&mut Parser::from_args(alloc, copied)?, false, seen),
+        Work::Values => read_line(&mut Parser::from_args(alloc, copied)?, true, seen),
+        Work::Raw => read_raw(&mut Parser::from_args(alloc, copied)?, seen),
+        Work::Parse => read_numbers(&copied, seen),
+        Work::Items => read_by_table(alloc, copied, table, seen),
+        Work::Copy | Work::Spell | Work::Spelled => {
+            seen.copies(&copied);
+            Ok(())
+        }
+    }
+}
+
 fn main(rt: HostRuntime) -> Result<()> {
     let alloc = rt.alloc();
     let mut args = env::args(&rt)?;
     let (Some(_program), Some(work), Some(times)) = (args.next(), args.next(), args.next()) else {
-        bail!("usage: lexopt_bench copy|next|values|raw|parse|items TIMES");
+        bail!("usage: lexopt_bench copy|next|values|raw|parse|items|spell|spelled TIMES");
     };
-    let work = Work::of_name(&work).context("the work is copy, next, values, raw, parse or items")?;
+    let work = Work::of_name(&work).context("the work is copy, next, values, raw, parse, items, spell or spelled")?;
     let times = times.parse::<u64>().context("how many times")?;
 
     let mut input = Vec::new(alloc);
@@ -145,29 +210,14 @@ fn main(rt: HostRuntime) -> Result<()> {
 
     let table = options(alloc)?;
     let mut seen = Seen::new();
-    for _ in 0..times {
-        let copied = copies(alloc, &words)?;
-        match work {
-            Work::Copy => seen.copies(&copied),
-            Work::Next => {
-                let mut parser = Parser::from_args(alloc, copied)?;
-                read_line(&mut parser, false, &mut seen)?;
+    match work {
+        Work::Spell | Work::Spelled => spell_times(alloc, &words, work, times, &table, &mut seen)?,
+        _ => {
+            for _ in 0..times {
+                read(alloc, &words, work, &table, &mut seen)?;
+                seen.stop_hashing();
             }
-            Work::Values => {
-                let mut parser = Parser::from_args(alloc, copied)?;
-                read_line(&mut parser, true, &mut seen)?;
-            }
-            Work::Raw => {
-                let mut parser = Parser::from_args(alloc, copied)?;
-                read_raw(&mut parser, &mut seen)?;
-            }
-            Work::Parse => read_numbers(&copied, &mut seen)?,
-            Work::Items => match read_items(alloc, copied, true, &table) {
-                Ok(items) => seen.items(&items),
-                Err(error) => seen.error(error)?,
-            },
         }
-        seen.stop_hashing();
     }
     print!(rt; "{seen}")?;
     Ok(())
