@@ -1,5 +1,6 @@
 //! Words as a POSIX shell reads them.
 ghost use Rattle.std.specs.Prelude.{◌≡◌, IfOk};
+ghost use Rattle.std.specs.List.{list_all};
 ghost use Rattle.example_forward.specs.Shell as spec;
 
 use std::alloc::{AllocError, Global};
@@ -11,11 +12,20 @@ fn is_plain(byte: u8) -> bool
     byte.is_ascii_alphanumeric() || b"%+,-./:=@_".contains(&byte)
 }
 
+fn are_plain(bytes: &[u8]) -> bool
+    ensures { result ≡ list_all spec.is_plain bytes.now }
+{
+    bytes.iter().all(|byte| is_plain(*byte))
+}
+
 // Whether a word needs no quotes.
 fn needs_none(word: &[u8]) -> bool
     ensures { result ≡ spec.needs_none word.now }
 {
-    !word.is_empty() && word.iter().all(|byte| is_plain(*byte))
+    match word {
+        [] => false,
+        _ => are_plain(word),
+    }
 }
 
 /// The word as a shell reads it back: as it is, or where it needs it between single quotes. A quote in it stands behind a

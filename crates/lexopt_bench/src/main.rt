@@ -3,15 +3,14 @@
 //! Arguments are `copy`, `next`, `values`, `raw`, `parse`, `items`, `spell` or `spelled`, and how many times. Standard input has
 //! the words, each ended by a NUL. Each time the words are copied; under `copy` that is all. Under `next` and `values` the copies
 //! are read as a command line, and `-n` takes one value or several; under `raw` they are taken unread; under `items` they are
-//! read by a table of options. Under `parse` each copy is parsed as a number, and no line is read. Under `spell` they are read by
-//! the table once, and each time the items are spelled; under `spelled` each time the words that spell them are copied, and that
-//! is all. Last it prints what was seen.
+//! read by a table of options; under `spell` the items are then spelled, and under `spelled` the words that spell them are copied
+//! too. Under `parse` each copy is parsed as a number, and no line is read. Last it prints what was seen.
 #![tactic(auto)]
 
 mod seen;
 
 use anyhow::{Context, Result, bail};
-use lexopt::items::{Table, read_items};
+use lexopt::items::{Item, Table, read_items};
 use lexopt::spell::spell;
 use lexopt::{Arg, Error, OsString, Parser, ValueExt};
 use seen::Seen;
@@ -22,7 +21,7 @@ use std::io::Read;
 // What a damaged name of the workloads is read as, which has a value there.
 const DAMAGED_NAME: &str = "\u{fffd}\u{fffd}\u{fffd}size";
 
-// What is done with the words.
+// What is done with the copies of the words.
 #[derive(Clone, Copy)]
 enum Work {
     Copy,
@@ -136,62 +135,27 @@ fn options(alloc: Global) -> Result<Table, AllocError> {
     })
 }
 
-// Reads the whole line by the table.
-fn read_by_table(
+// Spells the items, and copies the words that spell them, as far as the work wants it.
+fn spell_items(
     alloc: Global,
-    words: Vec<OsString>,
-    table: &Table,
-    seen: &mut Seen,
-) -> Result<(), Error> {
-    match read_items(alloc, words, true, table) {
-        Ok(items) => seen.items(&items),
-        Err(error) => return seen.error(error),
-    }
-    Ok(())
-}
-
-// Spells what the words say, or copies the words that spell it.
-fn spell_times(
-    alloc: Global,
-    words: &[&[u8]],
+    items: &[Item],
     work: Work,
-    times: u64,
     table: &Table,
     seen: &mut Seen,
 ) -> Result<()> {
-    let items = read_items(alloc, copies(alloc, words)?, true, table)?;
-    let answered = spell(alloc, &items, true, table)?;
-    let spelled: Vec<&[u8]> = answered.iter().map(|word| word.as_bytes()).collect(alloc)?;
-    for _ in 0..times {
-        match work {
-            Work::Spelled => seen.copies(&copies(alloc, &spelled)?),
-            _ => seen.words(&spell(alloc, &items, true, table)?),
+    if let Work::Items = work {
+        return Ok(());
+    }
+    let words = spell(alloc, items, true, table)?;
+    seen.words(&words);
+    if let Work::Spelled = work {
+        let mut copied = Vec::with_capacity(alloc, words.len())?;
+        for word in &words {
+            copied.push(OsString::from_bytes(alloc, word.as_bytes())?)?;
         }
-        seen.stop_hashing();
+        seen.copies(&copied);
     }
     Ok(())
-}
-
-// Copies the words, and reads the copies.
-fn read(
-    alloc: Global,
-    words: &[&[u8]],
-    work: Work,
-    table: &Table,
-    seen: &mut Seen,
-) -> Result<(), Error> {
-    let copied = copies(alloc, words)?;
-    match work {
-        Work::Next => read_line(&mut Parser::from_args(alloc, copied)?, false, seen),
-        Work::Values => read_line(&mut Parser::from_args(alloc, copied)?, true, seen),
-        Work::Raw => read_raw(&mut Parser::from_args(alloc, copied)?, seen),
-        Work::Parse => read_numbers(&copied, seen),
-        Work::Items => read_by_table(alloc, copied, table, seen),
-        Work::Copy | Work::Spell | Work::Spelled => {
-            seen.copies(&copied);
-            Ok(())
-        }
-    }
 }
 
 fn main(rt: HostRuntime) -> Result<()> {
@@ -200,7 +164,9 @@ fn main(rt: HostRuntime) -> Result<()> {
     let (Some(_program), Some(work), Some(times)) = (args.next(), args.next(), args.next()) else {
         bail!("usage: lexopt_bench copy|next|values|raw|parse|items|spell|spelled TIMES");
     };
-    let work = Work::of_name(&work).context("the work is copy, next, values, raw, parse, items, spell or spelled")?;
+    let work = Work::of_name(&work).context(
+        "the work is copy, next, values, raw, parse, items, spell or spelled",
+    )?;
     let times = times.parse::<u64>().context("how many times")?;
 
     let mut input = Vec::new(alloc);
@@ -210,14 +176,34 @@ fn main(rt: HostRuntime) -> Result<()> {
 
     let table = options(alloc)?;
     let mut seen = Seen::new();
-    match work {
-        Work::Spell | Work::Spelled => spell_times(alloc, &words, work, times, &table, &mut seen)?,
-        _ => {
-            for _ in 0..times {
-                read(alloc, &words, work, &table, &mut seen)?;
-                seen.stop_hashing();
+    for _ in 0..times {
+        let copied = copies(alloc, &words)?;
+        match work {
+            Work::Copy => seen.copies(&copied),
+            Work::Next => {
+                let mut parser = Parser::from_args(alloc, copied)?;
+                read_line(&mut parser, false, &mut seen)?;
+            }
+            Work::Values => {
+                let mut parser = Parser::from_args(alloc, copied)?;
+                read_line(&mut parser, true, &mut seen)?;
+            }
+            Work::Raw => {
+                let mut parser = Parser::from_args(alloc, copied)?;
+                read_raw(&mut parser, &mut seen)?;
+            }
+            Work::Parse => read_numbers(&copied, &mut seen)?,
+            Work::Items | Work::Spell | Work::Spelled => {
+                match read_items(alloc, copied, true, &table) {
+                    Ok(items) => {
+                        seen.items(&items);
+                        spell_items(alloc, &items, work, &table, &mut seen)?;
+                    }
+                    Err(error) => seen.error(error)?,
+                }
             }
         }
+        seen.stop_hashing();
     }
     print!(rt; "{seen}")?;
     Ok(())
