@@ -74,6 +74,11 @@ class Workload:
         """The calls that are counted. What `next` reads is read by a table of options too."""
         return ["next", "items"] if self.work == "next" else [self.work]
 
+    @property
+    def is_spelled(self):
+        """Whether what a table reads is spelled too."""
+        return "items" in self.works
+
 
 WORKLOADS = [
     Workload("a line of {size} words, as people type them", 12, repeated(A_LINE), times=100),
@@ -100,6 +105,7 @@ WORKLOADS = [
     Workload("no words", 0, repeated([b""]), times=100),
     Workload("{size} words `-ovalue`", 10_000, repeated([b"-ovalue"]), work="items"),
     Workload("`-x` and {size} values", 10_000, behind(b"-x", [b"value"]), work="items"),
+    Workload("{size} words, `-x=a` and a positional in turn", 10_000, repeated([b"-x=a", b"b"]), work="items"),
 ]
 
 

@@ -1,15 +1,17 @@
 //! Reads words many times, so that the cost of a read can be measured. `bench/src/main.rs` does the same with the Rust crate.
 //!
-//! Arguments are `copy`, `next`, `values`, `raw`, `parse` or `items`, and how many times. Standard input has the words, each
-//! ended by a NUL. Each time the words are copied; under `copy` that is all. Under `next` and `values` the copies are read as a
-//! command line, and `-n` takes one value or several; under `raw` they are taken unread; under `items` they are read by a table
-//! of options. Under `parse` each copy is parsed as a number, and no line is read. Last it prints what was seen.
+//! Arguments are `copy`, `next`, `values`, `raw`, `parse`, `items`, `spell` or `spelled`, and how many times. Standard input has
+//! the words, each ended by a NUL. Each time the words are copied; under `copy` that is all. Under `next` and `values` the copies
+//! are read as a command line, and `-n` takes one value or several; under `raw` they are taken unread; under `items` they are
+//! read by a table of options; under `spell` the items are then spelled, and under `spelled` the words that spell them are copied
+//! too. Under `parse` each copy is parsed as a number, and no line is read. Last it prints what was seen.
 #![tactic(auto)]
 
 mod seen;
 
 use anyhow::{Context, Result, bail};
-use lexopt::items::{Table, read_items};
+use lexopt::items::{Item, Table, read_items};
+use lexopt::spell::spell;
 use lexopt::{Arg, Error, OsString, Parser, ValueExt};
 use seen::Seen;
 use std::alloc::{AllocError, Global};
@@ -28,6 +30,8 @@ enum Work {
     Raw,
     Parse,
     Items,
+    Spell,
+    Spelled,
 }
 
 impl Work {
@@ -39,6 +43,8 @@ impl Work {
             "raw" => Some(Work::Raw),
             "parse" => Some(Work::Parse),
             "items" => Some(Work::Items),
+            "spell" => Some(Work::Spell),
+            "spelled" => Some(Work::Spelled),
             _ => None,
         }
     }
@@ -129,13 +135,38 @@ fn options(alloc: Global) -> Result<Table, AllocError> {
     })
 }
 
+// Spells the items, and copies the words that spell them, as far as the work wants it.
+fn spell_items(
+    alloc: Global,
+    items: &[Item],
+    work: Work,
+    table: &Table,
+    seen: &mut Seen,
+) -> Result<()> {
+    if let Work::Items = work {
+        return Ok(());
+    }
+    let words = spell(alloc, items, true, table)?;
+    seen.words(&words);
+    if let Work::Spelled = work {
+        let mut copied = Vec::with_capacity(alloc, words.len())?;
+        for word in &words {
+            copied.push(OsString::from_bytes(alloc, word.as_bytes())?)?;
+        }
+        seen.copies(&copied);
+    }
+    Ok(())
+}
+
 fn main(rt: HostRuntime) -> Result<()> {
     let alloc = rt.alloc();
     let mut args = env::args(&rt)?;
     let (Some(_program), Some(work), Some(times)) = (args.next(), args.next(), args.next()) else {
-        bail!("usage: lexopt_bench copy|next|values|raw|parse|items TIMES");
+        bail!("usage: lexopt_bench copy|next|values|raw|parse|items|spell|spelled TIMES");
     };
-    let work = Work::of_name(&work).context("the work is copy, next, values, raw, parse or items")?;
+    let work = Work::of_name(&work).context(
+        "the work is copy, next, values, raw, parse, items, spell or spelled",
+    )?;
     let times = times.parse::<u64>().context("how many times")?;
 
     let mut input = Vec::new(alloc);
@@ -162,10 +193,15 @@ fn main(rt: HostRuntime) -> Result<()> {
                 read_raw(&mut parser, &mut seen)?;
             }
             Work::Parse => read_numbers(&copied, &mut seen)?,
-            Work::Items => match read_items(alloc, copied, true, &table) {
-                Ok(items) => seen.items(&items),
-                Err(error) => seen.error(error)?,
-            },
+            Work::Items | Work::Spell | Work::Spelled => {
+                match read_items(alloc, copied, true, &table) {
+                    Ok(items) => {
+                        seen.items(&items);
+                        spell_items(alloc, &items, work, &table, &mut seen)?;
+                    }
+                    Err(error) => seen.error(error)?,
+                }
+            }
         }
         seen.stop_hashing();
     }

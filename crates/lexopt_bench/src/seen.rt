@@ -66,6 +66,12 @@ impl Seen {
         self.text(b'p', word);
     }
 
+    pub fn words(&mut self, words: &[OsString]) {
+        for word in words {
+            self.positional(word.as_bytes());
+        }
+    }
+
     pub fn items(&mut self, items: &[Item]) {
         for item in items {
             match item {

@@ -1,0 +1,74 @@
+//! Words as a POSIX shell reads them.
+ghost use Rattle.std.specs.Prelude.{◌≡◌, IfOk};
+ghost use Rattle.std.specs.List.{list_all};
+ghost use Rattle.example_forward.specs.Shell as spec;
+
+use std::alloc::{AllocError, Global};
+
+// Whether a byte has no other meaning to a shell, wherever it stands in a word.
+fn is_plain(byte: u8) -> bool
+    ensures { result ≡ spec.is_plain byte }
+{
+    byte.is_ascii_alphanumeric() || b"%+,-./:=@_".contains(&byte)
+}
+
+fn are_plain(bytes: &[u8]) -> bool
+    ensures { result ≡ list_all spec.is_plain bytes.now }
+{
+    bytes.iter().all(|byte| is_plain(*byte))
+}
+
+// Whether a word needs no quotes.
+fn needs_none(word: &[u8]) -> bool
+    ensures { result ≡ spec.needs_none word.now }
+{
+    match word {
+        [] => false,
+        _ => are_plain(word),
+    }
+}
+
+/// The word as a shell reads it back: as it is, or where it needs it between single quotes. A quote in it stands behind a
+/// backslash, between two quoted parts: `it's` is `'it'\''s'`.
+pub fn quoted(alloc: Global, word: &[u8]) -> Result<Vec<u8>, AllocError>
+    ensures form { IfOk result (λ bytes. bytes.items ≡ spec.quoted word.now) }
+    ensures read_back { IfOk result (λ bytes. spec.IsReadAs bytes.items word.now) }
+{
+    let mut bytes = Vec::new(alloc);
+    if needs_none(word) {
+        bytes.extend_from_slice(word)?;
+        return Ok(bytes);
+    }
+    bytes.push(b'\'')?;
+    for byte in word {
+        if *byte == b'\'' {
+            bytes.extend_from_slice(b"'\\''")?;
+        } else {
+            bytes.push(*byte)?;
+        }
+    }
+    bytes.push(b'\'')?;
+    Ok(bytes)
+}
+
+#[cfg(test)]
+mod tests {
+    use super::*;
+    use std::test::Fail;
+
+    #[test]
+    fn quotes_where_a_word_needs_them(rt: HostRuntime) -> Result<(), Fail> {
+        for (word, wanted) in [
+            (b"".as_slice(), b"''".as_slice()),
+            (b"--out=a/b.c".as_slice(), b"--out=a/b.c".as_slice()),
+            (b"my file".as_slice(), b"'my file'".as_slice()),
+            (b"it's".as_slice(), b"'it'\\''s'".as_slice()),
+            (b"'".as_slice(), b"''\\'''".as_slice()),
+            (b"\xff".as_slice(), b"'\xff'".as_slice()),
+            (b"a\n*~$".as_slice(), b"'a\n*~$'".as_slice()),
+        ] {
+            assert_eq!(rt; quoted(rt.alloc(), word)?.as_slice(), wanted);
+        }
+        Ok(())
+    }
+}
