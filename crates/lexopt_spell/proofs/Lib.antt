@@ -1,3 +1,4 @@
+mod Answered
 mod Behind
 mod LastWord
 mod Resumed

@@ -1,8 +1,9 @@
-use Rattle.std.proofs.Common.{map, sym, ap, ◌∙◌}
+use Rattle.std.proofs.Common.{map, sym, ap, ◌∙◌, inr}
 use Rattle.lexopt_spec.proofs.SpellerSound.{spelled_spells}
-use Rattle.lexopt_spec.proofs.SpellerFaults.{shown_words, named_at_fault, same_fault, words_read, words_said}
+use Rattle.lexopt_spec.proofs.SpellerFaults.{named_at_fault, same_fault, words_read, words_said}
 use Rattle.lexopt_calls.specs.Items.{item_view, table_view}
 use Rattle.lexopt_spell.specs.Views.{added_answer, added_view, place_view, reason_view}
+use Rattle.lexopt_spell.proofs.Answered.{none_shown}
 use Rattle.lexopt_spell.proofs.Resumed.{item_at_fault, item_spelled, items_spelled}
 use Rattle.lexopt_spell.proofs.spell.spell.Goals as goal
 
@@ -34,3 +35,17 @@ returns-clause-said c = λ final l reading.
 
 pub returns-in-Err-clause-at_fault : goal.returns-in-Err-clause-at_fault
 returns-in-Err-clause-at_fault c = named_at_fault (table_view c.args.table.now) c.args.short_equals (map item_view c.args.items.now) _ (returns-in-Err-clause-fault c)
+
+pub returns-in-Err-clause-answered : goal.returns-in-Err-clause-answered
+returns-in-Err-clause-answered c = λ words shows.
+    none_shown (table_view c.args.table.now) c.args.short_equals words (map item_view c.args.items.now) _ (returns-in-Err-clause-fault c) shows
+
+pub returns-in-Err-clause-none : goal.returns-in-Err-clause-none
+returns-in-Err-clause-none c = inr (λ words shows.
+    none_shown (table_view c.args.table.now) c.args.short_equals words (map item_view c.args.items.now) _ (returns-in-Err-clause-fault c) shows)
+
+pub returns-in-Err-clause-one_fault : goal.returns-in-Err-clause-one_fault
+returns-in-Err-clause-one_fault c = λ i j one other. same_fault (table_view c.args.table.now) c.args.short_equals (map item_view c.args.items.now) i j one other
+
+pub returns-clause-one_fault : goal.returns-clause-one_fault
+returns-clause-one_fault c = λ i j one other. same_fault (table_view c.args.table.now) c.args.short_equals (map item_view c.args.items.now) i j one other
