@@ -13,7 +13,7 @@ backslash = 0x5C
 abbrev pub line_feed : ℕ
 line_feed = 0x0A
 
--- a byte that has no other meaning to a shell, wherever it stands in a word
+-- a byte that has no other meaning to a shell, wherever it stands in an argument of a command
 abbrev pub is_plain : ℕ → Bool
 is_plain b = is_ascii_alphanumeric b || list_any (λ mark. mark == b) (codes "%+,-./:=@_")
 

@@ -1,11 +1,11 @@
-//! Words as a POSIX shell reads them.
+//! Words for a POSIX shell.
 ghost use Rattle.std.specs.Prelude.{◌≡◌, IfOk};
 ghost use Rattle.std.specs.List.{list_all};
 ghost use Rattle.example_forward.specs.Shell as spec;
 
 use std::alloc::{AllocError, Global};
 
-// Whether a byte has no other meaning to a shell, wherever it stands in a word.
+// Whether a byte has no other meaning to a shell, wherever it stands in an argument.
 fn is_plain(byte: u8) -> bool
     ensures { result ≡ spec.is_plain byte }
 {
