@@ -49,3 +49,7 @@ returns-in-Err-clause-one_fault c = λ i j one other. same_fault (table_view c.a
 
 pub returns-clause-one_fault : goal.returns-clause-one_fault
 returns-clause-one_fault c = λ i j one other. same_fault (table_view c.args.table.now) c.args.short_equals (map item_view c.args.items.now) i j one other
+
+pub returns-in_err-push-in-Ok-clause-one_fault : goal.returns-in_err-push-in-Ok-clause-one_fault
+returns-in_err-push-in-Ok-clause-one_fault c = λ i j one other.
+    same_fault (table_view c.args.table.now) c.args.short_equals (map item_view c.args.items.now) i j one other
