@@ -89,8 +89,9 @@ fn items_are_refused()
         ≡ Err (record { index = 0; reason = option_among_values }) }
     ensures option_before_values { spelled (record (one_value [] []) { several_shorts = codes "d"; several_longs = codes "cmd" ∷ [] }) true (many (long (codes "cmd")) (codes "-x" ∷ codes "1" ∷ []) ∷ [])
         ≡ Err (record { index = 0; reason = option_among_values }) }
-    ensures no_name { spelled (one_value (codes "o") (codes "out" ∷ [] ∷ [])) true (option (long []) None ∷ [])
-        ≡ Err (record { index = 0; reason = empty_name }) }
+    ensures no_name { spelled (one_value (codes "o") (codes "out" ∷ [])) true (option (long []) None ∷ []) ≡ Err (record { index = 0; reason = empty_name }) }
+    ensures no_name_and_no_value { spelled (one_value (codes "o") (codes "out" ∷ [] ∷ [])) true (option (long []) None ∷ [])
+        ≡ Err (record { index = 0; reason = missing_value }) }
     ensures name_with_a_mark { spelled (one_value (codes "o") (codes "out" ∷ [] ∷ [])) true (option (long (codes "a=b")) None ∷ [])
         ≡ Err (record { index = 0; reason = equals_in_name }) }
     ensures behind_the_separator { spelled (one_value (codes "o") (codes "out" ∷ [] ∷ [])) true (positional (codes "-x") ∷ positional (codes "f") ∷ option (short 0x76) None ∷ [])
