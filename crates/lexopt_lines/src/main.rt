@@ -138,7 +138,7 @@ impl Found {
         };
         match plain {
             Ok(items) => self.spell(reading, &items),
-            Err(_) => Ok(()),
+            Err(_refusal) => Ok(()),
         }
     }
 
