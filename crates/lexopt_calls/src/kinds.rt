@@ -20,6 +20,7 @@ pub enum Kind {
 }
 
 /// How many values a short option has.
+#[inline(always)]
 pub fn kind_of_short(table: &Table, option: char) -> Kind
     ensures { kind_view result ≡ kind (table_view table.now) (spec.short option) }
 {
@@ -35,6 +36,7 @@ pub fn kind_of_short(table: &Table, option: char) -> Kind
 }
 
 /// How many values a long option has. Its name stands without its dashes.
+#[inline(always)]
 pub fn kind_of_long(table: &Table, name: &String) -> Kind
     ensures { kind_view result ≡ kind (table_view table.now) (spec.long (string_bytes name.now)) }
 {
@@ -50,6 +52,7 @@ pub fn kind_of_long(table: &Table, name: &String) -> Kind
 }
 
 // Whether this name is among these.
+#[inline(always)]
 fn holds(names: &Vec<String>, name: &String) -> bool
     ensures { result ≡ holds_in [] (map string_bytes names.now.items) (spec.long (string_bytes name.now)) }
 {
