@@ -135,7 +135,8 @@ fn options(alloc: Global) -> Result<Table, AllocError> {
     })
 }
 
-// Spells the items, and copies the words that spell them, as far as the work wants it.
+// Spells the items, and copies the words that spell them, if the work wants it. It is no part of what `items` costs.
+#[cold]
 fn spell_items(
     alloc: Global,
     items: &[Item],
@@ -143,9 +144,6 @@ fn spell_items(
     table: &Table,
     seen: &mut Seen,
 ) -> Result<()> {
-    if let Work::Items = work {
-        return Ok(());
-    }
     let words = spell(alloc, items, true, table)?;
     seen.words(&words);
     if let Work::Spelled = work {
@@ -197,7 +195,9 @@ fn main(rt: HostRuntime) -> Result<()> {
                 match read_items(alloc, copied, true, &table) {
                     Ok(items) => {
                         seen.items(&items);
-                        spell_items(alloc, &items, work, &table, &mut seen)?;
+                        if !matches!(work, Work::Items) {
+                            spell_items(alloc, &items, work, &table, &mut seen)?;
+                        }
                     }
                     Err(error) => seen.error(error)?,
                 }
