@@ -11,7 +11,7 @@ use Rattle.lexopt_spec.specs.UnreadLine.{dash, equals, BeginsWith, IsPlain, is_p
 use Rattle.lexopt_spec.specs.Table.{Name, short, long, Item, option, many, positional, Kind, flag, one, optional, several, kind, Table}
 use Rattle.lexopt_spec.specs.Spelling as spelling
 use Rattle.lexopt_spec.specs.Spelling.{damaged, Behind, nothing, attached, joined, no_value, attached_value, joined_value, next_word, no_optional, attached_optional, joined_optional, joined_several, attached_several, several_words, Completes, IsBehindLast, nothing_more, a_value, marked_value, Cluster, flag_first, last_option, IsLong, name_alone, name_and_value, Group, cluster, Line, no_words, plain_word, group, separator, Shows}
-use Rattle.lexopt_spec.specs.Speller.{Place, open_line, in_cluster, behind_values, ended, Form, name_only, in_word, attached_form, short_form, long_form, words_form, short_words_form, short_many_form, long_many_form, Added, short_added, is_named, long_placed, long_added, positional_added, adds}
+use Rattle.lexopt_spec.specs.Speller.{Place, open_line, in_cluster, behind_values, behind_positional, ended, Form, name_only, in_word, attached_form, short_form, long_form, words_form, short_words_form, short_many_form, long_many_form, Added, short_added, is_named, long_placed, long_added, stands, positional_added, adds}
 use Rattle.lexopt_spec.proofs.Names.{letter_scalar}
 use Rattle.lexopt_spec.proofs.PlainFronts.{plain_passes}
 use Rattle.lexopt_spec.proofs.SpellerTests.{all_pass, has_equals, letter_dash, lossy_text, lossy_free, lossy_some}
@@ -25,6 +25,7 @@ record Ready (t : Table) (switch : Bool) (left : List (List ℕ)) (items : List 
   open_too : Can t switch items open_line
   in_cluster_too : Can t switch items in_cluster
   behind_values_too : ¬ IsNormalIn false left → Can t switch items behind_values
+  behind_positional_too : Can t switch items behind_positional
 
 followed : (t : Table) (switch : Bool) (place : Place) (left : List (List ℕ)) (items : List Item) → Follows place left → Ready t switch left items → Can t switch items place
 followed t switch place left items (inl is) ready = subst (Can t switch items) (sym is) ready.open_too
@@ -151,7 +152,7 @@ long_of several bytes behind words item left fits (several_words (v ∷ vs) b g 
 -- ---- what an item adds
 
 abbrev AddsAt : Table → Bool → Place → Item → List (List ℕ) → Type 0
-AddsAt t switch place item left = (joins : Bool) × (a : Added) × (adds t switch joins place item ≡ Ok a) × Follows a.place left
+AddsAt t switch place item left = (joins : Bool) × (a : Added) × (adds t switch joins false place item ≡ Ok a) × Follows a.place left
 
 abbrev ShortPlace : ℕ → Place → Type 0
 ShortPlace c place = (place ≡ in_cluster) ⊎ (((c == dash) ≡ false) × (place ≢ ended))
@@ -163,8 +164,10 @@ short_is true d ended c f is at = ⊎_elim (λ same. absurd (let e : ended ≡ i
 short_is true false open_line c f is at = (_, refl, refl)
 short_is true false in_cluster c f is at = (_, refl, refl)
 short_is true false behind_values c f is at = (_, refl, refl)
+short_is true false behind_positional c f is at = (_, refl, refl)
 short_is true true open_line c f is at = ⊎_elim (λ same. absurd (let e : open_line ≡ in_cluster = same in cc)) (λ other. absurd (true≢false other.0)) at
 short_is true true in_cluster c f is at = (_, refl, refl)
+short_is true true behind_positional c f is at = ⊎_elim (λ same. absurd (let e : behind_positional ≡ in_cluster = same in cc)) (λ other. absurd (true≢false other.0)) at
 short_is true true behind_values c f is at = ⊎_elim (λ same. absurd (let e : behind_values ≡ in_cluster = same in cc)) (λ other. absurd (true≢false other.0)) at
 
 short_adds : (t : Table) (switch : Bool) (place : Place) (c : ℕ) (item : Item) (left : List (List ℕ)) → scalar c ≡ true → ShortPlace c place
@@ -184,6 +187,7 @@ placed_is true ended name f named at = absurd (at refl)
 placed_is true open_line name f named at = (_, refl, refl)
 placed_is true in_cluster name f named at = (_, refl, refl)
 placed_is true behind_values name f named at = (_, refl, refl)
+placed_is true behind_positional name f named at = (_, refl, refl)
 
 long_is : (u e : Bool) (place : Place) (name : List ℕ) (f : Form) → u ≡ true → e ≡ false → place ≢ ended → is_named name f.behind ≡ true
     → (a : Added) × (long_added u e place name (Ok f) ≡ Ok a) × (a.place ≡ f.place)
@@ -217,7 +221,7 @@ short_place c character others place letter (inl at) = inl at
 short_place c character others place letter (inr other) = inr (ne_eqb c dash (λ same. other.0 (letter_dash c character others letter same)), other.1)
 
 flag_adds : (t : Table) (switch : Bool) (place : Place) (c : ℕ) → scalar c ≡ true → ShortPlace c place → kind t (short c) ≡ flag
-    → (a : Added) × (adds t switch false place (option (short c) None) ≡ Ok a) × (a.place ≡ in_cluster)
+    → (a : Added) × (adds t switch false false place (option (short c) None) ≡ Ok a) × (a.place ≡ in_cluster)
 flag_adds t switch place c is_scalar at k =
     let a = short_is (scalar c) (c == dash) place c (name_only in_cluster) is_scalar at in
     (a.0, ap (λ (x : Kind). short_added (scalar c) (c == dash) place c (short_form switch x None)) k ∙ a.1, a.2)
@@ -226,12 +230,12 @@ cluster_can : (t : Table) (switch : Bool) (words left : List (List ℕ)) (bytes 
     → Cluster damaged t switch words left bytes front → ClusterPlace bytes place → Ready t switch left items → Can t switch (front ++ items) place
 cluster_can t switch words left bytes front items place (flag_first c character others more letter k no_mark spelled) at ready =
     let a = flag_adds t switch place c (letter_scalar c character others letter) (short_place c character others place letter at) k in
-    can_cons t switch false place (option (short c) None) (more ++ items) a.0 a.1
+    can_cons t switch false false place (option (short c) None) (more ++ items) a.0 a.1
     (cluster_can t switch words left others more items a.0.place spelled (inl a.2) ready)
 cluster_can t switch words left bytes front items place (last_option c character others behind item letter ends completes) at ready =
     let a = short_adds t switch place c item left (letter_scalar c character others letter) (short_place c character others place letter at)
     (short_of switch (kind t (short c)) (short c) behind words item left (fits_behind switch others behind ends) completes) in
-    can_cons t switch a.0 place item items a.1 a.2 (followed t switch a.1.place left items a.3 ready)
+    can_cons t switch a.0 false place item items a.1 a.2 (followed t switch a.1.place left items a.3 ready)
 
 -- ---- long options
 
@@ -247,33 +251,43 @@ group_can t switch words front left items place (spelling.long_option text bytes
     let a = long_adds t switch place name item left (subst IsUtf8 letters (lossy_text bytes)) (ap has_equals (sym letters) ∙ lossy_free bytes none) at
     (long_of (kind t (long name)) name behind others item left (long_fits text bytes name behind letters is) completes) in
     subst (λ (l : List Item). Can t switch (l ++ items) place) (sym items_are)
-    (can_cons t switch a.0 place item items a.1 a.2 (followed t switch a.1.place left items a.3 ready))
+    (can_cons t switch a.0 false place item items a.1 a.2 (followed t switch a.1.place left items a.3 ready))
 
 -- ---- a whole line
 
-plain_can : (t : Table) (switch : Bool) (w : List ℕ) (items : List Item) (place : Place) → is_plain false w ≡ true → (place ≡ open_line) ⊎ (place ≡ in_cluster)
-    → Can t switch items open_line → Can t switch (positional w ∷ items) place
-plain_can t switch w items place plain at can = can_cons t switch false place (positional w) items (positional_added (is_plain false w) place w) refl
-    (subst (Can t switch items) (sym (ap (λ p. (positional_added p place w).place) plain ∙ leads place at)) can)
-  where
-    leads : (p : Place) → (p ≡ open_line) ⊎ (p ≡ in_cluster) → (positional_added true p w).place ≡ open_line
-    leads open_line h = refl
-    leads in_cluster h = refl
-    leads behind_values h = ⊎_elim (λ e. absurd (let f : behind_values ≡ open_line = e in cc)) (λ e. absurd (let f : behind_values ≡ in_cluster = e in cc)) h
-    leads ended h = ⊎_elim (λ e. absurd (let f : ended ≡ open_line = e in cc)) (λ e. absurd (let f : ended ≡ in_cluster = e in cc)) h
+-- a plain word may stand by itself behind these
+data IsRow : Place → Type 0 where
+  at_open : IsRow open_line
+  at_cluster : IsRow in_cluster
+  at_positional : IsRow behind_positional
+
+row_leads : (w : List ℕ) (place : Place) → IsRow place → (positional_added (stands true false place) place w).place ≡ behind_positional
+row_leads w open_line at_open = refl
+row_leads w in_cluster at_cluster = refl
+row_leads w behind_positional at_positional = refl
+row_leads w behind_values at = elim at [ ]
+row_leads w ended at = elim at [ ]
+
+plain_can : (t : Table) (switch : Bool) (w : List ℕ) (items : List Item) (place : Place) → is_plain false w ≡ true → IsRow place
+    → Can t switch items behind_positional → Can t switch (positional w ∷ items) place
+plain_can t switch w items place plain at can =
+    can_cons t switch false false place (positional w) items (positional_added (stands (is_plain false w) false place) place w) refl
+    (subst (Can t switch items) (sym (ap (λ p. (positional_added (stands p false place) place w).place) plain ∙ row_leads w place at)) can)
 
 line_ready : (t : Table) (switch : Bool) (words : List (List ℕ)) (items : List Item) → Line damaged t switch words items → Ready t switch words items
 line_ready t switch words items no_words = record {
   open_too = nil_can t switch open_line;
   in_cluster_too = nil_can t switch in_cluster;
   behind_values_too = λ calm. nil_can t switch behind_values;
+  behind_positional_too = nil_can t switch behind_positional;
 }
 line_ready t switch words items (plain_word w ws more plain line) =
     let later = line_ready t switch ws more line in
     record {
-      open_too = plain_can t switch w more open_line (plain_passes false w plain) (inl refl) later.open_too;
-      in_cluster_too = plain_can t switch w more in_cluster (plain_passes false w plain) (inr refl) later.open_too;
+      open_too = plain_can t switch w more open_line (plain_passes false w plain) at_open later.behind_positional_too;
+      in_cluster_too = plain_can t switch w more in_cluster (plain_passes false w plain) at_cluster later.behind_positional_too;
       behind_values_too = λ calm. absurd (calm plain);
+      behind_positional_too = plain_can t switch w more behind_positional (plain_passes false w plain) at_positional later.behind_positional_too;
     }
 line_ready t switch words items (group ws left front more first line) =
     let later = line_ready t switch left more line in
@@ -281,11 +295,13 @@ line_ready t switch words items (group ws left front more first line) =
       open_too = group_can t switch ws front left more open_line first (λ e. let f : open_line ≡ ended = e in cc) later;
       in_cluster_too = group_can t switch ws front left more in_cluster first (λ e. let f : in_cluster ≡ ended = e in cc) later;
       behind_values_too = λ calm. group_can t switch ws front left more behind_values first (λ e. let f : behind_values ≡ ended = e in cc) later;
+      behind_positional_too = group_can t switch ws front left more behind_positional first (λ e. let f : behind_positional ≡ ended = e in cc) later;
     }
 line_ready t switch words items (separator ws) = record {
   open_too = positionals_can t switch ws open_line;
   in_cluster_too = positionals_can t switch ws in_cluster;
   behind_values_too = λ calm. positionals_can t switch ws behind_values;
+  behind_positional_too = positionals_can t switch ws behind_positional;
 }
 
 pub shown_can : (t : Table) (switch : Bool) (words : List (List ℕ)) (items : List Item) → Shows t switch words items → Can t switch items open_line

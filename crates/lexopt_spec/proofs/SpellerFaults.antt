@@ -8,11 +8,11 @@ use Rattle.lexopt_spec.specs.Steps.{Reply, end}
 use Rattle.lexopt_spec.specs.Table.{Item, Table}
 use Rattle.lexopt_spec.specs.Readings.{IsReading, start}
 use Rattle.lexopt_spec.specs.Spelling.{Shows, Spells}
-use Rattle.lexopt_spec.specs.Speller.{Reason, Place, open_line, Added, adds, is_positional, separator_comes_too_early, Fault, Rest, with_rest, with_rests, spelled_from, words_of, spelled, IsAtFault}
+use Rattle.lexopt_spec.specs.Speller.{Reason, Place, open_line, Added, adds, is_positional, separator_comes_too_early, separator_is_due, Fault, Rest, with_rest, with_rests, spelled_from, words_of, spelled, IsAtFault}
 use Rattle.lexopt_spec.proofs.Names.{spelled_shows}
 use Rattle.lexopt_spec.proofs.WholeLines.{shown_said, shown_read}
 use Rattle.lexopt_spec.proofs.SpellerSound.{spelled_spells}
-use Rattle.lexopt_spec.proofs.SpellerPlaces.{Can, nil_can, can_cons, can_split, Moved, stays, opens, closes, adds_too, opened, not_joined}
+use Rattle.lexopt_spec.proofs.SpellerPlaces.{Can, nil_can, can_cons, can_split, adds_too, changed_can, due_positional, not_joined}
 use Rattle.lexopt_spec.proofs.SpellerComplete.{shown_can}
 
 -- ---- what is spelled, and what is not
@@ -92,7 +92,7 @@ front_can t switch items (suc m) zero place le can = absurd (omega arith)
 front_can t switch [] (suc m) (suc n) place le can = nil_can t switch place
 front_can t switch (item ∷ items) (suc m) (suc n) place le can =
     let s = can_split t switch place item (take n items) can in
-    can_cons t switch (separator_comes_too_early (take n items)) place item (take m items) s.0 s.1 (front_can t switch items m n s.0.place (omega arith) s.2)
+    can_cons t switch (separator_comes_too_early (take n items)) (separator_is_due (take n items)) place item (take m items) s.0 s.1 (front_can t switch items m n s.0.place (omega arith) s.2)
 
 -- ---- the first item that is not spelled
 
@@ -102,12 +102,12 @@ record AtFault (t : Table) (switch : Bool) (items : List Item) (place : Place) (
   none : ¬ Can t switch (take (suc i) items) place
 
 data Fails (t : Table) (switch : Bool) (place : Place) (item : Item) (items : List Item) (f : Fault) : Type 0 where
-  here : (r : Reason) → adds t switch (separator_comes_too_early items) place item ≡ Err r → f.index ≡ 0 → Fails t switch place item items f
-  later : (a : Added) (g : Fault) → adds t switch (separator_comes_too_early items) place item ≡ Ok a → spelled_from t switch items a.place ≡ Err g
+  here : (r : Reason) → adds t switch (separator_comes_too_early items) (separator_is_due items) place item ≡ Err r → f.index ≡ 0 → Fails t switch place item items f
+  later : (a : Added) (g : Fault) → adds t switch (separator_comes_too_early items) (separator_is_due items) place item ≡ Ok a → spelled_from t switch items a.place ≡ Err g
       → f.index ≡ suc g.index → Fails t switch place item items f
 
 fails_later : (t : Table) (switch : Bool) (place : Place) (item : Item) (items : List Item) (f : Fault) (a : Added) (rest : Result Rest Fault)
-    → adds t switch (separator_comes_too_early items) place item ≡ Ok a → spelled_from t switch items a.place ≡ rest → Failing (with_rest a rest) f
+    → adds t switch (separator_comes_too_early items) (separator_is_due items) place item ≡ Ok a → spelled_from t switch items a.place ≡ rest → Failing (with_rest a rest) f
     → Fails t switch place item items f
 fails_later t switch place item items f a (Ok r) added_is rest_is is = absurd (let e : Failing (with_rest a (Ok r)) f = is in cc)
 fails_later t switch place item items f a (Err g) added_is rest_is is =
@@ -115,7 +115,7 @@ fails_later t switch place item items f a (Err g) added_is rest_is is =
     later a g added_is rest_is (sym (ap (λ (x : Fault). x.index) e))
 
 fails_by : (t : Table) (switch : Bool) (place : Place) (item : Item) (items : List Item) (f : Fault) (o : Result Added Reason)
-    → adds t switch (separator_comes_too_early items) place item ≡ o → Failing (with_rests o (spelled_from t switch items)) f → Fails t switch place item items f
+    → adds t switch (separator_comes_too_early items) (separator_is_due items) place item ≡ o → Failing (with_rests o (spelled_from t switch items)) f → Fails t switch place item items f
 fails_by t switch place item items f (Err r) added_is is =
     let e : record { index = 0; reason = r } ≡ f = (let h : Failing (Err (record { index = 0; reason = r })) f = is in cc) in
     here r added_is (sym (ap (λ (x : Fault). x.index) e))
@@ -124,24 +124,21 @@ fails_by t switch place item items f (Ok a) added_is is = fails_later t switch p
 fails : (t : Table) (switch : Bool) (place : Place) (item : Item) (items : List Item) (f : Fault) → spelled_from t switch (item ∷ items) place ≡ Err f
     → Fails t switch place item items f
 unfolding spelled_from
-fails t switch place item items f is = fails_by t switch place item items f (adds t switch (separator_comes_too_early items) place item) refl is
+fails t switch place item items f is = fails_by t switch place item items f (adds t switch (separator_comes_too_early items) (separator_is_due items) place item) refl is
 
 -- with fewer items behind it, the item leads to a place from which no more can be spelled
-cannot : (t : Table) (switch : Bool) (place : Place) (item : Item) (items : List Item) (n : ℕ) (a : Added) → adds t switch (separator_comes_too_early items) place item ≡ Ok a
+cannot : (t : Table) (switch : Bool) (place : Place) (item : Item) (items : List Item) (n : ℕ) (a : Added) → adds t switch (separator_comes_too_early items) (separator_is_due items) place item ≡ Ok a
     → ¬ Can t switch (take n items) a.place → ¬ Can t switch (item ∷ take n items) place
 cannot t switch place item items n a is none can =
     let front = take n items in
     let s = can_split t switch place item front can in
-    let too = adds_too t switch (separator_comes_too_early front) (separator_comes_too_early items) place item s.0 s.1 in
-    none (subst (λ (x : Added). Can t switch front x.place) (sym (same_added a too.0 _ is too.1)) (moved s.0.place too.0.place too.2 s.2))
-  where
-    moved : (before after : Place) → Moved (switch && separator_comes_too_early (take n items)) (switch && separator_comes_too_early items) before after
-        → Can t switch (take n items) before → Can t switch (take n items) after
-    moved before after (stays same) can = subst (Can t switch (take n items)) (sym same) can
-    moved before after (opens was is_now) can = subst (Can t switch (take n items)) (sym is_now) (opened t switch (take n items) (subst (Can t switch (take n items)) was can))
-    moved before after (closes was is_now on off) can =
-        let whole_off = not_joined switch (separator_comes_too_early (take n items)) (separator_comes_too_early items) on off in
-        absurd (true≢false (sym (early_take n items (and_parts switch (separator_comes_too_early (take n items)) on).1) ∙ whole_off))
+    let x = separator_comes_too_early front in
+    let y = separator_comes_too_early items in
+    let too = adds_too t switch x y (separator_is_due front) (separator_is_due items) place item s.0 s.1 in
+    none (subst (λ (b : Added). Can t switch front b.place) (sym (same_added a too.0 _ is too.1))
+    (changed_can t switch (switch && x) (separator_is_due items) front (switch && y) s.0.place too.0.place
+    (λ on off. absurd (true≢false (sym (early_take n items (and_parts switch x on).1) ∙ not_joined switch x y on off)))
+    (λ due. all_take is_positional n items (due_positional items due)) too.2 s.2))
 
 abbrev Faults : Table → Bool → List Item → Type 0
 Faults t switch items = (place : Place) (f : Fault) → spelled_from t switch items place ≡ Err f → AtFault t switch items place f.index
@@ -153,13 +150,13 @@ first_fault t switch place item items f later_too (here r err first) = subst (At
   before = nil_can t switch place;
   none = λ can.
       let s = can_split t switch place item [] can in
-      let too = adds_too t switch false (separator_comes_too_early items) place item s.0 s.1 in no_added r too.0 _ err too.1;
+      let too = adds_too t switch false (separator_comes_too_early items) false (separator_is_due items) place item s.0 s.1 in no_added r too.0 _ err too.1;
 })
 first_fault t switch place item items f later_too (later a g added_is rest_is index) =
     let more = later_too a.place g rest_is in
     subst (AtFault t switch (item ∷ items) place) (sym index) (record {
       within = omega (arith, more.within);
-      before = can_cons t switch (separator_comes_too_early items) place item (take g.index items) a added_is more.before;
+      before = can_cons t switch (separator_comes_too_early items) (separator_is_due items) place item (take g.index items) a added_is more.before;
       none = cannot t switch place item items (suc g.index) a added_is more.none;
     })
 

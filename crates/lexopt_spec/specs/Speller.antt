@@ -40,8 +40,10 @@ pub data Place : Type 0 where
   open_line : Place
   -- a flag, which is the last of its cluster
   in_cluster : Place
-  -- words that are the values of an option that has several
+  -- values of an option that has several, which go on in words
   behind_values : Place
+  -- a positional that needs no separator
+  behind_positional : Place
   -- the separator, and perhaps positionals
   ended : Place
 
@@ -144,9 +146,11 @@ short_added true is_dash ended c (Ok f) = Err behind_separator
 short_added true false open_line c (Ok f) = Ok (with_form false (dash ∷ encode_utf8 c) f)
 short_added true false in_cluster c (Ok f) = Ok (with_form false (dash ∷ encode_utf8 c) f)
 short_added true false behind_values c (Ok f) = Ok (with_form false (dash ∷ encode_utf8 c) f)
+short_added true false behind_positional c (Ok f) = Ok (with_form false (dash ∷ encode_utf8 c) f)
 short_added true true in_cluster c (Ok f) = Ok (with_form true (encode_utf8 c) f)
 short_added true true open_line c (Ok f) = Err dash_without_flag
 short_added true true behind_values c (Ok f) = Err dash_without_flag
+short_added true true behind_positional c (Ok f) = Err dash_without_flag
 
 -- a name has bytes, or a value behind `=`
 abbrev pub is_named : List ℕ → Behind → Bool
@@ -162,6 +166,7 @@ long_placed true ended name f = Err behind_separator
 long_placed true open_line name f = Ok (with_form false (dash ∷ dash ∷ name) f)
 long_placed true in_cluster name f = Ok (with_form false (dash ∷ dash ∷ name) f)
 long_placed true behind_values name f = Ok (with_form false (dash ∷ dash ∷ name) f)
+long_placed true behind_positional name f = Ok (with_form false (dash ∷ dash ∷ name) f)
 
 -- a long option: whether it is a text, and has an `=`
 abbrev pub long_added : Bool → Bool → Place → List ℕ → Result Form Reason → Result Added Reason
@@ -170,24 +175,35 @@ long_added true true place name form = Err equals_in_name
 long_added true false place name (Err reason) = Err reason
 long_added true false place name (Ok f) = long_placed (is_named name f.behind) place name f
 
--- a positional: whether it is plain. Behind values the separator keeps it from being one more of them
+-- a positional stands by itself where it is plain, unless it begins a row before which the separator is to stand
+abbrev pub stands : Bool → Bool → Place → Bool
+stands plain due open_line = plain && not due
+stands plain due in_cluster = plain && not due
+stands plain due behind_values = plain
+stands plain due behind_positional = plain
+stands plain due ended = plain
+
+-- a positional: whether it stands by itself. Behind values the separator keeps it from being one more of them
 abbrev pub positional_added : Bool → Place → List ℕ → Added
-positional_added plain ended w = record { goes_on = false; word = w; words = []; place = ended }
-positional_added plain behind_values w = record { goes_on = false; word = dash ∷ dash ∷ []; words = w ∷ []; place = ended }
+positional_added alone ended w = record { goes_on = false; word = w; words = []; place = ended }
+positional_added alone behind_values w = record { goes_on = false; word = dash ∷ dash ∷ []; words = w ∷ []; place = ended }
 positional_added false open_line w = record { goes_on = false; word = dash ∷ dash ∷ []; words = w ∷ []; place = ended }
 positional_added false in_cluster w = record { goes_on = false; word = dash ∷ dash ∷ []; words = w ∷ []; place = ended }
-positional_added true open_line w = record { goes_on = false; word = w; words = []; place = open_line }
-positional_added true in_cluster w = record { goes_on = false; word = w; words = []; place = open_line }
+positional_added false behind_positional w = record { goes_on = false; word = dash ∷ dash ∷ []; words = w ∷ []; place = ended }
+positional_added true open_line w = record { goes_on = false; word = w; words = []; place = behind_positional }
+positional_added true in_cluster w = record { goes_on = false; word = w; words = []; place = behind_positional }
+positional_added true behind_positional w = record { goes_on = false; word = w; words = []; place = behind_positional }
 
--- an item at this place; whether one of several values is to be joined, where it can be
-abbrev pub adds : Table → Bool → Bool → Place → Item → Result Added Reason
-adds t switch joins place (option (short c) value) = short_added (scalar c) (c == dash) place c (short_form switch (kind t (short c)) value)
-adds t switch joins place (many (short c) values) = short_added (scalar c) (c == dash) place c (short_many_form (switch && joins) (kind t (short c)) values)
-adds t switch joins place (option (long name) value) =
+-- an item at this place; whether one of several values is to be joined, where it can be, and whether the separator is to stand
+-- before a row of positionals that begins here
+abbrev pub adds : Table → Bool → Bool → Bool → Place → Item → Result Added Reason
+adds t switch joins due place (option (short c) value) = short_added (scalar c) (c == dash) place c (short_form switch (kind t (short c)) value)
+adds t switch joins due place (many (short c) values) = short_added (scalar c) (c == dash) place c (short_many_form (switch && joins) (kind t (short c)) values)
+adds t switch joins due place (option (long name) value) =
     long_added (is_utf8 name) (list_any (λ b. b == equals) name) place name (long_form (kind t (long name)) value)
-adds t switch joins place (many (long name) values) =
+adds t switch joins due place (many (long name) values) =
     long_added (is_utf8 name) (list_any (λ b. b == equals) name) place name (long_many_form (kind t (long name)) values)
-adds t switch joins place (positional w) = Ok (positional_added (is_plain false w) place w)
+adds t switch joins due place (positional w) = Ok (positional_added (stands (is_plain false w) due place) place w)
 
 -- ---- all items
 
@@ -201,6 +217,16 @@ is_positional (positional w) = true
 abbrev pub separator_comes_too_early : List Item → Bool
 separator_comes_too_early [] = false
 separator_comes_too_early (item ∷ items) = is_positional item && not (list_all is_positional items)
+
+abbrev pub is_plain_item : Item → Bool
+is_plain_item (option name value) = true
+is_plain_item (many name values) = true
+is_plain_item (positional w) = is_plain false w
+
+-- these items are positionals, and one of them would be an option: so the separator is to stand before all that are left. A program
+-- that stops at the first positional reads it there alone
+abbrev pub separator_is_due : List Item → Bool
+separator_is_due items = list_all is_positional items && not (list_all is_plain_item items)
 
 -- which item cannot be spelled, counted from 0, and why
 pub record Fault : Type 0 where
@@ -227,7 +253,7 @@ with_rests (Ok a) rest = with_rest a (rest a.place)
 unfoldable pub spelled_from : Table → Bool → List Item → Place → Result Rest Fault
 spelled_from t switch [] place = Ok (record { first = []; words = [] })
 spelled_from t switch (item ∷ items) place =
-    with_rests (adds t switch (separator_comes_too_early items) place item) (spelled_from t switch items)
+    with_rests (adds t switch (separator_comes_too_early items) (separator_is_due items) place item) (spelled_from t switch items)
 
 abbrev pub words_of : Result Rest Fault → Result (List (List ℕ)) Fault
 words_of (Err fault) = Err fault

@@ -68,7 +68,9 @@ fn positionals_have_these_words()
     ensures plain { spelled (one_value (codes "o") (codes "out" ∷ [] ∷ [])) true (positional (codes "f") ∷ positional [] ∷ positional (codes "-") ∷ option (short 0x76) None ∷ [])
         ≡ Ok (codes "f" ∷ [] ∷ codes "-" ∷ codes "-v" ∷ []) }
     ensures like_an_option { spelled (one_value (codes "o") (codes "out" ∷ [] ∷ [])) true (positional (codes "f") ∷ positional (codes "-x") ∷ positional (codes "--") ∷ positional (codes "f") ∷ [])
-        ≡ Ok (codes "f" ∷ codes "--" ∷ codes "-x" ∷ codes "--" ∷ codes "f" ∷ []) }
+        ≡ Ok (codes "--" ∷ codes "f" ∷ codes "-x" ∷ codes "--" ∷ codes "f" ∷ []) }
+    ensures like_an_option_further_on { spelled (one_value (codes "o") (codes "out" ∷ [] ∷ [])) true (positional (codes "f") ∷ option (short 0x76) None ∷ positional (codes "g") ∷ positional (codes "-x") ∷ [])
+        ≡ Ok (codes "f" ∷ codes "-v" ∷ codes "--" ∷ codes "g" ∷ codes "-x" ∷ []) }
 {}
 
 #[tactic(auto, unfolding(crate::proofs::Computing::computing))]
@@ -97,6 +99,8 @@ fn items_are_refused()
     ensures behind_the_separator { spelled (one_value (codes "o") (codes "out" ∷ [] ∷ [])) true (positional (codes "-x") ∷ positional (codes "f") ∷ option (short 0x76) None ∷ [])
         ≡ Err (record { index = 2; reason = behind_separator }) }
     ensures values_before_a_positional { spelled (record (one_value [] []) { several_shorts = codes "d"; several_longs = codes "cmd" ∷ [] }) false (many (short 0x64) (codes "1" ∷ []) ∷ positional (codes "f") ∷ option (short 0x76) None ∷ [])
+        ≡ Err (record { index = 2; reason = behind_separator }) }
+    ensures behind_a_row { spelled (one_value (codes "o") (codes "out" ∷ [] ∷ [])) true (positional (codes "f") ∷ positional (codes "-x") ∷ option (short 0x76) None ∷ [])
         ≡ Err (record { index = 2; reason = behind_separator }) }
     ensures dash_alone { spelled (one_value (codes "o") (codes "out" ∷ [] ∷ [])) true (option (short 0x6F) (Some (codes "x")) ∷ option (short 0x2D) None ∷ [])
         ≡ Err (record { index = 1; reason = dash_without_flag }) }

@@ -1,10 +1,10 @@
 -- The items behind one of them.
-use Rattle.std.proofs.Common.{◌≡◌, ℕ, suc, ◌+◌, ◌-◌, ◌<◌, ◌≤◌, ◌&&◌, not, Bool, true, List, [], ◌∷◌, length, map, take, drop, get_or, length-drop, add-one, sym, ap, ◌∙◌, arith}
+use Rattle.std.proofs.Common.{◌≡◌, ℕ, suc, ◌+◌, ◌-◌, ◌<◌, ◌≤◌, ◌&&◌, not, Bool, true, false, List, [], ◌∷◌, length, map, take, drop, get_or, length-drop, add-one, sym, ap, ◌∙◌, arith}
 use Rattle.std.specs.List.{list_all}
 use Rattle.std.proofs.Math.Seq.{drop-cons, take-length}
 use Rattle.std.proofs.lemmas.List.Folds.{list_all-map}
 use Rattle.lexopt_spec.specs.Table.{Item}
-use Rattle.lexopt_spec.specs.Speller.{is_positional, separator_comes_too_early}
+use Rattle.lexopt_spec.specs.Speller.{is_positional, is_plain_item, separator_comes_too_early, separator_is_due}
 
 -- a list from a place on, as the code cuts it
 abbrev pub from_on : {X : Type 0} → ℕ → List X → List X
@@ -25,3 +25,14 @@ others_asked f [] x b some is first asked = absurd (omega (arith, some))
 others_asked f (y ∷ ys) x b some is first asked =
     ap not (asked ∙ ap (list_all (λ y. is_positional (f y))) (from_on_is 1 (y ∷ ys)) ∙ sym (list_all-map is_positional f ys))
     ∙ ap (λ p. p && not (list_all is_positional (map f ys))) (sym (ap (λ z. is_positional (f z)) (sym is) ∙ first))
+
+-- all are positionals, and it is asked whether they are plain
+pub row_asked : {X : Type 0} (f : X → Item) (xs : List X) (b : Bool) → list_all (λ y. is_positional (f y)) xs ≡ true → b ≡ list_all (λ y. is_plain_item (f y)) xs
+    → not b ≡ separator_is_due (map f xs)
+row_asked f xs b all asked =
+    ap not (asked ∙ sym (list_all-map is_plain_item f xs))
+    ∙ ap (λ a. a && not (list_all is_plain_item (map f xs))) (sym (list_all-map is_positional f xs ∙ all))
+
+-- one is no positional
+pub no_row : {X : Type 0} (f : X → Item) (xs : List X) → list_all (λ y. is_positional (f y)) xs ≡ false → false ≡ separator_is_due (map f xs)
+no_row f xs some = ap (λ a. a && not (list_all is_plain_item (map f xs))) (sym (list_all-map is_positional f xs ∙ some))

@@ -7,7 +7,7 @@ use lib.Utf8.{scalar}
 use Rattle.lexopt_spec.specs.UnreadLine.{dash, equals, is_plain}
 use Rattle.lexopt_spec.specs.Table.{short, long, Item, option, many, positional, Kind, flag, one, optional, several, kind, Table}
 use Rattle.lexopt_spec.specs.Spelling.{attached, joined}
-use Rattle.lexopt_spec.specs.Speller.{Reason, Place, open_line, in_cluster, behind_values, ended, Form, in_word, attached_form, short_form, long_form, words_form, short_words_form, short_many_form, long_many_form, Added, is_named, short_added, long_placed, long_added, positional_added, adds, separator_comes_too_early, Fault, Rest, glued, with_rest, with_rests, spelled_from, words_of, spelled}
+use Rattle.lexopt_spec.specs.Speller.{Reason, Place, open_line, in_cluster, behind_values, behind_positional, ended, Form, in_word, attached_form, short_form, long_form, words_form, short_words_form, short_many_form, long_many_form, Added, is_named, short_added, long_placed, long_added, stands, positional_added, adds, separator_comes_too_early, separator_is_due, Fault, Rest, glued, with_rest, with_rests, spelled_from, words_of, spelled}
 use Rattle.lexopt_spell.specs.Words.{onto_last, pushed}
 use Rattle.lexopt_spell.proofs.Behind.{from_on, from_on_is, at_item}
 use Rattle.lexopt_spell.proofs.LastWord.{onto_snoc, onto_nil, onto_twice}
@@ -103,6 +103,8 @@ short_calm true d ended c (Ok f) a calm is = err_is _ a is
 short_calm true false open_line c (Ok f) a calm is = on (IsCalm open_line) _ a is (calm f refl, λ h. off h)
 short_calm true false in_cluster c (Ok f) a calm is = on (IsCalm in_cluster) _ a is (calm f refl, λ h. refl)
 short_calm true false behind_values c (Ok f) a calm is = on (IsCalm behind_values) _ a is (calm f refl, λ h. off h)
+short_calm true false behind_positional c (Ok f) a calm is = on (IsCalm behind_positional) _ a is (calm f refl, λ h. off h)
+short_calm true true behind_positional c (Ok f) a calm is = err_is _ a is
 short_calm true true open_line c (Ok f) a calm is = err_is _ a is
 short_calm true true behind_values c (Ok f) a calm is = err_is _ a is
 short_calm true true in_cluster c (Ok f) a calm is = on (IsCalm in_cluster) _ a is (calm f refl, λ h. refl)
@@ -113,6 +115,7 @@ placed_calm true ended name f a calm is = err_is _ a is
 placed_calm true open_line name f a calm is = on (IsCalm open_line) _ a is (calm, λ h. off h)
 placed_calm true in_cluster name f a calm is = on (IsCalm in_cluster) _ a is (calm, λ h. refl)
 placed_calm true behind_values name f a calm is = on (IsCalm behind_values) _ a is (calm, λ h. off h)
+placed_calm true behind_positional name f a calm is = on (IsCalm behind_positional) _ a is (calm, λ h. off h)
 
 long_calm : (u e : Bool) (place : Place) (name : List ℕ) (form : Result Form Reason) (a : Added) → ((f : Form) → form ≡ Ok f → FormIsCalm f)
     → long_added u e place name form ≡ Ok a → IsCalm place a
@@ -126,22 +129,25 @@ positional_calm p ended w = (λ h. refl, λ h. off h)
 positional_calm p behind_values w = (λ h. absurd (let e : ended ≡ in_cluster = h in cc), λ h. off h)
 positional_calm false open_line w = (λ h. absurd (let e : ended ≡ in_cluster = h in cc), λ h. off h)
 positional_calm false in_cluster w = (λ h. absurd (let e : ended ≡ in_cluster = h in cc), λ h. off h)
+positional_calm false behind_positional w = (λ h. absurd (let e : ended ≡ in_cluster = h in cc), λ h. off h)
 positional_calm true open_line w = (λ h. refl, λ h. off h)
 positional_calm true in_cluster w = (λ h. refl, λ h. off h)
+positional_calm true behind_positional w = (λ h. refl, λ h. off h)
 
-adds_calm : (t : Table) (switch joins : Bool) (place : Place) (item : Item) (a : Added) → adds t switch joins place item ≡ Ok a → IsCalm place a
-adds_calm t switch joins place (option (short c) value) a is =
+adds_calm : (t : Table) (switch joins due : Bool) (place : Place) (item : Item) (a : Added) → adds t switch joins due place item ≡ Ok a → IsCalm place a
+adds_calm t switch joins due place (option (short c) value) a is =
     short_calm (scalar c) (c == dash) place c (short_form switch (kind t (short c)) value) a (λ f found. short_form_calm switch (kind t (short c)) value f found) is
-adds_calm t switch joins place (many (short c) values) a is =
+adds_calm t switch joins due place (many (short c) values) a is =
     short_calm (scalar c) (c == dash) place c (short_many_form (switch && joins) (kind t (short c)) values) a
     (λ f found. short_many_calm (switch && joins) (kind t (short c)) values f found) is
-adds_calm t switch joins place (option (long name) value) a is =
+adds_calm t switch joins due place (option (long name) value) a is =
     long_calm (is_utf8 name) (list_any (λ b. b == equals) name) place name (long_form (kind t (long name)) value) a
     (λ f found. long_form_calm (kind t (long name)) value f found) is
-adds_calm t switch joins place (many (long name) values) a is =
+adds_calm t switch joins due place (many (long name) values) a is =
     long_calm (is_utf8 name) (list_any (λ b. b == equals) name) place name (long_many_form (kind t (long name)) values) a
     (λ f found. long_many_calm (kind t (long name)) values f found) is
-adds_calm t switch joins place (positional w) a is = on (IsCalm place) (positional_added (is_plain false w) place w) a is (positional_calm (is_plain false w) place w)
+adds_calm t switch joins due place (positional w) a is =
+    on (IsCalm place) (positional_added (stands (is_plain false w) due place) place w) a is (positional_calm (stands (is_plain false w) due place) place w)
 
 -- ---- where no cluster is open, no bytes go on
 
@@ -167,8 +173,8 @@ rest_first : (t : Table) (switch : Bool) (items : List Item) (place : Place) (r 
 unfolding spelled_from
 rest_first t switch [] place r is other = let e : record { first = []; words = [] } ≡ r = cc in ap (λ (x : Rest). x.first) (sym e)
 rest_first t switch (item ∷ items) place r is other =
-    none_goes_on place (adds t switch (separator_comes_too_early items) place item) (spelled_from t switch items) r
-    (λ a found. adds_calm t switch (separator_comes_too_early items) place item a found) other is
+    none_goes_on place (adds t switch (separator_comes_too_early items) (separator_is_due items) place item) (spelled_from t switch items) r
+    (λ a found. adds_calm t switch (separator_comes_too_early items) (separator_is_due items) place item a found) other is
 
 -- ---- words so far
 
@@ -177,6 +183,7 @@ abbrev pub joined_on : Place → List (List ℕ) → Rest → List (List ℕ)
 joined_on in_cluster words r = onto_last words r.first ++ r.words
 joined_on open_line words r = words ++ r.words
 joined_on behind_values words r = words ++ r.words
+joined_on behind_positional words r = words ++ r.words
 joined_on ended words r = words ++ r.words
 
 -- these words spell so many items and lead to this place, and this is spelled behind them
@@ -190,6 +197,9 @@ not_open is = cc
 not_values : behind_values ≡ in_cluster → ⊥
 not_values is = cc
 
+not_positional : behind_positional ≡ in_cluster → ⊥
+not_positional is = cc
+
 not_ended : ended ≡ in_cluster → ⊥
 not_ended is = cc
 
@@ -201,6 +211,9 @@ new_joined open_line words word more r calm none =
     ∙ ap (λ l. words ++ (l ∷ (more ++ r.words))) (append-nil word) ∙ sym (append_assoc words (word ∷ more) r.words)
 new_joined behind_values words word more r calm none =
     ap (λ l. words ++ ((word ++ l) ∷ (more ++ r.words))) (none not_values)
+    ∙ ap (λ l. words ++ (l ∷ (more ++ r.words))) (append-nil word) ∙ sym (append_assoc words (word ∷ more) r.words)
+new_joined behind_positional words word more r calm none =
+    ap (λ l. words ++ ((word ++ l) ∷ (more ++ r.words))) (none not_positional)
     ∙ ap (λ l. words ++ (l ∷ (more ++ r.words))) (append-nil word) ∙ sym (append_assoc words (word ∷ more) r.words)
 new_joined ended words word more r calm none =
     ap (λ l. words ++ ((word ++ l) ∷ (more ++ r.words))) (none not_ended)
@@ -219,6 +232,9 @@ last_joined open_line words word more r calm none =
     ∙ ap (λ l. onto_last words l ++ (more ++ r.words)) (append-nil word) ∙ sym (append_assoc (onto_last words word) more r.words)
 last_joined behind_values words word more r calm none =
     ap (λ l. onto_last words (word ++ l) ++ (more ++ r.words)) (none not_values)
+    ∙ ap (λ l. onto_last words l ++ (more ++ r.words)) (append-nil word) ∙ sym (append_assoc (onto_last words word) more r.words)
+last_joined behind_positional words word more r calm none =
+    ap (λ l. onto_last words (word ++ l) ++ (more ++ r.words)) (none not_positional)
     ∙ ap (λ l. onto_last words l ++ (more ++ r.words)) (append-nil word) ∙ sym (append_assoc (onto_last words word) more r.words)
 last_joined ended words word more r calm none =
     ap (λ l. onto_last words (word ++ l) ++ (more ++ r.words)) (none not_ended)
@@ -239,10 +255,12 @@ glued_joined : (place : Place) (goes_on : Bool) (words : List (List ℕ)) (word 
 glued_joined in_cluster true words word more at = refl
 glued_joined open_line true words word more at = absurd (not_open (at refl))
 glued_joined behind_values true words word more at = absurd (not_values (at refl))
+glued_joined behind_positional true words word more at = absurd (not_positional (at refl))
 glued_joined ended true words word more at = absurd (not_ended (at refl))
 glued_joined in_cluster false words word more at = ap (λ l. l ++ (word ∷ more)) (onto_nil words)
 glued_joined open_line false words word more at = refl
 glued_joined behind_values false words word more at = refl
+glued_joined behind_positional false words word more at = refl
 glued_joined ended false words word more at = refl
 
 rest_joined : (t : Table) (switch : Bool) (i : ℕ) (place : Place) (words : List (List ℕ)) (a : Added) (items : List Item) (o : Result Rest Fault) → IsCalm place a
@@ -263,21 +281,22 @@ none_behind : (place : Place) (words : List (List ℕ)) → joined_on place word
 none_behind open_line words = append-nil words
 none_behind in_cluster words = ap (λ l. l ++ []) (onto_nil words) ∙ append-nil words
 none_behind behind_values words = append-nil words
+none_behind behind_positional words = append-nil words
 none_behind ended words = append-nil words
 
 pub none_spelled : (t : Table) (switch : Bool) (l : List Item) → spelled t switch l ≡ resumed 0 open_line [] (spelled_from t switch l open_line)
 none_spelled t switch l = all_first (spelled_from t switch l open_line)
 
 pub more_spelled : (t : Table) (switch : Bool) (i : ℕ) (place : Place) (words : List (List ℕ)) (item : Item) (items : List Item) (a : Added)
-    → adds t switch (separator_comes_too_early items) place item ≡ Ok a
+    → adds t switch (separator_comes_too_early items) (separator_is_due items) place item ≡ Ok a
     → resumed i place words (spelled_from t switch (item ∷ items) place) ≡ resumed (suc i) a.place (pushed a.goes_on words a.word a.words) (spelled_from t switch items a.place)
 unfolding spelled_from
 more_spelled t switch i place words item items a is =
     ap (λ o. resumed i place words (with_rests o (spelled_from t switch items))) is
-    ∙ rest_joined t switch i place words a items (spelled_from t switch items a.place) (adds_calm t switch (separator_comes_too_early items) place item a is) refl
+    ∙ rest_joined t switch i place words a items (spelled_from t switch items a.place) (adds_calm t switch (separator_comes_too_early items) (separator_is_due items) place item a is) refl
 
 pub fault_found : (t : Table) (switch : Bool) (i : ℕ) (place : Place) (words : List (List ℕ)) (item : Item) (items : List Item) (reason : Reason)
-    → adds t switch (separator_comes_too_early items) place item ≡ Err reason
+    → adds t switch (separator_comes_too_early items) (separator_is_due items) place item ≡ Err reason
     → resumed i place words (spelled_from t switch (item ∷ items) place) ≡ Err (record { index = i; reason = reason })
 unfolding spelled_from
 fault_found t switch i place words item items reason is =
@@ -290,14 +309,14 @@ all_spelled t switch i place words = ap (λ l. Ok l) (none_behind place words)
 -- ---- the same of items as the code has them
 
 pub item_at_fault : {X : Type 0} (f : X → Item) (t : Table) (switch : Bool) (xs : List X) (i : ℕ) (x : X) (place : Place) (words : List (List ℕ)) (reason : Reason)
-    (answer : Result (List (List ℕ)) Fault) → i < length xs → x ≡ get_or xs i x → adds t switch (separator_comes_too_early (map f (from_on (i + 1) xs))) place (f x) ≡ Err reason
+    (answer : Result (List (List ℕ)) Fault) → i < length xs → x ≡ get_or xs i x → adds t switch (separator_comes_too_early (map f (from_on (i + 1) xs))) (separator_is_due (map f (from_on (i + 1) xs))) place (f x) ≡ Err reason
     → answer ≡ resumed i place words (spelled_from t switch (map f (drop i xs)) place) → answer ≡ Err (record { index = i; reason = reason })
 item_at_fault f t switch xs i x place words reason answer within is refused so_far =
     so_far ∙ ap (λ l. resumed i place words (spelled_from t switch l place)) (at_item f xs i x within is)
     ∙ fault_found t switch i place words (f x) (map f (from_on (i + 1) xs)) reason refused
 
 pub item_spelled : {X : Type 0} (f : X → Item) (t : Table) (switch : Bool) (xs : List X) (i : ℕ) (x : X) (place : Place) (words new : List (List ℕ)) (a : Added)
-    (answer : Result (List (List ℕ)) Fault) → i < length xs → x ≡ get_or xs i x → adds t switch (separator_comes_too_early (map f (from_on (i + 1) xs))) place (f x) ≡ Ok a
+    (answer : Result (List (List ℕ)) Fault) → i < length xs → x ≡ get_or xs i x → adds t switch (separator_comes_too_early (map f (from_on (i + 1) xs))) (separator_is_due (map f (from_on (i + 1) xs))) place (f x) ≡ Ok a
     → new ≡ pushed a.goes_on words a.word a.words → answer ≡ resumed i place words (spelled_from t switch (map f (drop i xs)) place)
     → answer ≡ resumed (i + 1) a.place new (spelled_from t switch (map f (drop (i + 1) xs)) a.place)
 item_spelled f t switch xs i x place words new a answer within is added now so_far =

@@ -6,7 +6,7 @@ use Rattle.lexopt_spec.specs.Spelling as how
 use Rattle.lexopt_spec.specs.Speller as spec
 use Rattle.lexopt_spec.specs.Speller.{behind_bytes}
 use Rattle.lexopt_spell.specs.declared.forms.Place.{Place}
-use Rattle.lexopt_spell.specs.declared.forms.Place.TheVariants.{Open, InCluster, BehindValues, Ended}
+use Rattle.lexopt_spell.specs.declared.forms.Place.TheVariants.{Open, InCluster, BehindValues, BehindPositional, Ended}
 use Rattle.lexopt_spell.specs.declared.forms.Behind.{Behind}
 use Rattle.lexopt_spell.specs.declared.forms.Behind.TheVariants.{Nothing, Attached, Joined}
 use Rattle.lexopt_spell.specs.declared.forms.Form.{Form}
@@ -45,6 +45,7 @@ abbrev pub place_view : Place → spec.Place
 place_view Open = spec.open_line
 place_view InCluster = spec.in_cluster
 place_view BehindValues = spec.behind_values
+place_view BehindPositional = spec.behind_positional
 place_view Ended = spec.ended
 
 abbrev pub behind_view : Behind → how.Behind

@@ -32,7 +32,9 @@ fn short_added(place: Place, option: char, form: Form<'_>) -> Result<Added<'_>, 
         Place::Ended => return Err(Reason::BehindSeparator),
         _ if option != '-' => Word::Short(option, form.behind),
         Place::InCluster => Word::Dash(form.behind),
-        Place::Open | Place::BehindValues => return Err(Reason::DashWithoutFlag),
+        Place::Open | Place::BehindValues | Place::BehindPositional => {
+            return Err(Reason::DashWithoutFlag);
+        }
     };
     Ok(Added {
         word,
@@ -73,32 +75,6 @@ fn long_added<'a>(
     long_placed(place, name, form?)
 }
 
-// A positional. Behind values the separator keeps it from being one more of them.
-fn positional_added(place: Place, word: &OsString) -> Added<'_>
-    ensures { added_view result ≡ spec.positional_added (line.is_plain false word.now) (place_view place) word.now }
-{
-    let stands = match place {
-        Place::Ended => true,
-        Place::BehindValues => false,
-        Place::Open | Place::InCluster => is_plain(word),
-    };
-    if !stands {
-        return Added {
-            word: Word::Separator,
-            words: slice::from_ref(word),
-            place: Place::Ended,
-        };
-    }
-    Added {
-        word: Word::Positional(word),
-        words: &[],
-        place: match place {
-            Place::Ended => Place::Ended,
-            _ => Place::Open,
-        },
-    }
-}
-
 // Whether an item is no option.
 fn is_no_option(item: &Item) -> bool
     ensures { result ≡ spec.is_positional (item_view item.now) }
@@ -125,6 +101,60 @@ fn separator_comes_too_early(items: &[Item]) -> bool
     }
 }
 
+// Whether an item is no positional that would be an option.
+fn is_plain_item(item: &Item) -> bool
+    ensures { result ≡ spec.is_plain_item (item_view item.now) }
+{
+    match item {
+        Item::Positional(word) => is_plain(word),
+        _ => true,
+    }
+}
+
+// Whether no item is a positional that would be an option.
+fn are_plain(items: &[Item]) -> bool
+    ensures { result ≡ list_all (λ item. spec.is_plain_item (item_view item)) items.now }
+{
+    items.iter().all(|item| is_plain_item(item))
+}
+
+// Whether these items are positionals, and one of them would be an option.
+//
+// It reads on to the first option, and is asked at the first positional of a row alone: it reads each item of a line twice at most.
+fn separator_is_due(items: &[Item]) -> bool
+    ensures { result ≡ spec.separator_is_due (map item_view items.now) }
+{
+    are_no_options(items) && !are_plain(items)
+}
+
+// A positional, with these items behind it. Behind values the separator keeps it from being one more of them.
+fn positional_added<'a>(place: Place, word: &'a OsString, behind: &[Item]) -> Added<'a>
+    ensures { added_view result
+        ≡ spec.positional_added (spec.stands (line.is_plain false word.now) (spec.separator_is_due (map item_view behind.now)) (place_view place)) (place_view place) word.now }
+{
+    let stands = match place {
+        Place::Ended => true,
+        Place::BehindValues => false,
+        Place::BehindPositional => is_plain(word),
+        Place::Open | Place::InCluster => is_plain(word) && !separator_is_due(behind),
+    };
+    if !stands {
+        return Added {
+            word: Word::Separator,
+            words: slice::from_ref(word),
+            place: Place::Ended,
+        };
+    }
+    Added {
+        word: Word::Positional(word),
+        words: &[],
+        place: match place {
+            Place::Ended => Place::Ended,
+            _ => Place::BehindPositional,
+        },
+    }
+}
+
 /// What an item adds at this place, where these items stand behind it.
 pub fn adds<'a>(
     place: Place,
@@ -134,7 +164,8 @@ pub fn adds<'a>(
     table: &Table,
 ) -> Result<Added<'a>, Reason>
     ensures { added_answer result
-        ≡ spec.adds (table_view table.now) short_equals (spec.separator_comes_too_early (map item_view behind.now)) (place_view place) (item_view item.now) }
+        ≡ spec.adds (table_view table.now) short_equals (spec.separator_comes_too_early (map item_view behind.now)) (spec.separator_is_due (map item_view behind.now))
+        (place_view place) (item_view item.now) }
 {
     match item {
         Item::Short(option, value) => {
@@ -154,6 +185,6 @@ pub fn adds<'a>(
             let kind = kind_of_long(table, name);
             long_added(place, name, long_many_form(kind, values))
         }
-        Item::Positional(word) => Ok(positional_added(place, word)),
+        Item::Positional(word) => Ok(positional_added(place, word, behind)),
     }
 }

@@ -19,8 +19,10 @@ pub enum Place {
     Open,
     /// A flag, which is the last of its cluster.
     InCluster,
-    /// Words that are the values of an option that has several.
+    /// Values of an option that has several, which go on in words.
     BehindValues,
+    /// A positional that needs no separator.
+    BehindPositional,
     /// The separator, and perhaps positionals.
     Ended,
 }

@@ -117,9 +117,9 @@ impl From<AllocError> for SpellError {
 /// `Short('v', None)`, `Short('o', Some(x))`, `Long("out", Some(y))`, `Long("color", Some(z))`, `ShortMany('d', [1, 2])`
 /// and `Positional(-f)` give the words `-v`, `-o`, `x`, `--out=y`, `--color=z`, `-d`, `1`, `2`, `--` and `-f`. Each option has a
 /// word of its own, except for `-` as an option of one character, which goes on with the flag before it: `-v-`. The
-/// separator stands only where a positional needs it: before one that would be an option, or one more of several values.
-/// Where it would then stand before an option too, a lone value of a short option of several is joined to it, as `-d=1`, if
-/// the switch is on.
+/// separator stands only where a positional needs it, which would be an option, or one more of several values; and then before
+/// the first of the positionals that end the line. Where it would stand before an option too, a lone value of a short option
+/// of several is joined to it, as `-d=1`, if the switch is on.
 ///
 /// The switch says whether `=` in a cluster stands between an option and its value, and is to be the one that the words
 /// are read under. Items that no words spell, as an option behind a positional `-f`, are refused.

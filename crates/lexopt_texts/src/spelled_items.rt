@@ -296,6 +296,58 @@ fn marks_of_one_value(rt: HostRuntime) -> Result<(), Fail> {
     Ok(())
 }
 
+const OPTIONAL_DASH: [Row; 2] = [
+    Row {
+        items: &[Short('v'), ShortValue('-', b"x")],
+        words: &[b"-v-x"],
+    },
+    Row {
+        items: &[Short('v'), Short('-'), Short('w')],
+        words: &[b"-v-", b"-w"],
+    },
+];
+
+#[test]
+fn dash_with_an_optional_value(rt: HostRuntime) -> Result<(), Fail> {
+    let mut table = table_of_each_kind(rt.alloc())?;
+    table.optional_shorts.push('-')?;
+    assert_eq!(rt;
+        first_otherwise(rt.alloc(), &OPTIONAL_DASH, true, &table)?,
+        None
+    );
+    assert_eq!(rt;
+        first_otherwise(rt.alloc(), &OPTIONAL_DASH, false, &table)?,
+        None
+    );
+    Ok(())
+}
+
+const DASH_OF_SEVERAL: [Row; 2] = [
+    Row {
+        items: &[Short('v'), ShortMany('-', &[b"1", b"2"])],
+        words: &[b"-v-", b"1", b"2"],
+    },
+    Row {
+        items: &[Short('v'), ShortMany('-', &[b"-1"]), Positional(b"f")],
+        words: &[b"-v--1", b"--", b"f"],
+    },
+];
+
+#[test]
+fn dash_with_several_values(rt: HostRuntime) -> Result<(), Fail> {
+    let mut table = table_of_each_kind(rt.alloc())?;
+    table.several_shorts.push('-')?;
+    assert_eq!(rt;
+        first_otherwise(rt.alloc(), &DASH_OF_SEVERAL, true, &table)?,
+        None
+    );
+    assert_eq!(rt;
+        first_otherwise(rt.alloc(), &DASH_OF_SEVERAL, false, &table)?,
+        None
+    );
+    Ok(())
+}
+
 // The option `-` goes on with the cluster of the flag before it.
 const DASHES: [Row; 3] = [
     Row {
@@ -409,7 +461,7 @@ fn lone_value_elsewhere(rt: HostRuntime) -> Result<(), Fail> {
 }
 
 // The separator stands once, before the first positional that would be an option, or one more of several values.
-const POSITIONALS: [Row; 7] = [
+const POSITIONALS: [Row; 9] = [
     Row {
         items: &[Positional(b"f"), Positional(b"g=h")],
         words: &[b"f", b"g=h"],
@@ -429,7 +481,21 @@ const POSITIONALS: [Row; 7] = [
             Positional(b"g"),
             Positional(b"-y"),
         ],
-        words: &[b"f", b"--", b"--", b"g", b"-y"],
+        words: &[b"--", b"f", b"--", b"g", b"-y"],
+    },
+    Row {
+        items: &[
+            Positional(b"f"),
+            Short('v'),
+            Positional(b"g"),
+            Positional(b"-x"),
+            Positional(b"h"),
+        ],
+        words: &[b"f", b"-v", b"--", b"g", b"-x", b"h"],
+    },
+    Row {
+        items: &[ShortValue('o', b"x"), Positional(b"f"), Positional(b"g")],
+        words: &[b"-o", b"x", b"f", b"g"],
     },
     Row {
         items: &[Short('v'), Positional(b"-x"), Positional(b"--")],
@@ -702,7 +768,13 @@ fn empty_name(rt: HostRuntime) -> Result<(), Fail> {
     Ok(())
 }
 
-const BEHIND_SEPARATOR: [Fault; 4] = [
+const BEHIND_SEPARATOR: [Fault; 5] = [
+    Fault {
+        items: &[Positional(b"f"), Positional(b"-x"), Short('v')],
+        index: 2,
+        reason: Reason::BehindSeparator,
+        printed: "item 2: an option cannot stand behind a positional that needs `--` before it",
+    },
     Fault {
         items: &[Positional(b"-x"), Short('v')],
         index: 1,

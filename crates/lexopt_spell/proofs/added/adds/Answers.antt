@@ -16,11 +16,12 @@ returns-in-Long c =
     let has = list_any (λ b. b == equals) name in
     let place = place_view c.args.place in
     let joins = spec.separator_comes_too_early (map item_view c.args.behind.now) in
+    let due = spec.separator_is_due (map item_view c.args.behind.now) in
     c.long_added.ensures
     ∙ ap (λ (u : Bool). spec.long_added u has place name (form_answer c.long_form.result)) (sym (is_utf8-from_IsUtf8 name (IsUtf8-string_bytes c.in-Long.name)))
     ∙ ap (λ (f : Result Form Reason). spec.long_added (is_utf8 name) has place name f)
     (c.long_form.ensures ∙ ap (λ (k : Kind). spec.long_form k c.in-Long.value) c.kind_of_long-kind.ensures)
-    ∙ ap (λ i. spec.adds (table_view c.args.table.now) c.args.short_equals joins place (item_view i)) (sym c.in-Long.is)
+    ∙ ap (λ i. spec.adds (table_view c.args.table.now) c.args.short_equals joins due place (item_view i)) (sym c.in-Long.is)
 
 pub returns-in-LongMany : goal.returns-in-LongMany
 returns-in-LongMany c =
@@ -28,9 +29,10 @@ returns-in-LongMany c =
     let has = list_any (λ b. b == equals) name in
     let place = place_view c.args.place in
     let joins = spec.separator_comes_too_early (map item_view c.args.behind.now) in
+    let due = spec.separator_is_due (map item_view c.args.behind.now) in
     c.long_added-in-LongMany.ensures
     ∙ ap (λ (u : Bool). spec.long_added u has place name (form_answer c.long_many_form.result)) (sym (is_utf8-from_IsUtf8 name (IsUtf8-string_bytes c.in-LongMany.name)))
     ∙ ap (λ (f : Result Form Reason). spec.long_added (is_utf8 name) has place name f)
     (c.long_many_form.ensures ∙ ap (λ (k : Kind). spec.long_many_form k c.deref-in-LongMany.result.now) c.kind_of_long-kind-in-LongMany.ensures
     ∙ ap (λ vs. spec.long_many_form (kind (table_view c.args.table.now) (long name)) vs) c.deref-in-LongMany.ensures.value)
-    ∙ ap (λ i. spec.adds (table_view c.args.table.now) c.args.short_equals joins place (item_view i)) (sym c.in-LongMany.is)
+    ∙ ap (λ i. spec.adds (table_view c.args.table.now) c.args.short_equals joins due place (item_view i)) (sym c.in-LongMany.is)
