@@ -9,16 +9,16 @@ use Rattle.lexopt_spell.specs.declared.spell.SpellError.TheVariants.{AtFault, Ou
 
 abbrev pub reason_message : Reason → List ℕ
 reason_message EqualsInName = codes "a long option cannot have `=` in its name"
-reason_message UnexpectedValue = codes "the option has no value, and is given one"
-reason_message MissingValue = codes "the option wants a value, and is given none"
-reason_message WantsMany = codes "the option has several values: give them as a list"
-reason_message NotMany = codes "the option does not have several values"
-reason_message EmptyValue = codes "an empty value cannot stand right behind a character, unless `=` may stand between"
+reason_message UnexpectedValue = codes "by the table the option has no value, and is given one"
+reason_message MissingValue = codes "by the table the option wants a value, and is given none"
+reason_message WantsMany = codes "by the table the option has several values: give them as a list"
+reason_message NotMany = codes "by the table the option does not have several values"
+reason_message EmptyValue = codes "an empty value cannot stand right behind a character, and the switch turns `=` off"
 reason_message OptionAmongValues = codes "one of several values would be read as an option"
-reason_message EmptyName = codes "a long option without a value wants a name"
+reason_message EmptyName = codes "a long option with an empty name needs one value behind `=`"
 reason_message BehindSeparator = codes "an option cannot stand behind a positional that needs `--` before it"
-reason_message DashWithoutFlag = codes "the option `-` can only follow a flag of one character"
+reason_message DashWithoutFlag = codes "the option `-` can only stand right behind a flag of one character"
 
 abbrev pub message : SpellError → List ℕ
-message (AtFault index reason) = codes "item " ++ (decimal index ++ (codes ": " ++ reason_message reason))
+message (AtFault index reason) = codes "items[" ++ (decimal index ++ (codes "]: " ++ reason_message reason))
 message OutOfMemory = no_memory_message

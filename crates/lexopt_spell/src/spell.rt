@@ -26,16 +26,16 @@ pub enum Reason {
     UnexpectedValue,
     /// An option of one value is given none, or one of several an empty list.
     MissingValue,
-    /// An option of several values is not given them as `ShortMany` or `LongMany`.
+    /// An option that has several values by the table is not given them as `ShortMany` or `LongMany`.
     WantsMany,
-    /// An option that does not have several values is given as `ShortMany` or `LongMany`.
+    /// An option that does not have several values by the table is given as `ShortMany` or `LongMany`.
     NotMany,
-    /// A short option whose value may be left out is given an empty one, and `=` may not stand between: `-c` alone has none.
+    /// A short option whose value may be left out is given an empty one, and the switch is off: with it on, `-c=` has one.
     EmptyValue,
     /// One of several values would be an option: `-x` behind `1` in `--dim 1 -x`. A first one may stand right behind a
     /// character, as in `-d-x 1`, and a lone one behind the `=` of a long option.
     OptionAmongValues,
-    /// A long option has an empty name, and no value behind `=`: `--` alone is the separator.
+    /// A long option has an empty name, and not one value, which stands behind `=`: `--` alone is the separator.
     EmptyName,
     /// An option stands behind a positional that needs `--` before it, so that the option would be a positional too.
     BehindSeparator,
@@ -53,25 +53,25 @@ impl fmt::Display for Reason {
     fn fmt<W: fmt::Write>(&self, f: &mut fmt::Formatter<W>) -> fmt::Result {
         f.write_str(match self {
             Reason::EqualsInName => "a long option cannot have `=` in its name",
-            Reason::UnexpectedValue => "the option has no value, and is given one",
-            Reason::MissingValue => "the option wants a value, and is given none",
-            Reason::WantsMany => "the option has several values: give them as a list",
-            Reason::NotMany => "the option does not have several values",
+            Reason::UnexpectedValue => "by the table the option has no value, and is given one",
+            Reason::MissingValue => "by the table the option wants a value, and is given none",
+            Reason::WantsMany => "by the table the option has several values: give them as a list",
+            Reason::NotMany => "by the table the option does not have several values",
             Reason::EmptyValue => {
-                "an empty value cannot stand right behind a character, unless `=` may stand between"
+                "an empty value cannot stand right behind a character, and the switch turns `=` off"
             }
             Reason::OptionAmongValues => "one of several values would be read as an option",
-            Reason::EmptyName => "a long option without a value wants a name",
+            Reason::EmptyName => "a long option with an empty name needs one value behind `=`",
             Reason::BehindSeparator => {
                 "an option cannot stand behind a positional that needs `--` before it"
             }
-            Reason::DashWithoutFlag => "the option `-` can only follow a flag of one character",
+            Reason::DashWithoutFlag => "the option `-` can only stand right behind a flag of one character",
         })
     }
 }
 
 /// Why no words are answered.
-#[derive(Debug, PartialEq, Eq, Drop)]
+#[derive(Debug, Clone, Copy, PartialEq, Eq)]
 pub enum SpellError {
     /// An item cannot be spelled behind those before it, and those before it can.
     AtFault {
@@ -92,7 +92,7 @@ impl fmt::Display for SpellError {
 
     fn fmt<W: fmt::Write>(&self, f: &mut fmt::Formatter<W>) -> fmt::Result {
         match self {
-            SpellError::AtFault { index, reason } => write!(f, "item {index}: {reason}"),
+            SpellError::AtFault { index, reason } => write!(f, "items[{index}]: {reason}"),
             SpellError::OutOfMemory => write_no_memory(f),
         }
     }

@@ -564,19 +564,19 @@ const EQUALS_IN_NAME: [Fault; 3] = [
         items: &[Short('v'), Long("a=b")],
         index: 1,
         reason: Reason::EqualsInName,
-        printed: "item 1: a long option cannot have `=` in its name",
+        printed: "items[1]: a long option cannot have `=` in its name",
     },
     Fault {
         items: &[LongValue("=", b"v")],
         index: 0,
         reason: Reason::EqualsInName,
-        printed: "item 0: a long option cannot have `=` in its name",
+        printed: "items[0]: a long option cannot have `=` in its name",
     },
     Fault {
         items: &[LongMany("out=", &[b"v"])],
         index: 0,
         reason: Reason::EqualsInName,
-        printed: "item 0: a long option cannot have `=` in its name",
+        printed: "items[0]: a long option cannot have `=` in its name",
     },
 ];
 
@@ -594,13 +594,13 @@ const UNEXPECTED_VALUE: [Fault; 2] = [
         items: &[ShortValue('v', b"x")],
         index: 0,
         reason: Reason::UnexpectedValue,
-        printed: "item 0: the option has no value, and is given one",
+        printed: "items[0]: by the table the option has no value, and is given one",
     },
     Fault {
         items: &[Short('v'), Positional(b"f"), LongValue("name", b"")],
         index: 2,
         reason: Reason::UnexpectedValue,
-        printed: "item 2: the option has no value, and is given one",
+        printed: "items[2]: by the table the option has no value, and is given one",
     },
 ];
 
@@ -618,25 +618,25 @@ const MISSING_VALUE: [Fault; 4] = [
         items: &[Short('v'), Long("name"), Short('o')],
         index: 2,
         reason: Reason::MissingValue,
-        printed: "item 2: the option wants a value, and is given none",
+        printed: "items[2]: by the table the option wants a value, and is given none",
     },
     Fault {
         items: &[Long("out"), Positional(b"f")],
         index: 0,
         reason: Reason::MissingValue,
-        printed: "item 0: the option wants a value, and is given none",
+        printed: "items[0]: by the table the option wants a value, and is given none",
     },
     Fault {
         items: &[ShortMany('d', &[])],
         index: 0,
         reason: Reason::MissingValue,
-        printed: "item 0: the option wants a value, and is given none",
+        printed: "items[0]: by the table the option wants a value, and is given none",
     },
     Fault {
         items: &[Positional(b"f"), LongMany("cmd", &[])],
         index: 1,
         reason: Reason::MissingValue,
-        printed: "item 1: the option wants a value, and is given none",
+        printed: "items[1]: by the table the option wants a value, and is given none",
     },
 ];
 
@@ -651,19 +651,19 @@ const WANTS_MANY: [Fault; 3] = [
         items: &[ShortValue('d', b"1")],
         index: 0,
         reason: Reason::WantsMany,
-        printed: "item 0: the option has several values: give them as a list",
+        printed: "items[0]: by the table the option has several values: give them as a list",
     },
     Fault {
         items: &[Short('v'), Short('d')],
         index: 1,
         reason: Reason::WantsMany,
-        printed: "item 1: the option has several values: give them as a list",
+        printed: "items[1]: by the table the option has several values: give them as a list",
     },
     Fault {
         items: &[LongValue("cmd", b"a")],
         index: 0,
         reason: Reason::WantsMany,
-        printed: "item 0: the option has several values: give them as a list",
+        printed: "items[0]: by the table the option has several values: give them as a list",
     },
 ];
 
@@ -678,25 +678,25 @@ const NOT_MANY: [Fault; 4] = [
         items: &[ShortMany('v', &[b"1"])],
         index: 0,
         reason: Reason::NotMany,
-        printed: "item 0: the option does not have several values",
+        printed: "items[0]: by the table the option does not have several values",
     },
     Fault {
         items: &[ShortMany('o', &[])],
         index: 0,
         reason: Reason::NotMany,
-        printed: "item 0: the option does not have several values",
+        printed: "items[0]: by the table the option does not have several values",
     },
     Fault {
         items: &[Short('c'), LongMany("color", &[b"a", b"b"])],
         index: 1,
         reason: Reason::NotMany,
-        printed: "item 1: the option does not have several values",
+        printed: "items[1]: by the table the option does not have several values",
     },
     Fault {
         items: &[LongMany("name", &[b"a"])],
         index: 0,
         reason: Reason::NotMany,
-        printed: "item 0: the option does not have several values",
+        printed: "items[0]: by the table the option does not have several values",
     },
 ];
 
@@ -710,7 +710,7 @@ const EMPTY_VALUE: [Fault; 1] = [Fault {
     items: &[Short('v'), ShortValue('c', b"")],
     index: 1,
     reason: Reason::EmptyValue,
-    printed: "item 1: an empty value cannot stand right behind a character, unless `=` may stand between",
+    printed: "items[1]: an empty value cannot stand right behind a character, and the switch turns `=` off",
 }];
 
 #[test]
@@ -724,25 +724,25 @@ const OPTION_AMONG_VALUES: [Fault; 4] = [
         items: &[ShortMany('d', &[b"1", b"-x"])],
         index: 0,
         reason: Reason::OptionAmongValues,
-        printed: "item 0: one of several values would be read as an option",
+        printed: "items[0]: one of several values would be read as an option",
     },
     Fault {
         items: &[ShortMany('d', &[b"-x", b"1", b"--"])],
         index: 0,
         reason: Reason::OptionAmongValues,
-        printed: "item 0: one of several values would be read as an option",
+        printed: "items[0]: one of several values would be read as an option",
     },
     Fault {
         items: &[Short('v'), LongMany("cmd", &[b"-x", b"a"])],
         index: 1,
         reason: Reason::OptionAmongValues,
-        printed: "item 1: one of several values would be read as an option",
+        printed: "items[1]: one of several values would be read as an option",
     },
     Fault {
         items: &[LongMany("cmd", &[b"a", b"-x"])],
         index: 0,
         reason: Reason::OptionAmongValues,
-        printed: "item 0: one of several values would be read as an option",
+        printed: "items[0]: one of several values would be read as an option",
     },
 ];
 
@@ -759,7 +759,7 @@ const EMPTY_NAME: [Fault; 1] = [Fault {
     items: &[Positional(b"f"), Long("")],
     index: 1,
     reason: Reason::EmptyName,
-    printed: "item 1: a long option without a value wants a name",
+    printed: "items[1]: a long option with an empty name needs one value behind `=`",
 }];
 
 #[test]
@@ -768,30 +768,52 @@ fn empty_name(rt: HostRuntime) -> Result<(), Fail> {
     Ok(())
 }
 
+// One value of it stands behind `=`, and several do not.
+#[test]
+fn empty_name_of_several_values(rt: HostRuntime) -> Result<(), Fail> {
+    let alloc = rt.alloc();
+    let mut table = table_of_each_kind(alloc)?;
+    table.several_longs.push(String::new(alloc))?;
+    let one = [Row {
+        items: &[LongMany("", &[b"a"])],
+        words: &[b"--=a"],
+    }];
+    assert_eq!(rt; first_otherwise(alloc, &one, true, &table)?, None);
+    let two = Fault {
+        items: &[Short('v'), LongMany("", &[b"a", b"b"])],
+        index: 1,
+        reason: Reason::EmptyName,
+        printed: "items[1]: a long option with an empty name needs one value behind `=`",
+    };
+    assert!(rt; is_refused_so(alloc, &two, true, &table)?);
+    assert!(rt; is_refused_so(alloc, &two, false, &table)?);
+    Ok(())
+}
+
 const BEHIND_SEPARATOR: [Fault; 5] = [
     Fault {
         items: &[Positional(b"f"), Positional(b"-x"), Short('v')],
         index: 2,
         reason: Reason::BehindSeparator,
-        printed: "item 2: an option cannot stand behind a positional that needs `--` before it",
+        printed: "items[2]: an option cannot stand behind a positional that needs `--` before it",
     },
     Fault {
         items: &[Positional(b"-x"), Short('v')],
         index: 1,
         reason: Reason::BehindSeparator,
-        printed: "item 1: an option cannot stand behind a positional that needs `--` before it",
+        printed: "items[1]: an option cannot stand behind a positional that needs `--` before it",
     },
     Fault {
         items: &[Positional(b"--"), Positional(b"f"), LongValue("out", b"x")],
         index: 2,
         reason: Reason::BehindSeparator,
-        printed: "item 2: an option cannot stand behind a positional that needs `--` before it",
+        printed: "items[2]: an option cannot stand behind a positional that needs `--` before it",
     },
     Fault {
         items: &[ShortMany('d', &[b"1", b"2"]), Positional(b"f"), Short('v')],
         index: 2,
         reason: Reason::BehindSeparator,
-        printed: "item 2: an option cannot stand behind a positional that needs `--` before it",
+        printed: "items[2]: an option cannot stand behind a positional that needs `--` before it",
     },
     Fault {
         items: &[
@@ -801,7 +823,7 @@ const BEHIND_SEPARATOR: [Fault; 5] = [
         ],
         index: 2,
         reason: Reason::BehindSeparator,
-        printed: "item 2: an option cannot stand behind a positional that needs `--` before it",
+        printed: "items[2]: an option cannot stand behind a positional that needs `--` before it",
     },
 ];
 
@@ -819,7 +841,7 @@ const LONE_VALUE: [Fault; 1] = [Fault {
     items: &[ShortMany('d', &[b"1"]), Positional(b"f"), Short('v')],
     index: 2,
     reason: Reason::BehindSeparator,
-    printed: "item 2: an option cannot stand behind a positional that needs `--` before it",
+    printed: "items[2]: an option cannot stand behind a positional that needs `--` before it",
 }];
 
 #[test]
@@ -833,37 +855,37 @@ const DASH_WITHOUT_FLAG: [Fault; 6] = [
         items: &[Short('-')],
         index: 0,
         reason: Reason::DashWithoutFlag,
-        printed: "item 0: the option `-` can only follow a flag of one character",
+        printed: "items[0]: the option `-` can only stand right behind a flag of one character",
     },
     Fault {
         items: &[ShortValue('o', b"v"), Short('-')],
         index: 1,
         reason: Reason::DashWithoutFlag,
-        printed: "item 1: the option `-` can only follow a flag of one character",
+        printed: "items[1]: the option `-` can only stand right behind a flag of one character",
     },
     Fault {
         items: &[Short('v'), Short('c'), Short('-')],
         index: 2,
         reason: Reason::DashWithoutFlag,
-        printed: "item 2: the option `-` can only follow a flag of one character",
+        printed: "items[2]: the option `-` can only stand right behind a flag of one character",
     },
     Fault {
         items: &[Long("name"), Short('-')],
         index: 1,
         reason: Reason::DashWithoutFlag,
-        printed: "item 1: the option `-` can only follow a flag of one character",
+        printed: "items[1]: the option `-` can only stand right behind a flag of one character",
     },
     Fault {
         items: &[ShortMany('d', &[b"1"]), Short('-')],
         index: 1,
         reason: Reason::DashWithoutFlag,
-        printed: "item 1: the option `-` can only follow a flag of one character",
+        printed: "items[1]: the option `-` can only stand right behind a flag of one character",
     },
     Fault {
         items: &[Short('v'), Positional(b"f"), Short('-')],
         index: 2,
         reason: Reason::DashWithoutFlag,
-        printed: "item 2: the option `-` can only follow a flag of one character",
+        printed: "items[2]: the option `-` can only stand right behind a flag of one character",
     },
 ];
 
@@ -882,31 +904,31 @@ const TWO_REASONS: [Fault; 5] = [
         items: &[LongValue("a=", b"x")],
         index: 0,
         reason: Reason::EqualsInName,
-        printed: "item 0: a long option cannot have `=` in its name",
+        printed: "items[0]: a long option cannot have `=` in its name",
     },
     Fault {
         items: &[Positional(b"-x"), Short('o')],
         index: 1,
         reason: Reason::MissingValue,
-        printed: "item 1: the option wants a value, and is given none",
+        printed: "items[1]: by the table the option wants a value, and is given none",
     },
     Fault {
         items: &[Positional(b"-x"), Long("")],
         index: 1,
         reason: Reason::EmptyName,
-        printed: "item 1: a long option without a value wants a name",
+        printed: "items[1]: a long option with an empty name needs one value behind `=`",
     },
     Fault {
         items: &[Positional(b"-x"), Short('-')],
         index: 1,
         reason: Reason::BehindSeparator,
-        printed: "item 1: an option cannot stand behind a positional that needs `--` before it",
+        printed: "items[1]: an option cannot stand behind a positional that needs `--` before it",
     },
     Fault {
         items: &[Short('o'), Long("a=b")],
         index: 0,
         reason: Reason::MissingValue,
-        printed: "item 0: the option wants a value, and is given none",
+        printed: "items[0]: by the table the option wants a value, and is given none",
     },
 ];
 
@@ -920,6 +942,8 @@ fn first_of_two_reasons(rt: HostRuntime) -> Result<(), Fail> {
 fn refused_memory_is_told(rt: HostRuntime) -> Result<(), Fail> {
     let error = SpellError::from(AllocError);
     assert!(rt; matches!(error, SpellError::OutOfMemory));
+    let copy = error;
+    assert!(rt; copy == error);
     assert_eq!(rt; error.to_string(rt.alloc())?.as_str(), "out of memory");
     Ok(())
 }
