@@ -45,6 +45,7 @@ pub mod SpellerSound
 pub mod SpellerPlaces
 pub mod SpellerComplete
 pub mod SpellerFaults
+pub mod SpellerSettings
 pub mod Computing
 pub mod Worked
 pub mod WorkedDamage

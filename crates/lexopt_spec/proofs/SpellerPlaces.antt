@@ -115,7 +115,7 @@ option_ended t switch joins due (option (long name) value) a other is = long_end
 option_ended t switch joins due (many (long name) values) a other is = long_ended (is_utf8 name) (has_equals name) name (long_many_form (kind t (long name)) values) a is
 option_ended t switch joins due (positional w) a other is = absurd (true≢false other)
 
-ended_positional : (t : Table) (switch : Bool) (items : List Item) → Can t switch items ended → list_all is_positional items ≡ true
+pub ended_positional : (t : Table) (switch : Bool) (items : List Item) → Can t switch items ended → list_all is_positional items ≡ true
 ended_positional t switch [] can = refl
 ended_positional t switch (option name value ∷ items) can =
     let s = can_split t switch ended (option name value) items can in
@@ -200,7 +200,7 @@ pub words_ok : (p : Bool) (v : List ℕ) (vs : List (List ℕ)) → (g : Form) �
 words_ok true v vs = (_, refl, refl)
 words_ok false v vs = (_, refl, refl)
 
-words_place : (p : Bool) (v : List ℕ) (f : Form) → Formed (short_words_form p true v []) f → f.place ≡ behind_values
+pub words_place : (p : Bool) (v : List ℕ) (f : Form) → Formed (short_words_form p true v []) f → f.place ≡ behind_values
 words_place true v f is = on_form (λ (g : Form). g.place ≡ behind_values) _ f is refl
 words_place false v f is = on_form (λ (g : Form). g.place ≡ behind_values) _ f is refl
 
@@ -224,13 +224,13 @@ form_joined false true several (v ∷ w ∷ vs) f is = (f, is, stays refl)
 form_joined false false several (v ∷ w ∷ vs) f is = (f, is, stays refl)
 
 -- a short option is added by its form, and so with any other
-record Through (s d : Bool) (place : Place) (c : ℕ) (form : Result Form Reason) (a : Added) : Type 0 where
-  formed : Form
-  is : form ≡ Ok formed
-  leads : a.place ≡ formed.place
-  other : (g : Form) → (b : Added) × (short_added s d place c (Ok g) ≡ Ok b) × (b.place ≡ g.place)
+pub record Through (s d : Bool) (place : Place) (c : ℕ) (form : Result Form Reason) (a : Added) : Type 0 where
+  pub formed : Form
+  pub is : form ≡ Ok formed
+  pub leads : a.place ≡ formed.place
+  pub other : (g : Form) → (b : Added) × (short_added s d place c (Ok g) ≡ Ok b) × (b.place ≡ g.place)
 
-short_through : (s d : Bool) (place : Place) (c : ℕ) (form : Result Form Reason) (a : Added) → Adding (short_added s d place c form) a → Through s d place c form a
+pub short_through : (s d : Bool) (place : Place) (c : ℕ) (form : Result Form Reason) (a : Added) → Adding (short_added s d place c form) a → Through s d place c form a
 short_through false d place c form a is = none_added _ a is
 short_through true d place c (Err reason) a is = none_added _ a is
 short_through true d ended c (Ok f) a is = none_added _ a is

@@ -41,7 +41,7 @@ Right t switch ended r items = (r.first ≡ []) × (items ≡ map positional r.w
 
 -- ---- an item's words
 
-not_plain : (bytes : List ℕ) → bytes ≢ [] → ¬ IsPlain false (dash ∷ bytes)
+pub not_plain : (bytes : List ℕ) → bytes ≢ [] → ¬ IsPlain false (dash ∷ bytes)
 not_plain bytes some (inl e) = true≢false (sym e)
 not_plain bytes some (inr (inl e)) = some (let same : bytes ≡ [] = cc in same)
 not_plain bytes some (inr (inr other)) = other refl

@@ -187,3 +187,8 @@ pub fn items_are_spelled_or_one_is_at_fault()
     ensures one_fault { (t : Table) (switch : Bool) (l : List Item) (i j : ℕ) → IsAtFault t switch l i → IsAtFault t switch l j → i ≡ j }
     ensures none { (t : Table) (switch : Bool) (words : List (List ℕ)) (l : List Item) (i : ℕ) → IsAtFault t switch l i → Spells t switch words l → ⊥ }
 {}
+
+/// Where the same words spell the items under either setting of the switch, the answer is the same under either.
+pub fn both_settings_have_one_form()
+    ensures { (t : Table) (words : List (List ℕ)) (l : List Item) → Spells t true words l → Spells t false words l → spelled t true l ≡ spelled t false l }
+{}
