@@ -90,7 +90,7 @@ impl<'i> ReadLists<'i> {
         Ok(())
     }
 
-    // Reads these words of the 25.
+    // Reads the words that have these bytes.
     fn read_bytes(&mut self, reading: Reading<'_>, list: &[&[u8]]) -> Result<(), AllocError> {
         let mut words = Vec::with_capacity(reading.alloc, list.len())?;
         for word in list {
