@@ -13,6 +13,10 @@ backslash = 0x5C
 abbrev pub line_feed : ℕ
 line_feed = 0x0A
 
+-- the byte that no line of a shell holds, and so no word
+abbrev pub nul : ℕ
+nul = 0x00
+
 -- a byte that has no other meaning to a shell, wherever it stands in an argument of a command
 abbrev pub is_plain : ℕ → Bool
 is_plain b = is_ascii_alphanumeric b || list_any (λ mark. mark == b) (codes "%+,-./:=@_")
@@ -23,9 +27,9 @@ is_plain b = is_ascii_alphanumeric b || list_any (λ mark. mark == b) (codes "%+
 pub data Reads : Bool → List ℕ → List ℕ → Type 0 where
   at_end : Reads false [] []
   plain : (b : ℕ) (bytes word : List ℕ) → is_plain b ≡ true → Reads false bytes word → Reads false (b ∷ bytes) (b ∷ word)
-  escaped : (b : ℕ) (bytes word : List ℕ) → b ≢ line_feed → Reads false bytes word → Reads false (backslash ∷ b ∷ bytes) (b ∷ word)
+  escaped : (b : ℕ) (bytes word : List ℕ) → b ≢ line_feed → b ≢ nul → Reads false bytes word → Reads false (backslash ∷ b ∷ bytes) (b ∷ word)
   opening : (bytes word : List ℕ) → Reads true bytes word → Reads false (quote ∷ bytes) word
-  quoted_byte : (b : ℕ) (bytes word : List ℕ) → b ≢ quote → Reads true bytes word → Reads true (b ∷ bytes) (b ∷ word)
+  quoted_byte : (b : ℕ) (bytes word : List ℕ) → b ≢ quote → b ≢ nul → Reads true bytes word → Reads true (b ∷ bytes) (b ∷ word)
   closing : (bytes word : List ℕ) → Reads false bytes word → Reads true (quote ∷ bytes) word
 
 -- these bytes are read as one word, which may be empty

@@ -2,7 +2,8 @@
 //! `example_forward [-v|--verbose] [-j|--jobs=N] [--color[=WHEN]] [-x|--exclude PATTERN..] [FILE]..`.
 //!
 //! It prints the words that another program is to be called with, each quoted for a POSIX shell. They say what its own line
-//! said, but for `--color`, which says `always`: what the other program writes goes to a pipe. A word may be of any bytes.
+//! said, but for `--color`, which says `always`: what the other program writes goes to a pipe. A word may be of any bytes but 00,
+//! which no argument of a program holds.
 //!
 //! The exit status is 0, or 2 where the command line, or memory to read it, was refused, or 1 where the line could not be
 //! printed; then standard error says why.

@@ -1,6 +1,6 @@
 //! Words for a POSIX shell.
 ghost use Rattle.std.specs.Prelude.{◌≡◌, IfOk};
-ghost use Rattle.std.specs.List.{list_all};
+ghost use Rattle.std.specs.List.{list_all, Contains};
 ghost use Rattle.example_forward.specs.Shell as spec;
 
 use std::alloc::{AllocError, Global};
@@ -28,11 +28,11 @@ fn needs_none(word: &[u8]) -> bool
     }
 }
 
-/// The word as a shell reads it back: as it is, or where it needs it between single quotes. A quote in it stands behind a
-/// backslash, between two quoted parts: `it's` is `'it'\''s'`.
+/// The word for a shell: as it is, or where it needs it between single quotes. A quote in it stands behind a backslash, between
+/// two quoted parts: `it's` is `'it'\''s'`. A shell reads it back as the word, if that holds no byte 00, which no shell reads.
 pub fn quoted(alloc: Global, word: &[u8]) -> Result<Vec<u8>, AllocError>
     ensures form { IfOk result (λ bytes. bytes.items ≡ spec.quoted word.now) }
-    ensures read_back { IfOk result (λ bytes. spec.IsReadAs bytes.items word.now) }
+    ensures read_back { IfOk result (λ bytes. ¬ Contains word.now spec.nul → spec.IsReadAs bytes.items word.now) }
 {
     let mut bytes = Vec::new(alloc);
     if needs_none(word) {

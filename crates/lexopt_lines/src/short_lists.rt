@@ -47,7 +47,7 @@ impl<'i> ReadLists<'i> {
         Ok(ReadLists { items, read })
     }
 
-    // The number of a list, if each of it is one of the items. No two lists have one number.
+    // The number of a list of at most three, if each of it is one of the items. No two lists have one number.
     fn number(&self, list: &[Item]) -> Option<usize> {
         if list.len() > MOST_ITEMS {
             return None;
@@ -90,7 +90,7 @@ impl<'i> ReadLists<'i> {
         Ok(())
     }
 
-    // Reads these words of the 25.
+    // Reads the words that have these bytes.
     fn read_bytes(&mut self, reading: Reading<'_>, list: &[&[u8]]) -> Result<(), AllocError> {
         let mut words = Vec::with_capacity(reading.alloc, list.len())?;
         for word in list {

@@ -40,6 +40,7 @@ pub mod Rounds
 pub mod Names
 pub mod OneValueLaw
 pub mod SpellerTests
+pub mod SpellerAnswers
 pub mod SpellerForms
 pub mod SpellerSound
 pub mod SpellerPlaces

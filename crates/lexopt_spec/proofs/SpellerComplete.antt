@@ -1,6 +1,6 @@
 -- What some words show, the speller spells.
 use Rattle.std.proofs.Common.{◌≡◌, ◌≢◌, ◌⊎◌, ℕ, suc, ◌==◌, ◌&&◌, Bool, true, false, List, [], ◌∷◌, ◌++◌, Option, Some, None, refl, sym, ap, subst, ◌∙◌, arith, inl, inr, ⊎_elim, true≢false}
-use Rattle.std.proofs.lemmas.Bool.{ne_eqb}
+use Rattle.std.proofs.lemmas.Bool.{ne_eqb, and_right}
 use Rattle.std.proofs.lemmas.Str.{is_utf8-from_IsUtf8}
 use Rattle.std.specs.Prelude.{Ok}
 use Rattle.std.specs.List.{All}
@@ -54,20 +54,16 @@ optional_short : (switch : Bool) (name : Name) (item : Item) (left : List (List 
     → ShortForm switch optional name item left
 optional_short switch name item left v is fits = let f = attached_ok switch v fits in of_option (Some v) f.0 is f.1 (inl f.2)
 
-off : (switch : Bool) → (switch && false) ≡ false
-off true = refl
-off false = refl
-
 -- values in words
 words_short : (switch : Bool) (name : Name) (item : Item) (left : List (List ℕ)) (v : List ℕ) (vs : List (List ℕ)) → item ≡ many name (v ∷ vs) → All (IsPlain false) vs
     → ¬ IsNormalIn false left → ShortForm switch several name item left
 words_short switch name item left v [] is plain calm =
     let f = words_ok (is_plain false v) v [] in
-    of_many false (v ∷ []) f.0 is (ap (λ x. short_many_form x several (v ∷ [])) (off switch) ∙ f.1) (inr (inr (f.2, calm)))
+    of_many false (v ∷ []) f.0 is (ap (λ x. short_many_form x several (v ∷ [])) (and_right switch false refl) ∙ f.1) (inr (inr (f.2, calm)))
 words_short switch name item left v (w ∷ ws) is plain calm =
     let f = words_ok (is_plain false v) v (w ∷ ws) in
     of_many false (v ∷ w ∷ ws) f.0 is
-    (ap (λ x. short_many_form x several (v ∷ w ∷ ws)) (off switch) ∙ ap (λ x. short_words_form (is_plain false v) x v (w ∷ ws)) (all_pass (w ∷ ws) plain) ∙ f.1)
+    (ap (λ x. short_many_form x several (v ∷ w ∷ ws)) (and_right switch false refl) ∙ ap (λ x. short_words_form (is_plain false v) x v (w ∷ ws)) (all_pass (w ∷ ws) plain) ∙ f.1)
     (inr (inr (f.2, calm)))
 
 -- what may stand behind a character

@@ -1,6 +1,6 @@
 -- Items that no words spell have one that is at fault, and the speller names it.
 use Rattle.std.proofs.Common.{◌≡◌, ℕ, zero, suc, ◌<◌, ◌≤◌, ◌&&◌, not, Bool, true, false, List, [], ◌∷◌, length, take, refl, sym, ap, subst, ◌∙◌, arith, ⊎_elim, true≢false}
-use Rattle.std.proofs.lemmas.Bool.{cases_lt}
+use Rattle.std.proofs.lemmas.Bool.{cases_lt, and_parts, and_from}
 use Rattle.std.proofs.Math.Seq.{take-length}
 use Rattle.std.specs.Prelude.{Result, Ok, Err}
 use Rattle.std.specs.List.{list_all}
@@ -11,14 +11,12 @@ use Rattle.lexopt_spec.specs.Spelling.{Shows, Spells}
 use Rattle.lexopt_spec.specs.Speller.{Reason, Place, open_line, Added, adds, is_positional, separator_comes_too_early, separator_is_due, Fault, Rest, with_rest, with_rests, spelled_from, words_of, spelled, IsAtFault}
 use Rattle.lexopt_spec.proofs.Names.{spelled_shows}
 use Rattle.lexopt_spec.proofs.WholeLines.{shown_said, shown_read}
+use Rattle.lexopt_spec.proofs.SpellerAnswers.{Adding, none_is}
 use Rattle.lexopt_spec.proofs.SpellerSound.{spelled_spells}
 use Rattle.lexopt_spec.proofs.SpellerPlaces.{Can, nil_can, can_cons, can_split, adds_too, changed_can, due_positional, not_joined}
 use Rattle.lexopt_spec.proofs.SpellerComplete.{shown_can}
 
 -- ---- what is spelled, and what is not
-
-abbrev Going : Result Rest Fault → Rest → Type 0
-Going answer r = answer ≡ Ok r
 
 abbrev Failing : Result Rest Fault → Fault → Type 0
 Failing answer f = answer ≡ Err f
@@ -26,14 +24,11 @@ Failing answer f = answer ≡ Err f
 abbrev Answering : Result (List (List ℕ)) Fault → Fault → Type 0
 Answering answer f = answer ≡ Err f
 
-abbrev Adding : Result Added Reason → Added → Type 0
-Adding answer a = answer ≡ Ok a
-
 no_both : {X : Type 0} (t : Table) (switch : Bool) (items : List Item) (place : Place) (f : Fault) → spelled_from t switch items place ≡ Err f → Can t switch items place → X
-no_both t switch items place f fails can = absurd (let e : Failing (Ok can.0) f = sym can.1 ∙ fails in cc)
+no_both t switch items place f fails can = none_is f can.0 (sym fails ∙ can.1)
 
 no_added : {X : Type 0} (r : Reason) (a : Added) (answer : Result Added Reason) → answer ≡ Err r → answer ≡ Ok a → X
-no_added r a answer err ok = absurd (let e : Adding (Err r) a = sym err ∙ ok in cc)
+no_added r a answer err ok = none_is r a (sym err ∙ ok)
 
 same_added : (a b : Added) (answer : Result Added Reason) → answer ≡ Ok a → answer ≡ Ok b → a ≡ b
 same_added a b answer one two = let e : Adding (Ok a) b = sym one ∙ two in cc
@@ -57,19 +52,11 @@ spells_can t switch words items spells = shown_can t switch words items (spelled
 
 -- ---- fronts of items
 
-and_parts : (a b : Bool) → (a && b) ≡ true → (a ≡ true) × (b ≡ true)
-and_parts true b is = (refl, is)
-and_parts false b is = absurd (true≢false (sym is))
-
-both_true : (a b : Bool) → a ≡ true → b ≡ true → (a && b) ≡ true
-both_true true b p q = q
-both_true false b p q = p
-
 all_take : (p : Item → Bool) (n : ℕ) (items : List Item) → list_all p items ≡ true → list_all p (take n items) ≡ true
 all_take p zero items all = refl
 all_take p (suc n) [] all = refl
 all_take p (suc n) (item ∷ items) all =
-    let parts = and_parts (p item) (list_all p items) all in both_true (p item) (list_all p (take n items)) parts.0 (all_take p n items parts.1)
+    let parts = and_parts (p item) (list_all p items) all in and_from (p item) (list_all p (take n items)) parts.0 (all_take p n items parts.1)
 
 not_all : (n : ℕ) (items : List Item) → not (list_all is_positional (take n items)) ≡ true → not (list_all is_positional items) ≡ true
 not_all n items is = by (list_all is_positional items) refl
@@ -83,7 +70,7 @@ early_take zero items is = absurd (true≢false (sym is))
 early_take (suc n) [] is = is
 early_take (suc n) (item ∷ items) is =
     let parts = and_parts (is_positional item) (not (list_all is_positional (take n items))) is in
-    both_true (is_positional item) (not (list_all is_positional items)) parts.0 (not_all n items parts.1)
+    and_from (is_positional item) (not (list_all is_positional items)) parts.0 (not_all n items parts.1)
 
 -- a front of some items can be spelled where all can
 front_can : (t : Table) (switch : Bool) (items : List Item) (m n : ℕ) (place : Place) → m ≤ n → Can t switch (take n items) place → Can t switch (take m items) place
@@ -109,7 +96,7 @@ data Fails (t : Table) (switch : Bool) (place : Place) (item : Item) (items : Li
 fails_later : (t : Table) (switch : Bool) (place : Place) (item : Item) (items : List Item) (f : Fault) (a : Added) (rest : Result Rest Fault)
     → adds t switch (separator_comes_too_early items) (separator_is_due items) place item ≡ Ok a → spelled_from t switch items a.place ≡ rest → Failing (with_rest a rest) f
     → Fails t switch place item items f
-fails_later t switch place item items f a (Ok r) added_is rest_is is = absurd (let e : Failing (with_rest a (Ok r)) f = is in cc)
+fails_later t switch place item items f a (Ok r) added_is rest_is is = none_is f _ (sym is)
 fails_later t switch place item items f a (Err g) added_is rest_is is =
     let e : record { index = suc g.index; reason = g.reason } ≡ f = (let h : Failing (Err (record { index = suc g.index; reason = g.reason })) f = is in cc) in
     later a g added_is rest_is (sym (ap (λ (x : Fault). x.index) e))
@@ -166,7 +153,7 @@ faults t switch (item ∷ items) = λ place f is. first_fault t switch place ite
 
 from_words : (o : Result Rest Fault) (f : Fault) → Answering (words_of o) f → Failing o f
 from_words (Err g) f is = let e : g ≡ f = cc in ap (λ (x : Fault). Err x) e
-from_words (Ok r) f is = absurd (let e : Answering (Ok r.words) f = is in cc)
+from_words (Ok r) f is = none_is f r.words (sym is)
 
 pub named_at_fault : (t : Table) (switch : Bool) (items : List Item) (f : Fault) → spelled t switch items ≡ Err f → IsAtFault t switch items f.index
 named_at_fault t switch items f is =

@@ -1,12 +1,14 @@
 -- The forms of an option's values complete it.
-use Rattle.std.proofs.Common.{◌≡◌, ◌≢◌, ◌⊎◌, ℕ, ◌==◌, ◌&&◌, Bool, true, false, List, [], ◌∷◌, ◌++◌, Option, Some, None, refl, sym, subst, ◌∙◌, arith, inl, inr, true≢false, cond}
-use Rattle.std.proofs.lemmas.Bool.{eq-eqb}
-use Rattle.std.specs.Prelude.{Result, Ok, Err}
+use Rattle.std.proofs.Common.{◌≡◌, ◌≢◌, ◌⊎◌, ℕ, ◌==◌, Bool, true, false, List, [], ◌∷◌, ◌++◌, Option, Some, None, refl, sym, ◌∙◌, arith, inl, inr, true≢false, cond}
+use Rattle.std.proofs.lemmas.Bool.{eq-eqb, and_from}
+use Rattle.std.proofs.lemmas.Result.{IfOk-at_ok}
+use Rattle.std.specs.Prelude.{Ok}
 use Rattle.std.specs.List.{list_all}
 use Rattle.lexopt_spec.specs.UnreadLine.{dash, equals, BeginsWith, is_plain, IsNormalIn}
 use Rattle.lexopt_spec.specs.Table.{Name, Item, option, many, Kind, flag, one, optional, several}
 use Rattle.lexopt_spec.specs.Spelling.{Behind, nothing, attached, joined, no_value, joined_value, next_word, no_optional, attached_optional, joined_optional, joined_several, attached_several, several_words, Completes, BeginsWithMark, IsBehindLast, nothing_more, a_value, marked_value}
-use Rattle.lexopt_spec.specs.Speller.{Place, open_line, in_cluster, behind_values, Reason, Form, name_only, in_word, attached_form, short_form, long_form, words_form, short_words_form, short_many_form, long_many_form, behind_bytes}
+use Rattle.lexopt_spec.specs.Speller.{Place, open_line, in_cluster, behind_values, Form, name_only, in_word, attached_form, short_form, long_form, words_form, short_words_form, short_many_form, long_many_form, behind_bytes}
+use Rattle.lexopt_spec.proofs.SpellerAnswers.{Formed, none_is}
 use Rattle.lexopt_spec.proofs.SpellerTests.{all_plain, dashed}
 
 -- the form completes the item, and leads to this place: behind a flag, to that one
@@ -29,15 +31,6 @@ pub record HoldsLong (k : Kind) (name : Name) (item : Item) (f : Form) : Type 0 
   pub holds : Holds open_line k name item f
   pub unattached : NotAttached f.behind
 
-abbrev Formed : Result Form Reason → Form → Type 0
-Formed answer f = answer ≡ Ok f
-
-on : (P : Form → Type 0) (f g : Form) → Formed (Ok f) g → P f → P g
-on P f g is p = let e : f ≡ g = cc in subst P e p
-
-none_is : {X : Type 0} (r : Reason) (f : Form) → Formed (Err r) f → X
-none_is r f is = absurd (let e : Formed (Err r) f = is in cc)
-
 nil_some : (b : ℕ) (bs : List ℕ) → b ∷ bs ≢ []
 nil_some b bs is = let e : b ∷ bs ≡ [] = is in cc
 
@@ -55,7 +48,7 @@ alone_holds : (flagged : Place) (name : Name) → Holds flagged flag name (optio
 alone_holds flagged name = record { completes = λ left none. no_value refl refl refl; place = inr (inr (refl, refl, refl)) }
 
 attached_holds : (switch : Bool) (name : Name) (v : List ℕ) (f : Form) → attached_form switch v ≡ Ok f → HoldsShort switch optional name (option name (Some v)) f
-attached_holds true name [] f is = on (HoldsShort true optional name (option name (Some []))) _ f is (record {
+attached_holds true name [] f is = IfOk-at_ok (HoldsShort true optional name (option name (Some []))) is (record {
   holds = record { completes = λ left none. joined_optional [] refl refl refl; place = inl refl };
   behind = marked_value [] refl refl refl;
 })
@@ -65,30 +58,30 @@ attached_holds true name (b ∷ bs) f is = by (b == equals) refl is
     by : (t : Bool) → (b == equals) ≡ t
         → Formed (cond t (Ok (in_word (joined (b ∷ bs)))) (Ok (in_word (attached (b ∷ bs))))) f
         → HoldsShort true optional name (option name (Some (b ∷ bs))) f
-    by true mark h = on (HoldsShort true optional name (option name (Some (b ∷ bs)))) _ f h (record {
+    by true mark h = IfOk-at_ok (HoldsShort true optional name (option name (Some (b ∷ bs)))) h (record {
       holds = record { completes = λ left none. joined_optional (b ∷ bs) refl refl refl; place = inl refl };
       behind = marked_value (b ∷ bs) refl refl refl;
     })
-    by false mark h = on (HoldsShort true optional name (option name (Some (b ∷ bs)))) _ f h (record {
+    by false mark h = IfOk-at_ok (HoldsShort true optional name (option name (Some (b ∷ bs)))) h (record {
       holds = record { completes = λ left none. attached_optional (b ∷ bs) refl refl refl; place = inl refl };
       behind = a_value (nil_some b bs) (λ is_mark. true≢false (sym (eq-eqb b equals is_mark.1) ∙ mark)) refl;
     })
-attached_holds false name (b ∷ bs) f is = on (HoldsShort false optional name (option name (Some (b ∷ bs)))) _ f is (record {
+attached_holds false name (b ∷ bs) f is = IfOk-at_ok (HoldsShort false optional name (option name (Some (b ∷ bs)))) is (record {
   holds = record { completes = λ left none. attached_optional (b ∷ bs) refl refl refl; place = inl refl };
   behind = a_value (nil_some b bs) (off_mark (b ∷ bs)) refl;
 })
 
 pub short_holds : (switch : Bool) (k : Kind) (name : Name) (value : Option (List ℕ)) (f : Form) → short_form switch k value ≡ Ok f
     → HoldsShort switch k name (option name value) f
-short_holds switch flag name None f is = on (HoldsShort switch flag name (option name None)) _ f is
+short_holds switch flag name None f is = IfOk-at_ok (HoldsShort switch flag name (option name None)) is
     (record { holds = alone_holds in_cluster name; behind = nothing_more refl refl })
 short_holds switch flag name (Some v) f is = none_is _ f is
 short_holds switch one name None f is = none_is _ f is
-short_holds switch one name (Some v) f is = on (HoldsShort switch one name (option name (Some v))) _ f is (record {
+short_holds switch one name (Some v) f is = IfOk-at_ok (HoldsShort switch one name (option name (Some v))) is (record {
   holds = record { completes = λ left none. next_word v refl refl refl; place = inl refl };
   behind = nothing_more refl refl;
 })
-short_holds switch optional name None f is = on (HoldsShort switch optional name (option name None)) _ f is (record {
+short_holds switch optional name None f is = IfOk-at_ok (HoldsShort switch optional name (option name None)) is (record {
   holds = record { completes = λ left none. no_optional refl refl refl; place = inl refl };
   behind = nothing_more refl refl;
 })
@@ -96,18 +89,18 @@ short_holds switch optional name (Some v) f is = attached_holds switch name v f 
 short_holds switch several name value f is = none_is _ f is
 
 pub long_holds : (k : Kind) (name : Name) (value : Option (List ℕ)) (f : Form) → long_form k value ≡ Ok f → HoldsLong k name (option name value) f
-long_holds flag name None f is = on (HoldsLong flag name (option name None)) _ f is (record { holds = alone_holds open_line name; unattached = tt })
+long_holds flag name None f is = IfOk-at_ok (HoldsLong flag name (option name None)) is (record { holds = alone_holds open_line name; unattached = tt })
 long_holds flag name (Some v) f is = none_is _ f is
 long_holds one name None f is = none_is _ f is
-long_holds one name (Some v) f is = on (HoldsLong one name (option name (Some v))) _ f is (record {
+long_holds one name (Some v) f is = IfOk-at_ok (HoldsLong one name (option name (Some v))) is (record {
   holds = record { completes = λ left none. joined_value v refl refl refl; place = inl refl };
   unattached = tt;
 })
-long_holds optional name None f is = on (HoldsLong optional name (option name None)) _ f is (record {
+long_holds optional name None f is = IfOk-at_ok (HoldsLong optional name (option name None)) is (record {
   holds = record { completes = λ left none. no_optional refl refl refl; place = inl refl };
   unattached = tt;
 })
-long_holds optional name (Some v) f is = on (HoldsLong optional name (option name (Some v))) _ f is (record {
+long_holds optional name (Some v) f is = IfOk-at_ok (HoldsLong optional name (option name (Some v))) is (record {
   holds = record { completes = λ left none. joined_optional v refl refl refl; place = inl refl };
   unattached = tt;
 })
@@ -123,18 +116,14 @@ words_hold flagged name v vs plain = record {
   place = inr (inl refl);
 }
 
-both_true : (a b : Bool) → a ≡ true → b ≡ true → (a && b) ≡ true
-both_true true b p q = q
-both_true false b p q = p
-
 short_words_hold : (switch p ps : Bool) (name : Name) (v : List ℕ) (vs : List (List ℕ)) (f : Form) → is_plain false v ≡ p → list_all (is_plain false) vs ≡ ps
     → short_words_form p ps v vs ≡ Ok f → HoldsShort switch several name (many name (v ∷ vs)) f
-short_words_hold switch true true name v vs f first others is = on (HoldsShort switch several name (many name (v ∷ vs))) _ f is (record {
-  holds = words_hold in_cluster name v vs (both_true _ _ first others);
+short_words_hold switch true true name v vs f first others is = IfOk-at_ok (HoldsShort switch several name (many name (v ∷ vs))) is (record {
+  holds = words_hold in_cluster name v vs (and_from _ _ first others);
   behind = nothing_more refl refl;
 })
 short_words_hold switch true false name v vs f first others is = none_is _ f is
-short_words_hold switch false true name v vs f first others is = on (HoldsShort switch several name (many name (v ∷ vs))) _ f is (record {
+short_words_hold switch false true name v vs f first others is = IfOk-at_ok (HoldsShort switch several name (many name (v ∷ vs))) is (record {
   holds = record {
     completes = λ left none. attached_several v vs refl (record { words_are = refl; plain = all_plain vs others; longest = none refl }) refl;
     place = inr (inl refl);
@@ -143,17 +132,13 @@ short_words_hold switch false true name v vs f first others is = on (HoldsShort 
 })
 short_words_hold switch false false name v vs f first others is = none_is _ f is
 
-and_switch : (switch joins : Bool) → (switch && joins) ≡ true → switch ≡ true
-and_switch true joins is = refl
-and_switch false joins is = is
-
 pub short_many_holds : (switch joins : Bool) (k : Kind) (name : Name) (values : List (List ℕ)) (f : Form) → (joins ≡ true → switch ≡ true)
     → short_many_form joins k values ≡ Ok f → HoldsShort switch k name (many name values) f
 short_many_holds switch joins flag name values f may is = none_is _ f is
 short_many_holds switch joins one name values f may is = none_is _ f is
 short_many_holds switch joins optional name values f may is = none_is _ f is
 short_many_holds switch joins several name [] f may is = none_is _ f is
-short_many_holds switch true several name (v ∷ []) f may is = on (HoldsShort switch several name (many name (v ∷ []))) _ f is (record {
+short_many_holds switch true several name (v ∷ []) f may is = IfOk-at_ok (HoldsShort switch several name (many name (v ∷ []))) is (record {
   holds = record { completes = λ left none. joined_several v refl refl refl; place = inl refl };
   behind = marked_value v (may refl) refl refl;
 })
@@ -164,7 +149,7 @@ short_many_holds switch joins several name (v ∷ w ∷ vs) f may is =
 long_words_hold : (p : Bool) (name : Name) (v : List ℕ) (vs : List (List ℕ)) (f : Form) → list_all (is_plain false) (v ∷ vs) ≡ p → words_form p (v ∷ vs) ≡ Ok f
     → HoldsLong several name (many name (v ∷ vs)) f
 long_words_hold true name v vs f plain is =
-    on (HoldsLong several name (many name (v ∷ vs))) _ f is (record { holds = words_hold open_line name v vs plain; unattached = tt })
+    IfOk-at_ok (HoldsLong several name (many name (v ∷ vs))) is (record { holds = words_hold open_line name v vs plain; unattached = tt })
 long_words_hold false name v vs f plain is = none_is _ f is
 
 pub long_many_holds : (k : Kind) (name : Name) (values : List (List ℕ)) (f : Form) → long_many_form k values ≡ Ok f → HoldsLong k name (many name values) f
@@ -172,7 +157,7 @@ long_many_holds flag name values f is = none_is _ f is
 long_many_holds one name values f is = none_is _ f is
 long_many_holds optional name values f is = none_is _ f is
 long_many_holds several name [] f is = none_is _ f is
-long_many_holds several name (v ∷ []) f is = on (HoldsLong several name (many name (v ∷ []))) _ f is (record {
+long_many_holds several name (v ∷ []) f is = IfOk-at_ok (HoldsLong several name (many name (v ∷ []))) is (record {
   holds = record { completes = λ left none. joined_several v refl refl refl; place = inl refl };
   unattached = tt;
 })

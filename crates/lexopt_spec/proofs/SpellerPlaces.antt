@@ -1,5 +1,7 @@
 -- What is spelled from one place, and from another: one of several values, joined or not, leads to the same.
 use Rattle.std.proofs.Common.{◌≡◌, ℕ, ◌==◌, ◌&&◌, not, Bool, true, false, List, [], ◌∷◌, map, refl, sym, ap, subst, ◌∙◌, true≢false}
+use Rattle.std.proofs.lemmas.Bool.{and_parts, not-false}
+use Rattle.std.proofs.lemmas.Result.{IfOk-at_ok}
 use Rattle.std.specs.Prelude.{Result, Ok, Err}
 use Rattle.std.specs.List.{list_all}
 use Rattle.std.specs.Str.{is_utf8}
@@ -7,6 +9,7 @@ use lib.Utf8.{scalar}
 use Rattle.lexopt_spec.specs.UnreadLine.{dash, is_plain}
 use Rattle.lexopt_spec.specs.Table.{short, long, Item, option, many, positional, Kind, flag, one, optional, several, kind, Table}
 use Rattle.lexopt_spec.specs.Speller.{Reason, Place, open_line, in_cluster, behind_values, behind_positional, ended, Form, short_form, long_form, short_words_form, short_many_form, long_many_form, Added, short_added, is_named, long_placed, long_added, stands, positional_added, adds, is_positional, separator_comes_too_early, is_plain_item, separator_is_due, Fault, Rest, with_rest, with_rests, spelled_from}
+use Rattle.lexopt_spec.proofs.SpellerAnswers.{Formed, Adding, Going, none_is}
 use Rattle.lexopt_spec.proofs.SpellerTests.{has_equals}
 
 -- some words are spelled from this place on
@@ -25,41 +28,17 @@ cons_can t switch place item items a is can =
 
 -- ---- an item that is spelled
 
-abbrev Going : Result Rest Fault → Rest → Type 0
-Going answer r = answer ≡ Ok r
-
-abbrev Adding : Result Added Reason → Added → Type 0
-Adding answer a = answer ≡ Ok a
-
-abbrev Formed : Result Form Reason → Form → Type 0
-Formed answer f = answer ≡ Ok f
-
-no_rest : {X : Type 0} (fault : Fault) (r : Rest) → Going (Err fault) r → X
-no_rest fault r is = absurd (let e : Going (Err fault) r = is in cc)
-
-pub none_added : {X : Type 0} (r : Reason) (a : Added) → Adding (Err r) a → X
-none_added r a is = absurd (let e : Adding (Err r) a = is in cc)
-
-on_added : (P : Added → Type 0) (a b : Added) → Adding (Ok a) b → P a → P b
-on_added P a b is p = let e : a ≡ b = cc in subst P e p
-
-on_form : (P : Form → Type 0) (f g : Form) → Formed (Ok f) g → P f → P g
-on_form P f g is p = let e : f ≡ g = cc in subst P e p
-
-none_formed : {X : Type 0} (r : Reason) (f : Form) → Formed (Err r) f → X
-none_formed r f is = absurd (let e : Formed (Err r) f = is in cc)
-
 abbrev First : Table → Bool → Place → Item → List Item → Type 0
 First t switch place item items = (a : Added) × (adds t switch (separator_comes_too_early items) (separator_is_due items) place item ≡ Ok a) × Can t switch items a.place
 
 later_can : (t : Table) (switch : Bool) (items : List Item) (a : Added) (rest : Result Rest Fault) (r : Rest) → spelled_from t switch items a.place ≡ rest
     → Going (with_rest a rest) r → Can t switch items a.place
-later_can t switch items a (Err fault) r rest_is is = no_rest _ r is
+later_can t switch items a (Err fault) r rest_is is = none_is _ r is
 later_can t switch items a (Ok s) r rest_is is = (s, rest_is)
 
 first_can : (t : Table) (switch : Bool) (place : Place) (item : Item) (items : List Item) (o : Result Added Reason) (r : Rest)
     → adds t switch (separator_comes_too_early items) (separator_is_due items) place item ≡ o → Going (with_rests o (spelled_from t switch items)) r → First t switch place item items
-first_can t switch place item items (Err reason) r added_is is = no_rest _ r is
+first_can t switch place item items (Err reason) r added_is is = none_is _ r is
 first_can t switch place item items (Ok a) r added_is is = (a, added_is, later_can t switch items a (spelled_from t switch items a.place) r refl is)
 
 pub can_split : (t : Table) (switch : Bool) (place : Place) (item : Item) (items : List Item) → Can t switch (item ∷ items) place → First t switch place item items
@@ -76,10 +55,6 @@ positionals_can t switch (w ∷ ws) place =
     cons_can t switch place (positional w) (map positional ws) (positional_added alone place w) refl
     (positionals_can t switch ws (positional_added alone place w).place)
 
-and_parts : (a b : Bool) → (a && b) ≡ true → (a ≡ true) × (b ≡ true)
-and_parts true b is = (refl, is)
-and_parts false b is = absurd (true≢false (sym is))
-
 abbrev AllPositional : List Item → Type 0
 AllPositional items = (words : List (List ℕ)) × (items ≡ map positional words)
 
@@ -94,18 +69,18 @@ all_can t switch items place all = subst (λ (l : List Item). Can t switch l pla
 
 -- behind the separator there are no options
 short_ended : {X : Type 0} (s d : Bool) (c : ℕ) (form : Result Form Reason) (a : Added) → Adding (short_added s d ended c form) a → X
-short_ended false d c form a is = none_added _ a is
-short_ended true d c (Err reason) a is = none_added _ a is
-short_ended true d c (Ok f) a is = none_added _ a is
+short_ended false d c form a is = none_is _ a is
+short_ended true d c (Err reason) a is = none_is _ a is
+short_ended true d c (Ok f) a is = none_is _ a is
 
 placed_ended : {X : Type 0} (n : Bool) (name : List ℕ) (f : Form) (a : Added) → Adding (long_placed n ended name f) a → X
-placed_ended false name f a is = none_added _ a is
-placed_ended true name f a is = none_added _ a is
+placed_ended false name f a is = none_is _ a is
+placed_ended true name f a is = none_is _ a is
 
 long_ended : {X : Type 0} (u e : Bool) (name : List ℕ) (form : Result Form Reason) (a : Added) → Adding (long_added u e ended name form) a → X
-long_ended false e name form a is = none_added _ a is
-long_ended true true name form a is = none_added _ a is
-long_ended true false name (Err reason) a is = none_added _ a is
+long_ended false e name form a is = none_is _ a is
+long_ended true true name form a is = none_is _ a is
+long_ended true false name (Err reason) a is = none_is _ a is
 long_ended true false name (Ok f) a is = placed_ended (is_named name f.behind) name f a is
 
 pub option_ended : {X : Type 0} (t : Table) (switch joins due : Bool) (item : Item) (a : Added) → is_positional item ≡ false → adds t switch joins due ended item ≡ Ok a → X
@@ -125,7 +100,7 @@ ended_positional t switch (many name values ∷ items) can =
     option_ended t switch (separator_comes_too_early items) (separator_is_due items) (many name values) s.0 refl s.1
 ended_positional t switch (positional w ∷ items) can =
     let s = can_split t switch ended (positional w) items can in
-    ended_positional t switch items (on_added (λ (a : Added). Can t switch items a.place → Can t switch items ended) _ s.0 s.1 (λ h. h) s.2)
+    ended_positional t switch items (IfOk-at_ok (λ (a : Added). Can t switch items a.place → Can t switch items ended) s.1 (λ h. h) s.2)
 
 -- ---- behind values, and behind nothing
 
@@ -157,17 +132,13 @@ options_same : (t : Table) (switch : Bool) (item : Item) (items : List Item) →
 unfolding spelled_from
 options_same t switch item items other = ap (λ o. with_rests o (spelled_from t switch items)) (option_same t switch (separator_comes_too_early items) (separator_is_due items) item other)
 
-not_false : (b : Bool) → not b ≡ false → b ≡ true
-not_false true is = refl
-not_false false is = absurd (true≢false is)
-
 -- from behind nothing to behind values, unless the separator would come too early
 pub closed : (t : Table) (switch : Bool) (items : List Item) → separator_comes_too_early items ≡ false → Can t switch items open_line → Can t switch items behind_values
 closed t switch [] early can = nil_can t switch behind_values
 closed t switch (option name value ∷ items) early can = (can.0, sym (options_same t switch (option name value) items refl) ∙ can.1)
 closed t switch (many name values ∷ items) early can = (can.0, sym (options_same t switch (many name values) items refl) ∙ can.1)
 closed t switch (positional w ∷ items) early can =
-    all_can t switch (positional w ∷ items) behind_values (all_positional (positional w ∷ items) (not_false (list_all is_positional items) early))
+    all_can t switch (positional w ∷ items) behind_values (all_positional (positional w ∷ items) (not-false (list_all is_positional items) early))
 
 -- and back
 pub opened : (t : Table) (switch : Bool) (items : List Item) → Can t switch items behind_values → Can t switch items open_line
@@ -177,7 +148,7 @@ opened t switch (many name values ∷ items) can = (can.0, options_same t switch
 opened t switch (positional w ∷ items) can =
     let s = can_split t switch behind_values (positional w) items can in
     all_can t switch (positional w ∷ items) open_line
-    (all_positional (positional w ∷ items) (ended_positional t switch items (on_added (λ (a : Added). Can t switch items a.place → Can t switch items ended) _ s.0 s.1 (λ h. h) s.2)))
+    (all_positional (positional w ∷ items) (ended_positional t switch items (IfOk-at_ok (λ (a : Added). Can t switch items a.place → Can t switch items ended) s.1 (λ h. h) s.2)))
 
 -- ---- one of several values, joined or not
 
@@ -201,22 +172,22 @@ words_ok true v vs = (_, refl, refl)
 words_ok false v vs = (_, refl, refl)
 
 pub words_place : (p : Bool) (v : List ℕ) (f : Form) → Formed (short_words_form p true v []) f → f.place ≡ behind_values
-words_place true v f is = on_form (λ (g : Form). g.place ≡ behind_values) _ f is refl
-words_place false v f is = on_form (λ (g : Form). g.place ≡ behind_values) _ f is refl
+words_place true v f is = IfOk-at_ok (λ (g : Form). g.place ≡ behind_values) is refl
+words_place false v f is = IfOk-at_ok (λ (g : Form). g.place ≡ behind_values) is refl
 
 one_joined : (x y : Bool) (v : List ℕ) (f : Form) → Formed (short_many_form x several (v ∷ [])) f → Other x y several (v ∷ []) f
 one_joined true true v f is = (f, is, stays refl)
 one_joined false false v f is = (f, is, stays refl)
 one_joined true false v f is =
     let words = words_ok (is_plain false v) v [] in
-    (words.0, words.1, on_form (λ (g : Form). Moved true false g.place words.0.place) _ f is (closes refl words.2 refl refl))
+    (words.0, words.1, IfOk-at_ok (λ (g : Form). Moved true false g.place words.0.place) is (closes refl words.2 refl refl))
 one_joined false true v f is = (_, refl, opens (words_place (is_plain false v) v f is) refl)
 
 form_joined : (x y : Bool) (k : Kind) (values : List (List ℕ)) (f : Form) → Formed (short_many_form x k values) f → Other x y k values f
-form_joined x y flag values f is = none_formed _ f is
-form_joined x y one values f is = none_formed _ f is
-form_joined x y optional values f is = none_formed _ f is
-form_joined x y several [] f is = none_formed _ f is
+form_joined x y flag values f is = none_is _ f is
+form_joined x y one values f is = none_is _ f is
+form_joined x y optional values f is = none_is _ f is
+form_joined x y several [] f is = none_is _ f is
 form_joined x y several (v ∷ []) f is = one_joined x y v f is
 form_joined true true several (v ∷ w ∷ vs) f is = (f, is, stays refl)
 form_joined true false several (v ∷ w ∷ vs) f is = (f, is, stays refl)
@@ -231,21 +202,21 @@ pub record Through (s d : Bool) (place : Place) (c : ℕ) (form : Result Form Re
   pub other : (g : Form) → (b : Added) × (short_added s d place c (Ok g) ≡ Ok b) × (b.place ≡ g.place)
 
 pub short_through : (s d : Bool) (place : Place) (c : ℕ) (form : Result Form Reason) (a : Added) → Adding (short_added s d place c form) a → Through s d place c form a
-short_through false d place c form a is = none_added _ a is
-short_through true d place c (Err reason) a is = none_added _ a is
-short_through true d ended c (Ok f) a is = none_added _ a is
-short_through true true open_line c (Ok f) a is = none_added _ a is
-short_through true true behind_values c (Ok f) a is = none_added _ a is
-short_through true true behind_positional c (Ok f) a is = none_added _ a is
-short_through true true in_cluster c (Ok f) a is = on_added (Through true true in_cluster c (Ok f)) _ a is
+short_through false d place c form a is = none_is _ a is
+short_through true d place c (Err reason) a is = none_is _ a is
+short_through true d ended c (Ok f) a is = none_is _ a is
+short_through true true open_line c (Ok f) a is = none_is _ a is
+short_through true true behind_values c (Ok f) a is = none_is _ a is
+short_through true true behind_positional c (Ok f) a is = none_is _ a is
+short_through true true in_cluster c (Ok f) a is = IfOk-at_ok (Through true true in_cluster c (Ok f)) is
     (record { formed = f; is = refl; leads = refl; other = λ g. (_, refl, refl) })
-short_through true false open_line c (Ok f) a is = on_added (Through true false open_line c (Ok f)) _ a is
+short_through true false open_line c (Ok f) a is = IfOk-at_ok (Through true false open_line c (Ok f)) is
     (record { formed = f; is = refl; leads = refl; other = λ g. (_, refl, refl) })
-short_through true false behind_positional c (Ok f) a is = on_added (Through true false behind_positional c (Ok f)) _ a is
+short_through true false behind_positional c (Ok f) a is = IfOk-at_ok (Through true false behind_positional c (Ok f)) is
     (record { formed = f; is = refl; leads = refl; other = λ g. (_, refl, refl) })
-short_through true false in_cluster c (Ok f) a is = on_added (Through true false in_cluster c (Ok f)) _ a is
+short_through true false in_cluster c (Ok f) a is = IfOk-at_ok (Through true false in_cluster c (Ok f)) is
     (record { formed = f; is = refl; leads = refl; other = λ g. (_, refl, refl) })
-short_through true false behind_values c (Ok f) a is = on_added (Through true false behind_values c (Ok f)) _ a is
+short_through true false behind_values c (Ok f) a is = IfOk-at_ok (Through true false behind_values c (Ok f)) is
     (record { formed = f; is = refl; leads = refl; other = λ g. (_, refl, refl) })
 
 pub data Changed (x y due : Bool) (before after : Place) : Type 0 where
@@ -293,7 +264,7 @@ adds_too t switch x y d e place (many (long name) values) a is = (a, is, moved (
 adds_too t switch x y d e place (positional w) a is = (
   _,
   refl,
-  on_added (λ (b : Added). Changed (switch && x) (switch && y) e b.place (positional_added (stands (is_plain false w) e place) place w).place) _ a is
+  IfOk-at_ok (λ (b : Added). Changed (switch && x) (switch && y) e b.place (positional_added (stands (is_plain false w) e place) place w).place) is
       (ended_too (positional_ends (is_plain false w) d e w place)),
 )
 

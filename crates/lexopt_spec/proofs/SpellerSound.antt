@@ -1,6 +1,7 @@
 -- What the speller answers spells the items.
 use Rattle.std.proofs.Common.{◌≡◌, ◌≢◌, ◌⊎◌, ℕ, ◌==◌, ◌&&◌, not, Bool, true, false, List, [], ◌∷◌, ◌++◌, map, None, encode_utf8, refl, sym, ap, subst, ◌∙◌, arith, inl, inr, ⊎_elim, true≢false, append-nil, append_assoc}
-use Rattle.std.proofs.lemmas.Bool.{eq-eqb, eqb-true}
+use Rattle.std.proofs.lemmas.Bool.{eq-eqb, eqb-true, and_parts}
+use Rattle.std.proofs.lemmas.Result.{IfOk-at_ok}
 use Rattle.std.proofs.lemmas.Str.{IsUtf8-from_is_utf8}
 use Rattle.std.specs.Prelude.{Result, Ok, Err}
 use Rattle.std.specs.List.{Contains}
@@ -13,6 +14,7 @@ use Rattle.lexopt_spec.specs.Spelling as spelling
 use Rattle.lexopt_spec.specs.Spelling.{exact, Behind, nothing, attached, joined, Completes, BeginsWithMark, IsBehindLast, Cluster, flag_first, last_option, nothing_more, IsLong, name_alone, name_and_value, Group, cluster, Line, no_words, plain_word, group, separator, Spells}
 use Rattle.lexopt_spec.specs.Speller.{Reason, Place, open_line, in_cluster, behind_values, behind_positional, ended, Form, name_only, short_form, long_form, short_many_form, long_many_form, behind_bytes, Added, with_form, short_added, is_named, long_placed, long_added, stands, positional_added, adds, separator_comes_too_early, separator_is_due, Fault, Rest, glued, with_rest, with_rests, spelled_from, words_of, spelled}
 use Rattle.lexopt_spec.proofs.PlainFronts.{plain_holds}
+use Rattle.lexopt_spec.proofs.SpellerAnswers.{Adding, Going, none_is}
 use Rattle.lexopt_spec.proofs.SpellerTests.{has_equals, no_equals, dash_first, dash_begins, some_bytes}
 use Rattle.lexopt_spec.proofs.SpellerForms.{HoldsShort, HoldsLong, short_holds, long_holds, short_many_holds, long_many_holds, NotAttached}
 
@@ -45,16 +47,6 @@ pub not_plain : (bytes : List ℕ) → bytes ≢ [] → ¬ IsPlain false (dash �
 not_plain bytes some (inl e) = true≢false (sym e)
 not_plain bytes some (inr (inl e)) = some (let same : bytes ≡ [] = cc in same)
 not_plain bytes some (inr (inr other)) = other refl
-
--- the answer is what an item adds
-abbrev Adding : Result Added Reason → Added → Type 0
-Adding answer a = answer ≡ Ok a
-
-on : (P : Added → Type 0) (a b : Added) → Adding (Ok a) b → P a → P b
-on P a b is p = let e : a ≡ b = cc in subst P e p
-
-none_is : {X : Type 0} (r : Reason) (a : Added) → Adding (Err r) a → X
-none_is r a is = absurd (let e : Adding (Err r) a = is in cc)
 
 abbrev glue : Added → Rest → Rest
 glue a r = glued a.goes_on (a.word ++ r.first) (a.words ++ r.words)
@@ -168,18 +160,18 @@ short_right : (t : Table) (switch s d : Bool) (place : Place) (c : ℕ) (item : 
 short_right t switch false d place c item form a scalar_is dash_is holds is = none_is _ a is
 short_right t switch true d place c item (Err reason) a scalar_is dash_is holds is = none_is _ a is
 short_right t switch true d ended c item (Ok f) a scalar_is dash_is holds is = none_is _ a is
-short_right t switch true false open_line c item (Ok f) a scalar_is dash_is holds is = on (Leads t switch open_line item) _ a is
+short_right t switch true false open_line c item (Ok f) a scalar_is dash_is holds is = IfOk-at_ok (Leads t switch open_line item) is
     (λ r items right. (new_word t switch c item f r items scalar_is (λ same. true≢false (sym (eq-eqb c dash same) ∙ dash_is)) (holds f refl) right).0)
-short_right t switch true false behind_positional c item (Ok f) a scalar_is dash_is holds is = on (Leads t switch behind_positional item) _ a is
+short_right t switch true false behind_positional c item (Ok f) a scalar_is dash_is holds is = IfOk-at_ok (Leads t switch behind_positional item) is
     (λ r items right. (new_word t switch c item f r items scalar_is (λ same. true≢false (sym (eq-eqb c dash same) ∙ dash_is)) (holds f refl) right).0)
-short_right t switch true false in_cluster c item (Ok f) a scalar_is dash_is holds is = on (Leads t switch in_cluster item) _ a is
+short_right t switch true false in_cluster c item (Ok f) a scalar_is dash_is holds is = IfOk-at_ok (Leads t switch in_cluster item) is
     (λ r items right. inl (new_word t switch c item f r items scalar_is (λ same. true≢false (sym (eq-eqb c dash same) ∙ dash_is)) (holds f refl) right).0)
-short_right t switch true false behind_values c item (Ok f) a scalar_is dash_is holds is = on (Leads t switch behind_values item) _ a is
+short_right t switch true false behind_values c item (Ok f) a scalar_is dash_is holds is = IfOk-at_ok (Leads t switch behind_values item) is
     (λ r items right. new_word t switch c item f r items scalar_is (λ same. true≢false (sym (eq-eqb c dash same) ∙ dash_is)) (holds f refl) right)
 short_right t switch true true open_line c item (Ok f) a scalar_is dash_is holds is = none_is _ a is
 short_right t switch true true behind_values c item (Ok f) a scalar_is dash_is holds is = none_is _ a is
 short_right t switch true true behind_positional c item (Ok f) a scalar_is dash_is holds is = none_is _ a is
-short_right t switch true true in_cluster c item (Ok f) a scalar_is dash_is holds is = on (Leads t switch in_cluster item) _ a is
+short_right t switch true true in_cluster c item (Ok f) a scalar_is dash_is holds is = IfOk-at_ok (Leads t switch in_cluster item) is
     (λ r items right. inr (name_begins c (behind_bytes f.behind) r.first (eqb-true c dash dash_is), clustered t switch c item f r items scalar_is (holds f refl) right))
 
 -- ---- long options
@@ -230,13 +222,13 @@ placed_right : (t : Table) (switch n : Bool) (place : Place) (name : List ℕ) (
     → is_named name f.behind ≡ n → HoldsLong (kind t (long name)) (long name) item f → Adding (long_placed n place name f) a → Leads t switch place item a
 placed_right t switch false place name item f a text none named holds is = none_is _ a is
 placed_right t switch true ended name item f a text none named holds is = none_is _ a is
-placed_right t switch true open_line name item f a text none named holds is = on (Leads t switch open_line item) _ a is
+placed_right t switch true open_line name item f a text none named holds is = IfOk-at_ok (Leads t switch open_line item) is
     (λ r items right. (anywhere t switch name item f text none named holds r items right).0)
-placed_right t switch true behind_positional name item f a text none named holds is = on (Leads t switch behind_positional item) _ a is
+placed_right t switch true behind_positional name item f a text none named holds is = IfOk-at_ok (Leads t switch behind_positional item) is
     (λ r items right. (anywhere t switch name item f text none named holds r items right).0)
-placed_right t switch true in_cluster name item f a text none named holds is = on (Leads t switch in_cluster item) _ a is
+placed_right t switch true in_cluster name item f a text none named holds is = IfOk-at_ok (Leads t switch in_cluster item) is
     (λ r items right. inl (anywhere t switch name item f text none named holds r items right).0)
-placed_right t switch true behind_values name item f a text none named holds is = on (Leads t switch behind_values item) _ a is
+placed_right t switch true behind_values name item f a text none named holds is = IfOk-at_ok (Leads t switch behind_values item) is
     (λ r items right. anywhere t switch name item f text none named holds r items right)
 
 long_right : (t : Table) (switch u e : Bool) (place : Place) (name : List ℕ) (item : Item) (form : Result Form Reason) (a : Added) → is_utf8 name ≡ u
@@ -279,22 +271,14 @@ positional_right t switch true open_line w plain r items right = record { none =
 positional_right t switch true in_cluster w plain r items right = inl (record { none = refl; line = plain_line t switch w r items (plain refl) right })
 positional_right t switch true behind_positional w plain r items right = record { none = refl; line = plain_line t switch w r items (plain refl) right }
 
-front_true : (a b : Bool) → (a && b) ≡ true → a ≡ true
-front_true true b is = refl
-front_true false b is = is
-
 stands_plain : (p d : Bool) (place : Place) → stands p d place ≡ true → p ≡ true
-stands_plain p d open_line is = front_true p (not d) is
-stands_plain p d in_cluster is = front_true p (not d) is
+stands_plain p d open_line is = (and_parts p (not d) is).0
+stands_plain p d in_cluster is = (and_parts p (not d) is).0
 stands_plain p d behind_values is = is
 stands_plain p d behind_positional is = is
 stands_plain p d ended is = is
 
 -- ---- all items
-
-and_switch : (switch joins : Bool) → (switch && joins) ≡ true → switch ≡ true
-and_switch true joins is = refl
-and_switch false joins is = is
 
 adds_right : (t : Table) (switch joins due : Bool) (place : Place) (item : Item) (a : Added) → adds t switch joins due place item ≡ Ok a → Leads t switch place item a
 adds_right t switch joins due place (option (short c) value) a is =
@@ -302,7 +286,7 @@ adds_right t switch joins due place (option (short c) value) a is =
     (λ f found. short_holds switch (kind t (short c)) (short c) value f found) is
 adds_right t switch joins due place (many (short c) values) a is =
     short_right t switch (scalar c) (c == dash) place c (many (short c) values) (short_many_form (switch && joins) (kind t (short c)) values) a refl refl
-    (λ f found. short_many_holds switch (switch && joins) (kind t (short c)) (short c) values f (and_switch switch joins) found) is
+    (λ f found. short_many_holds switch (switch && joins) (kind t (short c)) (short c) values f (λ both. (and_parts switch joins both).0) found) is
 adds_right t switch joins due place (option (long name) value) a is =
     long_right t switch (is_utf8 name) (has_equals name) place name (option (long name) value) (long_form (kind t (long name)) value) a refl refl
     (λ f found. long_holds (kind t (long name)) (long name) value f found) is
@@ -310,7 +294,7 @@ adds_right t switch joins due place (many (long name) values) a is =
     long_right t switch (is_utf8 name) (has_equals name) place name (many (long name) values) (long_many_form (kind t (long name)) values) a refl refl
     (λ f found. long_many_holds (kind t (long name)) (long name) values f found) is
 adds_right t switch joins due place (positional w) a is =
-    on (Leads t switch place (positional w)) (positional_added (stands (is_plain false w) due place) place w) a is
+    IfOk-at_ok (Leads t switch place (positional w)) is
     (positional_right t switch (stands (is_plain false w) due place) place w (stands_plain (is_plain false w) due place))
 
 nil_right : (t : Table) (switch : Bool) (place : Place) → Right t switch place (record { first = []; words = [] }) []
@@ -320,45 +304,31 @@ nil_right t switch behind_values = (record { none = refl; line = no_words }, λ 
 nil_right t switch behind_positional = record { none = refl; line = no_words }
 nil_right t switch ended = (refl, refl)
 
--- the answer is what is spelled from some place on
-abbrev Going : Result Rest Fault → Rest → Type 0
-Going answer r = answer ≡ Ok r
-
-on_rest : (P : Rest → Type 0) (r s : Rest) → Going (Ok r) s → P r → P s
-on_rest P r s is p = let e : r ≡ s = cc in subst P e p
-
-no_rest : {X : Type 0} (fault : Fault) (r : Rest) → Going (Err fault) r → X
-no_rest fault r is = absurd (let e : Going (Err fault) r = is in cc)
-
 abbrev From : Table → Bool → List Item → Type 0
 From t switch items = (place : Place) (r : Rest) → spelled_from t switch items place ≡ Ok r → Right t switch place r items
 
 behind_item : (t : Table) (switch joins due : Bool) (place : Place) (item : Item) (items : List Item) (r : Rest) (a : Added) (rest : Result Rest Fault) → From t switch items
     → adds t switch joins due place item ≡ Ok a → spelled_from t switch items a.place ≡ rest → Going (with_rest a rest) r → Right t switch place r (item ∷ items)
-behind_item t switch joins due place item items r a (Err fault) later added_is rest_is is = no_rest _ r is
-behind_item t switch joins due place item items r a (Ok s) later added_is rest_is is = on_rest (λ (x : Rest). Right t switch place x (item ∷ items)) _ r is
+behind_item t switch joins due place item items r a (Err fault) later added_is rest_is is = none_is _ r is
+behind_item t switch joins due place item items r a (Ok s) later added_is rest_is is = IfOk-at_ok (λ (x : Rest). Right t switch place x (item ∷ items)) is
     (adds_right t switch joins due place item a added_is s items (later a.place s rest_is))
 
 first_item : (t : Table) (switch joins due : Bool) (place : Place) (item : Item) (items : List Item) (r : Rest) (o : Result Added Reason) → From t switch items
     → adds t switch joins due place item ≡ o → Going (with_rests o (spelled_from t switch items)) r → Right t switch place r (item ∷ items)
-first_item t switch joins due place item items r (Err reason) later added_is is = no_rest _ r is
+first_item t switch joins due place item items r (Err reason) later added_is is = none_is _ r is
 first_item t switch joins due place item items r (Ok a) later added_is is =
     behind_item t switch joins due place item items r a (spelled_from t switch items a.place) later added_is refl is
 
 spelled_right : (t : Table) (switch : Bool) (items : List Item) → From t switch items
 unfolding spelled_from
-spelled_right t switch [] = λ place r is. on_rest (λ (s : Rest). Right t switch place s []) _ r is (nil_right t switch place)
+spelled_right t switch [] = λ place r is. IfOk-at_ok (λ (s : Rest). Right t switch place s []) is (nil_right t switch place)
 spelled_right t switch (item ∷ items) = λ place r is.
     first_item t switch (separator_comes_too_early items) (separator_is_due items) place item items r (adds t switch (separator_comes_too_early items) (separator_is_due items) place item) (spelled_right t switch items) refl is
-
-abbrev pub Answers : Result (List (List ℕ)) Fault → List (List ℕ) → Type 0
-Answers answer words = answer ≡ Ok words
 
 pub spelled_spells : (t : Table) (switch : Bool) (items : List Item) (words : List (List ℕ)) → spelled t switch items ≡ Ok words → Spells t switch words items
 spelled_spells t switch items words is = go (spelled_from t switch items open_line) refl is
   where
-    go : (o : Result Rest Fault) → spelled_from t switch items open_line ≡ o → Answers (words_of o) words → Spells t switch words items
-    go (Err fault) from with_is = absurd (let e : Answers (Err fault) words = with_is in cc)
+    go : (o : Result Rest Fault) → spelled_from t switch items open_line ≡ o → words_of o ≡ Ok words → Spells t switch words items
+    go (Err fault) from with_is = none_is fault words with_is
     go (Ok r) from with_is =
-        let e : r.words ≡ words = (let f : Answers (Ok r.words) words = with_is in cc) in
-        subst (λ (l : List (List ℕ)). Spells t switch l items) e (spelled_right t switch items open_line r from).line
+        IfOk-at_ok (λ (l : List (List ℕ)). Spells t switch l items) with_is (spelled_right t switch items open_line r from).line

@@ -1,6 +1,6 @@
 -- The tests of the speller say what they are named after.
 use Rattle.std.proofs.Common.{◌≡◌, ◌≢◌, ℕ, zero, suc, ◌<◌, ◌≤◌, ◌==◌, ◌||◌, not, Bool, true, false, map, List, [], ◌∷◌, ◌++◌, length, Some, None, encode_utf8, encode_utf8_all, refl, sym, ap, subst, ◌∙◌, arith, inl, inr, true≢false}
-use Rattle.std.proofs.lemmas.Bool.{eq-eqb, eqb-true, ne_eqb}
+use Rattle.std.proofs.lemmas.Bool.{eq-eqb, eqb-true, ne_eqb, or_parts}
 use Rattle.std.proofs.lemmas.Str.{encode_ascii, encode_same}
 use Rattle.std.proofs.lemmas.List.Folds.{list_any_at, list_any-append}
 use Rattle.std.proofs.lemmas.List.Sums.{AllPass-from_list_all, list_all-from_AllPass}
@@ -81,14 +81,6 @@ letter_dash c bytes behind (inl is) same = subst (λ (l : List ℕ). BeginsWith 
 letter_dash c bytes behind (inr is) same = absurd (let e : replacement ≡ dash = sym is.0 ∙ same in omega arith)
 
 -- lossy text has no `=` of its own
-front_none : (a b : Bool) → (a || b) ≡ false → a ≡ false
-front_none true b is = is
-front_none false b is = refl
-
-behind_none : (a b : Bool) → (a || b) ≡ false → b ≡ false
-behind_none true b is = absurd (true≢false is)
-behind_none false b is = is
-
 letter_none : (c : ℕ) (bytes behind : List ℕ) → damaged.character c bytes behind → has_equals bytes ≡ false → has_equals (encode_utf8 c) ≡ false
 unfolding lib.Utf8.encode
 letter_none c bytes behind (inl is) none = ap has_equals (sym is.1) ∙ none
@@ -107,8 +99,8 @@ lossy_none (suc n) (b ∷ bs) le none =
     sym (list_any-append (λ b. b == equals) (first_piece all).bytes later) ∙ ap has_equals letter.whole ∙ none in
     ap (λ cs. has_equals (encode_utf8_all cs)) (step all some)
     ∙ list_any-append (λ b. b == equals) (encode_utf8 c) (lossy later)
-    ∙ ap (λ x. x || has_equals (lossy later)) (letter_none c (first_piece all).bytes later letter.letter (front_none _ _ both))
-    ∙ lossy_none n later (shorter all n some le) (behind_none _ _ both)
+    ∙ ap (λ x. x || has_equals (lossy later)) (letter_none c (first_piece all).bytes later letter.letter (or_parts _ _ both).0)
+    ∙ lossy_none n later (shorter all n some le) (or_parts _ _ both).1
 
 pub lossy_text : (bs : List ℕ) → IsUtf8 (lossy bs)
 lossy_text bs = (lossy_characters bs, (characters (length bs) bs (omega arith), refl))

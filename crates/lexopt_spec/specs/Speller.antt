@@ -1,6 +1,5 @@
 -- Words that spell what a line is to say, where some do: from items to words.
--- The source is `docs/behaviour.md`, "From items back to words". The form is that of the POSIX utility conventions and of GNU:
--- `-o v`, `-ov` where a value may be left out, `--name=v`, and the separator where a positional needs it.
+-- The source is `docs/behaviour.md`, "From items back to words", after the POSIX Utility Syntax Guidelines and GNU's long options.
 use Rattle.std.specs.Prelude.{ℕ, suc, Bool, true, false, ◌==◌, ◌&&◌, ◌<◌, not, List, [], ◌∷◌, ◌++◌, length, take, Option, Some, None, Result, Ok, Err, encode_utf8, if◌then◌else◌}
 use Rattle.std.specs.List.{list_any, list_all}
 use Rattle.std.specs.Str.{is_utf8}

@@ -64,7 +64,7 @@ fn table_of_marks(alloc: Global) -> Result<Table, AllocError> {
     Ok(table)
 }
 
-// Whether the items are refused so, and the error and its reason print that.
+// Whether the items are refused so, the error prints that, and its reason what stands behind the first `: ` of it.
 fn is_refused_so(
     alloc: Global,
     fault: &Fault,
@@ -411,7 +411,8 @@ fn several_values(rt: HostRuntime) -> Result<(), Fail> {
     Ok(())
 }
 
-// A lone value is joined where a positional comes next and an option stands somewhere behind that.
+// With the switch on, a lone value of a short option of several is joined where a positional comes next and an option stands
+// somewhere behind that.
 const JOINED: [Row; 3] = [
     Row {
         items: &[ShortMany('d', &[b"1"]), Positional(b"f"), Short('v')],
@@ -432,7 +433,7 @@ const JOINED: [Row; 3] = [
     },
 ];
 
-// It stands in a word of its own elsewhere.
+// Elsewhere it stands in a word of its own, if it is a plain word.
 const NOT_JOINED: [Row; 3] = [
     Row {
         items: &[ShortMany('d', &[b"1"]), Positional(b"f")],
@@ -460,7 +461,8 @@ fn lone_value_elsewhere(rt: HostRuntime) -> Result<(), Fail> {
     Ok(())
 }
 
-// The separator stands once, before the first positional that would be an option, or one more of several values.
+// The separator stands once at most: before a positional that would be one more of several values, or before the last
+// positionals, where one of them would be an option.
 const POSITIONALS: [Row; 9] = [
     Row {
         items: &[Positional(b"f"), Positional(b"g=h")],
@@ -836,7 +838,7 @@ fn behind_separator(rt: HostRuntime) -> Result<(), Fail> {
     Ok(())
 }
 
-// Only with the switch on can a lone value be joined, so that no separator is needed.
+// Only with the switch on can a lone value of a short option of several be joined, so that no separator is needed.
 const LONE_VALUE: [Fault; 1] = [Fault {
     items: &[ShortMany('d', &[b"1"]), Positional(b"f"), Short('v')],
     index: 2,
@@ -898,7 +900,8 @@ fn dash_without_flag(rt: HostRuntime) -> Result<(), Fail> {
     Ok(())
 }
 
-// Of two reasons, that of the name comes before that of the values, and that of the place comes last.
+// Of two reasons the first of these is told: `=` in the name, the values, the empty name, a separator before the option, no flag
+// before `-`. Of two items that cannot be spelled the first is named.
 const TWO_REASONS: [Fault; 5] = [
     Fault {
         items: &[LongValue("a=", b"x")],
