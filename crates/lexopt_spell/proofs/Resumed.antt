@@ -1,6 +1,7 @@
 -- What a loop over the items keeps: the words so far, with those that are spelled behind them.
-use Rattle.std.proofs.Common.{◌≡◌, ◌≢◌, ℕ, suc, ◌+◌, ◌==◌, ◌&&◌, Bool, true, false, List, [], ◌∷◌, ◌++◌, Result, Ok, Err, Option, Some, None, refl, sym, ap, subst, ◌∙◌, arith, true≢false, cond, ◌<◌, ◌≤◌, length, map, drop, get_or, add-zero, zero-add, add-one, append-nil, append_assoc}
+use Rattle.std.proofs.Common.{◌≡◌, ◌≢◌, ℕ, suc, ◌+◌, ◌==◌, ◌&&◌, Bool, true, false, List, [], ◌∷◌, ◌++◌, Result, Ok, Err, Option, Some, None, refl, sym, ap, ◌∙◌, arith, true≢false, cond, ◌<◌, ◌≤◌, length, map, drop, get_or, add-zero, zero-add, add-one, append-nil, append_assoc}
 use Rattle.std.proofs.lemmas.List.{drop_all}
+use Rattle.std.proofs.lemmas.Result.{IfOk-at_ok}
 use Rattle.std.specs.List.{list_any, list_all}
 use Rattle.std.specs.Str.{is_utf8}
 use lib.Utf8.{scalar}
@@ -8,6 +9,7 @@ use Rattle.lexopt_spec.specs.UnreadLine.{dash, equals, is_plain}
 use Rattle.lexopt_spec.specs.Table.{short, long, Item, option, many, positional, Kind, flag, one, optional, several, kind, Table}
 use Rattle.lexopt_spec.specs.Spelling.{attached, joined}
 use Rattle.lexopt_spec.specs.Speller.{Reason, Place, open_line, in_cluster, behind_values, behind_positional, ended, Form, in_word, attached_form, short_form, long_form, words_form, short_words_form, short_many_form, long_many_form, Added, is_named, short_added, long_placed, long_added, stands, positional_added, adds, separator_comes_too_early, separator_is_due, Fault, Rest, glued, with_rest, with_rests, spelled_from, words_of, spelled}
+use Rattle.lexopt_spec.proofs.SpellerAnswers.{none_is}
 use Rattle.lexopt_spell.specs.Words.{onto_last, pushed}
 use Rattle.lexopt_spell.proofs.Behind.{from_on, from_on_is, at_item}
 use Rattle.lexopt_spell.proofs.LastWord.{onto_snoc, onto_nil, onto_twice}
@@ -23,15 +25,6 @@ FormIsCalm f = f.place ≡ in_cluster → f.words ≡ []
 abbrev IsCalm : Place → Added → Type 0
 IsCalm place a = (a.place ≡ in_cluster → a.words ≡ []) × (a.goes_on ≡ true → place ≡ in_cluster)
 
-abbrev IsSame : {X : Type 0} → Result X Reason → Result X Reason → Type 0
-IsSame a b = a ≡ b
-
-on : {X : Type 0} (P : X → Type 0) (a b : X) → IsSame (Ok a) (Ok b) → P a → P b
-on P a b is p = let e : a ≡ b = cc in subst P e p
-
-err_is : {X Y : Type 0} (reason : Reason) (a : X) → Err reason ≡ Ok a → Y
-err_is reason a is = absurd (let e : Err reason ≡ Ok a = is in cc)
-
 off : {X : Type 0} → false ≡ true → X
 off is = absurd (true≢false (sym is))
 
@@ -42,86 +35,86 @@ values_calm : (ws : List (List ℕ)) → behind_values ≡ in_cluster → ws ≡
 values_calm ws at = absurd (let e : behind_values ≡ in_cluster = at in cc)
 
 marked_calm : (mark : Bool) (v : List ℕ) (f : Form) → cond mark (given (in_word (joined v))) (given (in_word (attached v))) ≡ Ok f → FormIsCalm f
-marked_calm true v f is = on FormIsCalm _ f is (open_calm _)
-marked_calm false v f is = on FormIsCalm _ f is (open_calm _)
+marked_calm true v f is = IfOk-at_ok FormIsCalm is (open_calm _)
+marked_calm false v f is = IfOk-at_ok FormIsCalm is (open_calm _)
 
 attached_calm : (switch : Bool) (v : List ℕ) (f : Form) → attached_form switch v ≡ Ok f → FormIsCalm f
-attached_calm true [] f is = on FormIsCalm _ f is (open_calm _)
-attached_calm false [] f is = err_is _ f is
+attached_calm true [] f is = IfOk-at_ok FormIsCalm is (open_calm _)
+attached_calm false [] f is = none_is _ f is
 attached_calm true (b ∷ bs) f is = marked_calm (b == equals) (b ∷ bs) f is
-attached_calm false (b ∷ bs) f is = on FormIsCalm _ f is (open_calm _)
+attached_calm false (b ∷ bs) f is = IfOk-at_ok FormIsCalm is (open_calm _)
 
 short_form_calm : (switch : Bool) (k : Kind) (value : Option (List ℕ)) (f : Form) → short_form switch k value ≡ Ok f → FormIsCalm f
-short_form_calm switch flag None f is = on FormIsCalm _ f is (λ at. refl)
-short_form_calm switch flag (Some v) f is = err_is _ f is
-short_form_calm switch one None f is = err_is _ f is
-short_form_calm switch one (Some v) f is = on FormIsCalm _ f is (open_calm _)
-short_form_calm switch optional None f is = on FormIsCalm _ f is (open_calm _)
+short_form_calm switch flag None f is = IfOk-at_ok FormIsCalm is (λ at. refl)
+short_form_calm switch flag (Some v) f is = none_is _ f is
+short_form_calm switch one None f is = none_is _ f is
+short_form_calm switch one (Some v) f is = IfOk-at_ok FormIsCalm is (open_calm _)
+short_form_calm switch optional None f is = IfOk-at_ok FormIsCalm is (open_calm _)
 short_form_calm switch optional (Some v) f is = attached_calm switch v f is
-short_form_calm switch several value f is = err_is _ f is
+short_form_calm switch several value f is = none_is _ f is
 
 long_form_calm : (k : Kind) (value : Option (List ℕ)) (f : Form) → long_form k value ≡ Ok f → FormIsCalm f
-long_form_calm flag None f is = on FormIsCalm _ f is (open_calm _)
-long_form_calm flag (Some v) f is = err_is _ f is
-long_form_calm one None f is = err_is _ f is
-long_form_calm one (Some v) f is = on FormIsCalm _ f is (open_calm _)
-long_form_calm optional None f is = on FormIsCalm _ f is (open_calm _)
-long_form_calm optional (Some v) f is = on FormIsCalm _ f is (open_calm _)
-long_form_calm several value f is = err_is _ f is
+long_form_calm flag None f is = IfOk-at_ok FormIsCalm is (open_calm _)
+long_form_calm flag (Some v) f is = none_is _ f is
+long_form_calm one None f is = none_is _ f is
+long_form_calm one (Some v) f is = IfOk-at_ok FormIsCalm is (open_calm _)
+long_form_calm optional None f is = IfOk-at_ok FormIsCalm is (open_calm _)
+long_form_calm optional (Some v) f is = IfOk-at_ok FormIsCalm is (open_calm _)
+long_form_calm several value f is = none_is _ f is
 
 words_calm : (plain : Bool) (values : List (List ℕ)) (f : Form) → words_form plain values ≡ Ok f → FormIsCalm f
-words_calm true values f is = on FormIsCalm _ f is (values_calm _)
-words_calm false values f is = err_is _ f is
+words_calm true values f is = IfOk-at_ok FormIsCalm is (values_calm _)
+words_calm false values f is = none_is _ f is
 
 short_words_calm : (plain others : Bool) (v : List ℕ) (vs : List (List ℕ)) (f : Form) → short_words_form plain others v vs ≡ Ok f → FormIsCalm f
 short_words_calm true others v vs f is = words_calm others (v ∷ vs) f is
-short_words_calm false true v vs f is = on FormIsCalm _ f is (values_calm _)
-short_words_calm false false v vs f is = err_is _ f is
+short_words_calm false true v vs f is = IfOk-at_ok FormIsCalm is (values_calm _)
+short_words_calm false false v vs f is = none_is _ f is
 
 short_many_calm : (joins : Bool) (k : Kind) (values : List (List ℕ)) (f : Form) → short_many_form joins k values ≡ Ok f → FormIsCalm f
-short_many_calm joins several [] f is = err_is _ f is
-short_many_calm true several (v ∷ []) f is = on FormIsCalm _ f is (open_calm _)
+short_many_calm joins several [] f is = none_is _ f is
+short_many_calm true several (v ∷ []) f is = IfOk-at_ok FormIsCalm is (open_calm _)
 short_many_calm false several (v ∷ []) f is = short_words_calm (is_plain false v) true v [] f is
 short_many_calm joins several (v ∷ w ∷ vs) f is = short_words_calm (is_plain false v) (list_all (is_plain false) (w ∷ vs)) v (w ∷ vs) f is
-short_many_calm joins flag values f is = err_is _ f is
-short_many_calm joins one values f is = err_is _ f is
-short_many_calm joins optional values f is = err_is _ f is
+short_many_calm joins flag values f is = none_is _ f is
+short_many_calm joins one values f is = none_is _ f is
+short_many_calm joins optional values f is = none_is _ f is
 
 long_many_calm : (k : Kind) (values : List (List ℕ)) (f : Form) → long_many_form k values ≡ Ok f → FormIsCalm f
-long_many_calm several [] f is = err_is _ f is
-long_many_calm several (v ∷ []) f is = on FormIsCalm _ f is (open_calm _)
+long_many_calm several [] f is = none_is _ f is
+long_many_calm several (v ∷ []) f is = IfOk-at_ok FormIsCalm is (open_calm _)
 long_many_calm several (v ∷ w ∷ vs) f is = words_calm (list_all (is_plain false) (v ∷ w ∷ vs)) (v ∷ w ∷ vs) f is
-long_many_calm flag values f is = err_is _ f is
-long_many_calm one values f is = err_is _ f is
-long_many_calm optional values f is = err_is _ f is
+long_many_calm flag values f is = none_is _ f is
+long_many_calm one values f is = none_is _ f is
+long_many_calm optional values f is = none_is _ f is
 
 short_calm : (s d : Bool) (place : Place) (c : ℕ) (form : Result Form Reason) (a : Added) → ((f : Form) → form ≡ Ok f → FormIsCalm f) → short_added s d place c form ≡ Ok a
     → IsCalm place a
-short_calm false d place c form a calm is = err_is _ a is
-short_calm true d place c (Err reason) a calm is = err_is _ a is
-short_calm true d ended c (Ok f) a calm is = err_is _ a is
-short_calm true false open_line c (Ok f) a calm is = on (IsCalm open_line) _ a is (calm f refl, λ h. off h)
-short_calm true false in_cluster c (Ok f) a calm is = on (IsCalm in_cluster) _ a is (calm f refl, λ h. refl)
-short_calm true false behind_values c (Ok f) a calm is = on (IsCalm behind_values) _ a is (calm f refl, λ h. off h)
-short_calm true false behind_positional c (Ok f) a calm is = on (IsCalm behind_positional) _ a is (calm f refl, λ h. off h)
-short_calm true true behind_positional c (Ok f) a calm is = err_is _ a is
-short_calm true true open_line c (Ok f) a calm is = err_is _ a is
-short_calm true true behind_values c (Ok f) a calm is = err_is _ a is
-short_calm true true in_cluster c (Ok f) a calm is = on (IsCalm in_cluster) _ a is (calm f refl, λ h. refl)
+short_calm false d place c form a calm is = none_is _ a is
+short_calm true d place c (Err reason) a calm is = none_is _ a is
+short_calm true d ended c (Ok f) a calm is = none_is _ a is
+short_calm true false open_line c (Ok f) a calm is = IfOk-at_ok (IsCalm open_line) is (calm f refl, λ h. off h)
+short_calm true false in_cluster c (Ok f) a calm is = IfOk-at_ok (IsCalm in_cluster) is (calm f refl, λ h. refl)
+short_calm true false behind_values c (Ok f) a calm is = IfOk-at_ok (IsCalm behind_values) is (calm f refl, λ h. off h)
+short_calm true false behind_positional c (Ok f) a calm is = IfOk-at_ok (IsCalm behind_positional) is (calm f refl, λ h. off h)
+short_calm true true behind_positional c (Ok f) a calm is = none_is _ a is
+short_calm true true open_line c (Ok f) a calm is = none_is _ a is
+short_calm true true behind_values c (Ok f) a calm is = none_is _ a is
+short_calm true true in_cluster c (Ok f) a calm is = IfOk-at_ok (IsCalm in_cluster) is (calm f refl, λ h. refl)
 
 placed_calm : (named : Bool) (place : Place) (name : List ℕ) (f : Form) (a : Added) → FormIsCalm f → long_placed named place name f ≡ Ok a → IsCalm place a
-placed_calm false place name f a calm is = err_is _ a is
-placed_calm true ended name f a calm is = err_is _ a is
-placed_calm true open_line name f a calm is = on (IsCalm open_line) _ a is (calm, λ h. off h)
-placed_calm true in_cluster name f a calm is = on (IsCalm in_cluster) _ a is (calm, λ h. refl)
-placed_calm true behind_values name f a calm is = on (IsCalm behind_values) _ a is (calm, λ h. off h)
-placed_calm true behind_positional name f a calm is = on (IsCalm behind_positional) _ a is (calm, λ h. off h)
+placed_calm false place name f a calm is = none_is _ a is
+placed_calm true ended name f a calm is = none_is _ a is
+placed_calm true open_line name f a calm is = IfOk-at_ok (IsCalm open_line) is (calm, λ h. off h)
+placed_calm true in_cluster name f a calm is = IfOk-at_ok (IsCalm in_cluster) is (calm, λ h. refl)
+placed_calm true behind_values name f a calm is = IfOk-at_ok (IsCalm behind_values) is (calm, λ h. off h)
+placed_calm true behind_positional name f a calm is = IfOk-at_ok (IsCalm behind_positional) is (calm, λ h. off h)
 
 long_calm : (u e : Bool) (place : Place) (name : List ℕ) (form : Result Form Reason) (a : Added) → ((f : Form) → form ≡ Ok f → FormIsCalm f)
     → long_added u e place name form ≡ Ok a → IsCalm place a
-long_calm false e place name form a calm is = err_is _ a is
-long_calm true true place name form a calm is = err_is _ a is
-long_calm true false place name (Err reason) a calm is = err_is _ a is
+long_calm false e place name form a calm is = none_is _ a is
+long_calm true true place name form a calm is = none_is _ a is
+long_calm true false place name (Err reason) a calm is = none_is _ a is
 long_calm true false place name (Ok f) a calm is = placed_calm (is_named name f.behind) place name f a (calm f refl) is
 
 positional_calm : (p : Bool) (place : Place) (w : List ℕ) → IsCalm place (positional_added p place w)
@@ -147,7 +140,7 @@ adds_calm t switch joins due place (many (long name) values) a is =
     long_calm (is_utf8 name) (list_any (λ b. b == equals) name) place name (long_many_form (kind t (long name)) values) a
     (λ f found. long_many_calm (kind t (long name)) values f found) is
 adds_calm t switch joins due place (positional w) a is =
-    on (IsCalm place) (positional_added (stands (is_plain false w) due place) place w) a is (positional_calm (stands (is_plain false w) due place) place w)
+    IfOk-at_ok (IsCalm place) is (positional_calm (stands (is_plain false w) due place) place w)
 
 -- ---- where no cluster is open, no bytes go on
 
@@ -155,18 +148,15 @@ glued_first : (goes_on : Bool) (word : List ℕ) (words : List (List ℕ)) → (
 glued_first true word words alone = absurd (alone refl)
 glued_first false word words alone = refl
 
-fault_is : {X Y : Type 0} (fault : Fault) (r : X) → Err fault ≡ Ok r → Y
-fault_is fault r is = absurd (let e : Err fault ≡ Ok r = is in cc)
-
 with_first : (a : Added) (o : Result Rest Fault) (r : Rest) → (a.goes_on ≡ true → ⊥) → with_rest a o ≡ Ok r → r.first ≡ []
-with_first a (Err fault) r alone is = fault_is _ r is
+with_first a (Err fault) r alone is = none_is _ r is
 with_first a (Ok q) r alone is =
     let same : glued a.goes_on (a.word ++ q.first) (a.words ++ q.words) ≡ r = cc in
     ap (λ (x : Rest). x.first) (sym same) ∙ glued_first a.goes_on (a.word ++ q.first) (a.words ++ q.words) alone
 
 none_goes_on : (place : Place) (o : Result Added Reason) (rest : Place → Result Rest Fault) (r : Rest) → ((a : Added) → o ≡ Ok a → IsCalm place a) → place ≢ in_cluster
     → with_rests o rest ≡ Ok r → r.first ≡ []
-none_goes_on place (Err reason) rest r calm other is = fault_is _ r is
+none_goes_on place (Err reason) rest r calm other is = none_is _ r is
 none_goes_on place (Ok a) rest r calm other is = with_first a (rest a.place) r (λ on. other ((calm a refl).1 on)) is
 
 rest_first : (t : Table) (switch : Bool) (items : List Item) (place : Place) (r : Rest) → spelled_from t switch items place ≡ Ok r → place ≢ in_cluster → r.first ≡ []
