@@ -47,6 +47,7 @@ pub mod SpellerPlaces
 pub mod SpellerComplete
 pub mod SpellerFaults
 pub mod SpellerSettings
+pub mod SpellerReasons
 pub mod Computing
 pub mod Worked
 pub mod WorkedDamage

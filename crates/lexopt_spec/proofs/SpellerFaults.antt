@@ -18,25 +18,25 @@ use Rattle.lexopt_spec.proofs.SpellerComplete.{shown_can}
 
 -- ---- what is spelled, and what is not
 
-abbrev Failing : Result Rest Fault → Fault → Type 0
+abbrev pub Failing : Result Rest Fault → Fault → Type 0
 Failing answer f = answer ≡ Err f
 
 abbrev Answering : Result (List (List ℕ)) Fault → Fault → Type 0
 Answering answer f = answer ≡ Err f
 
-no_both : {X : Type 0} (t : Table) (switch : Bool) (items : List Item) (place : Place) (f : Fault) → spelled_from t switch items place ≡ Err f → Can t switch items place → X
+pub no_both : {X : Type 0} (t : Table) (switch : Bool) (items : List Item) (place : Place) (f : Fault) → spelled_from t switch items place ≡ Err f → Can t switch items place → X
 no_both t switch items place f fails can = none_is f can.0 (sym fails ∙ can.1)
 
 no_added : {X : Type 0} (r : Reason) (a : Added) (answer : Result Added Reason) → answer ≡ Err r → answer ≡ Ok a → X
 no_added r a answer err ok = none_is r a (sym err ∙ ok)
 
-same_added : (a b : Added) (answer : Result Added Reason) → answer ≡ Ok a → answer ≡ Ok b → a ≡ b
+pub same_added : (a b : Added) (answer : Result Added Reason) → answer ≡ Ok a → answer ≡ Ok b → a ≡ b
 same_added a b answer one two = let e : Adding (Ok a) b = sym one ∙ two in cc
 
 abbrev pub SomeWords : Table → Bool → List Item → Type 0
 SomeWords t switch items = (words : List (List ℕ)) × (spelled t switch items ≡ Ok words)
 
-can_words : (t : Table) (switch : Bool) (items : List Item) → Can t switch items open_line → SomeWords t switch items
+pub can_words : (t : Table) (switch : Bool) (items : List Item) → Can t switch items open_line → SomeWords t switch items
 can_words t switch items can = (can.0.words, ap words_of can.1)
 
 pub shown_words : (t : Table) (switch : Bool) (words : List (List ℕ)) (items : List Item) → Shows t switch words items → SomeWords t switch items
@@ -47,7 +47,7 @@ pub shown_spelled : (t : Table) (switch : Bool) (words : List (List ℕ)) (items
 shown_spelled t switch words items shows =
     let some = shown_words t switch words items shows in (some.0, spelled_spells t switch items some.0 some.1)
 
-spells_can : (t : Table) (switch : Bool) (words : List (List ℕ)) (items : List Item) → Spells t switch words items → Can t switch items open_line
+pub spells_can : (t : Table) (switch : Bool) (words : List (List ℕ)) (items : List Item) → Spells t switch words items → Can t switch items open_line
 spells_can t switch words items spells = shown_can t switch words items (spelled_shows t switch words items spells)
 
 -- ---- fronts of items
@@ -88,7 +88,7 @@ record AtFault (t : Table) (switch : Bool) (items : List Item) (place : Place) (
   before : Can t switch (take i items) place
   none : ¬ Can t switch (take (suc i) items) place
 
-data Fails (t : Table) (switch : Bool) (place : Place) (item : Item) (items : List Item) (f : Fault) : Type 0 where
+pub data Fails (t : Table) (switch : Bool) (place : Place) (item : Item) (items : List Item) (f : Fault) : Type 0 where
   here : (r : Reason) → adds t switch (separator_comes_too_early items) (separator_is_due items) place item ≡ Err r → f.index ≡ 0 → Fails t switch place item items f
   later : (a : Added) (g : Fault) → adds t switch (separator_comes_too_early items) (separator_is_due items) place item ≡ Ok a → spelled_from t switch items a.place ≡ Err g
       → f.index ≡ suc g.index → Fails t switch place item items f
@@ -108,7 +108,7 @@ fails_by t switch place item items f (Err r) added_is is =
     here r added_is (sym (ap (λ (x : Fault). x.index) e))
 fails_by t switch place item items f (Ok a) added_is is = fails_later t switch place item items f a (spelled_from t switch items a.place) added_is refl is
 
-fails : (t : Table) (switch : Bool) (place : Place) (item : Item) (items : List Item) (f : Fault) → spelled_from t switch (item ∷ items) place ≡ Err f
+pub fails : (t : Table) (switch : Bool) (place : Place) (item : Item) (items : List Item) (f : Fault) → spelled_from t switch (item ∷ items) place ≡ Err f
     → Fails t switch place item items f
 unfolding spelled_from
 fails t switch place item items f is = fails_by t switch place item items f (adds t switch (separator_comes_too_early items) (separator_is_due items) place item) refl is
@@ -151,7 +151,7 @@ faults : (t : Table) (switch : Bool) (items : List Item) → Faults t switch ite
 faults t switch [] = λ place f is. no_both t switch [] place f is (nil_can t switch place)
 faults t switch (item ∷ items) = λ place f is. first_fault t switch place item items f (faults t switch items) (fails t switch place item items f is)
 
-from_words : (o : Result Rest Fault) (f : Fault) → Answering (words_of o) f → Failing o f
+pub from_words : (o : Result Rest Fault) (f : Fault) → Answering (words_of o) f → Failing o f
 from_words (Err g) f is = let e : g ≡ f = cc in ap (λ (x : Fault). Err x) e
 from_words (Ok r) f is = none_is f r.words (sym is)
 

@@ -20,7 +20,7 @@ pub nil_can : (t : Table) (switch : Bool) (place : Place) → Can t switch [] pl
 unfolding spelled_from
 nil_can t switch place = (_, refl)
 
-cons_can : (t : Table) (switch : Bool) (place : Place) (item : Item) (items : List Item) (a : Added) → adds t switch (separator_comes_too_early items) (separator_is_due items) place item ≡ Ok a
+pub cons_can : (t : Table) (switch : Bool) (place : Place) (item : Item) (items : List Item) (a : Added) → adds t switch (separator_comes_too_early items) (separator_is_due items) place item ≡ Ok a
     → Can t switch items a.place → Can t switch (item ∷ items) place
 unfolding spelled_from
 cons_can t switch place item items a is can =
@@ -55,16 +55,16 @@ positionals_can t switch (w ∷ ws) place =
     cons_can t switch place (positional w) (map positional ws) (positional_added alone place w) refl
     (positionals_can t switch ws (positional_added alone place w).place)
 
-abbrev AllPositional : List Item → Type 0
+abbrev pub AllPositional : List Item → Type 0
 AllPositional items = (words : List (List ℕ)) × (items ≡ map positional words)
 
-all_positional : (items : List Item) → list_all is_positional items ≡ true → AllPositional items
+pub all_positional : (items : List Item) → list_all is_positional items ≡ true → AllPositional items
 all_positional [] are = ([], refl)
 all_positional (option name value ∷ items) are = absurd (true≢false (sym are))
 all_positional (many name values ∷ items) are = absurd (true≢false (sym are))
 all_positional (positional w ∷ items) are = let more = all_positional items are in (w ∷ more.0, ap (λ l. positional w ∷ l) more.1)
 
-all_can : (t : Table) (switch : Bool) (items : List Item) (place : Place) → AllPositional items → Can t switch items place
+pub all_can : (t : Table) (switch : Bool) (items : List Item) (place : Place) → AllPositional items → Can t switch items place
 all_can t switch items place all = subst (λ (l : List Item). Can t switch l place) (sym all.1) (positionals_can t switch all.0 place)
 
 -- behind the separator there are no options
@@ -164,7 +164,7 @@ pub data Ended (due : Bool) (before after : Place) : Type 0 where
   ends : before ≡ behind_positional → after ≡ ended → due ≡ true → Ended due before after
   ends_later : before ≡ ended → after ≡ behind_positional → Ended due before after
 
-abbrev Other : Bool → Bool → Kind → List (List ℕ) → Form → Type 0
+abbrev pub Other : Bool → Bool → Kind → List (List ℕ) → Form → Type 0
 Other x y k values f = (g : Form) × (short_many_form y k values ≡ Ok g) × Moved x y f.place g.place
 
 pub words_ok : (p : Bool) (v : List ℕ) (vs : List (List ℕ)) → (g : Form) × (short_words_form p true v vs ≡ Ok g) × (g.place ≡ behind_values)
@@ -183,7 +183,7 @@ one_joined true false v f is =
     (words.0, words.1, IfOk-at_ok (λ (g : Form). Moved true false g.place words.0.place) is (closes refl words.2 refl refl))
 one_joined false true v f is = (_, refl, opens (words_place (is_plain false v) v f is) refl)
 
-form_joined : (x y : Bool) (k : Kind) (values : List (List ℕ)) (f : Form) → Formed (short_many_form x k values) f → Other x y k values f
+pub form_joined : (x y : Bool) (k : Kind) (values : List (List ℕ)) (f : Form) → Formed (short_many_form x k values) f → Other x y k values f
 form_joined x y flag values f is = none_is _ f is
 form_joined x y one values f is = none_is _ f is
 form_joined x y optional values f is = none_is _ f is

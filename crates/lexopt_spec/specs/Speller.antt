@@ -269,3 +269,19 @@ pub record IsAtFault (t : Table) (switch : Bool) (items : List Item) (i : ℕ) :
   pub within : i < length items
   pub before : (words : List (List ℕ)) × Spells t switch words (take i items)
   pub none : (words : List (List ℕ)) → ¬ Spells t switch words (take (suc i) items)
+
+-- ---- what a reason is of
+
+-- the reason is where the item stands, and not the item
+abbrev pub is_of_the_place : Reason → Bool
+is_of_the_place no_name = false
+is_of_the_place equals_in_name = false
+is_of_the_place unexpected_value = false
+is_of_the_place missing_value = false
+is_of_the_place wants_many = false
+is_of_the_place not_many = false
+is_of_the_place empty_value = false
+is_of_the_place option_among_values = false
+is_of_the_place empty_name = false
+is_of_the_place behind_separator = true
+is_of_the_place dash_without_flag = true

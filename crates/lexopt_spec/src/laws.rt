@@ -1,5 +1,6 @@
 //! Laws of the definitions.
-ghost use Rattle.std.specs.Prelude.{◌≡◌, ◌≢◌, ◌⊎◌, ◌<◌, ◌≤◌, ◌+◌, ◌∷◌, ◌++◌, [], ℕ, Bool, true, false, List, Option, None, Some, Ok, Err, length, map, take};
+ghost use Rattle.std.specs.Prelude.{◌≡◌, ◌≢◌, ◌⊎◌, ◌<◌, ◌≤◌, ◌+◌, ◌∷◌, ◌++◌, [], ℕ, Bool, true, false, List, Option, None, Some, Ok, Err, drop, length, map, take};
+ghost use Rattle.std.specs.Char.{IsScalar};
 ghost use Rattle.std.specs.List.{All, Contains, IsAmong, cons_option, flat_map};
 ghost use Rattle.lexopt_spec.specs.Account.{NamesOption, bytes_of, flat, given_of, handed, handed_items, shown_of};
 ghost use Rattle.lexopt_spec.specs.Bound.{bound, replies_count};
@@ -7,10 +8,11 @@ ghost use Rattle.lexopt_spec.specs.Pieces.{IsFirstPiece, after_first_piece, firs
 ghost use Rattle.lexopt_spec.specs.Runs.{AmpleStep, Call, Part, account, ample_account, Run, Step, next, optional, raw, raw_if, segments, switch, try_raw, up_to, values};
 ghost use Rattle.lexopt_spec.specs.Steps.{Reply, busy, end, items, long, maybe, missing, no_memory, short, unexpected};
 ghost use Rattle.lexopt_spec.specs.UnreadLine.{IsLine, IsNormal, IsPlain, IsPlainFront, UnreadLine, dash, equals, fresh, is_plain, no_tail, pending};
-ghost use Rattle.lexopt_spec.specs.Table.{Item, Table};
+ghost use Rattle.lexopt_spec.specs.Table as table;
+ghost use Rattle.lexopt_spec.specs.Table.{Item, Table, flag, kind};
 ghost use Rattle.lexopt_spec.specs.Readings.{IsReading, start};
 ghost use Rattle.lexopt_spec.specs.Spelling.{HaveWholeNames, Shows, Spells};
-ghost use Rattle.lexopt_spec.specs.Speller.{Fault, IsAtFault, spelled};
+ghost use Rattle.lexopt_spec.specs.Speller.{Fault, IsAtFault, behind_separator, is_of_the_place, is_positional, spelled};
 ghost use Rattle.lexopt_spec.specs.OneValueSpelling.{OneValueShows, OneValueSpells, OneValueTable, widened};
 ghost use Rattle.lexopt_spec.specs.Views.{Stage, ValueItem, ValueItems, WordItems, at_end, at_start, available, plain_front, values_left};
 
@@ -191,4 +193,19 @@ pub fn items_are_spelled_or_one_is_at_fault()
 /// Where the same words spell the items under either setting of the switch, the answer is the same under either.
 pub fn both_settings_have_one_form()
     ensures { (t : Table) (words : List (List ℕ)) (l : List Item) → Spells t true words l → Spells t false words l → spelled t true l ≡ spelled t false l }
+{}
+
+/// What the reason says of an item at fault: it is of the item, and then no line has that item; or of its place, and then a
+/// line of two can be spelled, any flag of one character but `-` and right behind it that item. Where the reason is the
+/// separator, no option at all can be spelled in its place.
+pub fn reasons_are_of_the_item_or_of_its_place()
+    ensures item { (t : Table) (switch : Bool) (l : List Item) (f : Fault) (it : Item) (others : List Item) → spelled t switch l ≡ Err f
+        → is_of_the_place f.reason ≡ false → drop f.index l ≡ it ∷ others
+        → (words : List (List ℕ)) (before after : List Item) → Spells t switch words (before ++ it ∷ after) → ⊥ }
+    ensures place { (t : Table) (switch : Bool) (l : List Item) (f : Fault) (it : Item) (others : List Item) → spelled t switch l ≡ Err f
+        → is_of_the_place f.reason ≡ true → drop f.index l ≡ it ∷ others
+        → (c : ℕ) → IsScalar c → c ≢ dash → kind t (table.short c) ≡ flag
+        → (words : List (List ℕ)) × Spells t switch words (table.option (table.short c) None ∷ it ∷ []) }
+    ensures behind_separator { (t : Table) (switch : Bool) (l : List Item) (f : Fault) → spelled t switch l ≡ Err f → f.reason ≡ behind_separator
+        → (it : Item) → is_positional it ≡ false → (words : List (List ℕ)) → Spells t switch words (take f.index l ++ it ∷ []) → ⊥ }
 {}
