@@ -18,19 +18,9 @@ use lexopt_calls::replay::reply_to;
 pub use lexopt_calls::reply::{Call, Reply};
 use lexopt_words::error::Error;
 use lexopt_words::os_string::OsString;
+use lexopt_words::words::copies;
 use std::alloc::{AllocError, Global};
 use std::io::{Read, Write};
-
-// A copy of these words.
-fn copies(alloc: Global, words: &[OsString]) -> Result<Vec<OsString>, AllocError>
-    ensures { IfOk result (λ copied. copied.items ≡ words.now) }
-{
-    let mut copied = Vec::with_capacity(alloc, words.len())?;
-    for word in words {
-        copied.push(OsString::from_bytes(alloc, word.as_bytes())?)?;
-    }
-    Ok(copied)
-}
 
 // Writes these items in brackets, with a comma and a blank between them.
 fn write_items(items: &[Item], text: &mut String) -> Result<(), AllocError>

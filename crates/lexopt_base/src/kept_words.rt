@@ -6,6 +6,7 @@ ghost use Rattle.std.specs.Prelude.{◌≡◌, ◌≢◌, ◌≤◌, ◌∷◌, 
 ghost use Rattle.lexopt_base.specs.KeptWords.{IsFirst, TakesNext};
 
 use lexopt_words::os_string::OsString;
+use lexopt_words::words::copies;
 use std::alloc::{AllocError, Global};
 use std::marker::Model;
 use std::mem;
@@ -136,15 +137,4 @@ fn without_front(word: OsString, count: usize) -> OsString
     let len = bytes.len() - count;
     bytes.truncate(len);
     OsString::from_vec(bytes)
-}
-
-// A copy of these words.
-fn copies(alloc: Global, words: &[OsString]) -> Result<Vec<OsString>, AllocError>
-    ensures { IfOk result (λ copied. copied.items ≡ words.now) }
-{
-    let mut copied = Vec::with_capacity(alloc, words.len())?;
-    for word in words {
-        copied.push(OsString::from_bytes(alloc, word.as_bytes())?)?;
-    }
-    Ok(copied)
 }

@@ -9,3 +9,4 @@ pub mod os_string;
 mod quoted;
 pub mod value_ext;
 pub mod word;
+pub mod words;
