@@ -65,7 +65,8 @@ impl fmt::Display for Reason {
             Reason::BehindSeparator => {
                 "an option cannot stand behind a positional that needs `--` before it"
             }
-            Reason::DashWithoutFlag => "the option `-` can only stand right behind a flag of one character",
+            Reason::DashWithoutFlag =>
+                "the option `-` can only stand right behind a flag of one character",
         })
     }
 }
