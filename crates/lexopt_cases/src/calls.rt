@@ -1,6 +1,8 @@
 //! Calls that read a line: options, values, the switch and copies of a parser, with memory enough.
 use lexopt::{Error, Parser};
-use lexopt_testing::calls::{is_at_end, reads_long, reads_short, reads_word, takes};
+use lexopt_testing::calls::{
+    is_at_end, is_missing, is_unexpected, reads_long, reads_short, reads_word, takes,
+};
 use lexopt_testing::parsers::parser_of;
 use std::test::Fail;
 
@@ -28,13 +30,8 @@ fn options_and_values(rt: HostRuntime) -> Result<(), Fail> {
 fn unexpected_value(rt: HostRuntime) -> Result<(), Fail> {
     let mut parser = parser_of(rt.alloc(), &[b"--foobar=qux=baz", b"foo"])?;
     assert!(rt; reads_long(&mut parser, "foobar")?);
-    match parser.next() {
-        Err(Error::UnexpectedValue { option, value }) => {
-            assert_eq!(rt; option.as_str(), "--foobar");
-            assert_eq!(rt; value.as_bytes(), b"qux=baz".as_slice());
-        }
-        _ => return Err(Fail::from("an unexpected value")),
-    }
+    let answer = is_unexpected(parser.next().err(), "--foobar", b"qux=baz");
+    assert_eq!(rt; answer, Some(true));
     assert!(rt; reads_word(&mut parser, b"foo")?);
     Ok(())
 }
@@ -43,14 +40,7 @@ fn unexpected_value(rt: HostRuntime) -> Result<(), Fail> {
 fn missing_value(rt: HostRuntime) -> Result<(), Fail> {
     let mut parser = parser_of(rt.alloc(), &[b"-y"])?;
     assert!(rt; reads_short(&mut parser, 'y')?);
-    match parser.value() {
-        Err(
-            Error::MissingValue {
-                option: Some(option),
-            },
-        ) => assert_eq!(rt; option.as_str(), "-y"),
-        _ => return Err(Fail::from("a missing value")),
-    }
+    assert_eq!(rt; is_missing(parser.value().err(), "-y"), Some(true));
     assert!(rt; is_at_end(&mut parser)?);
     Ok(())
 }

@@ -28,19 +28,21 @@ fn answers(
 #[test]
 fn words_of_which_one_is_wanted(rt: HostRuntime) -> Result<(), Fail> {
     let alloc = rt.alloc();
+    let (other, wanted, taken) = (word(alloc, b"x")?, word(alloc, b"a")?, word(alloc, b"a")?);
+    let (option, positional) = (word(alloc, b"-b")?, word(alloc, b"-b")?);
     let calls = [
-        Call::RawIf(word(alloc, b"x")?),
-        Call::RawIf(word(alloc, b"a")?),
+        Call::RawIf(other),
+        Call::RawIf(wanted),
         Call::Raw(0),
         Call::Next,
-        Call::RawIf(word(alloc, b"-b")?),
+        Call::RawIf(option),
         Call::Next,
     ];
     let replies = [
         Reply::Maybe(None),
-        Reply::Maybe(Some(word(alloc, b"a")?)),
+        Reply::Maybe(Some(taken)),
         Reply::Items(Vec::new(alloc)),
-        Reply::Positional(word(alloc, b"-b")?),
+        Reply::Positional(positional),
         Reply::Maybe(None),
         Reply::End,
     ];
@@ -52,11 +54,13 @@ fn words_of_which_one_is_wanted(rt: HostRuntime) -> Result<(), Fail> {
 fn values_asked_and_not_asked(rt: HostRuntime) -> Result<(), Fail> {
     let alloc = rt.alloc();
     let calls = [Call::Next, Call::Value, Call::Next, Call::Next];
+    let (taken, name) = (word(alloc, b"b")?, text(alloc, "n")?);
+    let (option, value) = (text(alloc, "--n")?, word(alloc, b"x")?);
     let replies = [
         Reply::Short('a'),
-        Reply::Taken(word(alloc, b"b")?),
-        Reply::LongName(text(alloc, "n")?),
-        Reply::Unexpected(text(alloc, "--n")?, word(alloc, b"x")?),
+        Reply::Taken(taken),
+        Reply::LongName(name),
+        Reply::Unexpected(option, value),
     ];
     assert!(rt; answers(alloc, &[b"-a=b", b"--n=x"], &calls, &replies)?);
     Ok(())
@@ -65,13 +69,24 @@ fn values_asked_and_not_asked(rt: HostRuntime) -> Result<(), Fail> {
 #[test]
 fn damage_and_a_value(rt: HostRuntime) -> Result<(), Fail> {
     let alloc = rt.alloc();
-    let calls = [Call::Next, Call::Optional];
-    let replies = [
-        Reply::Short('\u{FFFD}'),
-        Reply::Maybe(Some(word(alloc, b"a")?)),
-    ];
-    assert!(rt; answers(alloc, &[b"-\xf0\x9da"], &calls, &replies)?);
+    let value = word(alloc, b"a")?;
+    let replies = [Reply::Short('\u{FFFD}'), Reply::Maybe(Some(value))];
+    assert!(rt;
+        answers(
+            alloc,
+            &[b"-\xf0\x9da"],
+            &[Call::Next, Call::Optional],
+            &replies
+        )?
+    );
     Ok(())
+}
+
+// The reply of a view that gives one word.
+fn items(alloc: Global, bytes: &[u8]) -> Result<Reply, AllocError> {
+    let mut items = Vec::new(alloc);
+    items.push(word(alloc, bytes)?)?;
+    Ok(Reply::Items(items))
 }
 
 #[test]
@@ -86,18 +101,16 @@ fn views_and_the_switch(rt: HostRuntime) -> Result<(), Fail> {
         Call::Value,
         Call::Value,
     ];
-    let mut first = Vec::new(alloc);
-    first.push(word(alloc, b"=b")?)?;
-    let mut second = Vec::new(alloc);
-    second.push(word(alloc, b"c")?)?;
+    let (first, second) = (items(alloc, b"=b")?, items(alloc, b"c")?);
+    let (taken, option) = (word(alloc, b"d")?, text(alloc, "-a")?);
     let replies = [
         Reply::Short('a'),
         Reply::Busy,
         Reply::Done,
-        Reply::Items(first),
-        Reply::Items(second),
-        Reply::Taken(word(alloc, b"d")?),
-        Reply::Missing(Some(text(alloc, "-a")?)),
+        first,
+        second,
+        Reply::Taken(taken),
+        Reply::Missing(Some(option)),
     ];
     assert!(rt; answers(alloc, &[b"-a=b", b"c", b"d"], &calls, &replies)?);
     Ok(())

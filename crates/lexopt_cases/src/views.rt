@@ -1,7 +1,7 @@
 //! Views: several values of one option, and the words that are left.
 use crate::callers::{negative_number, next_file, option_and_value, two_values};
-use lexopt::{Error, OsStr, OsString, Parser, RawArgs, ValuesIter};
-use lexopt_testing::calls::{is_at_end, reads_short, reads_word, takes};
+use lexopt::{OsStr, OsString, RawArgs, ValuesIter};
+use lexopt_testing::calls::{is_at_end, is_unexpected, reads_short, reads_word, takes};
 use lexopt_testing::parsers::parser_of;
 use std::test::Fail;
 
@@ -105,21 +105,13 @@ fn words_lent(rt: HostRuntime) -> Result<(), Fail> {
     Ok(())
 }
 
-fn is_refused(parser: &mut Parser) -> bool {
-    match parser.raw_args() {
-        Err(Error::UnexpectedValue { option, value }) => {
-            option.as_str() == "-a" && value.as_bytes() == b"b".as_slice()
-        }
-        _ => false,
-    }
-}
-
 #[test]
 fn pending_value(rt: HostRuntime) -> Result<(), Fail> {
     let mut parser = parser_of(rt.alloc(), &[b"-ab", b"c"])?;
     assert!(rt; reads_short(&mut parser, 'a')?);
     assert!(rt; parser.try_raw_args().is_none());
-    assert!(rt; is_refused(&mut parser));
+    let answer = is_unexpected(parser.raw_args().err(), "-a", b"b");
+    assert_eq!(rt; answer, Some(true));
     assert!(rt; gives(parser.raw_args()?.next(), b"c"));
     assert!(rt; parser.try_raw_args().is_some());
     Ok(())

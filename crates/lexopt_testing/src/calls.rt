@@ -37,6 +37,30 @@ pub fn takes(parser: &mut Parser, wanted: &[u8]) -> Result<bool, Error> {
     Ok(parser.value()?.as_bytes() == wanted)
 }
 
+/// Whether an answer is that this option misses its value; none where memory was refused.
+pub fn is_missing(error: Option<Error>, of: &str) -> Option<bool> {
+    match error {
+        Some(
+            Error::MissingValue {
+                option: Some(option),
+            },
+        ) => Some(option.as_str() == of),
+        Some(Error::OutOfMemory) => None,
+        _ => Some(false),
+    }
+}
+
+/// Whether an answer is that this option has this unexpected value; none where memory was refused.
+pub fn is_unexpected(error: Option<Error>, of: &str, held: &[u8]) -> Option<bool> {
+    match error {
+        Some(Error::UnexpectedValue { option, value }) => {
+            Some(option.as_str() == of && value.as_bytes() == held)
+        }
+        Some(Error::OutOfMemory) => None,
+        _ => Some(false),
+    }
+}
+
 /// What is left of a line: what is pending, the words, and the last option.
 pub fn left(alloc: Global, parser: &mut Parser) -> Result<Vec<Reply>, Error> {
     replay(alloc, parser, &[Call::Optional, Call::Raw(9), Call::Value])
