@@ -1,6 +1,6 @@
 //! Long names, many words and long scripts: nothing answers want of memory for their size.
 use lexopt::replay::run;
-use std::alloc::Global;
+use std::alloc::{AllocError, Global};
 use std::fmt::Write;
 use std::process::Abort;
 use std::test::Fail;
@@ -14,28 +14,45 @@ fn writes(rt: &impl Abort, alloc: Global, script: &str, text: &str) {
     assert!(rt; written.as_slice() == text.as_bytes());
 }
 
+// A text of many pieces.
+fn many(alloc: Global, piece: &str) -> Result<String, AllocError> {
+    let mut text = String::new(alloc);
+    for _ in 0..MANY {
+        text.push_str(piece)?;
+    }
+    Ok(text)
+}
+
+// A script of a long name with a long value, and of the name alone.
+fn long_script(alloc: Global, bytes: &str) -> Result<String, AllocError> {
+    let mut script = String::new(alloc);
+    writeln!(script, "w --{bytes}={bytes}")?;
+    writeln!(script, "w --{bytes}")?;
+    script.push_str("next\nnext\nnext\nvalue\n")?;
+    Ok(script)
+}
+
+// What is written for it.
+fn long_text(alloc: Global, name: &str, bytes: &str) -> Result<String, AllocError> {
+    let mut text = String::new(alloc);
+    writeln!(text, "Long \"{name}\"")?;
+    writeln!(
+        text,
+        "error: unexpected argument for option '--{name}': \"{bytes}\""
+    )?;
+    writeln!(text, "Long \"{name}\"")?;
+    writeln!(text, "error: missing argument for option '--{name}'")?;
+    Ok(text)
+}
+
 #[test]
 fn long_names(rt: HostRuntime) -> Result<(), Fail> {
     let alloc = rt.alloc();
     for (piece, shown) in [("n", "n"), ("µ", "µ"), ("\\xFF", "\u{fffd}")] {
-        let mut bytes = String::new(alloc);
-        let mut name = String::new(alloc);
-        for _ in 0..MANY {
-            bytes.push_str(piece)?;
-            name.push_str(shown)?;
-        }
-        let mut script = String::new(alloc);
-        writeln!(script, "w --{bytes}={bytes}")?;
-        writeln!(script, "w --{bytes}")?;
-        script.push_str("next\nnext\nnext\nvalue\n")?;
-        let mut text = String::new(alloc);
-        writeln!(text, "Long \"{name}\"")?;
-        writeln!(
-            text,
-            "error: unexpected argument for option '--{name}': \"{bytes}\""
-        )?;
-        writeln!(text, "Long \"{name}\"")?;
-        writeln!(text, "error: missing argument for option '--{name}'")?;
+        let bytes = many(alloc, piece)?;
+        let name = many(alloc, shown)?;
+        let script = long_script(alloc, bytes.as_str())?;
+        let text = long_text(alloc, name.as_str(), bytes.as_str())?;
         writes(&rt, alloc, script.as_str(), text.as_str());
     }
     Ok(())

@@ -1,8 +1,9 @@
 //! Views: several values of one option, and the words that are left.
 use crate::callers::{negative_number, next_file, option_and_value, two_values};
-use lexopt::{OsStr, OsString, RawArgs, ValuesIter};
+use lexopt::{Error, OsStr, OsString, Parser, RawArgs, ValuesIter};
 use lexopt_testing::calls::{is_at_end, is_unexpected, reads_short, reads_word, takes};
 use lexopt_testing::parsers::parser_of;
+use std::alloc::Global;
 use std::test::Fail;
 
 // Whether a view gives this item.
@@ -117,32 +118,51 @@ fn pending_value(rt: HostRuntime) -> Result<(), Fail> {
     Ok(())
 }
 
+// Whether `two_values` takes these values, and `negative_number` a word that is one, and no other.
+fn takes_by_callers(parser: &mut Parser) -> Result<bool, Error> {
+    let (first, second) = two_values(parser)?;
+    Ok(
+        gives(first, b"b")
+            && gives(second, b"c")
+            && negative_number(parser)?.is_none()
+            && takes(parser, b"d")?
+            && gives(negative_number(parser)?, b"-10"),
+    )
+}
+
 #[test]
 fn callers(rt: HostRuntime) -> Result<(), Fail> {
     let mut parser = parser_of(rt.alloc(), &[b"-a", b"b", b"c", b"d", b"-10", b"-e"])?;
     assert!(rt; reads_short(&mut parser, 'a')?);
-    let (first, second) = two_values(&mut parser)?;
-    assert!(rt; gives(first, b"b") && gives(second, b"c"));
-    assert!(rt; negative_number(&mut parser)?.is_none());
-    assert!(rt; takes(&mut parser, b"d")?);
-    assert!(rt; gives(negative_number(&mut parser)?, b"-10"));
+    assert!(rt; takes_by_callers(&mut parser)?);
     assert!(rt; reads_short(&mut parser, 'e')?);
     Ok(())
+}
+
+// Whether `option_and_value` reads this option and takes this value.
+fn reads_with_value(
+    alloc: Global,
+    parser: &mut Parser,
+    wanted: char,
+    bytes: &[u8],
+) -> Result<bool, Error> {
+    match option_and_value(alloc, parser)? {
+        Some((option, value)) => Ok(option == wanted && value.as_bytes() == bytes),
+        None => Ok(false),
+    }
+}
+
+// Whether `next_file` gives no option, and this word behind it.
+fn gives_behind_an_option(parser: &mut Parser, wanted: &[u8]) -> Result<bool, Error> {
+    Ok(next_file(parser)?.is_none() && gives(next_file(parser)?, wanted))
 }
 
 #[test]
 fn callers_of_next(rt: HostRuntime) -> Result<(), Fail> {
     let alloc = rt.alloc();
     let mut parser = parser_of(alloc, &[b"-n10", b"-n", b"a", b"b", b"c"])?;
-    match option_and_value(alloc, &mut parser)? {
-        Some((option, value)) => {
-            assert_eq!(rt; option, 'n');
-            assert_eq!(rt; value.as_bytes(), b"10".as_slice());
-        }
-        None => return Err(Fail::from("an option and its value")),
-    }
-    assert!(rt; next_file(&mut parser)?.is_none());
-    assert!(rt; gives(next_file(&mut parser)?, b"a"));
+    assert!(rt; reads_with_value(alloc, &mut parser, 'n', b"10")?);
+    assert!(rt; gives_behind_an_option(&mut parser, b"a")?);
     assert!(rt; option_and_value(alloc, &mut parser)?.is_none());
     assert!(rt; is_at_end(&mut parser)?);
     Ok(())

@@ -37,6 +37,36 @@ pub fn takes(parser: &mut Parser, wanted: &[u8]) -> Result<bool, Error> {
     Ok(parser.value()?.as_bytes() == wanted)
 }
 
+/// What a test wants to be read next, which has no memory of its own.
+#[derive(Clone, Copy)]
+pub enum Wanted<'a> {
+    Short(char),
+    Long(&'a str),
+    /// An argument that is no option.
+    Word(&'a [u8]),
+    /// The value of the option that was read last.
+    Value(&'a [u8]),
+    /// The end of the line.
+    End,
+}
+
+/// Whether these are read, in their order: a value by `value`, and all else by `next`.
+pub fn reads(parser: &mut Parser, list: &[Wanted<'_>]) -> Result<bool, Error> {
+    for wanted in list {
+        let is_read = match *wanted {
+            Wanted::Short(option) => reads_short(parser, option)?,
+            Wanted::Long(name) => reads_long(parser, name)?,
+            Wanted::Word(word) => reads_word(parser, word)?,
+            Wanted::Value(value) => takes(parser, value)?,
+            Wanted::End => is_at_end(parser)?,
+        };
+        if !is_read {
+            return Ok(false);
+        }
+    }
+    Ok(true)
+}
+
 /// Whether an answer is that this option misses its value; none where memory was refused.
 pub fn is_missing(error: Option<Error>, of: &str) -> Option<bool> {
     match error {
