@@ -24,6 +24,17 @@ fn words(rt: HostRuntime) -> Result<(), Fail> {
 }
 
 #[test]
+fn words_without_their_front(rt: HostRuntime) -> Result<(), Fail> {
+    let value = OsString::from_bytes(rt.alloc(), b"--name=a\xffb")?.without_front(7);
+    assert_eq!(rt; value.as_bytes(), b"a\xffb".as_slice());
+    assert_eq!(rt; value.len(), 3);
+    let last = value.without_front(2);
+    assert_eq!(rt; last.to_str(), Some("b"));
+    assert_eq!(rt; last.into_vec().as_slice(), b"b".as_slice());
+    Ok(())
+}
+
+#[test]
 fn quoted_bytes(rt: HostRuntime) -> Result<(), Fail> {
     for (bytes, text) in [
         (b"".as_slice(), "\"\""),

@@ -1,5 +1,5 @@
 //! The first character of some bytes, or the damaged piece that they begin with.
-ghost use Rattle.std.specs.Prelude.{◌≡◌, ◌++◌, [], IfOk, OnOk, encode_utf8, string_bytes};
+ghost use Rattle.std.specs.Prelude.{◌≡◌, ◌<◌, ◌++◌, [], drop, length, IfOk, OnOk, encode_utf8, string_bytes};
 ghost use Rattle.lexopt_spec.specs.Pieces.{first_piece, lossy, shown};
 ghost use Rattle.lexopt_words.specs.Codepoint.{IsFirstOf, character_of, size_of};
 ghost use Rattle.bstr.specs.Utf8.{decoded};
@@ -39,6 +39,7 @@ impl FirstCodepoint {
 
 /// The first piece of the bytes: by table 3-7 of the Unicode Standard a well-formed sequence, or else the maximal subpart
 /// of one, or a single byte.
+#[inline(always)]
 pub fn first_codepoint(bytes: &[u8]) -> FirstCodepoint
     ensures by_the_table { IsFirstOf bytes.now result }
     ensures character { character_of result ≡ (decoded bytes.now).char }
@@ -47,10 +48,35 @@ pub fn first_codepoint(bytes: &[u8]) -> FirstCodepoint
     match bytes {
         [] => FirstCodepoint::Empty,
         [first @ ..=0x7F, ..] => FirstCodepoint::Character(char::from(*first), 1),
-        _ => match decode_utf8(bytes) {
-            (Some(character), size) => FirstCodepoint::Character(character, size),
-            (None, size) => FirstCodepoint::Damage(size),
-        },
+        _ => decoded_codepoint(bytes),
+    }
+}
+
+/// The first piece of the bytes from this position on, of which there is one at least.
+#[inline(always)]
+pub fn codepoint_at(bytes: &[u8], position: usize) -> FirstCodepoint
+    requires { position < length bytes.now }
+    ensures by_the_table { IsFirstOf (drop position bytes.now) result }
+    ensures character { character_of result ≡ (decoded (drop position bytes.now)).char }
+    ensures size { size_of result ≡ (decoded (drop position bytes.now)).size }
+{
+    match bytes[position] {
+        first @ ..=0x7F => FirstCodepoint::Character(char::from(first), 1),
+        _ => decoded_codepoint(&bytes[position..]),
+    }
+}
+
+// The first piece of the bytes, of which there is one at least. It stands apart, so that what is inlined for ASCII stays short.
+#[inline(never)]
+fn decoded_codepoint(bytes: &[u8]) -> FirstCodepoint
+    requires { 0 < length bytes.now }
+    ensures by_the_table { IsFirstOf bytes.now result }
+    ensures character { character_of result ≡ (decoded bytes.now).char }
+    ensures size { size_of result ≡ (decoded bytes.now).size }
+{
+    match decode_utf8(bytes) {
+        (Some(character), size) => FirstCodepoint::Character(character, size),
+        (None, size) => FirstCodepoint::Damage(size),
     }
 }
 

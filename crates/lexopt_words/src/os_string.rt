@@ -1,7 +1,7 @@
 //! Words of any bytes.
 //!
 //! A word of a command line is a list of bytes, which need not be UTF-8. Nothing here changes a byte.
-ghost use Rattle.std.specs.Prelude.{◌≡◌, ◌↔◌, ◌≤◌, ℕ, List, [], drop, length, string_bytes, IfOk, IfSome, IsOk, IsSome, IsTrue, IsUtf8, MatchResult};
+ghost use Rattle.std.specs.Prelude.{◌≡◌, ◌↔◌, ◌≤◌, ℕ, List, [], drop, length, string_bytes, IfOk, IfSome, IsOk, IsSome, IsTrue, IsUtf8, MatchResult, vec_len};
 
 pub use crate::quoted::Quoted;
 use std::alloc::{AllocError, Global};
@@ -13,13 +13,19 @@ use std::{fmt, str};
 /// A word: a list of bytes, which contracts see as that list.
 #[derive(Drop)]
 pub struct OsString {
+    // The bytes of the word, after some that are no longer a part of it. So a value is taken out of its word and no byte is
+    // moved.
     bytes: Vec<u8>,
+    // How many are no longer a part of it.
+    front: usize,
 }
 
 impl Model for OsString {
     ghost Value = { List ℕ };
 
-    ghost view = { λ word. word.bytes.items };
+    ghost view = { λ word. drop word.front word.bytes.items };
+
+    ghost invariant = { λ word. word.front ≤ vec_len word.bytes };
 }
 
 impl OsString {
@@ -29,6 +35,7 @@ impl OsString {
     {
         OsString {
             bytes: Vec::new(alloc),
+            front: 0,
         }
     }
 
@@ -38,6 +45,7 @@ impl OsString {
     {
         Ok(OsString {
             bytes: Vec::from_slice(alloc, bytes)?,
+            front: 0,
         })
     }
 
@@ -52,7 +60,7 @@ impl OsString {
     pub fn from_vec(bytes: Vec<u8>) -> OsString
         ensures { result ≡ bytes.items }
     {
-        OsString { bytes }
+        OsString { bytes, front: 0 }
     }
 
     /// The word of the bytes of this text. It takes no memory.
@@ -66,8 +74,25 @@ impl OsString {
     pub fn into_vec(self) -> Vec<u8>
         ensures { result.items ≡ self }
     {
-        let OsString { bytes } = self;
-        bytes
+        let OsString { bytes, front } = self;
+        if front == 0 {
+            return bytes;
+        }
+        moved_up(bytes, front)
+    }
+
+    /// The word without its first `count` bytes. It takes no memory, and moves no byte.
+    ///
+    /// The word `--name=value` without its first 7 bytes is `value`.
+    pub fn without_front(self, count: usize) -> OsString
+        requires { count ≤ length self }
+        ensures { result ≡ drop count self }
+    {
+        let OsString { bytes, front } = self;
+        OsString {
+            bytes,
+            front: front + count,
+        }
     }
 
     /// The text of the word where its bytes are UTF-8, else the same word. It takes no memory.
@@ -87,7 +112,7 @@ impl OsString {
     pub fn as_bytes(&self) -> &[u8]
         ensures { result.now ≡ self.now }
     {
-        self.bytes.as_slice()
+        &self.bytes[self.front..]
     }
 
     /// A view of the word.
@@ -109,20 +134,33 @@ impl OsString {
     pub fn len(&self) -> usize
         ensures { result ≡ length self.now }
     {
-        self.bytes.len()
+        self.bytes.len() - self.front
     }
 
     /// Whether the word has no byte.
     pub fn is_empty(&self) -> bool
         ensures { IsTrue result ↔ (self.now ≡ []) }
     {
-        self.bytes.is_empty()
+        self.len() == 0
     }
 
     // What the word takes its memory of.
     pub(crate) fn allocator(&self) -> Global {
         *self.bytes.allocator()
     }
+}
+
+// The bytes without the first `count`, in the memory that they have.
+#[cold]
+fn moved_up(bytes: Vec<u8>, count: usize) -> Vec<u8>
+    requires { count ≤ vec_len bytes }
+    ensures { result.items ≡ drop count bytes.items }
+{
+    let mut bytes = bytes;
+    bytes.copy_within(count.., 0);
+    let len = bytes.len() - count;
+    bytes.truncate(len);
+    bytes
 }
 
 impl Clone for OsString {

@@ -57,7 +57,11 @@ impl ValueExt for OsString {
     where
         T::Err: Into<anyhow::Error>,
     {
-        self.parse_with(|text| T::from_str(text))
+        // Where the value met the error at the end of the function, it would be moved with the room of one.
+        match self.parse_with(|text| T::from_str(text)) {
+            Ok(value) => return Ok(value),
+            Err(error) => Err(error),
+        }
     }
 
     fn parse_with<F, T, E>(&self, func: F) -> Result<T, Error>
@@ -67,7 +71,8 @@ impl ValueExt for OsString {
     {
         match self.to_str() {
             Some(text) => match func(text) {
-                Ok(value) => Ok(value),
+                // As in `parse`.
+                Ok(value) => return Ok(value),
                 Err(error) => {
                     let error = error.into();
                     let value = String::from_str(self.allocator(), text)?;

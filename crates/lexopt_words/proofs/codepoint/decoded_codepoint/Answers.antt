@@ -1,6 +1,6 @@
 use Rattle.std.proofs.Common.{◌<◌, length, sym, ◌∙◌, arith}
 use Rattle.lexopt_spec.proofs.Fronts.{character, damage}
-use Rattle.lexopt_words.proofs.codepoint.first_codepoint.Goals as goal
+use Rattle.lexopt_words.proofs.codepoint.decoded_codepoint.Goals as goal
 
 pub returns-in-Some-default-clause-by_the_table : goal.returns-in-Some-default-clause-by_the_table
 returns-in-Some-default-clause-by_the_table c =
