@@ -101,9 +101,7 @@ fn performed(alloc: Global, script: &Script) -> Result<String, RunError>
     ensures ok { IfOk result (λ text. IsWritten script.now (string_bytes text)) }
     ensures err { IfErr result (λ e. e ≡ RunError.NoMemory) }
 {
-    let Ok(mut parser) = Parser::from_args(alloc, copies(alloc, &script.words)?) else {
-        return Err(RunError::NoMemory);
-    };
+    let mut parser = Parser::from_vec(copies(alloc, &script.words)?);
     let mut text = String::new(alloc);
     let mut on = true;
     for command in script.commands.iter() {

@@ -84,15 +84,21 @@ impl KeptWords {
     }
 
     /// Takes the word behind the cursor; the word just before the cursor stays just before it.
+    #[inline(always)]
     pub fn take_behind(&mut self) -> Option<OsString>
         requires { self.old.current ≢ [] }
         ensures taken { TakesNext self.old result self.new }
         ensures current { self.new.current ≡ self.old.current }
     {
-        if self.count == self.words.len() {
+        let place = self.count;
+        if place == self.words.len() {
             return None;
         }
-        Some(self.words.remove(self.count))
+        let empty = OsString::new(self.alloc);
+        let current = mem::replace(&mut self.words[place - 1], empty);
+        let word = mem::replace(&mut self.words[place], current);
+        self.count = place + 1;
+        Some(word)
     }
 
     /// The words behind the cursor.
@@ -115,6 +121,7 @@ impl KeptWords {
     }
 
     /// Takes the word just before the cursor, without its first `count` bytes.
+    #[inline(always)]
     pub fn take_current(&mut self, count: usize) -> OsString
         requires some { self.old.current ≢ [] }
         requires within { count ≤ length self.old.current }
@@ -123,18 +130,6 @@ impl KeptWords {
     {
         let empty = OsString::new(self.alloc);
         let word = mem::replace(&mut self.words[self.count - 1], empty);
-        without_front(word, count)
+        word.without_front(count)
     }
-}
-
-// The word without its first `count` bytes, in the memory that it has.
-fn without_front(word: OsString, count: usize) -> OsString
-    requires { count ≤ length word }
-    ensures { result ≡ drop count word }
-{
-    let mut bytes = word.into_vec();
-    bytes.copy_within(count.., 0);
-    let len = bytes.len() - count;
-    bytes.truncate(len);
-    OsString::from_vec(bytes)
 }

@@ -1,5 +1,5 @@
 //! The parser: a command line of which some is read.
-ghost use Rattle.std.specs.Prelude.{◌≡◌, ◌≢◌, ◌↔◌, ◌⊎◌, ◌<◌, ◌≤◌, ℕ, List, [], ◌∷◌, Some, None, false, IsTrue, IsSome, IfOk, IfErr, OnErr, OnOk, codes, length, string_bytes};
+ghost use Rattle.std.specs.Prelude.{◌≡◌, ◌≢◌, ◌↔◌, ◌⊎◌, ◌<◌, ◌≤◌, ℕ, List, [], ◌∷◌, Some, None, false, IsTrue, IsSome, IfOk, IfErr, OnErr, OnOk, codes, drop, length, string_bytes};
 ghost use Rattle.std.specs.Option.{option_map};
 ghost use Rattle.std.specs.Iterator.{IsFiniteIterable};
 ghost use Rattle.std.specs.Iterator.Runs.{WholeRun};
@@ -16,7 +16,7 @@ ghost use Rattle.lexopt_base.specs.View.{IsLongRead, IsShortRead};
 
 use crate::kept_words::KeptWords;
 use bstr::ByteSlice;
-use lexopt_words::codepoint::{first_codepoint, lossy_text};
+use lexopt_words::codepoint::{codepoint_at, lossy_text};
 use lexopt_words::error::{Arg, Error};
 use lexopt_words::os_string::OsString;
 use lexopt_words::word::{WordKind, is_positional, kind_of};
@@ -26,17 +26,18 @@ use std::env::Env;
 use std::io::ErrorKind;
 use std::marker::Model;
 
-// What is left of the word just before the cursor. A position is a number of bytes of that word.
+// What is left of the word just before the cursor. A position is a number of bytes of that word. What has nothing left stands
+// first, so that one comparison tells it.
 #[derive(Clone, Copy)]
 enum State {
     // Nothing.
     Ready,
-    // The value of `--option=value`, which begins here.
-    PendingValue(usize),
-    // The rest of a cluster, as `-abc`, which begins here.
-    Shorts(usize),
     // Nothing, and the separator was read.
     FinishedOpts,
+    // The rest of a cluster, as `-abc`, which begins here.
+    Shorts(usize),
+    // The value of `--option=value`, which begins here.
+    PendingValue(usize),
 }
 
 // The option that was read last.
@@ -102,6 +103,17 @@ impl Parser {
     {
         let words = collected(alloc, args)?;
         Ok(Parser::unread(alloc, KeptWords::new(alloc, words), None))
+    }
+
+    /// A parser of these words, of which none is read, in the memory that they have. There is no binary name among them.
+    ///
+    /// It is the parser that `from_args` makes of them, which copies the list of words, since it takes any iterator.
+    #[inline(always)]
+    pub fn from_vec(words: Vec<OsString>) -> Parser
+        ensures { result ≡ fresh words.items }
+    {
+        let alloc = *words.allocator();
+        Parser::unread(alloc, KeptWords::new(alloc, words), None)
     }
 
     /// A parser of these words but the first, of which none is read. The first word, if there is one, is the binary name.
@@ -305,11 +317,13 @@ impl Parser {
     fn lend(&self, found: Result<Found, Refusal>) -> Result<Option<Arg<'_>>, Error>
         ensures { (reply : Reply) → found_reply self.now.last found ≡ Some reply → next_reply result ≡ Some reply }
     {
+        // Each answer is returned at once. Where they met at the end of the function, LLVM would not follow each of them into the
+        // caller's `match`.
         match found {
-            Ok(Found::Short(option)) => Ok(Some(Arg::Short(option))),
-            Ok(Found::Long) => Ok(Some(Arg::Long(&self.name))),
-            Ok(Found::Value(word)) => Ok(Some(Arg::Value(word))),
-            Ok(Found::End) => Ok(None),
+            Ok(Found::Short(option)) => return Ok(Some(Arg::Short(option))),
+            Ok(Found::Long) => return Ok(Some(Arg::Long(&self.name))),
+            Ok(Found::Value(word)) => return Ok(Some(Arg::Value(word))),
+            Ok(Found::End) => return Ok(None),
             Err(refusal) => Err(Error::from(refusal)),
         }
     }
@@ -323,7 +337,7 @@ impl Parser {
             State::Ready | State::FinishedOpts => return None,
             State::PendingValue(position) => position,
             State::Shorts(position) => {
-                if is_joined(&self.words.current()[position..], self.short_equals) {
+                if is_joined(self.words.current(), position, self.short_equals) {
                     position + 1
                 } else {
                     position
@@ -381,9 +395,7 @@ impl Parser {
         match self.state {
             State::Ready | State::FinishedOpts => false,
             State::PendingValue(_) => true,
-            State::Shorts(position) => {
-                is_joined(&self.words.current()[position..], self.short_equals)
-            }
+            State::Shorts(position) => is_joined(self.words.current(), position, self.short_equals),
         }
     }
 
@@ -408,7 +420,12 @@ impl Parser {
     }
 
     // Refuses the pending value, which is then consumed.
-    #[cold]
+    //
+    // It is inlined, and `spelling` is not: an `Error` has room for a cause, which is zeroed for each answer of `next` unless LLVM
+    // sees that nothing of it is used. It does where the value comes into the error in the caller's own function, and the text out
+    // of a call that hands it over by its parts. Where this function is a call, or `spelling` is inlined, each answer costs some 70
+    // instructions more; `bench/run --check` tells.
+    #[inline(always)]
     fn refuse_pending(&mut self) -> Refusal
         requires value { IsSome (pending self.old) }
         requires option { IsSome (spelling self.old.last) }
@@ -448,7 +465,9 @@ impl Parser {
         Err(Error::MissingValue { option })
     }
 
-    // How the last option is spelled, with its dashes.
+    // How the last option is spelled, with its dashes. It stands apart for the sake of `refuse_pending`.
+    #[cold]
+    #[inline(never)]
     fn spelling(&self) -> Result<Option<String>, AllocError>
         ensures ok { IfOk result (λ text. option_map string_bytes text ≡ spelling self.now.last) }
         ensures err { OnErr result (IsSome (spelling self.now.last)) }
@@ -533,19 +552,22 @@ where
     Ok(items)
 }
 
-// Whether the rest of a cluster is a value that `=` joins to the option before it.
-fn is_joined(rest: &[u8], short_equals: bool) -> bool
-    ensures { IsTrue result ↔ IsJoined (pending_in short_equals (rest_of rest.now)) }
+// Whether what is left of a cluster from this position of its word on is a value that `=` joins to the option before it.
+#[inline(always)]
+fn is_joined(word: &[u8], position: usize, short_equals: bool) -> bool
+    requires { position < length word.now }
+    ensures { IsTrue result ↔ IsJoined (pending_in short_equals (rest_of (drop position word.now))) }
 {
-    short_equals && matches!(rest, [b'=', ..])
+    word[position] == b'=' && short_equals
 }
 
 // The short option at this position of a word, and the state behind it.
+#[inline(always)]
 fn read_short(word: &[u8], position: usize) -> (char, State)
     requires { position < length word.now }
     ensures { IsShortRead word.now position result.0 result.1 }
 {
-    let piece = first_codepoint(&word[position..]);
+    let piece = codepoint_at(word, position);
     let position = position + piece.size();
     let state = if position < word.len() {
         State::Shorts(position)

@@ -163,6 +163,9 @@ impl Values {
     }
 }
 
+// For how many items of a longer line there is room before its list grows.
+const FIRST_ROOM: usize = 16;
+
 // What ends a reading before the end of the line. An `Error` has room for a cause, so it is made where it is handed out.
 #[derive(Drop)]
 enum Ending {
@@ -275,12 +278,19 @@ fn read_item(alloc: Global, parser: &mut Parser, table: &Table) -> Result<Option
     }
 }
 
-// The items that are left of a line, up to what ends its reading.
-fn gathered(alloc: Global, parser: &mut Parser, table: &Table) -> Result<Vec<Item>, Ending>
+// The items that are left of a line, up to what ends its reading, in a list with room for so many from the start.
+fn gathered(
+    alloc: Global,
+    parser: &mut Parser,
+    table: &Table,
+    room: usize,
+) -> Result<Vec<Item>, Ending>
     ensures ok { IfOk result (λ items. IsReading (table_view table.now) parser.old end (map item_view items.items)) }
     ensures err { IfErr result (λ ending. EndsBy (table_view table.now) parser.old ending) }
 {
-    let mut items = Vec::new(alloc);
+    let Ok(mut items) = Vec::with_capacity(alloc, room) else {
+        return Err(Ending::NoMemory);
+    };
     while let Some(item) = read_item(alloc, parser, table)? {
         if items.push(item).is_err() {
             return Err(Ending::NoMemory);
@@ -289,12 +299,17 @@ fn gathered(alloc: Global, parser: &mut Parser, table: &Table) -> Result<Vec<Ite
     Ok(items)
 }
 
-// The items that are left of a line.
-fn items_of(alloc: Global, parser: &mut Parser, table: &Table) -> Result<Vec<Item>, Error>
+// The items that are left of a line, in a list with room for so many from the start.
+fn items_of(
+    alloc: Global,
+    parser: &mut Parser,
+    table: &Table,
+    room: usize,
+) -> Result<Vec<Item>, Error>
     ensures ok { IfOk result (λ items. IsReading (table_view table.now) parser.old end (map item_view items.items)) }
     ensures err { IfErr result (λ e. IsRefused (table_view table.now) parser.old e) }
 {
-    match gathered(alloc, parser, table) {
+    match gathered(alloc, parser, table, room) {
         Ok(items) => Ok(items),
         Err(ending) => refused(ending),
     }
@@ -349,9 +364,8 @@ pub fn read_items(
     ensures no_list { IfErr result (λ e. (e ≡ Error.OutOfMemory)
         ⊎ ((l : List spec.Item) → Shows (table_view table.now) short_equals words.items l → ⊥)) }
 {
-    let Ok(mut parser) = Parser::from_args(alloc, words) else {
-        return Err(Error::OutOfMemory);
-    };
+    let room = words.len().min(FIRST_ROOM);
+    let mut parser = Parser::from_vec(words);
     parser.set_short_equals(short_equals);
-    items_of(alloc, &mut parser, table)
+    items_of(alloc, &mut parser, table, room)
 }

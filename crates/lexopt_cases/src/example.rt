@@ -44,7 +44,7 @@ fn reads(alloc: Global, line: &[&str], known: bool, files: &[&str]) -> Result<bo
     for word in line {
         words.push(OsString::from_text(alloc, word)?)?;
     }
-    let mut parser = Parser::from_args(alloc, words)?;
+    let mut parser = Parser::from_vec(words);
     let mut options = Options {
         number: None,
         shout: false,

@@ -13,4 +13,4 @@ returns-in_err-item-clause-err c =
 pub returns-clause-ok : goal.returns-clause-ok
 returns-clause-ok c =
     end_read (table_view c.args.table.now) c.args.parser.now c.loop-items.parser c.read_item.new.parser (map item_view c.loop-items.items.items) c.loop-items.invariant
-    (subst (λ (o : Option Item). ReadsItem (table_view c.args.table.now) c.loop-items.parser (option_map item_view o) c.read_item.new.parser) c.in_default.is c.in_ok-item.ensures.ok)
+    (subst (λ (o : Option Item). ReadsItem (table_view c.args.table.now) c.loop-items.parser (option_map item_view o) c.read_item.new.parser) c.in_default-2.is c.in_ok-item.ensures.ok)

@@ -46,7 +46,3 @@ returns-clause-answered_spelled c = λ l spells.
 pub returns-clause-no_list : goal.returns-clause-no_list
 returns-clause-no_list c = IfErr-weaker c.items_of.result _ _
     (λ e refused. refused_shows_none (table_view c.args.table.now) c.args.short_equals c.args.words.items e refused) (returns-clause-refused c)
-
-pub returns-in_default-clause-one_list : goal.returns-in_default-clause-one_list
-returns-in_default-clause-one_list c = λ l m one other.
-    only_one (table_view c.args.table.now) (start c.args.short_equals c.args.words.items) l m tt one other

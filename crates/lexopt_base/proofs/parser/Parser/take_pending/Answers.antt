@@ -1,7 +1,6 @@
 use Rattle.std.proofs.Common.{◌<◌, true, false, List, ℕ, Some, drop, length, sym, ap, subst, ◌∙◌, arith, length-drop, true≢false}
 use Rattle.std.proofs.lemmas.List.{drop-drop}
 use Rattle.lexopt_spec.specs.UnreadLine.{pending_in, rest_of}
-use Rattle.lexopt_spec.proofs.PieceSteps.{rest_is}
 use Rattle.lexopt_base.specs.View.{tail_of, ended_of, IsPlaced}
 use Rattle.lexopt_base.specs.Helpers.{IsJoined}
 use Rattle.lexopt_base.specs.declared.parser.State.{State}
@@ -22,7 +21,7 @@ returns c =
           (ap ended_of w.in-PendingValue.is) left
       | in-Shorts+then-is_joined w ↦
           let at = w.in-Shorts.position in
-          let behind = rest_is w.current.result.now at ∙ ap (drop at) w.current.ensures in
+          let behind = ap (drop at) w.current.ensures in
           let joins = subst (λ (l : List ℕ). IsJoined (pending_in p.short_equals (rest_of l))) behind (w.is_joined.ensures.0 w.if-is_joined.true) in
           value_taken p c.args.self.now c.take_current.result true c.take_current.new.self c.self.view_is
           (ap (λ (s : State). pending_in p.short_equals (tail_of word s)) w.in-Shorts.is
@@ -31,7 +30,7 @@ returns c =
           (ap ended_of w.in-Shorts.is) left
       | in-Shorts+else-is_joined w ↦
           let at = w.in-Shorts.position in
-          let behind = rest_is w.current.result.now at ∙ ap (drop at) w.current.ensures in
+          let behind = ap (drop at) w.current.ensures in
           let below : at < length word = subst (λ (s : State). IsPlaced word s) w.in-Shorts.is c.self.invariant.placed in
           let some : 0 < length (drop at word) = omega (arith, length-drop at word) in
           value_taken p c.args.self.now c.take_current.result false c.take_current.new.self c.self.view_is
