@@ -34,9 +34,10 @@ pub fn read_items(
     short_equals: bool,
     table: &Table,
 ) -> Result<Vec<Item>, Error> {
+    // Room for a line as people type them; the items of a longer one grow.
+    let mut items = Vec::with_capacity(words.len().min(16));
     let mut parser = Parser::from_args(words);
     parser.set_short_equals(short_equals);
-    let mut items = Vec::new();
     while let Some(argument) = parser.next()? {
         let item = match argument {
             Arg::Short(option) => read_short(&mut parser, option, table)?,

@@ -20,6 +20,8 @@ const DAMAGED_NAME: &str = "\u{fffd}\u{fffd}\u{fffd}size";
 enum Work {
     Copy,
     Next,
+    Collected,
+    Fallible,
     Values,
     Raw,
     Parse,
@@ -31,6 +33,8 @@ impl Work {
         match name {
             "copy" => Some(Work::Copy),
             "next" => Some(Work::Next),
+            "collected" => Some(Work::Collected),
+            "fallible" => Some(Work::Fallible),
             "values" => Some(Work::Values),
             "raw" => Some(Work::Raw),
             "parse" => Some(Work::Parse),
@@ -49,65 +53,133 @@ fn copies(words: &[&[u8]]) -> Vec<OsString> {
     copied
 }
 
-// Takes a value for the last option.
-fn read_value(parser: &mut Parser, seen: &mut Seen) -> Result<(), Error> {
-    match parser.value() {
-        Ok(value) => seen.value(value.as_bytes()),
-        Err(error) => return seen.error(error),
-    }
-    Ok(())
-}
-
-// Takes several values for the last option.
-fn read_values(parser: &mut Parser, seen: &mut Seen) -> Result<(), Error> {
-    match parser.values() {
-        Ok(view) => {
-            for value in view {
-                seen.value(value.as_bytes());
-            }
-        }
-        Err(error) => return seen.error(error),
-    }
-    Ok(())
-}
-
 // Takes the words that are left.
-fn read_raw(parser: &mut Parser, seen: &mut Seen) -> Result<(), Error> {
-    for word in parser.raw_args()? {
-        seen.positional(word.as_bytes());
+fn read_raw(words: Vec<OsString>, seen: &mut Seen) -> bool {
+    let mut parser = Parser::from_args(words);
+    match parser.raw_args() {
+        Ok(view) => {
+            for word in view {
+                seen.positional(word.as_bytes());
+            }
+            true
+        }
+        Err(error) => seen.error(error),
     }
-    Ok(())
 }
 
 // Parses the words as numbers.
-fn read_numbers(words: &[OsString], seen: &mut Seen) -> Result<(), Error> {
+fn read_numbers(words: &[OsString], seen: &mut Seen) -> bool {
     for word in words {
-        seen.number(word.parse::<u64>()?);
+        match word.parse::<u64>() {
+            Ok(number) => seen.number(number),
+            Err(error) => return seen.error(error),
+        }
     }
-    Ok(())
+    true
 }
 
-// Reads the whole line. Only `-n` and `--name` take a value, and `-n` several values where that is wanted.
-fn read_line(parser: &mut Parser, several: bool, seen: &mut Seen) -> Result<(), Error> {
+// Reads the whole line. Only `-n` and `--name` take a value.
+fn read_line(words: Vec<OsString>, seen: &mut Seen) -> bool {
+    let mut parser = Parser::from_args(words);
     loop {
         match parser.next() {
             Ok(Some(Arg::Short(option))) => {
                 seen.short(option);
-                if option == 'n' && several {
-                    read_values(parser, seen)?;
-                } else if option == 'n' {
-                    read_value(parser, seen)?;
+                if option == 'n' {
+                    match parser.value() {
+                        Ok(value) => seen.value(value.as_bytes()),
+                        Err(error) => {
+                            if !seen.error(error) {
+                                return false;
+                            }
+                        }
+                    }
                 }
             }
             Ok(Some(Arg::Long(name))) => {
                 seen.long(name);
                 if name == "name" {
-                    read_value(parser, seen)?;
+                    match parser.value() {
+                        Ok(value) => seen.value(value.as_bytes()),
+                        Err(error) => {
+                            if !seen.error(error) {
+                                return false;
+                            }
+                        }
+                    }
                 }
             }
             Ok(Some(Arg::Value(word))) => seen.positional(word.as_bytes()),
-            Ok(None) => return Ok(()),
-            Err(error) => seen.error(error)?,
+            Ok(None) => return true,
+            Err(error) => {
+                if !seen.error(error) {
+                    return false;
+                }
+            }
+        }
+    }
+}
+
+// Reads the whole line. Only `-n` takes values, as many as there are.
+fn read_several(words: Vec<OsString>, seen: &mut Seen) -> bool {
+    let mut parser = Parser::from_args(words);
+    loop {
+        match parser.next() {
+            Ok(Some(Arg::Short(option))) => {
+                seen.short(option);
+                if option == 'n' {
+                    match parser.values() {
+                        Ok(view) => {
+                            for value in view {
+                                seen.value(value.as_bytes());
+                            }
+                        }
+                        Err(error) => {
+                            if !seen.error(error) {
+                                return false;
+                            }
+                        }
+                    }
+                }
+            }
+            Ok(Some(Arg::Long(name))) => seen.long(name),
+            Ok(Some(Arg::Value(word))) => seen.positional(word.as_bytes()),
+            Ok(None) => return true,
+            Err(error) => {
+                if !seen.error(error) {
+                    return false;
+                }
+            }
+        }
+    }
+}
+
+// Takes a value for the last option.
+fn read_value(parser: &mut Parser, seen: &mut Seen) -> Result<(), Error> {
+    let value = parser.value()?;
+    seen.value(value.as_bytes());
+    Ok(())
+}
+
+// Reads the line up to its first error. Only `-n` and `--name` take a value.
+fn read_or_fail(words: Vec<OsString>, seen: &mut Seen) -> Result<(), Error> {
+    let mut parser = Parser::from_args(words);
+    loop {
+        match parser.next()? {
+            Some(Arg::Short(option)) => {
+                seen.short(option);
+                if option == 'n' {
+                    read_value(&mut parser, seen)?;
+                }
+            }
+            Some(Arg::Long(name)) => {
+                seen.long(name);
+                if name == "name" {
+                    read_value(&mut parser, seen)?;
+                }
+            }
+            Some(Arg::Value(word)) => seen.positional(word.as_bytes()),
+            None => return Ok(()),
         }
     }
 }
@@ -124,21 +196,15 @@ fn options() -> Table {
     }
 }
 
-// Reads the whole line by the table.
-fn read_by_table(words: Vec<OsString>, table: &Table, seen: &mut Seen) -> Result<(), Error> {
-    match read_items(words, true, table) {
-        Ok(items) => seen.items(&items),
-        Err(error) => return seen.error(error),
-    }
-    Ok(())
-}
-
 fn main() -> Result<(), Box<dyn std::error::Error>> {
     let mut args = env::args();
     let (Some(_program), Some(work), Some(times)) = (args.next(), args.next(), args.next()) else {
-        return Err("usage: bench copy|next|values|raw|parse|items TIMES".into());
+        return Err(
+            "usage: bench copy|next|collected|fallible|values|raw|parse|items TIMES".into(),
+        );
     };
-    let work = Work::of_name(&work).ok_or("the work is copy, next, values, raw, parse or items")?;
+    let work = Work::of_name(&work)
+        .ok_or("the work is copy, next, collected, fallible, values, raw, parse or items")?;
     let times = times.parse::<u64>()?;
 
     let mut input = Vec::new();
@@ -150,22 +216,30 @@ fn main() -> Result<(), Box<dyn std::error::Error>> {
     let mut seen = Seen::new();
     for _ in 0..times {
         let copied = copies(&words);
-        match work {
-            Work::Copy => seen.copies(&copied),
-            Work::Next => {
-                let mut parser = Parser::from_args(copied);
-                read_line(&mut parser, false, &mut seen)?;
+        let goes_on = match work {
+            Work::Copy => {
+                seen.copies(&copied);
+                true
             }
-            Work::Values => {
-                let mut parser = Parser::from_args(copied);
-                read_line(&mut parser, true, &mut seen)?;
-            }
-            Work::Raw => {
-                let mut parser = Parser::from_args(copied);
-                read_raw(&mut parser, &mut seen)?;
-            }
-            Work::Parse => read_numbers(&copied, &mut seen)?,
-            Work::Items => read_by_table(copied, &table, &mut seen)?,
+            // The Rust crate has one constructor for both.
+            Work::Next | Work::Collected => read_line(copied, &mut seen),
+            Work::Fallible => match read_or_fail(copied, &mut seen) {
+                Ok(()) => true,
+                Err(error) => seen.error(error),
+            },
+            Work::Values => read_several(copied, &mut seen),
+            Work::Raw => read_raw(copied, &mut seen),
+            Work::Parse => read_numbers(&copied, &mut seen),
+            Work::Items => match read_items(copied, true, &table) {
+                Ok(items) => {
+                    seen.items(&items);
+                    true
+                }
+                Err(error) => seen.error(error),
+            },
+        };
+        if !goes_on {
+            return Err("an error that no workload should lead to".into());
         }
         seen.stop_hashing();
     }

@@ -106,8 +106,8 @@ impl Seen {
         }
     }
 
-    /// After an error of the command line reading goes on; another is handed back.
-    pub fn error(&mut self, error: Error) -> Result<(), Error> {
+    /// Whether reading goes on after this error.
+    pub fn error(&mut self, error: Error) -> bool {
         match error {
             Error::UnexpectedValue { option, value } => {
                 self.text(b'u', option.as_bytes());
@@ -116,10 +116,10 @@ impl Seen {
             Error::MissingValue {
                 option: Some(option),
             } => self.text(b'm', option.as_bytes()),
-            error => return Err(error),
+            _ => return false,
         }
         self.errors = self.errors.wrapping_add(1);
-        Ok(())
+        true
     }
 
     fn text(&mut self, kind: u8, bytes: &[u8]) {

@@ -1,10 +1,18 @@
 //! Reads words many times, so that the cost of a read can be measured. `bench/src/main.rs` does the same with the Rust crate.
 //!
-//! Arguments are `copy`, `next`, `values`, `raw`, `parse`, `items`, `spell` or `spelled`, and how many times. Standard input has
-//! the words, each ended by a NUL. Each time the words are copied; under `copy` that is all. Under `next` and `values` the copies
-//! are read as a command line, and `-n` takes one value or several; under `raw` they are taken unread; under `items` they are
-//! read by a table of options; under `spell` the items are then spelled, and under `spelled` the words that spell them are copied
-//! too. Under `parse` each copy is parsed as a number, and no line is read. Last it prints what was seen.
+//! The first argument is the work, and the second how many times it is done. Standard input has the words, each ended by a NUL.
+//! Each time the words are copied, and
+//!
+//! - `copy` does no more;
+//! - `next` reads the copies as a command line, in which `-n` and `--name` take a value, by a parser that `from_vec` makes of them;
+//! - `collected` does so by a parser that `from_args` makes;
+//! - `fallible` does so up to the first error, and takes values by a function that can fail;
+//! - `values` reads a line in which `-n` takes several values;
+//! - `raw` takes the words unread;
+//! - `parse` parses each copy as a number, and reads no line;
+//! - `items` reads the line by a table of options, `spell` spells these items too, and `spelled` copies the words that spell them.
+//!
+//! Last it prints what was seen.
 #![tactic(auto)]
 
 mod seen;
@@ -26,6 +34,8 @@ const DAMAGED_NAME: &str = "\u{fffd}\u{fffd}\u{fffd}size";
 enum Work {
     Copy,
     Next,
+    Collected,
+    Fallible,
     Values,
     Raw,
     Parse,
@@ -39,6 +49,8 @@ impl Work {
         match name {
             "copy" => Some(Work::Copy),
             "next" => Some(Work::Next),
+            "collected" => Some(Work::Collected),
+            "fallible" => Some(Work::Fallible),
             "values" => Some(Work::Values),
             "raw" => Some(Work::Raw),
             "parse" => Some(Work::Parse),
@@ -59,65 +71,149 @@ fn copies(alloc: Global, words: &[&[u8]]) -> Result<Vec<OsString>, AllocError> {
     Ok(copied)
 }
 
-// Takes a value for the last option.
-fn read_value(parser: &mut Parser, seen: &mut Seen) -> Result<(), Error> {
-    match parser.value() {
-        Ok(value) => seen.value(value.as_bytes()),
-        Err(error) => return seen.error(error),
-    }
-    Ok(())
-}
-
-// Takes several values for the last option.
-fn read_values(parser: &mut Parser, seen: &mut Seen) -> Result<(), Error> {
-    match parser.values() {
-        Ok(view) => {
-            for value in view {
-                seen.value(value.as_bytes());
-            }
-        }
-        Err(error) => return seen.error(error),
-    }
-    Ok(())
-}
-
 // Takes the words that are left.
-fn read_raw(parser: &mut Parser, seen: &mut Seen) -> Result<(), Error> {
-    for word in parser.raw_args()? {
-        seen.positional(word.as_bytes());
+fn read_raw(words: Vec<OsString>, seen: &mut Seen) -> bool {
+    let mut parser = Parser::from_vec(words);
+    match parser.raw_args() {
+        Ok(view) => {
+            for word in view {
+                seen.positional(word.as_bytes());
+            }
+            true
+        }
+        Err(error) => seen.error(error),
     }
-    Ok(())
 }
 
 // Parses the words as numbers.
-fn read_numbers(words: &[OsString], seen: &mut Seen) -> Result<(), Error> {
+fn read_numbers(words: &[OsString], seen: &mut Seen) -> bool {
     for word in words {
-        seen.number(word.parse::<u64>()?);
+        match word.parse::<u64>() {
+            Ok(number) => seen.number(number),
+            Err(error) => return seen.error(error),
+        }
     }
-    Ok(())
+    true
 }
 
-// Reads the whole line. Only `-n` and `--name` take a value, and `-n` several values where that is wanted.
-fn read_line(parser: &mut Parser, several: bool, seen: &mut Seen) -> Result<(), Error> {
+// Reads the whole line. Only `-n` and `--name` take a value.
+#[inline(always)]
+fn read_all(parser: &mut Parser, seen: &mut Seen) -> bool {
     for _ in 0..u64::MAX {
         match parser.next() {
             Ok(Some(Arg::Short(option))) => {
                 seen.short(option);
-                if option == 'n' && several {
-                    read_values(parser, seen)?;
-                } else if option == 'n' {
-                    read_value(parser, seen)?;
+                if option == 'n' {
+                    match parser.value() {
+                        Ok(value) => seen.value(value.as_bytes()),
+                        Err(error) => {
+                            if !seen.error(error) {
+                                return false;
+                            }
+                        }
+                    }
                 }
             }
             Ok(Some(Arg::Long(name))) => {
                 seen.long(name);
                 if name == "name" {
-                    read_value(parser, seen)?;
+                    match parser.value() {
+                        Ok(value) => seen.value(value.as_bytes()),
+                        Err(error) => {
+                            if !seen.error(error) {
+                                return false;
+                            }
+                        }
+                    }
                 }
             }
             Ok(Some(Arg::Value(word))) => seen.positional(word.as_bytes()),
             Ok(None) => break,
-            Err(error) => seen.error(error)?,
+            Err(error) => {
+                if !seen.error(error) {
+                    return false;
+                }
+            }
+        }
+    }
+    true
+}
+
+// Reads the whole line of words in a `Vec`.
+fn read_line(words: Vec<OsString>, seen: &mut Seen) -> bool {
+    let mut parser = Parser::from_vec(words);
+    read_all(&mut parser, seen)
+}
+
+// Reads the whole line of any iterator's words.
+fn read_collected(alloc: Global, words: Vec<OsString>, seen: &mut Seen) -> bool {
+    match Parser::from_args(alloc, words) {
+        Ok(mut parser) => read_all(&mut parser, seen),
+        Err(error) => seen.error(error),
+    }
+}
+
+// Reads the whole line. Only `-n` takes values, as many as there are.
+fn read_several(words: Vec<OsString>, seen: &mut Seen) -> bool {
+    let mut parser = Parser::from_vec(words);
+    for _ in 0..u64::MAX {
+        match parser.next() {
+            Ok(Some(Arg::Short(option))) => {
+                seen.short(option);
+                if option == 'n' {
+                    match parser.values() {
+                        Ok(view) => {
+                            for value in view {
+                                seen.value(value.as_bytes());
+                            }
+                        }
+                        Err(error) => {
+                            if !seen.error(error) {
+                                return false;
+                            }
+                        }
+                    }
+                }
+            }
+            Ok(Some(Arg::Long(name))) => seen.long(name),
+            Ok(Some(Arg::Value(word))) => seen.positional(word.as_bytes()),
+            Ok(None) => break,
+            Err(error) => {
+                if !seen.error(error) {
+                    return false;
+                }
+            }
+        }
+    }
+    true
+}
+
+// Takes a value for the last option.
+fn read_value(parser: &mut Parser, seen: &mut Seen) -> Result<(), Error> {
+    let value = parser.value()?;
+    seen.value(value.as_bytes());
+    Ok(())
+}
+
+// Reads the line up to its first error. Only `-n` and `--name` take a value.
+fn read_or_fail(words: Vec<OsString>, seen: &mut Seen) -> Result<(), Error> {
+    let mut parser = Parser::from_vec(words);
+    for _ in 0..u64::MAX {
+        match parser.next()? {
+            Some(Arg::Short(option)) => {
+                seen.short(option);
+                if option == 'n' {
+                    read_value(&mut parser, seen)?;
+                }
+            }
+            Some(Arg::Long(name)) => {
+                seen.long(name);
+                if name == "name" {
+                    read_value(&mut parser, seen)?;
+                }
+            }
+            Some(Arg::Value(word)) => seen.positional(word.as_bytes()),
+            None => break,
         }
     }
     Ok(())
@@ -160,10 +256,10 @@ fn main(rt: HostRuntime) -> Result<()> {
     let alloc = rt.alloc();
     let mut args = env::args(&rt)?;
     let (Some(_program), Some(work), Some(times)) = (args.next(), args.next(), args.next()) else {
-        bail!("usage: lexopt_bench copy|next|values|raw|parse|items|spell|spelled TIMES");
+        bail!("usage: lexopt_bench WORK TIMES");
     };
     let work = Work::of_name(&work).context(
-        "the work is copy, next, values, raw, parse, items, spell or spelled",
+        "the work is copy, next, collected, fallible, values, raw, parse, items, spell or spelled",
     )?;
     let times = times.parse::<u64>().context("how many times")?;
 
@@ -176,21 +272,20 @@ fn main(rt: HostRuntime) -> Result<()> {
     let mut seen = Seen::new();
     for _ in 0..times {
         let copied = copies(alloc, &words)?;
-        match work {
-            Work::Copy => seen.copies(&copied),
-            Work::Next => {
-                let mut parser = Parser::from_args(alloc, copied)?;
-                read_line(&mut parser, false, &mut seen)?;
+        let goes_on = match work {
+            Work::Copy => {
+                seen.copies(&copied);
+                true
             }
-            Work::Values => {
-                let mut parser = Parser::from_args(alloc, copied)?;
-                read_line(&mut parser, true, &mut seen)?;
-            }
-            Work::Raw => {
-                let mut parser = Parser::from_args(alloc, copied)?;
-                read_raw(&mut parser, &mut seen)?;
-            }
-            Work::Parse => read_numbers(&copied, &mut seen)?,
+            Work::Next => read_line(copied, &mut seen),
+            Work::Collected => read_collected(alloc, copied, &mut seen),
+            Work::Fallible => match read_or_fail(copied, &mut seen) {
+                Ok(()) => true,
+                Err(error) => seen.error(error),
+            },
+            Work::Values => read_several(copied, &mut seen),
+            Work::Raw => read_raw(copied, &mut seen),
+            Work::Parse => read_numbers(&copied, &mut seen),
             Work::Items | Work::Spell | Work::Spelled => {
                 match read_items(alloc, copied, true, &table) {
                     Ok(items) => {
@@ -198,10 +293,14 @@ fn main(rt: HostRuntime) -> Result<()> {
                         if !matches!(work, Work::Items) {
                             spell_items(alloc, &items, work, &table, &mut seen)?;
                         }
+                        true
                     }
-                    Err(error) => seen.error(error)?,
+                    Err(error) => seen.error(error),
                 }
             }
+        };
+        if !goes_on {
+            bail!("an error that no workload should lead to");
         }
         seen.stop_hashing();
     }
