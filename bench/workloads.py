@@ -59,11 +59,11 @@ OF_EMPTY_WORDS = (
 )
 OF_LISTS = (
     "The list of an option's values is read by a function of its own, and the room of its answer is zeroed. Where that function is "
-    "inlined the ratio is 0.85, and each other row by a table takes more."
+    "inlined the ratio is 0.85, and most other rows by a table take more."
 )
 OF_THE_ALLOCATOR = (
-    "Some 300,000 instructions of it are those by which the C library's allocator merges the freed words, which hang on how "
-    "large the other blocks are. Without them the ratio is 0.98."
+    "Some 400,000 instructions of it, and 100,000 of lexopt's, are those by which the C library's allocator merges freed words. "
+    "How many it merges depends on where larger blocks lie. Without them the ratio is 0.98."
 )
 
 
