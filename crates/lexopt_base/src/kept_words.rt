@@ -1,7 +1,7 @@
 //! The words of a command line, in one vector that is kept.
 //!
-//! Reading moves a cursor over the words and moves no word. A word that is handed out is taken out whole, and an empty one
-//! stays in its place, so handing it out takes no memory.
+//! Reading moves a cursor over the words. A word that is handed out is taken out whole, and an empty one stays in its place,
+//! so handing it out takes no memory. No word moves but the one just before the cursor, where the word after it is taken first.
 ghost use Rattle.std.specs.Prelude.{◌≡◌, ◌≢◌, ◌≤◌, ◌∷◌, [], IfOk, Some, drop, length, vec_len, option_map};
 ghost use Rattle.lexopt_base.specs.KeptWords.{IsFirst, TakesNext};
 

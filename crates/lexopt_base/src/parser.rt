@@ -454,6 +454,7 @@ impl Parser {
     }
 
     // Refuses a line with no value for the last option.
+    #[inline(always)]
     pub(crate) fn refuse_missing(&self) -> Result<(), Error>
         ensures ok { OnOk result (available self.now ≢ []) }
         ensures err { IfErr result (λ e. RefusesValues self.now e self.now) }

@@ -34,6 +34,7 @@ impl Parser {
     ///
     /// Errors: `MissingValue` where there is no value; `OutOfMemory` only in its place, where it names an option. Neither
     /// consumes anything.
+    #[inline(always)]
     pub fn values(&mut self) -> Result<ValuesIter<'_>, Error>
         ensures* refused { sem 𝓛 (RestsIfRefused self.entry result) }
         ensures found { IfOk result (λ _. available self.old ≢ []) }

@@ -217,6 +217,7 @@ fn ending_of(error: Error) -> Ending
 }
 
 // All values of the last option.
+#[inline(always)]
 fn all_values(alloc: Global, parser: &mut Parser) -> Result<Vec<OsString>, Error>
     ensures ok { IfOk result (λ values. ReadsValues Kind.Several parser.old (Values.All values) parser.new) }
     ensures err { IfErr result (λ e. (e ≡ Error.OutOfMemory) ⊎ Gives (Step (values 1)) parser.old (error_reply e) parser.new) }
@@ -224,6 +225,18 @@ fn all_values(alloc: Global, parser: &mut Parser) -> Result<Vec<OsString>, Error
     match parser.values() {
         Ok(mut view) => Ok(values_of(alloc, &mut view, usize::MAX)?),
         Err(error) => Err(error),
+    }
+}
+
+// All values of the last option, which has several. It stands apart, so that what is inlined for other options stays short.
+#[inline(never)]
+fn read_several(alloc: Global, parser: &mut Parser) -> Result<Vec<OsString>, Ending>
+    ensures ok { IfOk result (λ values. ReadsValues Kind.Several parser.old (Values.All values) parser.new) }
+    ensures err { IfErr result (λ ending. RefusesValues Kind.Several parser.old ending) }
+{
+    match all_values(alloc, parser) {
+        Ok(values) => Ok(values),
+        Err(error) => Err(ending_of(error)),
     }
 }
 
@@ -240,9 +253,9 @@ fn read_values(alloc: Global, parser: &mut Parser, kind: Kind) -> Result<Values,
             Err(error) => Err(ending_of(error)),
         },
         Kind::Optional => Ok(Values::AtMostOne(parser.optional_value())),
-        Kind::Several => match all_values(alloc, parser) {
+        Kind::Several => match read_several(alloc, parser) {
             Ok(values) => Ok(Values::All(values)),
-            Err(error) => Err(ending_of(error)),
+            Err(ending) => Err(ending),
         },
     }
 }

@@ -151,7 +151,7 @@ pub fn spell(
     ensures none { IfErr result (λ e. (e ≡ SpellError.OutOfMemory)
         ⊎ ((words : List (List ℕ)) → Shows (table_view table.now) short_equals words (map item_view items.now) → ⊥)) }
 {
-    let mut words = Vec::new(alloc);
+    let mut words = Vec::with_capacity(alloc, items.len())?;
     let mut place = Place::Open;
     for (index, item) in items.iter().enumerate() {
         match adds(place, item, &items[index + 1..], short_equals, table) {

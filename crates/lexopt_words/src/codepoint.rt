@@ -66,8 +66,8 @@ pub fn codepoint_at(bytes: &[u8], position: usize) -> FirstCodepoint
     }
 }
 
-// The first piece of the bytes, of which there is one at least. It stands apart, so that what is inlined for ASCII stays short.
-#[inline(never)]
+// The first piece of the bytes, of which there is one at least.
+#[inline(always)]
 fn decoded_codepoint(bytes: &[u8]) -> FirstCodepoint
     requires { 0 < length bytes.now }
     ensures by_the_table { IsFirstOf bytes.now result }
@@ -88,19 +88,19 @@ pub fn lossy_text(alloc: Global, bytes: &[u8]) -> Result<String, AllocError>
     let mut text = String::with_capacity(alloc, bytes.len().saturating_add(2))?;
     let mut rest = bytes;
     while !rest.is_empty() {
-        let piece = first_codepoint(rest);
-        push_shown(&mut text, piece)?;
-        rest = &rest[piece.size()..];
+        let (character, size) = decode_utf8(rest);
+        push_shown(&mut text, character)?;
+        rest = &rest[size..];
     }
     Ok(text)
 }
 
-// Adds to a text what stands there for a piece.
-fn push_shown(text: &mut String, piece: FirstCodepoint) -> Result<(), AllocError>
-    ensures { OnOk result (string_bytes text.new ≡ string_bytes text.old ++ encode_utf8 (shown (character_of piece))) }
+// Adds to a text what stands there for a piece: its character, or U+FFFD for damage.
+fn push_shown(text: &mut String, character: Option<char>) -> Result<(), AllocError>
+    ensures { OnOk result (string_bytes text.new ≡ string_bytes text.old ++ encode_utf8 (shown character)) }
 {
-    match piece {
-        FirstCodepoint::Character(character, _) => text.push(character),
-        FirstCodepoint::Empty | FirstCodepoint::Damage(_) => text.push_str("\u{FFFD}"),
+    match character {
+        Some(character) => text.push(character),
+        None => text.push_str("\u{FFFD}"),
     }
 }

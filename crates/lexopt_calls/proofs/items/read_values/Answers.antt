@@ -1,7 +1,7 @@
 use Rattle.std.proofs.Common.{refl, inl}
-use Rattle.lexopt_spec.specs.Runs.{value, values}
-use Rattle.lexopt_calls.specs.declared.kinds.Kind.TheVariants.{One, Several}
-use Rattle.lexopt_calls.proofs.ReadsItems.{value_refused, values_refused}
+use Rattle.lexopt_spec.specs.Runs.{value}
+use Rattle.lexopt_calls.specs.declared.kinds.Kind.TheVariants.{One}
+use Rattle.lexopt_calls.proofs.ReadsItems.{value_refused}
 use Rattle.lexopt_calls.proofs.items.read_values.Goals as goal
 
 pub returns-in-Err-clause-err : goal.returns-in-Err-clause-err
@@ -10,9 +10,3 @@ returns-in-Err-clause-err c =
 
 pub returns-in-Optional-clause-ok : goal.returns-in-Optional-clause-ok
 returns-in-Optional-clause-ok c = rw c.in-Optional.is (inl c.optional_value.ensures)
-
-pub returns-in-Err-all_values-clause-err : goal.returns-in-Err-all_values-clause-err
-returns-in-Err-all_values-clause-err c =
-    rw c.in-Several.is
-    (values_refused Several c.args.parser.now c.all_values.new.parser c.in-Err-all_values.error c.ending_of-in-Err-all_values.result (values 1) (1, refl) c.ending_of-in-Err-all_values.ensures
-    c.in-Err-all_values.ensures.err)

@@ -53,3 +53,6 @@ returns-clause-one_fault c = λ i j one other. same_fault (table_view c.args.tab
 pub returns-in_err-push-in-Ok-clause-one_fault : goal.returns-in_err-push-in-Ok-clause-one_fault
 returns-in_err-push-in-Ok-clause-one_fault c = λ i j one other.
     same_fault (table_view c.args.table.now) c.args.short_equals (map item_view c.args.items.now) i j one other
+
+pub returns-in_err-words-clause-one_fault : goal.returns-in_err-words-clause-one_fault
+returns-in_err-words-clause-one_fault c = λ i j one other. same_fault (table_view c.args.table.now) c.args.short_equals (map item_view c.args.items.now) i j one other
