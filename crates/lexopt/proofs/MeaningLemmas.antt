@@ -1,7 +1,7 @@
 -- What a line means that is not of one meaning.
 use Rattle.std.proofs.Common.{◌≡◌, ◌≢◌, ℕ, Bool, true, false, ◌==◌, List, [], codes, refl}
 use Rattle.std.specs.Cmp.Lexicographic.{pointwise, same_text}
-use Rattle.lexopt_spec.specs.Script.{meaning, meaning_of_call_or_word, meaning_with_text}
+use Rattle.lexopt_line_spec.specs.Script.{meaning, meaning_of_call_or_word, meaning_with_text}
 
 is_false : (line text : List ℕ) (same : Bool) → same ≡ pointwise ◌==◌ line text → line ≢ text → same ≡ false
 is_false line text false is other = refl

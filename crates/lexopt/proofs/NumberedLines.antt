@@ -5,7 +5,7 @@ use Rattle.std.specs.List.{enumerate_from, slice_split}
 use Rattle.std.proofs.lemmas.Iterator.{YieldsList}
 use Rattle.std.proofs.lemmas.Iterator.Consumers.{YieldsList-turn, YieldsList-end}
 use Rattle.std.proofs.lemmas.List.FromFn.{length-enumerate_from, get_or-enumerate_from}
-use Rattle.lexopt_spec.specs.Script.{newline, lines_of}
+use Rattle.lexopt_line_spec.specs.Script.{newline, lines_of}
 
 abbrev pub numbered_lines : List ℕ → List (ℕ × List ℕ)
 numbered_lines script = enumerate_from 0 (slice_split (λ b. b == newline) script)

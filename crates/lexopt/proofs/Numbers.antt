@@ -7,7 +7,7 @@ use Rattle.std.specs.List.{starts_with}
 use Rattle.std.proofs.lemmas.Fmt.{IsAscii-from_digits}
 use Rattle.std.proofs.lemmas.Str.{IsUtf8-from_ascii}
 use Rattle.std.proofs.lemmas.Str.Parse.{IsNumeralModel, numerals_by_value, tells_all_ascii_digits, digits_value_short, without_leading_plus_none}
-use Rattle.lexopt_spec.specs.Script.{number}
+use Rattle.lexopt_line_spec.specs.Script.{number}
 use borrow.Author.Tests.{leb-true, le-leb}
 
 model : IsNumeralModel (λ ds. all_ascii_digits ds ≡ true) (digits_value 10)

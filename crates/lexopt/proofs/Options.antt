@@ -2,8 +2,8 @@
 use Rattle.std.proofs.Common.{◌≡◌, ℕ, List, ◌∷◌, Some, None, IsUtf8, true, false, Bool, sym, refl}
 use Rattle.std.proofs.lemmas.Str.{IsUtf8-from_is_utf8, is_utf8-from_IsUtf8}
 use Rattle.std.specs.Str.{is_utf8}
-use Rattle.lexopt_spec.specs.Table.{long}
-use Rattle.lexopt_spec.specs.Script.{option_named}
+use Rattle.lexopt_line_spec.specs.Table.{long}
+use Rattle.lexopt_line_spec.specs.Script.{option_named}
 
 not_utf8 : (bs : List ℕ) (b : Bool) → b ≡ is_utf8 bs → (IsUtf8 bs → ⊥) → is_utf8 bs ≡ false
 not_utf8 bs true is other = absurd (other (IsUtf8-from_is_utf8 bs (sym is)))

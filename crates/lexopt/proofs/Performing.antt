@@ -7,11 +7,11 @@ use Rattle.lexopt_spec.specs.UnreadLine.{UnreadLine, fresh}
 use Rattle.lexopt_spec.specs.Steps as steps
 use Rattle.lexopt_spec.specs.Steps.{Reply, end}
 use Rattle.lexopt_spec.specs.Runs.{Run}
-use Rattle.lexopt_spec.specs.Table as spec
-use Rattle.lexopt_spec.specs.Readings.{IsReading, start}
-use Rattle.lexopt_spec.specs.Script.{Command, call, whole_line, call_of, line_of, reply_text, switched, Written, WholeLineText, items_read, line_refused, memory_refused}
-use Rattle.lexopt_spec.proofs.RunLemmas.{Run-more}
-use Rattle.lexopt_spec.proofs.WrittenLines.{switch_behind, switch_behind-call, switch_behind-whole, Written-call, Written-whole}
+use Rattle.lexopt_line_spec.specs.Table as spec
+use Rattle.lexopt_line_spec.specs.Readings.{IsReading, start}
+use Rattle.lexopt_line_spec.specs.Script.{Command, call, whole_line, call_of, line_of, reply_text, switched, Written, WholeLineText, items_read, line_refused, memory_refused}
+use Rattle.lexopt_line_spec.proofs.RunLemmas.{Run-more}
+use Rattle.lexopt_line_spec.proofs.WrittenLines.{switch_behind, switch_behind-call, switch_behind-whole, Written-call, Written-whole}
 use Rattle.lexopt_base.specs.Replies.{error_reply}
 use Rattle.lexopt_words.specs.Message.{message}
 use Rattle.lexopt_words.specs.declared.error.Error.{Error}

@@ -1,7 +1,7 @@
 -- The meaning of a line, and the commands of a script, as contracts see them.
 use Rattle.std.specs.Prelude.{string_bytes}
-use Rattle.lexopt_spec.specs.Script as script
-use Rattle.lexopt_spec.specs.Table as spec
+use Rattle.lexopt_line_spec.specs.Script as script
+use Rattle.lexopt_line_spec.specs.Table as spec
 use Rattle.lexopt_calls.specs.Replies.{call_view}
 use Rattle.lexopt.specs.declared.script.Command.{Command}
 use Rattle.lexopt.specs.declared.script.Command.TheVariants as commands

@@ -4,7 +4,7 @@ use Rattle.std.specs.Io.KnownBytes.{Consumes, IsAtEnd}
 use Rattle.lexopt_spec.specs.UnreadLine.{UnreadLine, fresh}
 use Rattle.lexopt_spec.specs.Steps.{Reply}
 use Rattle.lexopt_spec.specs.Runs.{Run}
-use Rattle.lexopt_spec.specs.Script.{bad_line, calls_of, commands_of, most_bytes, table_of, words_of, Written}
+use Rattle.lexopt_line_spec.specs.Script.{bad_line, calls_of, commands_of, most_bytes, table_of, words_of, Written}
 
 -- the room of one read, in bytes
 abbrev pub read_room : ℕ

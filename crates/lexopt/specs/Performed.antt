@@ -5,8 +5,8 @@ use Rattle.std.specs.List.{filter_map}
 use Rattle.lexopt_spec.specs.UnreadLine.{UnreadLine, fresh}
 use Rattle.lexopt_spec.specs.Steps.{Reply}
 use Rattle.lexopt_spec.specs.Runs.{Run, Step}
-use Rattle.lexopt_spec.specs.Script as spec
-use Rattle.lexopt_spec.specs.Script.{bracketed, call_of, item_text, line_of, reply_text, switched, WholeLineText, Written}
+use Rattle.lexopt_line_spec.specs.Script as spec
+use Rattle.lexopt_line_spec.specs.Script.{bracketed, call_of, item_text, line_of, reply_text, switched, WholeLineText, Written}
 use Rattle.lexopt_words.specs.Message.{message}
 use Rattle.lexopt_words.specs.declared.error.Error.{Error}
 use Rattle.lexopt_calls.specs.declared.items.Item.{Item}

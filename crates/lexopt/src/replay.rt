@@ -2,7 +2,7 @@
 //! line for each reply and for each whole line.
 ghost use Rattle.std.specs.Prelude.{◌≡◌, ◌⊎◌, ◌+◌, ◌++◌, ◌≤◌, ◌<◌, ℕ, List, None, Some, Err, IfOk, IfErr, OnOk, length, map, string_bytes};
 ghost use Rattle.std.specs.Io.KnownBytes.{Appends, Consumes};
-ghost use Rattle.lexopt_spec.specs.Script.{WholeLineText, bad_line, bracketed, item_text, line_of, most_bytes, switched};
+ghost use Rattle.lexopt_line_spec.specs.Script.{WholeLineText, bad_line, bracketed, item_text, line_of, most_bytes, switched};
 ghost use Rattle.lexopt_calls.specs.Items.{item_view, table_view};
 ghost use Rattle.lexopt_calls.specs.Replies.{call_view};
 ghost use Rattle.lexopt.specs.Output.{IsOutput, ReadsWhole, read_room};

@@ -18,7 +18,7 @@
 ghost use Rattle.std.specs.Prelude.{◌≡◌, ◌⊎◌, ℕ, ◌+◌, ◌++◌, ◌<◌, ◌≤◌, List, None, Some, IfErr, IfOk, MatchOption, OnOk, drop, length, map};
 ghost use Rattle.std.specs.Option.{option_map};
 ghost use Rattle.std.specs.Io.KnownBytes.{Consumes};
-ghost use Rattle.lexopt_spec.specs.Script.{bad_line, behind_backslash, commands_of, hexadecimal, in_front, is_bad, joined_to, meaning, meaning_of_call_or_word, meaning_with_option, meaning_with_text, most_bytes, number, one_character, option_named, reads_words, table_of, unescaped, words_of};
+ghost use Rattle.lexopt_line_spec.specs.Script.{bad_line, behind_backslash, commands_of, hexadecimal, in_front, is_bad, joined_to, meaning, meaning_of_call_or_word, meaning_with_option, meaning_with_text, most_bytes, number, one_character, option_named, reads_words, table_of, unescaped, words_of};
 ghost use Rattle.lexopt_calls.specs.Items.{table_view};
 ghost use Rattle.lexopt.specs.Output.{ReadsWhole, read_room};
 ghost use Rattle.lexopt.specs.Meanings.{command_view, entry_view, meaning_view, name_view};

@@ -5,7 +5,7 @@ use Rattle.lexopt_spec.specs.UnreadLine.{UnreadLine}
 use Rattle.lexopt_spec.specs.Steps.{Reply}
 use Rattle.lexopt_spec.specs.Runs as runs
 use Rattle.lexopt_spec.specs.Runs.{Step, Run, Part, up_to}
-use Rattle.lexopt_spec.proofs.Parts.{part_cut}
+use Rattle.lexopt_line_spec.proofs.Parts.{part_cut}
 use Rattle.lexopt_calls.specs.declared.reply.Call.{Call}
 use Rattle.lexopt_calls.specs.Replies.{call_view}
 

@@ -6,13 +6,13 @@ use Rattle.lexopt_spec.specs.Steps as steps
 use Rattle.lexopt_spec.specs.Steps.{Reply, Next}
 use Rattle.lexopt_spec.specs.Runs as calls
 use Rattle.lexopt_spec.specs.Runs.{Call, Step}
-use Rattle.lexopt_spec.specs.Table.{Name, short, long, Item, option, positional, Kind, flag, one, optional, several, holds_in, kind, Table}
-use Rattle.lexopt_spec.specs.Readings.{IsDue, IsReading, SaysUpTo, start}
-use Rattle.lexopt_spec.specs.Bound.{bound}
-use Rattle.lexopt_spec.proofs.Bounds.{given_falls, step_bound}
-use Rattle.lexopt_spec.proofs.Rounds.{option_reply, says_flag, says_value, says_optional, says_several, says_positional, reads_last, reads_refused}
-use Rattle.lexopt_spec.specs.Spelling.{Shows}
-use Rattle.lexopt_spec.proofs.WholeLines.{shown_said}
+use Rattle.lexopt_line_spec.specs.Table.{Name, short, long, Item, option, positional, Kind, flag, one, optional, several, holds_in, kind, Table}
+use Rattle.lexopt_line_spec.specs.Readings.{IsDue, IsReading, SaysUpTo, start}
+use Rattle.lexopt_line_spec.specs.Bound.{bound}
+use Rattle.lexopt_line_spec.proofs.Bounds.{given_falls, step_bound}
+use Rattle.lexopt_line_spec.proofs.Rounds.{option_reply, says_flag, says_value, says_optional, says_several, says_positional, reads_last, reads_refused}
+use Rattle.lexopt_line_spec.specs.Spelling.{Shows}
+use Rattle.lexopt_line_spec.proofs.WholeLines.{shown_said}
 use Rattle.lexopt_base.specs.Replies.{Gives, error_reply}
 use Rattle.lexopt_words.specs.declared.error.Error.{Error}
 use Rattle.lexopt_words.specs.declared.error.Error.TheVariants.{MissingValue, UnexpectedOption, UnexpectedArgument, UnexpectedValue, ParsingFailed, NonUnicodeValue, Custom, OutOfMemory}

@@ -4,10 +4,10 @@ use Rattle.lexopt_spec.specs.UnreadLine.{UnreadLine}
 use Rattle.lexopt_spec.specs.Steps.{Reply, Next, Value, end, taken, maybe, items, missing, unexpected, no_memory}
 use Rattle.lexopt_spec.specs.Runs as calls
 use Rattle.lexopt_spec.specs.Runs.{Step}
-use Rattle.lexopt_spec.specs.Table as spec
-use Rattle.lexopt_spec.specs.Table.{short, long, option, many, positional}
-use Rattle.lexopt_spec.specs.Readings.{IsDue, IsReading, SaysUpTo}
-use Rattle.lexopt_spec.specs.Bound.{bound}
+use Rattle.lexopt_line_spec.specs.Table as spec
+use Rattle.lexopt_line_spec.specs.Table.{short, long, option, many, positional}
+use Rattle.lexopt_line_spec.specs.Readings.{IsDue, IsReading, SaysUpTo}
+use Rattle.lexopt_line_spec.specs.Bound.{bound}
 use Rattle.lexopt_base.specs.Replies.{error_reply}
 use Rattle.lexopt_words.specs.declared.error.Error.{Error}
 use Rattle.lexopt_words.specs.declared.error.Error.TheVariants.{MissingValue, UnexpectedValue, OutOfMemory}

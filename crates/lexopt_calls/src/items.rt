@@ -3,12 +3,12 @@ ghost use Rattle.std.specs.Prelude.{◌≡◌, ◌⊎◌, ℕ, [], List, Some, I
 ghost use Rattle.std.specs.Option.{option_map};
 ghost use Rattle.std.specs.Result.{IsErrAnd};
 ghost use Rattle.std.specs.Fmt.{WritesOnOk};
-ghost use Rattle.lexopt_spec.specs.Script.{value_text};
+ghost use Rattle.lexopt_line_spec.specs.Script.{value_text};
 ghost use Rattle.lexopt_spec.specs.Steps.{end};
-ghost use Rattle.lexopt_spec.specs.Table as spec;
-ghost use Rattle.lexopt_spec.specs.Table.{one_value};
-ghost use Rattle.lexopt_spec.specs.Readings.{IsReading, start};
-ghost use Rattle.lexopt_spec.specs.Spelling.{HaveWholeNames, Shows, Spells};
+ghost use Rattle.lexopt_line_spec.specs.Table as spec;
+ghost use Rattle.lexopt_line_spec.specs.Table.{one_value};
+ghost use Rattle.lexopt_line_spec.specs.Readings.{IsReading, start};
+ghost use Rattle.lexopt_line_spec.specs.Spelling.{HaveWholeNames, Shows, Spells};
 ghost use Rattle.lexopt_spec.specs.Runs.{Step, values};
 ghost use Rattle.lexopt_base.specs.Replies.{Gives, error_reply};
 ghost use Rattle.lexopt_calls.specs.Items.{EndsBy, IsErrorOf, IsRefused, ReadsItem, ReadsValues, RefusesValues, ending_view, item_view, item_with, table_view};
@@ -68,7 +68,7 @@ pub enum Item {
 
 impl fmt::Display for Item {
     ghost use Rattle.std.specs.Prelude.{Some};
-    ghost use Rattle.lexopt_spec.specs.Script.{item_text};
+    ghost use Rattle.lexopt_line_spec.specs.Script.{item_text};
     ghost use Rattle.lexopt_calls.specs.Items.{item_view};
 
     ghost output = { λ i. Some (item_text (item_view i)) };

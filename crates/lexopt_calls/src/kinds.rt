@@ -1,7 +1,7 @@
 //! How many values an option has, by a table of options. The crate `lexopt` does not hand it on.
 ghost use Rattle.std.specs.Prelude.{◌≡◌, [], map, string_bytes};
-ghost use Rattle.lexopt_spec.specs.Table as spec;
-ghost use Rattle.lexopt_spec.specs.Table.{holds_in, kind};
+ghost use Rattle.lexopt_line_spec.specs.Table as spec;
+ghost use Rattle.lexopt_line_spec.specs.Table.{holds_in, kind};
 ghost use Rattle.lexopt_calls.specs.Items.{kind_view, table_view};
 
 use crate::items::Table;

@@ -5,7 +5,7 @@ ghost use Rattle.std.specs.Option.{option_map};
 ghost use Rattle.lexopt_spec.specs.Steps as steps;
 ghost use Rattle.lexopt_spec.specs.Steps.{Next, Value};
 ghost use Rattle.lexopt_spec.specs.Account.{Segment, bytes_of, flat, handed, shown_of};
-ghost use Rattle.lexopt_spec.specs.Bound.{bound, replies_count};
+ghost use Rattle.lexopt_line_spec.specs.Bound.{bound, replies_count};
 ghost use Rattle.lexopt_spec.specs.Runs.{AccountedRun, Part, Run, Step, values, raw, raw_if, try_raw, up_to};
 ghost use Rattle.lexopt_spec.specs.Views.{ValueItems, WordItems};
 ghost use Rattle.lexopt_base.specs.Stages.{stage_of};

@@ -3,8 +3,8 @@ ghost use Rattle.std.specs.Prelude.{◌≡◌, codes, string_bytes};
 ghost use Rattle.std.specs.Fmt.{WritesOnOk};
 ghost use Rattle.std.specs.List.{join_by};
 ghost use Rattle.lexopt_spec.specs.Text.{quoted};
-ghost use Rattle.lexopt_spec.specs.Table.{long, positional, short};
-ghost use Rattle.lexopt_spec.specs.Script.{bracketed, item_text, name_text, reads_line};
+ghost use Rattle.lexopt_line_spec.specs.Table.{long, positional, short};
+ghost use Rattle.lexopt_line_spec.specs.Script.{bracketed, item_text, name_text, reads_line};
 ghost use Rattle.lexopt_calls.specs.Replies.{call_view};
 
 use lexopt_words::message::{write_missing_value, write_no_memory, write_unexpected_value};
@@ -72,7 +72,7 @@ pub enum Reply {
 
 impl fmt::Display for Reply {
     ghost use Rattle.std.specs.Prelude.{Some};
-    ghost use Rattle.lexopt_spec.specs.Script.{reply_text};
+    ghost use Rattle.lexopt_line_spec.specs.Script.{reply_text};
     ghost use Rattle.lexopt_calls.specs.Replies.{reply_view};
 
     ghost output = { λ r. Some (reply_text (reply_view r)) };

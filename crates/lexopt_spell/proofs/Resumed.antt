@@ -6,10 +6,10 @@ use Rattle.std.specs.List.{list_any, list_all}
 use Rattle.std.specs.Str.{is_utf8}
 use lib.Utf8.{scalar}
 use Rattle.lexopt_spec.specs.UnreadLine.{dash, equals, is_plain}
-use Rattle.lexopt_spec.specs.Table.{short, long, Item, option, many, positional, Kind, flag, one, optional, several, kind, Table}
-use Rattle.lexopt_spec.specs.Spelling.{attached, joined}
-use Rattle.lexopt_spec.specs.Speller.{Reason, Place, open_line, in_cluster, behind_values, behind_positional, ended, Form, in_word, attached_form, short_form, long_form, words_form, short_words_form, short_many_form, long_many_form, Added, is_named, short_added, long_placed, long_added, stands, positional_added, adds, separator_comes_too_early, separator_is_due, Fault, Rest, glued, with_rest, with_rests, spelled_from, words_of, spelled}
-use Rattle.lexopt_spec.proofs.SpellerAnswers.{none_is}
+use Rattle.lexopt_line_spec.specs.Table.{short, long, Item, option, many, positional, Kind, flag, one, optional, several, kind, Table}
+use Rattle.lexopt_line_spec.specs.Spelling.{attached, joined}
+use Rattle.lexopt_line_spec.specs.Speller.{Reason, Place, open_line, in_cluster, behind_values, behind_positional, ended, Form, in_word, attached_form, short_form, long_form, words_form, short_words_form, short_many_form, long_many_form, Added, is_named, short_added, long_placed, long_added, stands, positional_added, adds, separator_comes_too_early, separator_is_due, Fault, Rest, glued, with_rest, with_rests, spelled_from, words_of, spelled}
+use Rattle.lexopt_line_spec.proofs.SpellerAnswers.{none_is}
 use Rattle.lexopt_spell.specs.Words.{onto_last, pushed}
 use Rattle.lexopt_spell.proofs.Behind.{from_on, from_on_is, at_item}
 use Rattle.lexopt_spell.proofs.LastWord.{onto_snoc, onto_nil, onto_twice}

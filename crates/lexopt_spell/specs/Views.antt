@@ -1,10 +1,10 @@
 -- What the speller's functions answer, as contracts see it.
 use Rattle.std.specs.Prelude.{◌≡◌, ℕ, Bool, true, false, List, ◌∷◌, [], ◌++◌, Result, Ok, Err, encode_utf8, string_bytes}
 use Rattle.lexopt_spec.specs.UnreadLine.{dash}
-use Rattle.lexopt_spec.specs.Table.{Item, Table}
-use Rattle.lexopt_spec.specs.Spelling as how
-use Rattle.lexopt_spec.specs.Speller as spec
-use Rattle.lexopt_spec.specs.Speller.{behind_bytes}
+use Rattle.lexopt_line_spec.specs.Table.{Item, Table}
+use Rattle.lexopt_line_spec.specs.Spelling as how
+use Rattle.lexopt_line_spec.specs.Speller as spec
+use Rattle.lexopt_line_spec.specs.Speller.{behind_bytes}
 use Rattle.lexopt_spell.specs.declared.forms.Place.{Place}
 use Rattle.lexopt_spell.specs.declared.forms.Place.TheVariants.{Open, InCluster, BehindValues, BehindPositional, Ended}
 use Rattle.lexopt_spell.specs.declared.forms.Behind.{Behind}

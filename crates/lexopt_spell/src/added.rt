@@ -2,7 +2,7 @@
 ghost use Rattle.std.specs.Prelude.{◌≡◌, ◌==◌, false, true, Ok, map, string_bytes};
 ghost use Rattle.std.specs.List.{list_all, list_any};
 ghost use Rattle.lexopt_spec.specs.UnreadLine as line;
-ghost use Rattle.lexopt_spec.specs.Speller as spec;
+ghost use Rattle.lexopt_line_spec.specs.Speller as spec;
 ghost use Rattle.lexopt_calls.specs.Items.{item_view, table_view};
 ghost use Rattle.lexopt_spell.specs.Views.{added_answer, added_view, behind_view, form_answer, form_view, place_view};
 

@@ -1,7 +1,7 @@
 //! Where the values of an option stand: behind its name in its word, or in words of their own.
 ghost use Rattle.std.specs.Prelude.{◌≡◌, false};
 ghost use Rattle.std.specs.List.{list_all};
-ghost use Rattle.lexopt_spec.specs.Speller as spec;
+ghost use Rattle.lexopt_line_spec.specs.Speller as spec;
 ghost use Rattle.lexopt_spec.specs.UnreadLine as line;
 ghost use Rattle.lexopt_calls.specs.Items.{kind_view};
 ghost use Rattle.lexopt_spell.specs.Views.{behind_view, form_answer, form_view, place_view};

@@ -1,10 +1,10 @@
 //! Words that spell what a line is to say: from items to words, for another program.
 ghost use Rattle.std.specs.Prelude.{◌≡◌, ◌⊎◌, ℕ, List, Ok, IfErr, IfOk, map};
-ghost use Rattle.lexopt_spec.specs.Readings.{IsReading, start};
-ghost use Rattle.lexopt_spec.specs.Speller.{IsAtFault, spelled};
-ghost use Rattle.lexopt_spec.specs.Spelling.{Shows, Spells};
+ghost use Rattle.lexopt_line_spec.specs.Readings.{IsReading, start};
+ghost use Rattle.lexopt_line_spec.specs.Speller.{IsAtFault, spelled};
+ghost use Rattle.lexopt_line_spec.specs.Spelling.{Shows, Spells};
 ghost use Rattle.lexopt_spec.specs.Steps as steps;
-ghost use Rattle.lexopt_spec.specs.Table as spec;
+ghost use Rattle.lexopt_line_spec.specs.Table as spec;
 ghost use Rattle.lexopt_calls.specs.Items.{item_view, table_view};
 ghost use Rattle.lexopt_spell.specs.Views.{IsFault, NamesItemAtFault};
 

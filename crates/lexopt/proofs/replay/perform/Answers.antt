@@ -1,5 +1,5 @@
 use Rattle.std.proofs.Common.{ℕ, List, refl, subst}
-use Rattle.lexopt_spec.specs.Script.{WholeLineText}
+use Rattle.lexopt_line_spec.specs.Script.{WholeLineText}
 use Rattle.lexopt_calls.specs.Items.{table_view}
 use Rattle.lexopt.proofs.replay.perform.Goals as goal
 

@@ -1,6 +1,6 @@
 use Rattle.std.proofs.Common.{◌≡◌, ◌++◌, suc, take, map, codes, string_bytes}
 use Rattle.std.specs.List.{join_by}
-use Rattle.lexopt_spec.specs.Script.{item_text}
+use Rattle.lexopt_line_spec.specs.Script.{item_text}
 use Rattle.lexopt_calls.specs.Items.{item_view}
 use Rattle.lexopt.proofs.replay.write_items.Given as goal
 

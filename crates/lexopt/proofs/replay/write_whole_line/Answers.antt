@@ -1,5 +1,5 @@
 use Rattle.std.proofs.Common.{ℕ, List, subst}
-use Rattle.lexopt_spec.specs.Script.{WholeLineText}
+use Rattle.lexopt_line_spec.specs.Script.{WholeLineText}
 use Rattle.lexopt_calls.specs.Items.{table_view}
 use Rattle.lexopt.specs.Performed.{answer_text}
 use Rattle.lexopt.proofs.Performing.{answer_written, line_added}

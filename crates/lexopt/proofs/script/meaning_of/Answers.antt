@@ -1,5 +1,5 @@
 use Rattle.std.proofs.Common.{subst, ◌≡◌, IfOk, arith}
-use Rattle.lexopt_spec.specs.Script as script
+use Rattle.lexopt_line_spec.specs.Script as script
 use Rattle.lexopt.specs.Meanings.{meaning_view}
 use Rattle.lexopt.proofs.MeaningLemmas.{meaning-no_items}
 use Rattle.lexopt.proofs.script.meaning_of.Goals as goal

@@ -1,5 +1,5 @@
 use Rattle.std.proofs.Common.{rules, tests, subst, ap, length, ◌≡◌, ◌⊎◌, ⊎_elim, inl, inr, IfOk, codes, arith}
-use Rattle.lexopt_spec.specs.Script as script
+use Rattle.lexopt_line_spec.specs.Script as script
 use Rattle.lexopt.specs.Meanings.{meaning_view}
 use Rattle.lexopt.proofs.MeaningLemmas.{meaning-other}
 use Rattle.lexopt.proofs.script.meaning_of_call_or_word.Goals.{in_default-via-then-line-lt2+in_default-1, in_default-via-else-line-lt2+then-line-lt3+in-111+in_default-1, in_default-via-else-line-lt2+then-line-lt3+in_default-1, in_default-via-else-line-lt2+else-line-lt3+then-line-lt4+in-111+in-102+in_default-1, in_default-via-else-line-lt2+else-line-lt3+then-line-lt4+in-111+in_default-1, in_default-via-else-line-lt2+else-line-lt3+then-line-lt4+in_default-1, in_default-via-else-line-lt2+else-line-lt3+else-line-lt4+then-line-lt5+in-110+in-101+in-120+in_default-1, in_default-via-else-line-lt2+else-line-lt3+else-line-lt4+then-line-lt5+in-110+in-101+in_default-1, in_default-via-else-line-lt2+else-line-lt3+else-line-lt4+then-line-lt5+in-110+in_default-1, in_default-via-else-line-lt2+else-line-lt3+else-line-lt4+then-line-lt5+in_default-1, in_default-via-else-line-lt2+else-line-lt3+else-line-lt4+else-line-lt5+then-line-lt6+in-118+in-97+in-108+in-117+in_default-1, in_default-via-else-line-lt2+else-line-lt3+else-line-lt4+else-line-lt5+then-line-lt6+in-118+in-97+in-108+in_default-1, in_default-via-else-line-lt2+else-line-lt3+else-line-lt4+else-line-lt5+then-line-lt6+in-118+in-97+in_default-1, in_default-via-else-line-lt2+else-line-lt3+else-line-lt4+else-line-lt5+then-line-lt6+in-118+in_default-1, in_default-via-else-line-lt2+else-line-lt3+else-line-lt4+else-line-lt5+then-line-lt6+in_default-1, in_default-via-else-line-lt2+else-line-lt3+else-line-lt4+else-line-lt5+else-line-lt6+then-line-lt8, in_default-via-else-line-lt2+else-line-lt3+else-line-lt4+else-line-lt5+else-line-lt6+else-line-lt8+then-line-lt9+in-111+in-112+in-116+in-105+in-111-line-20+in-110+in-97+in_default-1, in_default-via-else-line-lt2+else-line-lt3+else-line-lt4+else-line-lt5+else-line-lt6+else-line-lt8+then-line-lt9+in-111+in-112+in-116+in-105+in-111-line-20+in-110+in_default-1, in_default-via-else-line-lt2+else-line-lt3+else-line-lt4+else-line-lt5+else-line-lt6+else-line-lt8+then-line-lt9+in-111+in-112+in-116+in-105+in-111-line-20+in_default-1, in_default-via-else-line-lt2+else-line-lt3+else-line-lt4+else-line-lt5+else-line-lt6+else-line-lt8+then-line-lt9+in-111+in-112+in-116+in-105+in_default-1, in_default-via-else-line-lt2+else-line-lt3+else-line-lt4+else-line-lt5+else-line-lt6+else-line-lt8+then-line-lt9+in-111+in-112+in-116+in_default-1, in_default-via-else-line-lt2+else-line-lt3+else-line-lt4+else-line-lt5+else-line-lt6+else-line-lt8+then-line-lt9+in-111+in-112+in_default-1, in_default-via-else-line-lt2+else-line-lt3+else-line-lt4+else-line-lt5+else-line-lt6+else-line-lt8+then-line-lt9+in-111+in_default-1, in_default-via-else-line-lt2+else-line-lt3+else-line-lt4+else-line-lt5+else-line-lt6+else-line-lt8+then-line-lt9+in_default-1, in_default-via-else-line-lt2+else-line-lt3+else-line-lt4+else-line-lt5+else-line-lt6+else-line-lt8+else-line-lt9}

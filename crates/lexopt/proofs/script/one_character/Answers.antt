@@ -1,6 +1,6 @@
 use Rattle.std.proofs.Common.{◌≡◌, length, sym, ap, ◌∙◌, arith}
 use Rattle.lexopt_words.specs.Codepoint.{character_of, size_of}
-use Rattle.lexopt_spec.proofs.ScriptLemmas.{whole_character}
+use Rattle.lexopt_line_spec.proofs.ScriptLemmas.{whole_character}
 use Rattle.lexopt.proofs.script.one_character.Goals as goal
 
 pub returns-in-Character : goal.returns-in-Character

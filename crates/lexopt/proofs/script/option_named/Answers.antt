@@ -1,5 +1,5 @@
 use Rattle.std.proofs.Common.{◌≡◌, ◌∷◌, ◌++◌, take, drop, codes, Some, sym, ap, ◌∙◌}
-use Rattle.lexopt_spec.specs.Table.{long}
+use Rattle.lexopt_line_spec.specs.Table.{long}
 use Rattle.std.proofs.lemmas.List.{take-append-drop}
 use Rattle.std.specs.Cmp.Lexicographic.{same_text}
 use Rattle.lexopt.proofs.Options.{named_utf8, not_named}

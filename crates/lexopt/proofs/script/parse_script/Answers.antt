@@ -2,8 +2,8 @@ use Rattle.std.proofs.Common.{rules, tests, ◌+◌, ◌||◌, [], ◌∷◌, le
 use Rattle.std.proofs.lemmas.Iterator.Consumers.{YieldsList-at, YieldsList-from_enumerate}
 use Rattle.std.proofs.lemmas.Iterator.Splits.{YieldsList-from_slice_split}
 use Rattle.std.proofs.lemmas.List.{length_push, map-append}
-use Rattle.lexopt_spec.specs.Script.{nothing, word, entry, command, is_bad}
-use Rattle.lexopt_spec.proofs.ScriptLemmas.{called, called-append, ReadsTo-more, ReadsTo-bad, ReadsTo-end}
+use Rattle.lexopt_line_spec.specs.Script.{nothing, word, entry, command, is_bad}
+use Rattle.lexopt_line_spec.proofs.ScriptLemmas.{called, called-append, ReadsTo-more, ReadsTo-bad, ReadsTo-end}
 use Rattle.lexopt.specs.Meanings.{command_view, entry_view, meaning_view}
 use Rattle.lexopt.proofs.NumberedLines.{IsLineAt, line_read, lines_read}
 use Rattle.lexopt.proofs.script.parse_script.Goals as goal

@@ -1,5 +1,5 @@
 use Rattle.std.proofs.Common.{◌≡◌, length, map}
-use Rattle.lexopt_spec.proofs.ScriptLemmas.{ReadsTo, called}
+use Rattle.lexopt_line_spec.proofs.ScriptLemmas.{ReadsTo, called}
 use Rattle.lexopt_calls.specs.Items.{table_view}
 use Rattle.lexopt.specs.Meanings.{command_view}
 use Rattle.lexopt.proofs.script.parse_script.Given as goal

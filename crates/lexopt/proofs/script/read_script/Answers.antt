@@ -1,6 +1,6 @@
 use Rattle.std.proofs.Common.{◌≤◌, ◌<◌, ◌++◌, length, take, refl, inr, arith}
 use Rattle.std.proofs.lemmas.Grind.{common_steps}
-use Rattle.lexopt_spec.specs.Script.{most_bytes}
+use Rattle.lexopt_line_spec.specs.Script.{most_bytes}
 use Rattle.lexopt.specs.Output.{read_room}
 use Rattle.lexopt.proofs.InARow.{consumes_more, consumes_append}
 use Rattle.lexopt.proofs.script.read_script.Goals as goal

@@ -1,6 +1,6 @@
 use Rattle.std.proofs.Common.{◌+◌, ◌-◌, ◌≤◌, length}
 use Rattle.std.specs.Io.KnownBytes.{Consumes}
-use Rattle.lexopt_spec.specs.Script.{most_bytes}
+use Rattle.lexopt_line_spec.specs.Script.{most_bytes}
 use Rattle.lexopt.proofs.script.read_script.Given as goal
 
 abbrev pub invariant-loop-script : goal.invariant-loop-script

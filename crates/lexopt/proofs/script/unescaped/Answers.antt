@@ -1,6 +1,6 @@
 use Rattle.std.proofs.Common.{◌≢◌, ◌∷◌, sym, ap, ◌∙◌, arith, Bor, ℕ, List}
-use Rattle.lexopt_spec.proofs.ScriptLemmas.{unescaped-plain, unescaped_step}
-use Rattle.lexopt_spec.specs.Script.{backslash, in_front, unescaped}
+use Rattle.lexopt_line_spec.proofs.ScriptLemmas.{unescaped-plain, unescaped_step}
+use Rattle.lexopt_line_spec.specs.Script.{backslash, in_front, unescaped}
 use Rattle.lexopt.proofs.script.unescaped.Goals as goal
 use Rattle.lexopt.proofs.script.unescaped.Goals.{in-92+in-Some-escaped, in_default-first}
 

@@ -1,6 +1,6 @@
 use Rattle.std.proofs.Common.{◌≡◌, ◌++◌, length}
 use Rattle.std.specs.Option.{option_map}
-use Rattle.lexopt_spec.specs.Script.{unescaped}
+use Rattle.lexopt_line_spec.specs.Script.{unescaped}
 use Rattle.lexopt.proofs.script.unescaped.Given as goal
 
 abbrev pub invariant-loop-first : goal.invariant-loop-first

@@ -1,6 +1,6 @@
 use Rattle.std.proofs.Common.{map}
-use Rattle.lexopt_spec.specs.Readings.{SaysUpTo}
-use Rattle.lexopt_spec.specs.Bound.{bound}
+use Rattle.lexopt_line_spec.specs.Readings.{SaysUpTo}
+use Rattle.lexopt_line_spec.specs.Bound.{bound}
 use Rattle.lexopt_calls.specs.Items.{item_view, table_view}
 use Rattle.lexopt_calls.proofs.items.gathered.Given as goal
 

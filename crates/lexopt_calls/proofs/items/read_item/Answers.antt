@@ -1,5 +1,5 @@
 use Rattle.std.proofs.Common.{◌≡◌, Some, string_bytes, subst, sym}
-use Rattle.lexopt_spec.specs.Table.{Item, short, long}
+use Rattle.lexopt_line_spec.specs.Table.{Item, short, long}
 use Rattle.lexopt_calls.specs.Items.{ReadsItem, table_view}
 use Rattle.lexopt_calls.specs.declared.reply.Reply.TheVariants.{Short, LongName, Positional, Unexpected}
 use Rattle.lexopt_calls.proofs.ReadsItems.{gave, option_read, option_refused, positional_read, next_refused, handed_on}

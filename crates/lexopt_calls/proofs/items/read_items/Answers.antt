@@ -1,11 +1,11 @@
 use Rattle.std.proofs.Common.{rules, map, sym}
 use Rattle.std.proofs.lemmas.Result.{IfOk-weaker, IfErr-weaker}
-use Rattle.lexopt_spec.proofs.WholeLines.{said_shows, shown_said}
-use Rattle.lexopt_spec.proofs.Names.{shown_spells, spelled_shows}
-use Rattle.lexopt_spec.proofs.SpellerFaults.{shown_spelled}
+use Rattle.lexopt_line_spec.proofs.WholeLines.{said_shows, shown_said}
+use Rattle.lexopt_line_spec.proofs.Names.{shown_spells, spelled_shows}
+use Rattle.lexopt_line_spec.proofs.SpellerFaults.{shown_spelled}
 use Rattle.lexopt_calls.specs.Items.{item_view, table_view}
-use Rattle.lexopt_spec.specs.Readings.{start}
-use Rattle.lexopt_spec.proofs.Existence.{only_one}
+use Rattle.lexopt_line_spec.specs.Readings.{start}
+use Rattle.lexopt_line_spec.proofs.Existence.{only_one}
 use Rattle.lexopt_calls.proofs.ReadsItems.{refused_shows, refused_shows_none}
 use Rattle.lexopt_calls.proofs.items.read_items.Goals as goal
 

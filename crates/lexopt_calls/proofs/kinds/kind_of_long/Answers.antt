@@ -1,5 +1,5 @@
 use Rattle.std.proofs.Common.{string_bytes, sym, ◌∙◌}
-use Rattle.lexopt_spec.specs.Table.{long}
+use Rattle.lexopt_line_spec.specs.Table.{long}
 use Rattle.lexopt_calls.specs.Items.{table_view}
 use Rattle.lexopt_calls.proofs.ReadsItems.{is_one, is_optional, is_several, is_flag}
 use Rattle.lexopt_calls.proofs.kinds.kind_of_long.Goals as goal

@@ -1,6 +1,6 @@
 use Rattle.std.proofs.Common.{◌==◌, sym, ap, ◌∙◌}
 use Rattle.std.specs.List.{list_any}
-use Rattle.lexopt_spec.specs.Table.{short}
+use Rattle.lexopt_line_spec.specs.Table.{short}
 use Rattle.lexopt_calls.specs.Items.{table_view}
 use Rattle.lexopt_calls.proofs.ReadsItems.{is_one, is_optional, is_several, is_flag}
 use Rattle.lexopt_calls.proofs.kinds.kind_of_short.Goals as goal

@@ -3,11 +3,11 @@ use Rattle.std.proofs.lemmas.List.{map-append, take_all, take_more}
 use Rattle.lexopt_spec.specs.Steps.{Reply}
 use Rattle.lexopt_spec.specs.Runs as runs
 use Rattle.lexopt_spec.specs.Runs.{Run, Step, segments, up_to}
-use Rattle.lexopt_spec.proofs.Bounds.{run_bound}
-use Rattle.lexopt_spec.proofs.Clusters.{cluster_read}
-use Rattle.lexopt_spec.proofs.Parts.{part_suffix}
-use Rattle.lexopt_spec.proofs.RunAccounts.{run_keeps, run_shown, run_suffix}
-use Rattle.lexopt_spec.proofs.RunLemmas.{Run-more}
+use Rattle.lexopt_line_spec.proofs.Bounds.{run_bound}
+use Rattle.lexopt_line_spec.proofs.Clusters.{cluster_read}
+use Rattle.lexopt_line_spec.proofs.Parts.{part_suffix}
+use Rattle.lexopt_line_spec.proofs.RunAccounts.{run_keeps, run_shown, run_suffix}
+use Rattle.lexopt_line_spec.proofs.RunLemmas.{Run-more}
 use Rattle.lexopt_calls.specs.Replies.{call_view, reply_view}
 use Rattle.lexopt_calls.proofs.Parts.{on_err, part_made}
 use Rattle.lexopt_calls.proofs.replay.replay.Goals as goal

@@ -2,7 +2,7 @@ use Rattle.std.proofs.lemmas.Result.{IfOk-from_err}
 use Rattle.lexopt_spec.specs.Steps.{Next, Value, maybe, done}
 use Rattle.lexopt_spec.specs.Runs as runs
 use Rattle.lexopt_spec.specs.Runs.{Step, values, raw, raw_if, try_raw, up_to}
-use Rattle.lexopt_spec.proofs.Parts.{up_to_values, up_to_raw, up_to_try_raw}
+use Rattle.lexopt_line_spec.proofs.Parts.{up_to_values, up_to_raw, up_to_try_raw}
 use Rattle.lexopt_calls.specs.declared.reply.Reply.TheVariants.{Maybe, Done}
 use Rattle.lexopt_calls.proofs.StepReplies.{given}
 use Rattle.std.proofs.Common.{◌≡◌, refl, sym, ap, subst, ◌∙◌, inl, IfOk}

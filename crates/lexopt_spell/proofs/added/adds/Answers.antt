@@ -3,9 +3,9 @@ use Rattle.std.specs.List.{list_any}
 use Rattle.std.specs.Str.{is_utf8}
 use Rattle.std.proofs.lemmas.Str.{IsUtf8-string_bytes, is_utf8-from_IsUtf8}
 use Rattle.lexopt_spec.specs.UnreadLine.{equals}
-use Rattle.lexopt_spec.specs.Table.{Kind, kind, long}
-use Rattle.lexopt_spec.specs.Speller as spec
-use Rattle.lexopt_spec.specs.Speller.{Form, Reason}
+use Rattle.lexopt_line_spec.specs.Table.{Kind, kind, long}
+use Rattle.lexopt_line_spec.specs.Speller as spec
+use Rattle.lexopt_line_spec.specs.Speller.{Form, Reason}
 use Rattle.lexopt_calls.specs.Items.{item_view, table_view}
 use Rattle.lexopt_spell.specs.Views.{form_answer, place_view}
 use Rattle.lexopt_spell.proofs.added.adds.Goals as goal

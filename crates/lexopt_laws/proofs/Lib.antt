@@ -1,0 +1,11 @@
+pub mod Refusals
+pub mod Runs
+pub mod SameAccounts
+pub mod ViewLaws
+pub mod GivenItems
+pub mod OneValueLaw
+pub mod SpellerSettings
+pub mod SpellerReasons
+pub mod Computing
+pub mod Worked
+pub mod WorkedDamage

@@ -1,0 +1,164 @@
+-- Steps of worked examples. What a list of bytes decides is a test here, so that an example answers it by `refl`.
+use Rattle.std.proofs.Common.{◌≡◌, ◌≢◌, ℕ, zero, suc, Bool, true, false, ◌==◌, ◌&&◌, not, List, [], ◌∷◌, ◌++◌, None, encode_utf8, length, take, refl, sym, ap, ◌∙◌, arith, true≢false}
+use Rattle.std.proofs.lemmas.Bool.{eq-eqb}
+use lib.Utf8.{scalar}
+use Rattle.std.specs.List.{All, Contains}
+use Rattle.std.specs.Char.{IsScalar}
+use Rattle.std.specs.Str.{IsUtf8}
+use Rattle.std.proofs.lemmas.List.Elements.{All-nil, All-cons}
+use Rattle.lexopt_spec.specs.Pieces.{first_piece, after_first_piece, shown, lossy}
+use Rattle.lexopt_spec.specs.UnreadLine as unread
+use Rattle.lexopt_spec.specs.UnreadLine.{dash, equals, no_tail, rest_of, short_option, long_option, UnreadLine, spelling, pending, BeginsWith, IsPlain, is_plain, IsNormalIn, IsPlainFront}
+use Rattle.lexopt_spec.specs.Steps as steps
+use Rattle.lexopt_spec.specs.Steps.{Reply, alone, with_value, NextStep, next_word, reads_long, reads_cluster, reads_positional}
+use Rattle.lexopt_spec.specs.Views.{available, available_with, plain_front, without, ValuesStep, no_values, some_values}
+use Rattle.lexopt_spec.specs.Runs.{Call, Run}
+use Rattle.lexopt_line_spec.specs.Table.{short, long, Item, option, positional, flag, kind, Table}
+use Rattle.lexopt_line_spec.specs.Readings.{start, Asked}
+use Rattle.lexopt_line_spec.specs.Spelling as lines
+use Rattle.lexopt_line_spec.specs.Spelling.{exact, damaged, Behind, nothing, attached, joined, Completes, BeginsWithMark, IsBehindLast, a_value, Cluster, flag_first, last_option, Group, cluster, Line, no_words, plain_word, group, IsLong, name_alone, name_and_value, Shows}
+use Rattle.lexopt_spec.proofs.PlainFronts.{plain_holds, plain_passes, front-none, front_only}
+use Rattle.lexopt_line_spec.proofs.WholeLines.{shown_said}
+
+-- ---- tests
+
+both : (a b : Bool) → a && b ≡ true → (a ≡ true) × (b ≡ true)
+both true b is = (refl, is)
+both false b is = absurd (true≢false (sym is))
+
+pub some : {A : Type 0} (x : A) (xs : List A) → x ∷ xs ≢ []
+some {A = A} x xs is = let e : x ∷ xs ≡ [] = is in cc
+
+abbrev pub begins : ℕ → List ℕ → Bool
+begins b [] = false
+begins b (c ∷ cs) = c == b
+
+pub not_begins : (b : ℕ) (bs : List ℕ) → begins b bs ≡ false → ¬ BeginsWith b bs
+not_begins b [] is = λ h. h
+not_begins b (c ∷ cs) is = λ h. true≢false (sym (eq-eqb c b h) ∙ is)
+
+pub not_mark : (switch : Bool) (bs : List ℕ) → switch && begins equals bs ≡ false → ¬ BeginsWithMark switch bs
+not_mark false bs is = λ mark. true≢false (sym mark.0)
+not_mark true bs is = λ mark. not_begins equals bs is mark.1
+
+-- the bytes hold no `=`
+abbrev pub free : List ℕ → Bool
+free [] = true
+free (b ∷ bs) = not (b == equals) && free bs
+
+pub not_contains : (bs : List ℕ) → free bs ≡ true → ¬ Contains bs equals
+not_contains [] is (n, below, same) = absurd (omega arith)
+not_contains (b ∷ bs) is (zero, below, same) = true≢false (sym (both (not (b == equals)) (free bs) is).0 ∙ ap not (eq-eqb b equals same))
+not_contains (b ∷ bs) is (suc n, below, same) = not_contains bs (both (not (b == equals)) (free bs) is).1 (n, omega arith, same)
+
+-- all of these words are plain
+abbrev pub all_plain : Bool → List (List ℕ) → Bool
+all_plain ended [] = true
+all_plain ended (w ∷ ws) = is_plain ended w && all_plain ended ws
+
+-- the first of these words, if there is one, is not plain
+abbrev pub stops : Bool → List (List ℕ) → Bool
+stops ended [] = true
+stops ended (w ∷ ws) = not (is_plain ended w)
+
+are_plain : (ended : Bool) (ws : List (List ℕ)) → all_plain ended ws ≡ true → All (IsPlain ended) ws
+are_plain ended [] is = All-nil (IsPlain ended)
+are_plain ended (w ∷ ws) is = let parts = both (is_plain ended w) (all_plain ended ws) is in
+    All-cons (IsPlain ended) w ws (plain_holds ended w parts.0) (are_plain ended ws parts.1)
+
+pub not_normal : (ended : Bool) (ws : List (List ℕ)) → stops ended ws ≡ true → ¬ IsNormalIn ended ws
+not_normal ended [] is = λ h. h
+not_normal ended (w ∷ ws) is = λ h. true≢false (sym is ∙ ap not (plain_passes ended w h))
+
+pub plain_front_is : {ended : Bool} (front left : List (List ℕ)) → all_plain ended front ≡ true → stops ended left ≡ true → IsPlainFront ended (front ++ left) front left
+plain_front_is {ended = ended} front left plain longest = record { words_are = refl; plain = are_plain ended front plain; longest = not_normal ended left longest }
+
+-- ---- from items to words
+
+-- a flag of a cluster, and more of it
+pub flag_of : {t : Table} {switch : Bool} {words left : List (List ℕ)} {items : List Item} (c : ℕ) (others : List ℕ) → IsScalar c → kind t (short c) ≡ flag
+    → switch && begins equals others ≡ false → Cluster exact t switch words left others items
+    → Cluster exact t switch words left (encode_utf8 c ++ others) (option (short c) None ∷ items)
+flag_of {t = t} {switch = switch} {words = words} {left = left} {items = items} c others scalar is none spelled =
+    flag_first c (encode_utf8 c) others items (scalar, refl) is (not_mark switch others none) spelled
+
+-- the last option of a cluster
+pub last_of : {t : Table} {switch : Bool} {words left : List (List ℕ)} (c : ℕ) (others : List ℕ) (behind : Behind) (item : Item) → IsScalar c
+    → IsBehindLast switch others behind → Completes (kind t (short c)) (short c) behind words item left
+    → Cluster exact t switch words left (encode_utf8 c ++ others) (item ∷ [])
+last_of c others behind item scalar ends completes = last_option c (encode_utf8 c) others behind item (scalar, refl) ends completes
+
+pub value_behind : {switch : Bool} (b : ℕ) (bs : List ℕ) → switch && b == equals ≡ false → IsBehindLast switch (b ∷ bs) (attached (b ∷ bs))
+value_behind {switch = switch} b bs none = a_value (some b bs) (not_mark switch (b ∷ bs) none) refl
+
+pub cluster_line : {t : Table} {switch : Bool} {others left : List (List ℕ)} {items : List Item} (bytes : List ℕ) (front : List Item) → begins dash bytes ≡ false
+    → Cluster exact t switch others left bytes front → Line exact t switch left items → Line exact t switch ((dash ∷ bytes) ∷ others) (front ++ items)
+cluster_line {others = others} {left = left} {items = items} bytes front other spelled line =
+    group ((dash ∷ bytes) ∷ others) left front items (cluster bytes others refl (not_begins dash bytes other) spelled) line
+
+-- `--name`, where the name is not empty
+pub name_line : {t : Table} {switch : Bool} {others left : List (List ℕ)} {items : List Item} (b : ℕ) (bs : List ℕ) (item : Item) → free (b ∷ bs) ≡ true → IsUtf8 (b ∷ bs)
+    → Completes (kind t (long (b ∷ bs))) (long (b ∷ bs)) nothing others item left → Line exact t switch left items
+    → Line exact t switch ((dash ∷ dash ∷ b ∷ bs) ∷ others) (item ∷ items)
+name_line {others = others} {left = left} {items = items} b bs item none utf8 completes line =
+    group ((dash ∷ dash ∷ b ∷ bs) ∷ others) left (item ∷ []) items
+    (lines.long_option (b ∷ bs) (b ∷ bs) (b ∷ bs) nothing item others refl (name_alone (some b bs) refl refl) (not_contains (b ∷ bs) none) (utf8, refl) completes refl) line
+
+-- `--name=value`
+pub joined_line : {t : Table} {switch : Bool} {others left : List (List ℕ)} {items : List Item} (name value : List ℕ) (item : Item) → free name ≡ true → IsUtf8 name
+    → Completes (kind t (long name)) (long name) (joined value) others item left → Line exact t switch left items
+    → Line exact t switch ((dash ∷ dash ∷ (name ++ equals ∷ value)) ∷ others) (item ∷ items)
+joined_line {others = others} {left = left} {items = items} name value item none utf8 completes line =
+    group ((dash ∷ dash ∷ (name ++ equals ∷ value)) ∷ others) left (item ∷ []) items
+    (lines.long_option (name ++ equals ∷ value) name name (joined value) item others refl (name_and_value value refl refl) (not_contains name none) (utf8, refl) completes refl) line
+
+pub plain_line : {t : Table} {switch : Bool} {words : List (List ℕ)} {items : List Item} (w : List ℕ) → is_plain false w ≡ true → Line exact t switch words items
+    → Line exact t switch (w ∷ words) (positional w ∷ items)
+plain_line {words = words} {items = items} w is line = plain_word w words items (plain_holds false w is) line
+
+-- ---- calls
+
+-- `next` reads the first option of a cluster
+pub reads_first : (u : UnreadLine) (b : ℕ) (bs : List ℕ) (ws : List (List ℕ)) → u.tail ≡ no_tail → u.ended ≡ false → u.words ≡ (dash ∷ b ∷ bs) ∷ ws → b == dash ≡ false
+    → NextStep u (steps.short (shown (first_piece (b ∷ bs)).char))
+    (record u { words = ws; last = short_option (shown (first_piece (b ∷ bs)).char); tail = rest_of (after_first_piece (b ∷ bs)) })
+reads_first u b bs ws tail ended words other =
+    next_word tail ended (reads_cluster (b ∷ bs) ws words (not_begins dash (b ∷ bs) other) (record { some = some b bs; reply_is = refl; after_is = refl }))
+
+-- `next` reads a long option, without a value and with one
+pub reads_name : (u : UnreadLine) (b : ℕ) (bs : List ℕ) (ws : List (List ℕ)) → u.tail ≡ no_tail → u.ended ≡ false → u.words ≡ (dash ∷ dash ∷ b ∷ bs) ∷ ws → free (b ∷ bs) ≡ true
+    → NextStep u (steps.long (lossy (b ∷ bs))) (record u { words = ws; last = long_option (lossy (b ∷ bs)); tail = no_tail })
+reads_name u b bs ws tail ended words none =
+    next_word tail ended (reads_long (b ∷ bs) (b ∷ bs) no_tail ws words (some b bs) (alone (not_contains (b ∷ bs) none) refl) refl refl)
+
+pub reads_joined : (u : UnreadLine) (name value : List ℕ) (ws : List (List ℕ)) → u.tail ≡ no_tail → u.ended ≡ false → u.words ≡ (dash ∷ dash ∷ (name ++ equals ∷ value)) ∷ ws
+    → free name ≡ true → NextStep u (steps.long (lossy name)) (record u { words = ws; last = long_option (lossy name); tail = unread.joined value })
+reads_joined u name value ws tail ended words none =
+    next_word tail ended (reads_long (name ++ equals ∷ value) name (unread.joined value) ws words (not_empty name value) (with_value value (not_contains name none) refl) refl refl)
+  where
+    not_empty : (name value : List ℕ) → name ++ equals ∷ value ≢ []
+    not_empty [] value = some equals value
+    not_empty (b ∷ bs) value = some b (bs ++ equals ∷ value)
+
+-- `next` reads a positional, before the separator
+pub reads_plain : (u : UnreadLine) (w : List ℕ) (ws : List (List ℕ)) → u.tail ≡ no_tail → u.ended ≡ false → u.words ≡ w ∷ ws → is_plain false w ≡ true
+    → NextStep u (steps.positional w) (record u { words = ws })
+reads_plain u w ws tail ended words plain = next_word tail ended (reads_positional w ws words (plain_holds false w plain) refl refl)
+
+-- `values` answers n of the values that can be had
+pub gives_values : (n : ℕ) (u : UnreadLine) (front left : List (List ℕ)) → IsPlainFront u.ended u.words front left → available_with (pending u) front ≢ []
+    → ValuesStep n u (steps.items (take n (available_with (pending u) front))) (without (pending u) (length (take n (available_with (pending u) front))) u)
+gives_values n u front left is found =
+    let same : available u ≡ available_with (pending u) front = ap (available_with (pending u)) (front_only u.ended u.words front left is) in
+    some_values (λ none. found (sym same ∙ none)) (ap (λ l. steps.items (take n l)) (sym same)) (ap (λ l. without (pending u) (length (take n l)) u) (sym same))
+
+-- nothing is pending, and the next word is not plain: no values can be had
+pub misses_values : (n : ℕ) (u : UnreadLine) → pending u ≡ None → stops u.ended u.words ≡ true → ValuesStep n u (steps.missing (spelling u.last)) u
+misses_values n u none stop = no_values
+    (ap (λ p. available_with p (plain_front u.ended u.words)) none ∙ front-none u.ended u.words (not_normal u.ended u.words stop)) refl refl
+
+-- a reading that ends in an error: the words show no list
+pub none_shown : (t : Table) (switch : Bool) (words : List (List ℕ)) (calls : List Call) (replies : List Reply) (final : Reply) (after : UnreadLine)
+    → Run (start switch words) calls replies after → Asked t calls replies final → final ≢ steps.end → (l : List Item) → Shows t switch words l → ⊥
+none_shown t switch words calls replies final after run asked error l shows =
+    error (shown_said t switch words l _ final shows (record { calls = calls; replies = replies; after = after; run = run; asked = asked; items_are = refl })).0

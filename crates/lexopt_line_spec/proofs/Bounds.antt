@@ -1,0 +1,197 @@
+-- How many replies a line can give.
+use Rattle.std.proofs.Common.{◌≡◌, ◌≢◌, ◌⊎◌, ℕ, suc, ◌+◌, ◌<◌, ◌≤◌, Bool, true, List, [], ◌∷◌, ◌++◌, length, Some, None, refl, sym, ap, subst, ◌∙◌, inl, inr, ⊎_elim, arith, length-drop}
+use Rattle.std.proofs.lemmas.List.Sums.{sum_by-cons, sum_by-append}
+use Rattle.std.specs.List.{sum_by, All, IsAmong}
+use Rattle.bstr.specs.Utf8.{decoded}
+use Rattle.bstr.proofs.lemmas.PieceLemmas.{piece-bounds}
+use Rattle.lexopt_spec.specs.Pieces.{after_first_piece}
+use Rattle.lexopt_spec.specs.UnreadLine.{dash, Tail, no_tail, joined, rest, rest_of, UnreadLine, pending_in}
+use Rattle.lexopt_spec.specs.Steps.{Reply, taken, end, no_memory, Next, Value, IsLongOption, ReadsPositional, no_word_left, word_left, ReadsWord, no_word, reads_separator, reads_long, reads_cluster, reads_positional, NextStep, joined_value, equals_value, next_in_cluster, after_separator, next_word}
+use Rattle.lexopt_spec.specs.Views.{TakesWords, TakesWordIf}
+use Rattle.lexopt_spec.specs.Account.{handed_items}
+use Rattle.lexopt_line_spec.specs.Bound.{word_bound, tail_bound, bound, reply_count, replies_count}
+use Rattle.lexopt_spec.specs.Runs.{Call, next, value, optional, values, raw, try_raw, raw_if, switch, AmpleStep, Step, Run}
+use Rattle.lexopt_line_spec.proofs.Hands.{Hands, hands_nothing, hands_words, hands_pending, value_hands, optional_hands, values_hands, raw_hands, words_hands, word_if_hands, try_raw_hands}
+use Rattle.lexopt_line_spec.proofs.NoOption.{NoOption, no_option_count, value_no_option, optional_no_option, values_no_option, words_no_option, word_if_no_option, raw_no_option, try_raw_no_option}
+
+-- the reply and the line behind it together keep within the line
+abbrev Within : UnreadLine → ℕ → UnreadLine → Type 0
+Within u count v = count + bound v ≤ bound u
+
+-- ---- words
+
+at_least : (words : List (List ℕ)) → length words ≤ sum_by word_bound words
+at_least [] = omega arith
+at_least (w ∷ ws) = let more = at_least ws in let cut = sum_by-cons word_bound w ws in omega arith
+
+words_bound : (words front left : List (List ℕ)) → words ≡ front ++ left → length front + sum_by word_bound left ≤ sum_by word_bound words
+words_bound words front left is =
+    let all : sum_by word_bound words ≡ sum_by word_bound front + sum_by word_bound left = ap (sum_by word_bound) is ∙ sum_by-append word_bound front left in
+    let few = at_least front in omega arith
+
+-- ---- every call but `next`
+
+rest_some : (on : Bool) (tail : Tail) (x : List ℕ × Bool) → pending_in on tail ≡ Some x → 1 ≤ tail_bound tail
+rest_some on no_tail x is = absurd (let e : None ≡ Some x = is in cc)
+rest_some on (joined v) x is = omega arith
+rest_some on (rest []) x is = absurd (let e : None ≡ Some x = is in cc)
+rest_some on (rest (b ∷ bs)) x is = omega arith
+
+hands_bound : (u : UnreadLine) (l : List (List ℕ)) (v : UnreadLine) → Hands u l v → Within u (length l) v
+hands_bound u l v (hands_nothing none after) = rw (none, after) (omega arith)
+hands_bound u l v (hands_words left p words after) = let few = words_bound u.words l left words in rw after (omega arith)
+hands_bound u l v (hands_pending x by_equals front left p is words after) =
+    let few = words_bound u.words front left words in
+    let one = rest_some u.short_equals u.tail (x, by_equals) p in
+    let count : length l ≡ suc (length front) = ap length is in
+    rw after (omega arith)
+
+items_bound : (u : UnreadLine) (r : Reply) (v : UnreadLine) → NoOption r → Hands u (handed_items r) v → Within u (reply_count r) v
+items_bound u r v other hands = rw (no_option_count r other) (hands_bound u (handed_items r) v hands)
+
+-- ---- `next`
+
+tail_of_rest : (bs : List ℕ) → tail_bound (rest_of bs) ≡ length bs
+tail_of_rest [] = refl
+tail_of_rest (b ∷ bs) = refl
+
+shorter : (bytes : List ℕ) → bytes ≢ [] → 1 + tail_bound (rest_of (after_first_piece bytes)) ≤ length bytes
+shorter [] some = absurd (some refl)
+shorter (b ∷ bs) some =
+    let bounds = piece-bounds (b ∷ bs) (omega arith) in
+    let left = length-drop (decoded (b ∷ bs)).size (b ∷ bs) in
+    let tail = tail_of_rest (after_first_piece (b ∷ bs)) in omega arith
+
+positional_bound : (u : UnreadLine) (r : Reply) (v : UnreadLine) → ReadsPositional u r v → Within u (reply_count r) v
+positional_bound u r v (no_word_left is reply_is after_is) = rw (reply_is, after_is) (omega arith)
+positional_bound u r v (word_left w ws is reply_is after_is) = let few = words_bound u.words (w ∷ []) ws is in rw (reply_is, after_is) (omega arith)
+
+long_bound : (text name : List ℕ) (tail : Tail) → text ≢ [] → IsLongOption text name tail → 1 + tail_bound tail ≤ word_bound (dash ∷ dash ∷ text)
+long_bound [] name tail some option = absurd (some refl)
+long_bound (t ∷ ts) name no_tail some option = omega arith
+long_bound (t ∷ ts) name (joined v) some option = omega arith
+long_bound (t ∷ ts) name (rest bytes) some option = elim option [ ]
+
+word_step : (u : UnreadLine) (w : List ℕ) (ws : List (List ℕ)) → u.words ≡ w ∷ ws → sum_by word_bound u.words ≡ word_bound w + sum_by word_bound ws
+word_step u w ws is = ap (sum_by word_bound) is ∙ sum_by-cons word_bound w ws
+
+word_bounded : (u : UnreadLine) (r : Reply) (v : UnreadLine) → ReadsWord u r v → Within u (reply_count r) v
+word_bounded u r v (no_word is reply_is after_is) = rw (reply_is, after_is) (omega arith)
+word_bounded u r v (reads_separator ws is reads) =
+    let more = positional_bound (record u { words = ws; ended = true }) r v reads in
+    let step = word_step u (dash ∷ dash ∷ []) ws is in omega arith
+word_bounded u r v (reads_long text name tail ws is some option reply_is after_is) =
+    let few = long_bound text name tail some option in
+    let step = word_step u (dash ∷ dash ∷ text) ws is in
+    rw (reply_is, after_is) (omega arith)
+word_bounded u r v (reads_cluster bytes ws is other reads) =
+    let few = shorter bytes reads.some in
+    let step = word_step u (dash ∷ bytes) ws is in
+    rw (reads.reply_is, reads.after_is) (omega arith)
+word_bounded u r v (reads_positional w ws is plain reply_is after_is) = let few = words_bound u.words (w ∷ []) ws is in rw (reply_is, after_is) (omega arith)
+
+next_bound : (u : UnreadLine) (r : Reply) (v : UnreadLine) → NextStep u r v → Within u (reply_count r) v
+next_bound u r v (joined_value x option is spelled reply_is after_is) =
+    let tail : tail_bound u.tail ≡ 1 = ap tail_bound is in rw (reply_is, after_is) (omega arith)
+next_bound u r v (equals_value x option is on spelled reply_is after_is) =
+    let tail : tail_bound u.tail ≡ suc (length x) = ap tail_bound is in rw (reply_is, after_is) (omega arith)
+next_bound u r v (next_in_cluster bytes is other reads) =
+    let tail : tail_bound u.tail ≡ length bytes = ap tail_bound is in
+    let few = shorter bytes reads.some in
+    rw (reads.reply_is, reads.after_is) (omega arith)
+next_bound u r v (after_separator is ended reads) = positional_bound u r v reads
+next_bound u r v (next_word is ended reads) = word_bounded u r v reads
+
+-- ---- lists of calls
+
+ample_bound : (call : Call) (u : UnreadLine) (r : Reply) (v : UnreadLine) → AmpleStep call u r v → Within u (reply_count r) v
+ample_bound next u r v step = next_bound u r v step
+ample_bound value u r v step = items_bound u r v (value_no_option u r v step) (value_hands u r v step)
+ample_bound optional u r v step = items_bound u r v (optional_no_option u r v step) (optional_hands u r v step)
+ample_bound (values n) u r v step = items_bound u r v (values_no_option n u r v step) (values_hands n u r v step)
+ample_bound (raw n) u r v step =
+    items_bound u r v (raw_no_option (TakesWords n) u r v (λ t. words_no_option n u r v t) step) (raw_hands (TakesWords n) u r v (λ p t. words_hands n u r v p t) step)
+ample_bound (try_raw n) u r v step = items_bound u r v (try_raw_no_option n u r v step) (try_raw_hands n u r v step)
+ample_bound (raw_if word) u r v step =
+    items_bound u r v (raw_no_option (TakesWordIf word) u r v (λ t. word_if_no_option word u r v t) step)
+    (raw_hands (TakesWordIf word) u r v (λ p t. word_if_hands word u r v p t) step)
+ample_bound (switch on) u r v step = rw (step.reply_is, step.after_is) (omega arith)
+
+pub step_bound : (call : Call) (u : UnreadLine) (r : Reply) (v : UnreadLine) → Step call u r v → reply_count r + bound v ≤ bound u
+step_bound call u r v (inl step) = ample_bound call u r v step
+step_bound call u r v (inr refused) = rw (refused.reply_is, refused.after_is) (omega arith)
+
+pub run_bound : (u : UnreadLine) (calls : List Call) (replies : List Reply) (v : UnreadLine) → Run u calls replies v → replies_count replies + bound v ≤ bound u
+run_bound u [] [] v run = rw run (omega arith)
+run_bound u [] (r ∷ rs) v run = absurd run
+run_bound u (c ∷ cs) [] v run = absurd run
+run_bound u (c ∷ cs) (r ∷ rs) v run =
+    let first = step_bound c u r run.0 run.1 in
+    let more = run_bound run.0 cs rs v run.2 in
+    let cut = sum_by-cons reply_count r rs in omega arith
+
+-- ---- `next` comes to the end
+
+-- the reply counts, or it is the end
+positional_counts : (u : UnreadLine) (r : Reply) (v : UnreadLine) → ReadsPositional u r v → (r ≡ end) ⊎ (reply_count r ≡ 1)
+positional_counts u r v (no_word_left is reply_is after_is) = inl reply_is
+positional_counts u r v (word_left w ws is reply_is after_is) = inr (ap reply_count reply_is)
+
+word_counts : (u : UnreadLine) (r : Reply) (v : UnreadLine) → ReadsWord u r v → (r ≡ end) ⊎ (reply_count r ≡ 1)
+word_counts u r v (no_word is reply_is after_is) = inl reply_is
+word_counts u r v (reads_separator ws is reads) = positional_counts (record u { words = ws; ended = true }) r v reads
+word_counts u r v (reads_long text name tail ws is some option reply_is after_is) = inr (ap reply_count reply_is)
+word_counts u r v (reads_cluster bytes ws is other reads) = inr (ap reply_count reads.reply_is)
+word_counts u r v (reads_positional w ws is plain reply_is after_is) = inr (ap reply_count reply_is)
+
+next_counts : (u : UnreadLine) (r : Reply) (v : UnreadLine) → NextStep u r v → (r ≡ end) ⊎ (reply_count r ≡ 1)
+next_counts u r v (joined_value x option is spelled reply_is after_is) = inr (ap reply_count reply_is)
+next_counts u r v (equals_value x option is on spelled reply_is after_is) = inr (ap reply_count reply_is)
+next_counts u r v (next_in_cluster bytes is other reads) = inr (ap reply_count reads.reply_is)
+next_counts u r v (after_separator is ended reads) = positional_counts u r v reads
+next_counts u r v (next_word is ended reads) = word_counts u r v reads
+
+among_more : (r s : Reply) (rs : List Reply) → IsAmong rs s → IsAmong (r ∷ rs) s
+among_more r s rs is = (suc is.0, (let below = is.1.0 in omega arith, is.1.1))
+
+among_first : (r s : Reply) (rs : List Reply) → r ≡ s → IsAmong (r ∷ rs) s
+among_first r s rs is = (0, (omega arith, sym is))
+
+abbrev Ends : List Reply → ℕ → Type 0
+Ends replies n = (IsAmong replies no_memory ⊎ IsAmong replies end) ⊎ (replies_count replies ≡ n)
+
+ends_first : (u : UnreadLine) (r : Reply) (v : UnreadLine) (rs : List Reply) (n : ℕ) → Step next u r v → replies_count rs ≡ n → Ends (r ∷ rs) (suc n)
+ends_first u r v rs n (inl step) count = ⊎_elim
+    (λ (is : r ≡ end). inl (inr (among_first r end rs is)))
+    (λ (one : reply_count r ≡ 1). let cut = sum_by-cons reply_count r rs in inr (omega arith))
+    (next_counts u r v step)
+ends_first u r v rs n (inr refused) count = inl (inl (among_first r no_memory rs refused.reply_is))
+
+run_counts : (u : UnreadLine) (calls : List Call) (replies : List Reply) (v : UnreadLine) → Run u calls replies v
+    → All (λ call. call ≡ next) calls → Ends replies (length calls)
+run_counts u [] [] v run all = inr refl
+run_counts u [] (r ∷ rs) v run all = absurd run
+run_counts u (c ∷ cs) [] v run all = absurd run
+run_counts u (c ∷ cs) (r ∷ rs) v run all = ⊎_elim
+    (λ found. ⊎_elim (λ none. inl (inl (among_more r no_memory rs none))) (λ at_end. inl (inr (among_more r end rs at_end))) found)
+    (λ count. ends_first u r run.0 rs (length cs) (subst (λ (x : Call). Step x u r run.0) (all 0 next (omega arith)) run.1) count)
+    (run_counts run.0 cs rs v run.2 (λ k d below. all (suc k) d (omega arith)))
+
+pub run_ends : (u v : UnreadLine) (calls : List Call) (replies : List Reply) → Run u calls replies v → All (λ call. call ≡ next) calls
+    → bound u < length calls → IsAmong replies no_memory ⊎ IsAmong replies end
+run_ends u v calls replies run all many = ⊎_elim
+    (λ found. found)
+    (λ count. let most = run_bound u calls replies v run in absurd (omega arith))
+    (run_counts u calls replies v run all)
+
+-- ---- a step that gives something takes from the bound
+
+pub given_falls : (u v : UnreadLine) (r : Reply) → r ≢ end → r ≢ no_memory → Next u r v → bound v < bound u
+given_falls u v r some found (inl step) = ⊎_elim
+    (λ (is : r ≡ end). absurd (some is))
+    (λ (one : reply_count r ≡ 1). let most = step_bound next u r v (inl step) in omega arith)
+    (next_counts u r v step)
+given_falls u v r some found (inr refused) = absurd (found refused.reply_is)
+
+pub taken_falls : (u v : UnreadLine) (word : List ℕ) → Value u (taken word) v → bound v < bound u
+taken_falls u v word step = let most = step_bound value u (taken word) v step in omega arith

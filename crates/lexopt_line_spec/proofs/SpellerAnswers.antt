@@ -1,0 +1,21 @@
+-- What an answer of the speller holds.
+use Rattle.std.proofs.Common.{◌≡◌}
+use Rattle.std.proofs.lemmas.Result.{IfOk-at_ok}
+use Rattle.std.specs.Prelude.{Result, Ok, Err}
+use Rattle.lexopt_line_spec.specs.Speller.{Reason, Form, Added, Fault, Rest}
+
+-- the values of an option have this form
+abbrev pub Formed : Result Form Reason → Form → Type 0
+Formed answer f = answer ≡ Ok f
+
+-- an item adds this
+abbrev pub Adding : Result Added Reason → Added → Type 0
+Adding answer a = answer ≡ Ok a
+
+-- this is spelled from some place on
+abbrev pub Going : Result Rest Fault → Rest → Type 0
+Going answer r = answer ≡ Ok r
+
+-- an answer that is an error is nothing else
+pub none_is : {X T E : Type 0} (e : E) (x : T) → Err e ≡ Ok x → X
+none_is e x is = absurd (IfOk-at_ok (λ _. ⊥) is tt)

@@ -1,0 +1,334 @@
+-- What the speller answers spells the items.
+use Rattle.std.proofs.Common.{◌≡◌, ◌≢◌, ◌⊎◌, ℕ, ◌==◌, ◌&&◌, not, Bool, true, false, List, [], ◌∷◌, ◌++◌, map, None, encode_utf8, refl, sym, ap, subst, ◌∙◌, arith, inl, inr, ⊎_elim, true≢false, append-nil, append_assoc}
+use Rattle.std.proofs.lemmas.Bool.{eq-eqb, eqb-true, and_parts}
+use Rattle.std.proofs.lemmas.Result.{IfOk-at_ok}
+use Rattle.std.proofs.lemmas.Str.{IsUtf8-from_is_utf8}
+use Rattle.std.specs.Prelude.{Result, Ok, Err}
+use Rattle.std.specs.List.{Contains}
+use Rattle.std.specs.Str.{IsUtf8, is_utf8}
+use Rattle.std.specs.Char.{IsScalar}
+use lib.Utf8.{scalar}
+use Rattle.lexopt_spec.specs.UnreadLine.{dash, equals, BeginsWith, IsPlain, is_plain, IsNormalIn}
+use Rattle.lexopt_line_spec.specs.Table.{Name, short, long, Item, option, many, positional, flag, kind, Table}
+use Rattle.lexopt_line_spec.specs.Spelling as spelling
+use Rattle.lexopt_line_spec.specs.Spelling.{exact, Behind, nothing, attached, joined, Completes, BeginsWithMark, IsBehindLast, Cluster, flag_first, last_option, nothing_more, IsLong, name_alone, name_and_value, Group, cluster, Line, no_words, plain_word, group, separator, Spells}
+use Rattle.lexopt_line_spec.specs.Speller.{Reason, Place, open_line, in_cluster, behind_values, behind_positional, ended, Form, name_only, short_form, long_form, short_many_form, long_many_form, behind_bytes, Added, with_form, short_added, is_named, long_placed, long_added, stands, positional_added, adds, separator_comes_too_early, separator_is_due, Fault, Rest, glued, with_rest, with_rests, spelled_from, words_of, spelled}
+use Rattle.lexopt_spec.proofs.PlainFronts.{plain_holds}
+use Rattle.lexopt_line_spec.proofs.SpellerAnswers.{Adding, Going, none_is}
+use Rattle.lexopt_line_spec.proofs.SpellerTests.{has_equals, no_equals, dash_first, dash_begins, some_bytes}
+use Rattle.lexopt_line_spec.proofs.SpellerForms.{HoldsShort, HoldsLong, short_holds, long_holds, short_many_holds, long_many_holds, NotAttached}
+
+-- ---- what is said of the words, by the place that they follow
+
+-- the bytes, with the words behind them, end a cluster and the line
+pub record Clustered (t : Table) (switch : Bool) (bytes : List ℕ) (words : List (List ℕ)) (items : List Item) : Type 0 where
+  pub front : List Item
+  pub others : List Item
+  pub left : List (List ℕ)
+  pub spelled : Cluster exact t switch words left bytes front
+  pub line : Line exact t switch left others
+  pub items_are : items ≡ front ++ others
+
+-- no bytes go on, and the words spell the items
+pub record Closed (t : Table) (switch : Bool) (r : Rest) (items : List Item) : Type 0 where
+  pub none : r.first ≡ []
+  pub line : Line exact t switch r.words items
+
+abbrev pub Right : Table → Bool → Place → Rest → List Item → Type 0
+Right t switch open_line r items = Closed t switch r items
+Right t switch in_cluster r items = Closed t switch r items ⊎ (BeginsWith dash r.first × Clustered t switch r.first r.words items)
+Right t switch behind_values r items = Closed t switch r items × ¬ IsNormalIn false r.words
+Right t switch behind_positional r items = Closed t switch r items
+Right t switch ended r items = (r.first ≡ []) × (items ≡ map positional r.words)
+
+-- ---- an item's words
+
+pub not_plain : (bytes : List ℕ) → bytes ≢ [] → ¬ IsPlain false (dash ∷ bytes)
+not_plain bytes some (inl e) = true≢false (sym e)
+not_plain bytes some (inr (inl e)) = some (let same : bytes ≡ [] = cc in same)
+not_plain bytes some (inr (inr other)) = other refl
+
+abbrev glue : Added → Rest → Rest
+glue a r = glued a.goes_on (a.word ++ r.first) (a.words ++ r.words)
+
+-- what follows an option that is no flag of a cluster
+closed_behind : (t : Table) (switch : Bool) (place : Place) (r : Rest) (items : List Item) → (place ≡ open_line) ⊎ (place ≡ behind_values) → Right t switch place r items
+    → Closed t switch r items × (place ≡ behind_values → ¬ IsNormalIn false r.words)
+closed_behind t switch place r items (inl is) right =
+    (subst (λ (p : Place). Right t switch p r items) is right, λ other. absurd (let e : open_line ≡ behind_values = sym is ∙ other in cc))
+closed_behind t switch place r items (inr is) right =
+    let both = subst (λ (p : Place). Right t switch p r items) is right in (both.0, λ same. both.1)
+
+no_mark : (switch : Bool) (bytes : List ℕ) → BeginsWith dash bytes → ¬ BeginsWithMark switch bytes
+no_mark switch [] begins mark = begins
+no_mark switch (b ∷ bs) begins mark = let e : equals ≡ dash = sym mark.1 ∙ begins in absurd (omega arith)
+
+tail_nil : (name behind first : List ℕ) → first ≡ [] → (name ++ behind) ++ first ≡ name ++ behind
+tail_nil name behind first none = ap (λ l. (name ++ behind) ++ l) none ∙ append-nil (name ++ behind)
+
+-- an option of a cluster, with what follows
+clustered : (t : Table) (switch : Bool) (c : ℕ) (item : Item) (f : Form) (r : Rest) (items : List Item) → IsScalar c
+    → HoldsShort switch (kind t (short c)) (short c) item f → Right t switch f.place r items
+    → Clustered t switch ((encode_utf8 c ++ behind_bytes f.behind) ++ r.first) (f.words ++ r.words) (item ∷ items)
+clustered t switch c item f r items is_scalar holds right = ⊎_elim
+    (λ open_at. last (inl open_at))
+    (λ other. ⊎_elim
+    (λ values_at. last (inr values_at))
+    (λ flagged. in_flags flagged.0 flagged.1 flagged.2 (subst (λ (g : Form). Right t switch g.place r items) flagged.2 right))
+    other)
+    holds.holds.place
+  where
+    last : (f.place ≡ open_line) ⊎ (f.place ≡ behind_values) → Clustered t switch ((encode_utf8 c ++ behind_bytes f.behind) ++ r.first) (f.words ++ r.words) (item ∷ items)
+    last at =
+        let closed = closed_behind t switch f.place r items at right in
+        record {
+          front = item ∷ [];
+          others = items;
+          left = r.words;
+          spelled = subst (λ (l : List ℕ). Cluster exact t switch (f.words ++ r.words) r.words l (item ∷ [])) (sym (tail_nil (encode_utf8 c) (behind_bytes f.behind) r.first closed.0.none))
+              (last_option c (encode_utf8 c) (behind_bytes f.behind) f.behind item (is_scalar, refl) holds.behind (holds.holds.completes r.words closed.1));
+          line = closed.0.line;
+          items_are = refl;
+        }
+
+    alone : (k : kind t (short c) ≡ flag) → (item ≡ option (short c) None) → (f ≡ name_only in_cluster) → Closed t switch r items
+        → Clustered t switch ((encode_utf8 c ++ behind_bytes f.behind) ++ r.first) (f.words ++ r.words) (item ∷ items)
+    alone k item_is f_is closed =
+        let calm : f.place ≡ behind_values → ¬ IsNormalIn false r.words =
+        λ values_at. absurd (let e : in_cluster ≡ behind_values = sym (ap (λ (g : Form). g.place) f_is) ∙ values_at in cc) in
+        record {
+          front = item ∷ [];
+          others = items;
+          left = r.words;
+          spelled = subst (λ (l : List ℕ). Cluster exact t switch (f.words ++ r.words) r.words l (item ∷ [])) (sym (tail_nil (encode_utf8 c) (behind_bytes f.behind) r.first closed.none))
+              (last_option c (encode_utf8 c) (behind_bytes f.behind) f.behind item (is_scalar, refl) holds.behind (holds.holds.completes r.words calm));
+          line = closed.line;
+          items_are = refl;
+        }
+
+    in_flags : (k : kind t (short c) ≡ flag) → (item ≡ option (short c) None) → (f ≡ name_only in_cluster)
+        → Closed t switch r items ⊎ (BeginsWith dash r.first × Clustered t switch r.first r.words items)
+        → Clustered t switch ((encode_utf8 c ++ behind_bytes f.behind) ++ r.first) (f.words ++ r.words) (item ∷ items)
+    in_flags k item_is f_is (inl closed) = alone k item_is f_is closed
+    in_flags k item_is f_is (inr more) =
+        let l = more.1 in
+        subst (λ (g : Form). Clustered t switch ((encode_utf8 c ++ behind_bytes g.behind) ++ r.first) (g.words ++ r.words) (item ∷ items)) (sym f_is)
+        (record {
+          front = option (short c) None ∷ l.front;
+          others = l.others;
+          left = l.left;
+          spelled = subst (λ (x : List ℕ). Cluster exact t switch r.words l.left (x ++ r.first) (option (short c) None ∷ l.front)) (sym (append-nil (encode_utf8 c)))
+              (flag_first c (encode_utf8 c) r.first l.front (is_scalar, refl) k (no_mark switch r.first more.0) l.spelled);
+          line = l.line;
+          items_are = ap (λ x. x ∷ items) item_is ∙ ap (λ x. option (short c) None ∷ x) l.items_are;
+        })
+
+-- a cluster as a word
+cluster_word : (t : Table) (switch : Bool) (bytes : List ℕ) (words : List (List ℕ)) (items : List Item) → ¬ BeginsWith dash bytes → Clustered t switch bytes words items
+    → Line exact t switch ((dash ∷ bytes) ∷ words) items
+cluster_word t switch bytes words items other l =
+    subst (Line exact t switch ((dash ∷ bytes) ∷ words)) (sym l.items_are)
+    (group ((dash ∷ bytes) ∷ words) l.left l.front l.others (cluster bytes words refl other l.spelled) l.line)
+
+begins_name : (c : ℕ) (behind first : List ℕ) → BeginsWith dash ((encode_utf8 c ++ behind) ++ first) → c ≡ dash
+begins_name c behind first begins = dash_first c (behind ++ first) (subst (BeginsWith dash) (append_assoc (encode_utf8 c) behind first) begins)
+
+name_begins : (c : ℕ) (behind first : List ℕ) → c ≡ dash → BeginsWith dash ((encode_utf8 c ++ behind) ++ first)
+name_begins c behind first is = subst (BeginsWith dash) (sym (append_assoc (encode_utf8 c) behind first)) (dash_begins c (behind ++ first) is)
+
+name_some : (c : ℕ) (behind first : List ℕ) → IsScalar c → (encode_utf8 c ++ behind) ++ first ≢ []
+name_some c behind first is_scalar none = some_bytes c (behind ++ first) is_scalar (sym (append_assoc (encode_utf8 c) behind first) ∙ none)
+
+new_word : (t : Table) (switch : Bool) (c : ℕ) (item : Item) (f : Form) (r : Rest) (items : List Item) → IsScalar c → c ≢ dash
+    → HoldsShort switch (kind t (short c)) (short c) item f → Right t switch f.place r items
+    → Closed t switch (glue (with_form false (dash ∷ encode_utf8 c) f) r) (item ∷ items) × ¬ IsNormalIn false ((glue (with_form false (dash ∷ encode_utf8 c) f) r).words)
+new_word t switch c item f r items is_scalar other holds right = (
+  record {
+    none = refl;
+    line = cluster_word t switch ((encode_utf8 c ++ behind_bytes f.behind) ++ r.first) (f.words ++ r.words) (item ∷ items)
+        (λ begins. other (begins_name c (behind_bytes f.behind) r.first begins))
+        (clustered t switch c item f r items is_scalar holds right);
+  },
+  not_plain ((encode_utf8 c ++ behind_bytes f.behind) ++ r.first) (name_some c (behind_bytes f.behind) r.first is_scalar),
+)
+
+abbrev Leads : Table → Bool → Place → Item → Added → Type 0
+Leads t switch place item a = (r : Rest) (items : List Item) → Right t switch a.place r items → Right t switch place (glue a r) (item ∷ items)
+
+short_right : (t : Table) (switch s d : Bool) (place : Place) (c : ℕ) (item : Item) (form : Result Form Reason) (a : Added) → scalar c ≡ s → (c == dash) ≡ d
+    → ((f : Form) → form ≡ Ok f → HoldsShort switch (kind t (short c)) (short c) item f) → Adding (short_added s d place c form) a → Leads t switch place item a
+short_right t switch false d place c item form a scalar_is dash_is holds is = none_is _ a is
+short_right t switch true d place c item (Err reason) a scalar_is dash_is holds is = none_is _ a is
+short_right t switch true d ended c item (Ok f) a scalar_is dash_is holds is = none_is _ a is
+short_right t switch true false open_line c item (Ok f) a scalar_is dash_is holds is = IfOk-at_ok (Leads t switch open_line item) is
+    (λ r items right. (new_word t switch c item f r items scalar_is (λ same. true≢false (sym (eq-eqb c dash same) ∙ dash_is)) (holds f refl) right).0)
+short_right t switch true false behind_positional c item (Ok f) a scalar_is dash_is holds is = IfOk-at_ok (Leads t switch behind_positional item) is
+    (λ r items right. (new_word t switch c item f r items scalar_is (λ same. true≢false (sym (eq-eqb c dash same) ∙ dash_is)) (holds f refl) right).0)
+short_right t switch true false in_cluster c item (Ok f) a scalar_is dash_is holds is = IfOk-at_ok (Leads t switch in_cluster item) is
+    (λ r items right. inl (new_word t switch c item f r items scalar_is (λ same. true≢false (sym (eq-eqb c dash same) ∙ dash_is)) (holds f refl) right).0)
+short_right t switch true false behind_values c item (Ok f) a scalar_is dash_is holds is = IfOk-at_ok (Leads t switch behind_values item) is
+    (λ r items right. new_word t switch c item f r items scalar_is (λ same. true≢false (sym (eq-eqb c dash same) ∙ dash_is)) (holds f refl) right)
+short_right t switch true true open_line c item (Ok f) a scalar_is dash_is holds is = none_is _ a is
+short_right t switch true true behind_values c item (Ok f) a scalar_is dash_is holds is = none_is _ a is
+short_right t switch true true behind_positional c item (Ok f) a scalar_is dash_is holds is = none_is _ a is
+short_right t switch true true in_cluster c item (Ok f) a scalar_is dash_is holds is = IfOk-at_ok (Leads t switch in_cluster item) is
+    (λ r items right. inr (name_begins c (behind_bytes f.behind) r.first (eqb-true c dash dash_is), clustered t switch c item f r items scalar_is (holds f refl) right))
+
+-- ---- long options
+
+long_closed : (t : Table) (switch : Bool) (name : Name) (item : Item) (f : Form) (r : Rest) (items : List Item) → HoldsLong (kind t name) name item f
+    → Right t switch f.place r items → Closed t switch r items × (f.place ≡ behind_values → ¬ IsNormalIn false r.words)
+long_closed t switch name item f r items holds right = closed_behind t switch f.place r items
+    (⊎_elim (λ at. inl at) (λ other. ⊎_elim (λ at. inr at) (λ flagged. inl (ap (λ (g : Form). g.place) flagged.2)) other) holds.holds.place) right
+
+is_long : (name : List ℕ) (behind : Behind) → (behind ≡ nothing → name ≢ []) → NotAttached behind → IsLong (name ++ behind_bytes behind) name behind
+is_long name nothing some free = name_alone (some refl) (append-nil name) refl
+is_long name (attached v) some free = absurd free
+is_long name (joined v) some free = name_and_value v refl refl
+
+long_word : (t : Table) (switch : Bool) (name : List ℕ) (item : Item) (f : Form) (r : Rest) (items : List Item) → IsUtf8 name → ¬ Contains name equals
+    → (f.behind ≡ nothing → name ≢ []) → HoldsLong (kind t (long name)) (long name) item f → Right t switch f.place r items
+    → Closed t switch (glue (with_form false (dash ∷ dash ∷ name) f) r) (item ∷ items) × ¬ IsNormalIn false ((glue (with_form false (dash ∷ dash ∷ name) f) r).words)
+long_word t switch name item f r items text none some holds right =
+    let closed = long_closed t switch (long name) item f r items holds right in
+    let behind = behind_bytes f.behind in (
+      record {
+        none = refl;
+        line = subst (λ (w : List ℕ). Line exact t switch ((dash ∷ dash ∷ w) ∷ (f.words ++ r.words)) (item ∷ items)) (sym (tail_nil name behind r.first closed.0.none))
+            (group ((dash ∷ dash ∷ (name ++ behind)) ∷ (f.words ++ r.words)) r.words (item ∷ []) items
+            (spelling.long_option (name ++ behind) name name f.behind item (f.words ++ r.words) refl (is_long name f.behind some holds.unattached) none (text, refl)
+            (holds.holds.completes r.words closed.1) refl)
+            closed.0.line);
+      },
+      not_plain (dash ∷ ((name ++ behind) ++ r.first)) (λ nil. let e : dash ∷ ((name ++ behind) ++ r.first) ≡ [] = nil in cc),
+    )
+
+-- the word, wherever it stands before the separator
+abbrev Anywhere : Table → Bool → Item → Added → Type 0
+Anywhere t switch item a = (r : Rest) (items : List Item) → Right t switch a.place r items → Closed t switch (glue a r) (item ∷ items) × ¬ IsNormalIn false ((glue a r).words)
+
+some_named : (name : List ℕ) (behind : Behind) → is_named name behind ≡ true → behind ≡ nothing → name ≢ []
+some_named [] nothing named same nil = true≢false (sym named)
+some_named [] (attached v) named same nil = true≢false (sym named)
+some_named [] (joined v) named same nil = let e : joined v ≡ nothing = same in cc
+some_named (b ∷ bs) behind named same nil = let e : b ∷ bs ≡ [] = nil in cc
+
+anywhere : (t : Table) (switch : Bool) (name : List ℕ) (item : Item) (f : Form) → IsUtf8 name → ¬ Contains name equals → is_named name f.behind ≡ true
+    → HoldsLong (kind t (long name)) (long name) item f → Anywhere t switch item (with_form false (dash ∷ dash ∷ name) f)
+anywhere t switch name item f text none named holds = λ r items right.
+    long_word t switch name item f r items text none (some_named name f.behind named) holds right
+
+placed_right : (t : Table) (switch n : Bool) (place : Place) (name : List ℕ) (item : Item) (f : Form) (a : Added) → IsUtf8 name → ¬ Contains name equals
+    → is_named name f.behind ≡ n → HoldsLong (kind t (long name)) (long name) item f → Adding (long_placed n place name f) a → Leads t switch place item a
+placed_right t switch false place name item f a text none named holds is = none_is _ a is
+placed_right t switch true ended name item f a text none named holds is = none_is _ a is
+placed_right t switch true open_line name item f a text none named holds is = IfOk-at_ok (Leads t switch open_line item) is
+    (λ r items right. (anywhere t switch name item f text none named holds r items right).0)
+placed_right t switch true behind_positional name item f a text none named holds is = IfOk-at_ok (Leads t switch behind_positional item) is
+    (λ r items right. (anywhere t switch name item f text none named holds r items right).0)
+placed_right t switch true in_cluster name item f a text none named holds is = IfOk-at_ok (Leads t switch in_cluster item) is
+    (λ r items right. inl (anywhere t switch name item f text none named holds r items right).0)
+placed_right t switch true behind_values name item f a text none named holds is = IfOk-at_ok (Leads t switch behind_values item) is
+    (λ r items right. anywhere t switch name item f text none named holds r items right)
+
+long_right : (t : Table) (switch u e : Bool) (place : Place) (name : List ℕ) (item : Item) (form : Result Form Reason) (a : Added) → is_utf8 name ≡ u
+    → has_equals name ≡ e → ((f : Form) → form ≡ Ok f → HoldsLong (kind t (long name)) (long name) item f)
+    → Adding (long_added u e place name form) a → Leads t switch place item a
+long_right t switch false e place name item form a text none holds is = none_is _ a is
+long_right t switch true true place name item form a text none holds is = none_is _ a is
+long_right t switch true false place name item (Err reason) a text none holds is = none_is _ a is
+long_right t switch true false place name item (Ok f) a text none holds is =
+    placed_right t switch (is_named name f.behind) place name item f a (IsUtf8-from_is_utf8 name text) (no_equals name none) refl (holds f refl) is
+
+-- ---- positionals
+
+first_nil : (w first : List ℕ) → first ≡ [] → w ++ first ≡ w
+first_nil w first none = ap (λ l. w ++ l) none ∙ append-nil w
+
+separator_line : (t : Table) (switch : Bool) (w : List ℕ) (r : Rest) (items : List Item) → Right t switch ended r items
+    → Line exact t switch (((dash ∷ dash ∷ []) ++ r.first) ∷ w ∷ r.words) (positional w ∷ items)
+separator_line t switch w r items right =
+    subst (λ (l : List ℕ). Line exact t switch (l ∷ w ∷ r.words) (positional w ∷ items)) (sym (first_nil (dash ∷ dash ∷ []) r.first right.0))
+    (subst (λ (l : List Item). Line exact t switch ((dash ∷ dash ∷ []) ∷ w ∷ r.words) (positional w ∷ l)) (sym right.1) (separator (w ∷ r.words)))
+
+plain_line : (t : Table) (switch : Bool) (w : List ℕ) (r : Rest) (items : List Item) → is_plain false w ≡ true → Closed t switch r items
+    → Line exact t switch ((w ++ r.first) ∷ r.words) (positional w ∷ items)
+plain_line t switch w r items plain closed =
+    subst (λ (l : List ℕ). Line exact t switch (l ∷ r.words) (positional w ∷ items)) (sym (first_nil w r.first closed.none))
+    (plain_word w r.words items (plain_holds false w plain) closed.line)
+
+positional_right : (t : Table) (switch p : Bool) (place : Place) (w : List ℕ) → (p ≡ true → is_plain false w ≡ true) → Leads t switch place (positional w) (positional_added p place w)
+positional_right t switch p ended w plain r items right =
+    (refl, ap (λ l. positional w ∷ l) right.1 ∙ ap (λ x. positional x ∷ map positional r.words) (sym (first_nil w r.first right.0)))
+positional_right t switch p behind_values w plain r items right = (
+  record { none = refl; line = separator_line t switch w r items right },
+  not_plain (dash ∷ r.first) (λ nil. let e : dash ∷ r.first ≡ [] = nil in cc),
+)
+positional_right t switch false open_line w plain r items right = record { none = refl; line = separator_line t switch w r items right }
+positional_right t switch false in_cluster w plain r items right = inl (record { none = refl; line = separator_line t switch w r items right })
+positional_right t switch false behind_positional w plain r items right = record { none = refl; line = separator_line t switch w r items right }
+positional_right t switch true open_line w plain r items right = record { none = refl; line = plain_line t switch w r items (plain refl) right }
+positional_right t switch true in_cluster w plain r items right = inl (record { none = refl; line = plain_line t switch w r items (plain refl) right })
+positional_right t switch true behind_positional w plain r items right = record { none = refl; line = plain_line t switch w r items (plain refl) right }
+
+stands_plain : (p d : Bool) (place : Place) → stands p d place ≡ true → p ≡ true
+stands_plain p d open_line is = (and_parts p (not d) is).0
+stands_plain p d in_cluster is = (and_parts p (not d) is).0
+stands_plain p d behind_values is = is
+stands_plain p d behind_positional is = is
+stands_plain p d ended is = is
+
+-- ---- all items
+
+adds_right : (t : Table) (switch joins due : Bool) (place : Place) (item : Item) (a : Added) → adds t switch joins due place item ≡ Ok a → Leads t switch place item a
+adds_right t switch joins due place (option (short c) value) a is =
+    short_right t switch (scalar c) (c == dash) place c (option (short c) value) (short_form switch (kind t (short c)) value) a refl refl
+    (λ f found. short_holds switch (kind t (short c)) (short c) value f found) is
+adds_right t switch joins due place (many (short c) values) a is =
+    short_right t switch (scalar c) (c == dash) place c (many (short c) values) (short_many_form (switch && joins) (kind t (short c)) values) a refl refl
+    (λ f found. short_many_holds switch (switch && joins) (kind t (short c)) (short c) values f (λ both. (and_parts switch joins both).0) found) is
+adds_right t switch joins due place (option (long name) value) a is =
+    long_right t switch (is_utf8 name) (has_equals name) place name (option (long name) value) (long_form (kind t (long name)) value) a refl refl
+    (λ f found. long_holds (kind t (long name)) (long name) value f found) is
+adds_right t switch joins due place (many (long name) values) a is =
+    long_right t switch (is_utf8 name) (has_equals name) place name (many (long name) values) (long_many_form (kind t (long name)) values) a refl refl
+    (λ f found. long_many_holds (kind t (long name)) (long name) values f found) is
+adds_right t switch joins due place (positional w) a is =
+    IfOk-at_ok (Leads t switch place (positional w)) is
+    (positional_right t switch (stands (is_plain false w) due place) place w (stands_plain (is_plain false w) due place))
+
+nil_right : (t : Table) (switch : Bool) (place : Place) → Right t switch place (record { first = []; words = [] }) []
+nil_right t switch open_line = record { none = refl; line = no_words }
+nil_right t switch in_cluster = inl (record { none = refl; line = no_words })
+nil_right t switch behind_values = (record { none = refl; line = no_words }, λ h. h)
+nil_right t switch behind_positional = record { none = refl; line = no_words }
+nil_right t switch ended = (refl, refl)
+
+abbrev From : Table → Bool → List Item → Type 0
+From t switch items = (place : Place) (r : Rest) → spelled_from t switch items place ≡ Ok r → Right t switch place r items
+
+behind_item : (t : Table) (switch joins due : Bool) (place : Place) (item : Item) (items : List Item) (r : Rest) (a : Added) (rest : Result Rest Fault) → From t switch items
+    → adds t switch joins due place item ≡ Ok a → spelled_from t switch items a.place ≡ rest → Going (with_rest a rest) r → Right t switch place r (item ∷ items)
+behind_item t switch joins due place item items r a (Err fault) later added_is rest_is is = none_is _ r is
+behind_item t switch joins due place item items r a (Ok s) later added_is rest_is is = IfOk-at_ok (λ (x : Rest). Right t switch place x (item ∷ items)) is
+    (adds_right t switch joins due place item a added_is s items (later a.place s rest_is))
+
+first_item : (t : Table) (switch joins due : Bool) (place : Place) (item : Item) (items : List Item) (r : Rest) (o : Result Added Reason) → From t switch items
+    → adds t switch joins due place item ≡ o → Going (with_rests o (spelled_from t switch items)) r → Right t switch place r (item ∷ items)
+first_item t switch joins due place item items r (Err reason) later added_is is = none_is _ r is
+first_item t switch joins due place item items r (Ok a) later added_is is =
+    behind_item t switch joins due place item items r a (spelled_from t switch items a.place) later added_is refl is
+
+spelled_right : (t : Table) (switch : Bool) (items : List Item) → From t switch items
+unfolding spelled_from
+spelled_right t switch [] = λ place r is. IfOk-at_ok (λ (s : Rest). Right t switch place s []) is (nil_right t switch place)
+spelled_right t switch (item ∷ items) = λ place r is.
+    first_item t switch (separator_comes_too_early items) (separator_is_due items) place item items r (adds t switch (separator_comes_too_early items) (separator_is_due items) place item) (spelled_right t switch items) refl is
+
+pub spelled_spells : (t : Table) (switch : Bool) (items : List Item) (words : List (List ℕ)) → spelled t switch items ≡ Ok words → Spells t switch words items
+spelled_spells t switch items words is = go (spelled_from t switch items open_line) refl is
+  where
+    go : (o : Result Rest Fault) → spelled_from t switch items open_line ≡ o → words_of o ≡ Ok words → Spells t switch words items
+    go (Err fault) from with_is = none_is fault words with_is
+    go (Ok r) from with_is =
+        IfOk-at_ok (λ (l : List (List ℕ)). Spells t switch l items) with_is (spelled_right t switch items open_line r from).line

@@ -1,0 +1,6 @@
+pub mod Bound
+pub mod Table
+pub mod Spelling
+pub mod Speller
+pub mod Readings
+pub mod Script

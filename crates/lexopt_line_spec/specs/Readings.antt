@@ -1,0 +1,81 @@
+-- How a line is read by a table: which calls are made, and what their replies say.
+-- The source is `docs/behaviour.md`.
+use Rattle.std.specs.Prelude.{◌≡◌, ◌<◌, ℕ, length, Bool, List, [], ◌∷◌, ◌++◌, Some, None}
+use Rattle.lexopt_spec.specs.UnreadLine.{UnreadLine, fresh}
+use Rattle.lexopt_spec.specs.Steps as steps
+use Rattle.lexopt_spec.specs.Steps.{Reply}
+use Rattle.lexopt_spec.specs.Runs as calls
+use Rattle.lexopt_spec.specs.Runs.{Call, next, value, Run}
+use Rattle.lexopt_line_spec.specs.Table.{Name, short, long, Item, option, positional, Kind, flag, one, optional, several, many, kind, Table}
+
+-- the line of these words, of which none was read, under this switch
+abbrev pub start : Bool → List (List ℕ) → UnreadLine
+start switch words = record (fresh words) { short_equals = switch }
+
+-- the call that is made behind an option of this kind. Where no option was read last, it is that behind a flag
+abbrev pub IsDue : Kind → Call → Type 0
+IsDue flag call = call ≡ next
+IsDue one call = call ≡ value
+IsDue optional call = call ≡ calls.optional
+IsDue several call = (n : ℕ) × (call ≡ calls.values n)
+
+-- the reading ends with this reply
+abbrev pub IsLast : Reply → Type 0
+IsLast steps.end = Unit {0}
+IsLast (steps.missing o) = Unit {0}
+IsLast (steps.unexpected o word) = Unit {0}
+IsLast reply = ⊥
+
+-- all values were given: more were asked for than came
+abbrev pub IsFull : Call → Reply → Type 0
+IsFull (calls.values n) (steps.items words) = length words < n
+IsFull call reply = Unit {0}
+
+-- the reading goes on behind this reply, as behind an option of this kind
+abbrev pub GoesOn : Table → Reply → Kind → Type 0
+GoesOn t (steps.short c) k = k ≡ kind t (short c)
+GoesOn t (steps.long name) k = k ≡ kind t (long name)
+GoesOn t (steps.positional word) k = k ≡ flag
+GoesOn t (steps.taken word) k = k ≡ flag
+GoesOn t (steps.maybe word) k = k ≡ flag
+GoesOn t (steps.items words) k = k ≡ flag
+GoesOn t reply k = ⊥
+
+-- behind an option of this kind a reading makes these calls, where they get these replies, the last of which is this one
+pub data AskedBehind (t : Table) (final : Reply) : Kind → List Call → List Reply → Type 0 where
+  last : (k : Kind) (call : Call) → IsDue k call → IsLast final → AskedBehind t final k (call ∷ []) (final ∷ [])
+  more : (k l : Kind) (call : Call) (reply : Reply) (calls : List Call) (replies : List Reply) → IsDue k call → IsFull call reply
+      → GoesOn t reply l → AskedBehind t final l calls replies → AskedBehind t final k (call ∷ calls) (reply ∷ replies)
+
+-- `next`, and behind each option of the table the call for its values, up to the end or the first error, and never short of memory
+abbrev pub Asked : Table → List Call → List Reply → Reply → Type 0
+Asked t calls replies final = AskedBehind t final flag calls replies
+
+-- an option, where these replies follow
+abbrev pub item_behind : Name → List Reply → Item
+item_behind name [] = option name None
+item_behind name (steps.taken word ∷ replies) = option name (Some word)
+item_behind name (steps.maybe word ∷ replies) = option name word
+item_behind name (steps.items words ∷ replies) = many name words
+item_behind name (reply ∷ replies) = option name None
+
+-- what the replies of a reading say
+abbrev pub items_said : List Reply → List Item
+items_said [] = []
+items_said (steps.short c ∷ replies) = item_behind (short c) replies ∷ items_said replies
+items_said (steps.long name ∷ replies) = item_behind (long name) replies ∷ items_said replies
+items_said (steps.positional word ∷ replies) = positional word ∷ items_said replies
+items_said (reply ∷ replies) = items_said replies
+
+-- a reading of this line, which ends with this reply and says these items
+pub record IsReading (t : Table) (u : UnreadLine) (final : Reply) (l : List Item) : Type 0 where
+  pub calls : List Call
+  pub replies : List Reply
+  pub after : UnreadLine
+  pub run : Run u calls replies after
+  pub asked : Asked t calls replies final
+  pub items_are : l ≡ items_said replies
+
+-- what is read between the two lines says these items: every reading of the second line is the end of one of the first
+abbrev pub SaysUpTo : Table → UnreadLine → List Item → UnreadLine → Type 0
+SaysUpTo t u l v = (final : Reply) (m : List Item) → IsReading t v final m → IsReading t u final (l ++ m)

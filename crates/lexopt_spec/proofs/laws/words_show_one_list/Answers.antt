@@ -1,6 +1,0 @@
-use Rattle.lexopt_spec.specs.Readings.{start}
-use Rattle.lexopt_spec.proofs.Existence.{only_one}
-use Rattle.lexopt_spec.proofs.laws.words_show_one_list.Goals as goal
-
-pub returns : goal.returns
-returns c = λ t switch words l m one other. only_one t (start switch words) l m tt one other
