@@ -6,8 +6,8 @@
 //! or printed; then standard error says why.
 #![tactic(auto)]
 
-use lexopt::prelude::{Long, Short, ValueExt};
-use lexopt::{Error, OsStr, Parser};
+use lexopt_base::prelude::{Long, Short, ValueExt};
+use lexopt_base::{Error, OsStr, Parser};
 use std::env::Env;
 use std::io;
 use std::process::ExitCode;

@@ -4,8 +4,8 @@
 //! made or printed; then standard error says why.
 #![tactic(auto)]
 
-use lexopt::prelude::{Long, Short, Value, ValueExt};
-use lexopt::{Error, Parser};
+use lexopt_base::prelude::{Long, Short, Value, ValueExt};
+use lexopt_base::{Error, Parser};
 use std::env::Env;
 use std::io;
 use std::process::ExitCode;

@@ -6,8 +6,8 @@
 //! bytes); then standard error says why.
 #![tactic(auto)]
 
-use lexopt::prelude::{Long, Short, Value, ValueExt};
-use lexopt::{Error, Parser};
+use lexopt_base::prelude::{Long, Short, Value, ValueExt};
+use lexopt_base::{Error, Parser};
 use std::alloc::{AllocError, Global};
 use std::io;
 use std::process::ExitCode;

@@ -7,8 +7,8 @@
 //! printed; then standard error says why.
 #![tactic(auto)]
 
-use lexopt::prelude::{Short, Value, ValueExt};
-use lexopt::{Error, OsString, Parser};
+use lexopt_base::prelude::{Short, Value, ValueExt};
+use lexopt_base::{Error, OsString, Parser};
 use std::alloc::Global;
 use std::env::Env;
 use std::io;

@@ -8,8 +8,8 @@
 //! printed; then standard error says why.
 #![tactic(auto)]
 
-use lexopt::prelude::{Long, Short, Value, ValueExt};
-use lexopt::{Error, OsString, Parser, Quoted};
+use lexopt_base::prelude::{Long, Short, Value, ValueExt};
+use lexopt_base::{Error, OsString, Parser, Quoted};
 use std::env::{Env, FillError};
 use std::io;
 use std::process::ExitCode;

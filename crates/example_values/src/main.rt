@@ -8,8 +8,8 @@
 #![tactic(auto)]
 
 use anyhow::bail;
-use lexopt::prelude::{Long, Short, ValueExt};
-use lexopt::{Error, OsString, Parser, Quoted};
+use lexopt_base::prelude::{Long, Short, ValueExt};
+use lexopt_base::{Error, OsString, Parser, Quoted};
 use std::env::Env;
 use std::io;
 use std::process::ExitCode;

@@ -5,18 +5,14 @@
 //! reads a whole line by a table, and `spell::spell` gives words that spell what a line is to say.
 #![tactic(auto)]
 
-pub use lexopt_base::parser::Parser;
-pub use lexopt_base::raw::RawArgs;
-pub use lexopt_base::values::ValuesIter;
-pub use lexopt_base::{parser, raw, values};
+pub use lexopt_base::{
+    Arg, Error, OsStr, OsString, Parser, Quoted, RawArgs, ValueExt, ValuesIter, parser, prelude,
+    raw, values,
+};
 pub use lexopt_calls::items;
 pub use lexopt_spell::spell;
-pub use lexopt_words::error::{Arg, Error};
-pub use lexopt_words::os_string::{OsStr, OsString, Quoted};
-pub use lexopt_words::value_ext::ValueExt;
 pub use lexopt_words::{error, os_string, value_ext};
 
-pub mod prelude;
 pub mod replay;
 mod run_error;
 mod script;
