@@ -57,14 +57,6 @@ OF_EMPTY_WORDS = (
     "A word that is taken leaves an empty one in its place, which is written and, at the end, dropped: some 10 instructions. The "
     "owning iterator of a `Vec` would leave none, but std's cannot lend the words that are left as one slice."
 )
-OF_LISTS = (
-    "The list of an option's values is read by a function of its own, and the room of its answer is zeroed. Where that function is "
-    "inlined the ratio is 0.85, and most other rows by a table take more."
-)
-OF_THE_ALLOCATOR = (
-    "Some 400,000 instructions of it, and 100,000 of lexopt's, are those by which the C library's allocator merges freed words. "
-    "How many it merges depends on where larger blocks lie. Without them the ratio is 0.98."
-)
 
 
 def repeated(words):
@@ -157,15 +149,9 @@ WORKLOADS = [
         10_000,
         behind(b"-x", [b"value"]),
         work="items",
-        bounds={"items": (1.4, OF_THE_ALLOCATOR)},
+        bounds={"items": (1.05, OF_EMPTY_WORDS)},
     ),
-    Workload(
-        "{size} words, `-x=a` and a positional in turn",
-        10_000,
-        repeated([b"-x=a", b"b"]),
-        work="items",
-        bounds={"items": (1.02, OF_LISTS)},
-    ),
+    Workload("{size} words, `-x=a` and a positional in turn", 10_000, repeated([b"-x=a", b"b"]), work="items"),
 ]
 
 
