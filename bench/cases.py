@@ -1,6 +1,6 @@
 """The cases of the comparison: words of a command line, and calls. What is made by chance has fixed seeds.
 
-A case is a line, as `crates/lexopt_compare/src/main.rt` says. Run with no argument this lists the groups of cases.
+A case is a line, as `crates/test_lists/src/answers.rt` says. Run with no argument this lists the groups of cases.
 """
 
 from dataclasses import dataclass

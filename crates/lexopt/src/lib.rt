@@ -9,10 +9,8 @@ pub use lexopt_base::{
     Arg, Error, OsStr, OsString, Parser, Quoted, RawArgs, ValueExt, ValuesIter, parser, prelude,
     raw, values,
 };
-pub use lexopt_calls::items;
+pub use lexopt_items::items;
 pub use lexopt_spell::spell;
 pub use lexopt_words::{error, os_string, value_ext};
 
 pub mod replay;
-mod run_error;
-mod script;

@@ -1,4 +1,3 @@
 pub mod StepReplies
 pub mod Views
 pub mod Parts
-pub mod ReadsItems

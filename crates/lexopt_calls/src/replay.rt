@@ -51,9 +51,9 @@ fn refusal(error: Error) -> Option<Reply>
     }
 }
 
-// One call of `next`.
+/// One call of `next`. The reply is none where no parser answers so. The crate `lexopt` does not hand this on.
 #[inline(always)]
-pub(crate) fn call_next(alloc: Global, parser: &mut Parser) -> Result<Option<Reply>, AllocError>
+pub fn call_next(alloc: Global, parser: &mut Parser) -> Result<Option<Reply>, AllocError>
     ensures { (reply : Option steps.Reply) × Gives Next parser.old reply parser.new
         × IfOk result (λ copy. option_map reply_view copy ≡ reply) }
 {
@@ -86,8 +86,8 @@ fn call_values(
     }
 }
 
-// So many items of a view of values, or fewer where it ends before.
-pub(crate) fn values_of(
+/// So many items of a view of values, or fewer where it ends before. The crate `lexopt` does not hand this on.
+pub fn values_of(
     alloc: Global,
     view: &mut ValuesIter<'_>,
     count: usize,

@@ -3,7 +3,7 @@ ghost use Rattle.std.specs.Prelude.{◌≡◌, ◌==◌, false, true, Ok, map, s
 ghost use Rattle.std.specs.List.{list_all, list_any};
 ghost use Rattle.lexopt_spec.specs.UnreadLine as line;
 ghost use Rattle.lexopt_line_spec.specs.Speller as spec;
-ghost use Rattle.lexopt_calls.specs.Items.{item_view, table_view};
+ghost use Rattle.lexopt_items.specs.Items.{item_view, table_view};
 ghost use Rattle.lexopt_spell.specs.Views.{added_answer, added_view, behind_view, form_answer, form_view, place_view};
 
 use crate::forms::{
@@ -11,8 +11,8 @@ use crate::forms::{
 };
 use crate::spell::Reason;
 use crate::words::Word;
-use lexopt_calls::items::{Item, Table};
-use lexopt_calls::kinds::{kind_of_long, kind_of_short};
+use lexopt_items::items::{Item, Table};
+use lexopt_items::kinds::{kind_of_long, kind_of_short};
 use lexopt_words::os_string::OsString;
 use std::slice;
 

@@ -3,11 +3,11 @@ ghost use Rattle.std.specs.Prelude.{◌≡◌, false};
 ghost use Rattle.std.specs.List.{list_all};
 ghost use Rattle.lexopt_line_spec.specs.Speller as spec;
 ghost use Rattle.lexopt_spec.specs.UnreadLine as line;
-ghost use Rattle.lexopt_calls.specs.Items.{kind_view};
+ghost use Rattle.lexopt_items.specs.Items.{kind_view};
 ghost use Rattle.lexopt_spell.specs.Views.{behind_view, form_answer, form_view, place_view};
 
 use crate::spell::Reason;
-use lexopt_calls::kinds::Kind;
+use lexopt_items::kinds::Kind;
 use lexopt_words::os_string::OsString;
 use lexopt_words::word::is_positional;
 use std::slice;

@@ -5,13 +5,13 @@ ghost use Rattle.lexopt_line_spec.specs.Speller.{IsAtFault, spelled};
 ghost use Rattle.lexopt_line_spec.specs.Spelling.{Shows, Spells};
 ghost use Rattle.lexopt_spec.specs.Steps as steps;
 ghost use Rattle.lexopt_line_spec.specs.Table as spec;
-ghost use Rattle.lexopt_calls.specs.Items.{item_view, table_view};
+ghost use Rattle.lexopt_items.specs.Items.{item_view, table_view};
 ghost use Rattle.lexopt_spell.specs.Views.{IsFault, NamesItemAtFault};
 
 use crate::added::adds;
 use crate::forms::Place;
 use crate::words::push;
-use lexopt_calls::items::{Item, Table};
+use lexopt_items::items::{Item, Table};
 use lexopt_words::message::write_no_memory;
 use lexopt_words::os_string::OsString;
 use std::alloc::{AllocError, Global};

@@ -1,4 +1,4 @@
-//! Answers calls, so that the answers can be compared. `crates/lexopt_compare` does the same with this repository's port, and
+//! Answers calls, so that the answers can be compared. `crates/test_lists/src/answers.rt` does the same with this repository's port, and
 //! its `src/main.rt` says what a case is.
 
 mod answers;

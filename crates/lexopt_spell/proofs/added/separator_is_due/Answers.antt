@@ -1,5 +1,5 @@
 use Rattle.std.proofs.Common.{sym, ◌∙◌}
-use Rattle.lexopt_calls.specs.Items.{item_view}
+use Rattle.lexopt_items.specs.Items.{item_view}
 use Rattle.lexopt_spell.proofs.Behind.{row_asked, no_row}
 use Rattle.lexopt_spell.proofs.added.separator_is_due.Goals as goal
 

@@ -1,0 +1,183 @@
+-- The turns of `read_items`.
+use Rattle.std.proofs.Common.{◌≡◌, ◌<◌, ◌||◌, ℕ, Bool, true, false, List, [], ◌∷◌, map, Option, Some, None, refl, sym, ap, subst, ◌∙◌, arith, inl, inr, ⊎_elim, ◌⊎◌, append-nil, string_bytes, String, Global}
+use Rattle.std.specs.List.{list_any}
+use Rattle.lexopt_spec.specs.UnreadLine.{UnreadLine}
+use Rattle.lexopt_spec.specs.Steps as steps
+use Rattle.lexopt_spec.specs.Steps.{Reply, Next}
+use Rattle.lexopt_spec.specs.Runs as calls
+use Rattle.lexopt_spec.specs.Runs.{Call, Step}
+use Rattle.lexopt_line_spec.specs.Table.{Name, short, long, Item, option, positional, Kind, flag, one, optional, several, holds_in, kind, Table}
+use Rattle.lexopt_line_spec.specs.Readings.{IsDue, IsReading, SaysUpTo, start}
+use Rattle.lexopt_line_spec.specs.Bound.{bound}
+use Rattle.lexopt_line_spec.proofs.Bounds.{given_falls, step_bound}
+use Rattle.lexopt_line_spec.proofs.Rounds.{option_reply, says_flag, says_value, says_optional, says_several, says_positional, reads_last, reads_refused}
+use Rattle.lexopt_line_spec.specs.Spelling.{Shows}
+use Rattle.lexopt_line_spec.proofs.WholeLines.{shown_said}
+use Rattle.lexopt_base.specs.Replies.{Gives, error_reply}
+use Rattle.lexopt_words.specs.declared.error.Error.{Error}
+use Rattle.lexopt_words.specs.declared.error.Error.TheVariants.{MissingValue, UnexpectedOption, UnexpectedArgument, UnexpectedValue, ParsingFailed, NonUnicodeValue, Custom, OutOfMemory}
+use Rattle.std.specs.Prelude.{Result, Ok, Err, IfErr, IfOk}
+use Rattle.std.specs.Result.{IsErrAnd}
+use Rattle.std.specs.Option.{option_map}
+use Rattle.lexopt_calls.specs.declared.reply.Reply as replies
+use Rattle.lexopt_items.specs.declared.kinds.Kind as copies
+use Rattle.lexopt_items.specs.declared.kinds.Kind.TheVariants.{Flag, One, Optional, Several}
+use Rattle.lexopt_items.specs.declared.items.Ending.{Ending}
+use Rattle.lexopt_items.specs.declared.items.Ending.TheVariants.{Missing, Unexpected, NoMemory}
+use Rattle.lexopt_items.specs.declared.items.Values.{Values}
+use Rattle.lexopt_items.specs.declared.items.Values.TheVariants.{AtMostOne, All}
+use Rattle.lexopt_calls.specs.Replies.{reply_view}
+use Rattle.lexopt_items.specs.Items.{ReadsItem, ReadsValues, RefusesValues, EndsBy, IsErrorOf, IsRefused, ending_view, item_with, kind_view}
+
+pub list_any-map : {X Y : Type 0} (f : X → Y) (p : Y → Bool) (xs : List X) → list_any p (map f xs) ≡ list_any (λ x. p (f x)) xs
+list_any-map f p [] = refl
+list_any-map f p (x ∷ xs) = ap (λ b. p (f x) || b) (list_any-map f p xs)
+
+-- ---- the kind of an option
+
+abbrev pub IsHeld : Table → Kind → Name → Bool → Type 0
+IsHeld t one name held = holds_in t.shorts t.longs name ≡ held
+IsHeld t optional name held = holds_in t.optional_shorts t.optional_longs name ≡ held
+IsHeld t several name held = holds_in t.several_shorts t.several_longs name ≡ held
+IsHeld t flag name held = Unit {0}
+
+pub is_one : (t : Table) (name : Name) → IsHeld t one name true → one ≡ kind t name
+unfolding kind
+is_one t name a = rw a refl
+
+pub is_optional : (t : Table) (name : Name) → IsHeld t one name false → IsHeld t optional name true → optional ≡ kind t name
+unfolding kind
+is_optional t name a b = rw (a, b) refl
+
+pub is_several : (t : Table) (name : Name) → IsHeld t one name false → IsHeld t optional name false → IsHeld t several name true → several ≡ kind t name
+unfolding kind
+is_several t name a b c = rw (a, b, c) refl
+
+pub is_flag : (t : Table) (name : Name) → IsHeld t one name false → IsHeld t optional name false → IsHeld t several name false → flag ≡ kind t name
+unfolding kind
+is_flag t name a b c = rw (a, b, c) refl
+
+-- ---- what is read
+
+option_falls : (u v : UnreadLine) (name : Name) → Next u (option_reply name) v → bound v < bound u
+option_falls u v (short c) step = given_falls u v (steps.short c) (λ is. let e : steps.short c ≡ steps.end = is in cc) (λ is. let e : steps.short c ≡ steps.no_memory = is in cc) step
+option_falls u v (long n) step = given_falls u v (steps.long n) (λ is. let e : steps.long n ≡ steps.end = is in cc) (λ is. let e : steps.long n ≡ steps.no_memory = is in cc) step
+
+pub positional_read : (t : Table) (u v : UnreadLine) (word : List ℕ) → Next u (steps.positional word) v → ReadsItem t u (Some (positional word)) v
+positional_read t u v word step = (
+  says_positional t u v word step,
+  given_falls u v (steps.positional word) (λ is. let e : steps.positional word ≡ steps.end = is in cc) (λ is. let e : steps.positional word ≡ steps.no_memory = is in cc) step,
+)
+
+-- no call takes from the line what it does not have
+falls_on : (u v w : UnreadLine) (name : Name) (call : Call) (reply : Reply) → Next u (option_reply name) v → Step call v reply w → bound w < bound u
+falls_on u v w name call reply step takes =
+    let first = option_falls u v name step in
+    let then = step_bound call v reply w takes in
+    omega arith
+
+-- an option, and its values
+pub option_read : (t : Table) (u v w : UnreadLine) (name : Name) (k : copies.Kind) (values : Values) → kind_view k ≡ kind t name → Next u (option_reply name) v
+    → ReadsValues k v values w → ReadsItem t u (Some (item_with name values)) w
+option_read t u v w name Flag (AtMostOne None) is step reads = (
+  subst (SaysUpTo t u (option name None ∷ [])) (sym reads) (says_flag t u v name (sym is) step),
+  subst (λ (x : UnreadLine). bound x < bound u) (sym reads) (option_falls u v name step),
+)
+option_read t u v w name One (AtMostOne (Some word)) is step reads =
+    (says_value t u v w name word (sym is) step reads, falls_on u v w name calls.value (steps.taken word) step reads)
+option_read t u v w name Optional (AtMostOne value) is step reads =
+    (says_optional t u v w name value (sym is) step reads, falls_on u v w name calls.optional (steps.maybe value) step reads)
+option_read t u v w name Several (All values) is step reads =
+    (says_several t u v w name reads.0 values.items (sym is) reads.1 step reads.2, falls_on u v w name (calls.values reads.0) (steps.items values.items) step reads.2)
+option_read t u v w name k values is step reads = absurd reads
+
+-- ---- errors
+
+-- an error of the call for the values of an option ends the reading
+pub value_refused : (k : copies.Kind) (u v : UnreadLine) (e : Error) (ending : Ending) (call : Call) → IsDue (kind_view k) call → error_reply e ≡ Some (ending_view ending)
+    → Gives (Step call) u (error_reply e) v → RefusesValues k u ending
+value_refused k u v e ending call due is gives = inr (call, v, due, subst (λ (o : Option Reply). Gives (Step call) u o v) is gives)
+
+no_memory_ends : (ending : Ending) → Some steps.no_memory ≡ Some (ending_view ending) → ending ≡ NoMemory
+no_memory_ends (Missing o) is = let f : Some steps.no_memory ≡ Some (ending_view (Missing o)) = is in cc
+no_memory_ends (Unexpected o x) is = let f : Some steps.no_memory ≡ Some (ending_view (Unexpected o x)) = is in cc
+no_memory_ends NoMemory is = refl
+
+-- or memory is refused
+pub values_refused : (k : copies.Kind) (u v : UnreadLine) (e : Error) (ending : Ending) (call : Call) → IsDue (kind_view k) call → error_reply e ≡ Some (ending_view ending)
+    → (e ≡ OutOfMemory) ⊎ Gives (Step call) u (error_reply e) v → RefusesValues k u ending
+values_refused k u v e ending call due is (inl none) = inl (no_memory_ends ending (ap error_reply (sym none) ∙ is))
+values_refused k u v e ending call due is (inr gives) = value_refused k u v e ending call due is gives
+
+-- the call for the values of an option ends the reading
+pub option_refused : (t : Table) (u v : UnreadLine) (name : Name) (k : copies.Kind) (ending : Ending) → kind_view k ≡ kind t name → Next u (option_reply name) v → RefusesValues k v ending
+    → EndsBy t u ending
+option_refused t u v name k ending is step (inl none) = inl none
+option_refused t u v name k (Missing o) is step (inr r) = inr (_, reads_refused t u v r.1 name (kind_view k) r.0 (ending_view (Missing o)) (sym is) r.2 tt step r.3)
+option_refused t u v name k (Unexpected o x) is step (inr r) = inr (_, reads_refused t u v r.1 name (kind_view k) r.0 (ending_view (Unexpected o x)) (sym is) r.2 tt step r.3)
+option_refused t u v name k NoMemory is step (inr r) = inl refl
+
+-- `next` ends the reading
+pub next_refused : (t : Table) (u v : UnreadLine) (o : String Global) (x : List ℕ) → Next u (ending_view (Unexpected o x)) v → EndsBy t u (Unexpected o x)
+next_refused t u v o x step = inr (_, reads_last t u v (ending_view (Unexpected o x)) tt step)
+
+-- what was read before
+pub refused_later : (t : Table) (u v : UnreadLine) (l : List Item) (ending : Ending) → SaysUpTo t u l v → EndsBy t v ending → EndsBy t u ending
+refused_later t u v l ending says (inl is) = inl is
+refused_later t u v l ending says (inr reading) = inr (_, says (ending_view ending) reading.0 reading.1)
+
+-- the error of what ended it
+pub is_refused : (t : Table) (u : UnreadLine) (ending : Ending) (e : Error) → EndsBy t u ending → IsErrorOf ending e → IsRefused t u e
+is_refused t u NoMemory e ends is = inl is
+is_refused t u (Missing o) e (inl none) is = let f : Missing o ≡ NoMemory = none in cc
+is_refused t u (Missing None) e (inr r) is = inr (_, r.0, r.1, ap error_reply is)
+is_refused t u (Missing (Some o)) e (inr r) is = inr (_, r.0, r.1, ap error_reply is)
+is_refused t u (Unexpected o x) e (inl none) is = let f : Unexpected o x ≡ NoMemory = none in cc
+is_refused t u (Unexpected o x) e (inr r) is = inr (_, r.0, r.1, ap error_reply is)
+
+-- the end
+pub end_read : (t : Table) (u v w : UnreadLine) (l : List Item) → SaysUpTo t u l v → Next v steps.end w → IsReading t u steps.end l
+end_read t u v w l says step = subst (IsReading t u steps.end) (append-nil l) (says steps.end [] (reads_last t v w steps.end tt step))
+
+-- ---- what a step gave
+
+pub gave : (u v : UnreadLine) (copy : Option replies.Reply) (x : replies.Reply) → ((reply : Option Reply) × Gives Next u reply v × (option_map reply_view copy ≡ reply))
+    → copy ≡ Some x → Next u (reply_view x) v
+gave u v copy x h is = subst (λ (r : Option Reply). Gives Next u r v) (sym h.2 ∙ ap (option_map reply_view) is) h.1
+
+-- an error, of which more is known
+pub err_says : {X Y : Type 0} (r : Result X Y) (P Q : Y → Type 0) → IsErrAnd r P → ((y : Y) → P y → Q y) → IfErr r Q
+err_says (Ok x) P Q h more = tt
+err_says (Err y) P Q h more = more y h
+
+pub err_alone : {X Y : Type 0} (r : Result X Y) (P : Y → Type 0) (Q : X → Type 0) → IsErrAnd r P → IfOk r Q
+err_alone (Ok x) P Q h = absurd h
+err_alone (Err y) P Q h = tt
+
+-- an error that a `?` hands on
+pub handed_on : {X Y : Type 0} (r : Result X Y) (e : Y) (Q : Y → Type 0) → IsErrAnd r (λ y. y ≡ e) → Q e → IfErr r Q
+handed_on r e Q is h = err_says r (λ y. y ≡ e) Q is (λ y same. subst Q (sym same) h)
+
+-- ---- what a whole reading shows
+
+no_error : (x : Error) → error_reply x ≡ Some steps.end → ⊥
+no_error (MissingValue None) is = let f : Some (steps.missing None) ≡ Some steps.end = is in cc
+no_error (MissingValue (Some o)) is = let f : Some (steps.missing (Some (string_bytes o))) ≡ Some steps.end = is in cc
+no_error (UnexpectedOption o) is = let f : None ≡ Some steps.end = is in cc
+no_error (UnexpectedArgument x) is = let f : None ≡ Some steps.end = is in cc
+no_error (UnexpectedValue o x) is = let f : Some (steps.unexpected (string_bytes o) x) ≡ Some steps.end = is in cc
+no_error (ParsingFailed x c) is = let f : None ≡ Some steps.end = is in cc
+no_error (NonUnicodeValue x) is = let f : None ≡ Some steps.end = is in cc
+no_error (Custom c) is = let f : None ≡ Some steps.end = is in cc
+no_error OutOfMemory is = let f : Some steps.no_memory ≡ Some steps.end = is in cc
+
+-- where a reading ends in an error, the words show nothing
+pub refused_shows_none : (t : Table) (switch : Bool) (words : List (List ℕ)) (e : Error) → IsRefused t (start switch words) e
+    → (e ≡ OutOfMemory) ⊎ ((l : List Item) → Shows t switch words l → ⊥)
+refused_shows_none t switch words e (inl is) = inl is
+refused_shows_none t switch words e (inr reading) = inr (λ l shows.
+    let final = (shown_said t switch words l reading.1 reading.0 shows reading.2).0 in no_error e (reading.3 ∙ ap Some final))
+
+pub refused_shows : (t : Table) (switch : Bool) (words : List (List ℕ)) (l : List Item) (e : Error) → Shows t switch words l → IsRefused t (start switch words) e → e ≡ OutOfMemory
+refused_shows t switch words l e shows refused =
+    ⊎_elim (λ is. is) (λ (none : (m : List Item) → Shows t switch words m → ⊥). absurd (none l shows)) (refused_shows_none t switch words e refused)

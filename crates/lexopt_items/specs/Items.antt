@@ -1,0 +1,88 @@
+-- Tables, items and errors as contracts see them, and what one turn of `read_items` reads.
+use Rattle.std.specs.Prelude.{◌≡◌, ◌<◌, ◌⊎◌, ℕ, List, [], ◌∷◌, length, map, Option, Some, None, option_map, string_bytes}
+use Rattle.lexopt_spec.specs.UnreadLine.{UnreadLine}
+use Rattle.lexopt_spec.specs.Steps.{Reply, Next, Value, end, taken, maybe, items, missing, unexpected, no_memory}
+use Rattle.lexopt_spec.specs.Runs as calls
+use Rattle.lexopt_spec.specs.Runs.{Step}
+use Rattle.lexopt_line_spec.specs.Table as spec
+use Rattle.lexopt_line_spec.specs.Table.{short, long, option, many, positional}
+use Rattle.lexopt_line_spec.specs.Readings.{IsDue, IsReading, SaysUpTo}
+use Rattle.lexopt_line_spec.specs.Bound.{bound}
+use Rattle.lexopt_base.specs.Replies.{error_reply}
+use Rattle.lexopt_words.specs.declared.error.Error.{Error}
+use Rattle.lexopt_words.specs.declared.error.Error.TheVariants.{MissingValue, UnexpectedValue, OutOfMemory}
+use Rattle.lexopt_items.specs.declared.items.Item.{Item}
+use Rattle.lexopt_items.specs.declared.items.Item.TheVariants.{Short, Long, ShortMany, LongMany, Positional}
+use Rattle.lexopt_items.specs.declared.items.Table.{Table}
+use Rattle.lexopt_items.specs.declared.kinds.Kind.{Kind}
+use Rattle.lexopt_items.specs.declared.kinds.Kind.TheVariants.{Flag, One, Optional, Several}
+use Rattle.lexopt_items.specs.declared.items.Ending.{Ending}
+use Rattle.lexopt_items.specs.declared.items.Ending.TheVariants.{Missing, Unexpected, NoMemory}
+use Rattle.lexopt_items.specs.declared.items.Values.{Values}
+use Rattle.lexopt_items.specs.declared.items.Values.TheVariants.{AtMostOne, All}
+
+abbrev pub item_view : Item → spec.Item
+item_view (Short c value) = option (short c) value
+item_view (Long name value) = option (long (string_bytes name)) value
+item_view (ShortMany c values) = many (short c) values.items
+item_view (LongMany name values) = many (long (string_bytes name)) values.items
+item_view (Positional word) = positional word
+
+abbrev pub table_view : Table → spec.Table
+table_view t = record {
+  shorts = t.shorts.items;
+  longs = map string_bytes t.longs.items;
+  optional_shorts = t.optional_shorts.items;
+  optional_longs = map string_bytes t.optional_longs.items;
+  several_shorts = t.several_shorts.items;
+  several_longs = map string_bytes t.several_longs.items;
+}
+
+abbrev pub kind_view : Kind → spec.Kind
+kind_view Flag = spec.flag
+kind_view One = spec.one
+kind_view Optional = spec.optional
+kind_view Several = spec.several
+
+-- an option with these values
+abbrev pub item_with : spec.Name → Values → spec.Item
+item_with name (AtMostOne value) = option name value
+item_with name (All values) = many name values.items
+
+-- the values of an option of this kind are read
+abbrev pub ReadsValues : Kind → UnreadLine → Values → UnreadLine → Type 0
+ReadsValues Flag u (AtMostOne None) v = v ≡ u
+ReadsValues One u (AtMostOne (Some word)) v = Value u (taken word) v
+ReadsValues Optional u (AtMostOne value) v = Step calls.optional u (maybe value) v
+ReadsValues Several u (All values) v = (n : ℕ) × (length values.items < n) × Step (calls.values n) u (items values.items) v
+ReadsValues k u values v = ⊥
+
+-- what ends a reading, as a reply
+abbrev pub ending_view : Ending → Reply
+ending_view (Missing o) = missing (option_map string_bytes o)
+ending_view (Unexpected o word) = unexpected (string_bytes o) word
+ending_view NoMemory = no_memory
+
+-- memory is refused, or the call for the values of an option of this kind ends the reading so
+abbrev pub RefusesValues : Kind → UnreadLine → Ending → Type 0
+RefusesValues k u ending =
+    (ending ≡ NoMemory) ⊎ ((call : calls.Call) × (v : UnreadLine) × IsDue (kind_view k) call × Step call u (ending_view ending) v)
+
+-- the item that is read next, and none at the end
+abbrev pub ReadsItem : spec.Table → UnreadLine → Option spec.Item → UnreadLine → Type 0
+ReadsItem t u None v = Next u end v
+ReadsItem t u (Some item) v = SaysUpTo t u (item ∷ []) v × (bound v < bound u)
+
+-- memory is refused, or a reading of the line ends so
+abbrev pub EndsBy : spec.Table → UnreadLine → Ending → Type 0
+EndsBy t u ending = (ending ≡ NoMemory) ⊎ ((l : List spec.Item) × IsReading t u (ending_view ending) l)
+
+-- the error that says what ended a reading
+abbrev pub IsErrorOf : Ending → Error → Type 0
+IsErrorOf (Missing o) e = e ≡ MissingValue o
+IsErrorOf (Unexpected o word) e = e ≡ UnexpectedValue o word
+IsErrorOf NoMemory e = e ≡ OutOfMemory
+
+-- memory is refused, or a reading of the line ends with this error
+abbrev pub IsRefused : spec.Table → UnreadLine → Error → Type 0
+IsRefused t u e = (e ≡ OutOfMemory) ⊎ ((final : Reply) × (l : List spec.Item) × IsReading t u final l × (error_reply e ≡ Some final))

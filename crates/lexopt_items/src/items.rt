@@ -1,0 +1,384 @@
+//! Whole lines, read by a table of options.
+ghost use Rattle.std.specs.Prelude.{◌≡◌, ◌⊎◌, ℕ, [], List, Some, IsSome, IfErr, IfOk, map, string_bytes};
+ghost use Rattle.std.specs.Option.{option_map};
+ghost use Rattle.std.specs.Result.{IsErrAnd};
+ghost use Rattle.std.specs.Fmt.{WritesOnOk};
+ghost use Rattle.lexopt_line_spec.specs.Script.{value_text};
+ghost use Rattle.lexopt_spec.specs.Steps.{end};
+ghost use Rattle.lexopt_line_spec.specs.Table as spec;
+ghost use Rattle.lexopt_line_spec.specs.Table.{one_value};
+ghost use Rattle.lexopt_line_spec.specs.Readings.{IsReading, start};
+ghost use Rattle.lexopt_line_spec.specs.Spelling.{HaveWholeNames, Shows, Spells};
+ghost use Rattle.lexopt_spec.specs.Runs.{Step, values};
+ghost use Rattle.lexopt_base.specs.Replies.{Gives, error_reply};
+ghost use Rattle.lexopt_items.specs.Items.{EndsBy, IsErrorOf, IsRefused, ReadsItem, ReadsValues, RefusesValues, ending_view, item_view, item_with, table_view};
+
+use crate::kinds::{Kind, kind_of_long, kind_of_short};
+use lexopt_calls::replay::{call_next, values_of};
+use lexopt_calls::reply::{Reply, write_list, write_long, write_positional, write_short, write_word};
+use lexopt_base::parser::Parser;
+use lexopt_words::error::Error;
+use lexopt_words::os_string::OsString;
+use std::alloc::{AllocError, Global};
+use std::fmt;
+
+/// The options that have values, by how many they have; any other option has none. Names stand without their dashes.
+///
+/// Membership alone counts: a name that stands twice, or that holds an `=` and so can be no option's, does no harm. Where
+/// lists of several kinds hold an option, the kind that stands first here holds.
+///
+/// ```rust
+/// let mut table = Table::new(alloc);
+/// table.shorts.push('o')?;
+/// table.longs.push(String::from_str(alloc, "output")?)?;
+/// table.optional_longs.push(String::from_str(alloc, "color")?)?;
+/// table.several_shorts.push('e')?;
+/// ```
+#[derive(Debug, Drop)]
+pub struct Table {
+    /// Options of one character with one value, always: `o` for `-o`.
+    pub shorts: Vec<char>,
+    /// Options with a name and one value, always: `out` for `--out`.
+    pub longs: Vec<String>,
+    /// Options of one character with a value that may be left out: it stands in their word, never in the next.
+    pub optional_shorts: Vec<char>,
+    /// Options with a name and a value that may be left out: it stands behind `=`.
+    pub optional_longs: Vec<String>,
+    /// Options of one character with several values, one at least: a value joined by `=` alone,
+    /// or all up to the next word that looks like an option.
+    pub several_shorts: Vec<char>,
+    /// Options with a name and several values, one at least.
+    pub several_longs: Vec<String>,
+}
+
+/// What a line says, in order.
+#[derive(Debug, PartialEq, Eq, Drop)]
+pub enum Item {
+    /// An option of one character, with its value if it has one.
+    Short(char, Option<OsString>),
+    /// An option with a name, which stands here without its dashes, with its value if it has one.
+    Long(String, Option<OsString>),
+    /// An option of one character that has several values, with all of them: one at least.
+    ShortMany(char, Vec<OsString>),
+    /// An option with a name that has several values, with all of them: one at least.
+    LongMany(String, Vec<OsString>),
+    /// A word that is no option, or that stands behind the separator.
+    Positional(OsString),
+}
+
+impl fmt::Display for Item {
+    ghost use Rattle.std.specs.Prelude.{Some};
+    ghost use Rattle.lexopt_line_spec.specs.Script.{item_text};
+    ghost use Rattle.lexopt_items.specs.Items.{item_view};
+
+    ghost output = { λ i. Some (item_text (item_view i)) };
+
+    fn fmt<W: fmt::Write>(&self, f: &mut fmt::Formatter<W>) -> fmt::Result {
+        match self {
+            Item::Short(option, value) => {
+                write_short(*option, f)?;
+                write_value(value, f)
+            }
+            Item::Long(name, value) => {
+                write_long(name, f)?;
+                write_value(value, f)
+            }
+            Item::ShortMany(option, values) => {
+                write_short(*option, f)?;
+                f.write_str(" = ")?;
+                write_list(values, f)
+            }
+            Item::LongMany(name, values) => {
+                write_long(name, f)?;
+                f.write_str(" = ")?;
+                write_list(values, f)
+            }
+            Item::Positional(word) => write_positional(word, f),
+        }
+    }
+}
+
+// Writes an option's value, if it has one.
+fn write_value<W: fmt::Write>(value: &Option<OsString>, f: &mut fmt::Formatter<W>) -> fmt::Result
+    ensures { WritesOnOk W.write_str_gives f.old result (value_text value.now) f.new }
+{
+    match value {
+        Some(value) => {
+            f.write_str(" = ")?;
+            write_word(value, f)
+        }
+        None => Ok(()),
+    }
+}
+
+// The values of an option.
+#[derive(Drop)]
+enum Values {
+    AtMostOne(Option<OsString>),
+    All(Vec<OsString>),
+}
+
+impl Table {
+    /// The table of no options. It takes no memory.
+    pub fn new(alloc: Global) -> Table
+        ensures { table_view result ≡ one_value [] [] }
+    {
+        Table::one_value(alloc, Vec::new(alloc), Vec::new(alloc))
+    }
+
+    /// The table of these options, each of one value. It takes no memory.
+    pub fn one_value(alloc: Global, shorts: Vec<char>, longs: Vec<String>) -> Table
+        ensures { table_view result ≡ one_value shorts.items (map string_bytes longs.items) }
+    {
+        Table {
+            shorts,
+            longs,
+            optional_shorts: Vec::new(alloc),
+            optional_longs: Vec::new(alloc),
+            several_shorts: Vec::new(alloc),
+            several_longs: Vec::new(alloc),
+        }
+    }
+}
+
+impl Values {
+    // An option of one character with these values.
+    fn of_short(self, option: char) -> Item
+        ensures { item_view result ≡ item_with (spec.short option) self }
+    {
+        match self {
+            Values::AtMostOne(value) => Item::Short(option, value),
+            Values::All(values) => Item::ShortMany(option, values),
+        }
+    }
+
+    // An option with a name and these values.
+    fn of_long(self, name: String) -> Item
+        ensures { item_view result ≡ item_with (spec.long (string_bytes name)) self }
+    {
+        match self {
+            Values::AtMostOne(value) => Item::Long(name, value),
+            Values::All(values) => Item::LongMany(name, values),
+        }
+    }
+}
+
+// For how many items of a longer line there is room before its list grows.
+const FIRST_ROOM: usize = 16;
+
+// What ends a reading before the end of the line. An `Error` has room for a cause, so it is made where it is handed out.
+#[derive(Drop)]
+enum Ending {
+    Missing(Option<String>),
+    Unexpected(String, OsString),
+    NoMemory,
+}
+
+impl From<AllocError> for Ending {
+    ghost use Rattle.std.specs.Prelude.{◌≡◌};
+    ghost use Rattle.lexopt_items.specs.declared.items.Ending.TheVariants.{NoMemory};
+
+    ghost from_gives = { λ _ ending. ending ≡ NoMemory };
+
+    fn from(_error: AllocError) -> Ending {
+        Ending::NoMemory
+    }
+}
+
+impl From<Ending> for Error {
+    ghost use Rattle.lexopt_items.specs.Items.{IsErrorOf};
+
+    ghost from_gives = { IsErrorOf };
+
+    fn from(ending: Ending) -> Error {
+        match ending {
+            Ending::Missing(option) => Error::MissingValue { option },
+            Ending::Unexpected(option, value) => Error::UnexpectedValue { option, value },
+            Ending::NoMemory => Error::OutOfMemory,
+        }
+    }
+}
+
+// What an error of the parser ends a reading with.
+fn ending_of(error: Error) -> Ending
+    requires { IsSome (error_reply error) }
+    ensures { error_reply error ≡ Some (ending_view result) }
+{
+    match error {
+        Error::MissingValue { option } => Ending::Missing(option),
+        Error::UnexpectedValue { option, value } => Ending::Unexpected(option, value),
+        Error::OutOfMemory => Ending::NoMemory,
+        Error::UnexpectedOption(_)
+        | Error::UnexpectedArgument(_)
+        | Error::ParsingFailed { .. }
+        | Error::NonUnicodeValue(_)
+        | Error::Custom(_) => unreachable!(),
+    }
+}
+
+// All values of the last option.
+#[inline(always)]
+fn all_values(alloc: Global, parser: &mut Parser) -> Result<Vec<OsString>, Error>
+    ensures ok { IfOk result (λ values. ReadsValues Kind.Several parser.old (Values.All values) parser.new) }
+    ensures err { IfErr result (λ e. (e ≡ Error.OutOfMemory) ⊎ Gives (Step (values 1)) parser.old (error_reply e) parser.new) }
+{
+    match parser.values() {
+        Ok(mut view) => Ok(values_of(alloc, &mut view, usize::MAX)?),
+        Err(error) => Err(error),
+    }
+}
+
+// All values of the last option, which has several. It stands apart, so that what is inlined for other options stays short.
+#[inline(never)]
+fn read_several(alloc: Global, parser: &mut Parser) -> Result<Vec<OsString>, Ending>
+    ensures ok { IfOk result (λ values. ReadsValues Kind.Several parser.old (Values.All values) parser.new) }
+    ensures err { IfErr result (λ ending. RefusesValues Kind.Several parser.old ending) }
+{
+    match all_values(alloc, parser) {
+        Ok(values) => Ok(values),
+        Err(error) => Err(ending_of(error)),
+    }
+}
+
+// The values of the last option, which is of this kind.
+#[inline(always)]
+fn read_values(alloc: Global, parser: &mut Parser, kind: Kind) -> Result<Values, Ending>
+    ensures ok { IfOk result (λ values. ReadsValues kind parser.old values parser.new) }
+    ensures err { IfErr result (λ ending. RefusesValues kind parser.old ending) }
+{
+    match kind {
+        Kind::Flag => Ok(Values::AtMostOne(None)),
+        Kind::One => match parser.value() {
+            Ok(word) => Ok(Values::AtMostOne(Some(word))),
+            Err(error) => Err(ending_of(error)),
+        },
+        Kind::Optional => Ok(Values::AtMostOne(parser.optional_value())),
+        Kind::Several => match read_several(alloc, parser) {
+            Ok(values) => Ok(Values::All(values)),
+            Err(ending) => Err(ending),
+        },
+    }
+}
+
+// The next item of a line, and none at its end.
+#[inline(always)]
+fn read_item(alloc: Global, parser: &mut Parser, table: &Table) -> Result<Option<Item>, Ending>
+    ensures ok { IfOk result (λ item. ReadsItem (table_view table.now) parser.old (option_map item_view item) parser.new) }
+    ensures err { IfErr result (λ ending. EndsBy (table_view table.now) parser.old ending) }
+{
+    match call_next(alloc, parser)? {
+        Some(Reply::Short(option)) => {
+            let values = read_values(alloc, parser, kind_of_short(table, option))?;
+            Ok(Some(values.of_short(option)))
+        }
+        Some(Reply::LongName(name)) => {
+            let values = read_values(alloc, parser, kind_of_long(table, &name))?;
+            Ok(Some(values.of_long(name)))
+        }
+        Some(Reply::Positional(word)) => Ok(Some(Item::Positional(word))),
+        Some(Reply::End) => Ok(None),
+        Some(Reply::Unexpected(option, value)) => Err(Ending::Unexpected(option, value)),
+        Some(Reply::NoMemory) => Err(Ending::NoMemory),
+        Some(
+            Reply::Taken(_)
+            | Reply::Maybe(_)
+            | Reply::Items(_)
+            | Reply::Busy
+            | Reply::Done
+            | Reply::Missing(_),
+        )
+        | None => { unreachable!() }
+    }
+}
+
+// The items that are left of a line, up to what ends its reading, in a list with room for so many from the start.
+fn gathered(
+    alloc: Global,
+    parser: &mut Parser,
+    table: &Table,
+    room: usize,
+) -> Result<Vec<Item>, Ending>
+    ensures ok { IfOk result (λ items. IsReading (table_view table.now) parser.old end (map item_view items.items)) }
+    ensures err { IfErr result (λ ending. EndsBy (table_view table.now) parser.old ending) }
+{
+    let Ok(mut items) = Vec::with_capacity(alloc, room) else {
+        return Err(Ending::NoMemory);
+    };
+    while let Some(item) = read_item(alloc, parser, table)? {
+        if items.push(item).is_err() {
+            return Err(Ending::NoMemory);
+        }
+    }
+    Ok(items)
+}
+
+// The items that are left of a line, in a list with room for so many from the start.
+fn items_of(
+    alloc: Global,
+    parser: &mut Parser,
+    table: &Table,
+    room: usize,
+) -> Result<Vec<Item>, Error>
+    ensures ok { IfOk result (λ items. IsReading (table_view table.now) parser.old end (map item_view items.items)) }
+    ensures err { IfErr result (λ e. IsRefused (table_view table.now) parser.old e) }
+{
+    match gathered(alloc, parser, table, room) {
+        Ok(items) => Ok(items),
+        Err(ending) => refused(ending),
+    }
+}
+
+// No items, for what ended their reading.
+#[cold]
+fn refused(ending: Ending) -> Result<Vec<Item>, Error>
+    ensures { IsErrAnd result (IsErrorOf ending) }
+{
+    Err(Error::from(ending))
+}
+
+/// Reads a whole line by a table: behind each option of the table its values are read, and any other option has none.
+///
+/// Under a table with `o` and `out` of one value, `color` of a value that may be left out, and `d` of several, the words
+/// `-vo=x --out y --color=z -d 1 2 -- file` give `Short('v', None)`, `Short('o', Some(x))`, `Long("out", Some(y))`,
+/// `Long("color", Some(z))`, `ShortMany('d', [1, 2])` and `Positional(file)`. The switch says whether `=` in a cluster
+/// stands between an option and its value. The forms are those that lexopt documents;
+/// `docs/behaviour.md` has them all. A damaged piece of an option's name is read, and looked up, as U+FFFD.
+///
+/// Errors, each of which ends the reading: `MissingValue` where an option of one value has none and no word is left, or one
+/// of several values has none; `UnexpectedValue` where an option that the table does not have has a value joined to it by
+/// `=`; `OutOfMemory`. The words are spent.
+pub fn read_items(
+    alloc: Global,
+    words: Vec<OsString>,
+    short_equals: bool,
+    table: &Table,
+) -> Result<Vec<Item>, Error>
+    // Which calls and replies stand behind the answer.
+    ensures reading { IfOk result (λ items. IsReading (table_view table.now) (start short_equals words.items) end (map item_view items.items)) }
+    ensures refused { IfErr result (λ e. IsRefused (table_view table.now) (start short_equals words.items) e) }
+
+    // What is answered, the words show, and they spell it where no option has U+FFFD in its name.
+    ensures shown { IfOk result (λ items. Shows (table_view table.now) short_equals words.items (map item_view items.items)) }
+    ensures spelled { IfOk result (λ items. HaveWholeNames (map item_view items.items)
+        → Spells (table_view table.now) short_equals words.items (map item_view items.items)) }
+
+    // What is answered, some words legally spell, also where these words do not.
+    ensures spellable { IfOk result (λ items. (others : List (List ℕ)) × Spells (table_view table.now) short_equals others (map item_view items.items)) }
+
+    // Words show at most one list, and what they show, and so what they spell, is answered, or memory is refused.
+    ensures one_list { (l m : List spec.Item) → Shows (table_view table.now) short_equals words.items l
+        → Shows (table_view table.now) short_equals words.items m → l ≡ m }
+    ensures answered { (l : List spec.Item) → Shows (table_view table.now) short_equals words.items l
+        → IfOk result (λ items. map item_view items.items ≡ l) × IfErr result (λ e. e ≡ Error.OutOfMemory) }
+    ensures answered_spelled { (l : List spec.Item) → Spells (table_view table.now) short_equals words.items l
+        → IfOk result (λ items. map item_view items.items ≡ l) × IfErr result (λ e. e ≡ Error.OutOfMemory) }
+
+    // Another error comes only where the words show no list.
+    ensures no_list { IfErr result (λ e. (e ≡ Error.OutOfMemory)
+        ⊎ ((l : List spec.Item) → Shows (table_view table.now) short_equals words.items l → ⊥)) }
+{
+    let room = words.len().min(FIRST_ROOM);
+    let mut parser = Parser::from_vec(words);
+    parser.set_short_equals(short_equals);
+    items_of(alloc, &mut parser, table, room)
+}

@@ -1,0 +1,155 @@
+//! Runs scripts: `run` reads a script, does what it says, and writes a line for each reply and for each whole line.
+ghost use Rattle.std.specs.Prelude.{◌≡◌, ◌⊎◌, ◌+◌, ◌++◌, ◌≤◌, ◌<◌, ℕ, List, None, Some, Err, IfOk, IfErr, OnOk, length, map, string_bytes};
+ghost use Rattle.std.specs.Io.KnownBytes.{Appends, Consumes};
+ghost use Rattle.lexopt_line_spec.specs.Script.{WholeLineText, bad_line, bracketed, item_text, line_of, most_bytes, switched};
+ghost use Rattle.lexopt_items.specs.Items.{item_view, table_view};
+ghost use Rattle.lexopt_calls.specs.Replies.{call_view};
+ghost use Rattle.lexopt_script.specs.Output.{IsOutput, ReadsWhole, read_room};
+ghost use Rattle.lexopt_script.specs.Meanings.{command_view};
+ghost use Rattle.lexopt_script.specs.Performed.{IsWritten, Performs, answer_text};
+
+use crate::run_error::RunError;
+use crate::script::{Command, Script, parse_script, read_script};
+use lexopt_base::parser::Parser;
+use lexopt_calls::replay::reply_to;
+use lexopt_calls::reply::Call;
+use lexopt_items::items::{Item, Table, read_items};
+use lexopt_words::error::Error;
+use lexopt_words::os_string::OsString;
+use lexopt_words::words::copies;
+use std::alloc::{AllocError, Global};
+use std::io::{Read, Write};
+
+// Writes these items in brackets, with a comma and a blank between them.
+fn write_items(items: &[Item], text: &mut String) -> Result<(), AllocError>
+    ensures { OnOk result (string_bytes text.new ≡ string_bytes text.old ++ bracketed item_text (map item_view items.now)) }
+{
+    text.push_str("[")?;
+    if let Some((first, others)) = items.split_first() {
+        write!(text, "{first}")?;
+        for item in others {
+            write!(text, ", {item}")?;
+        }
+    }
+    text.push_str("]")
+}
+
+// Writes what the reading of a whole line answered.
+fn write_answer(answer: Result<Vec<Item>, Error>, text: &mut String) -> Result<(), AllocError>
+    ensures { OnOk result (string_bytes text.new ≡ string_bytes text.old ++ answer_text answer) }
+{
+    match answer {
+        Ok(items) => write_items(&items, text),
+        Err(error) => write!(text, "error: {error}"),
+    }
+}
+
+// Reads the whole line of these words by the table, and writes a line for the answer.
+fn write_whole_line(
+    alloc: Global,
+    words: &[OsString],
+    on: bool,
+    table: &Table,
+    text: &mut String,
+) -> Result<(), AllocError>
+    ensures { OnOk result ((line : List ℕ) × WholeLineText (table_view table.now) on words.now line
+        × (string_bytes text.new ≡ string_bytes text.old ++ line_of line)) }
+{
+    let answer = read_items(alloc, copies(alloc, words)?, on, table);
+    write_answer(answer, text)?;
+    text.push_str("\n")
+}
+
+// The switch behind a call.
+fn switched(on: bool, call: &Call) -> bool
+    ensures { result ≡ switched on (call_view call.now) }
+{
+    match call {
+        Call::Switch(now) => *now,
+        _ => on,
+    }
+}
+
+// Does what a command says, writes a line for it, and gives the switch behind it.
+fn perform(
+    alloc: Global,
+    script: &Script,
+    command: &Command,
+    parser: &mut Parser,
+    on: bool,
+    text: &mut String,
+) -> Result<bool, AllocError>
+    ensures { IfOk result (λ now. Performs script.now (command_view command.now) parser.old on (string_bytes text.old) parser.new now (string_bytes text.new)) }
+{
+    match command {
+        Command::Call(call) => {
+            let reply = reply_to(alloc, parser, call)?;
+            writeln!(text, "{reply}")?;
+            Ok(switched(on, call))
+        }
+        Command::Items => {
+            write_whole_line(alloc, &script.words, on, &script.table, text)?;
+            Ok(on)
+        }
+    }
+}
+
+// Does what a script says, and gives what is written for it.
+fn performed(alloc: Global, script: &Script) -> Result<String, RunError>
+    ensures ok { IfOk result (λ text. IsWritten script.now (string_bytes text)) }
+    ensures err { IfErr result (λ e. e ≡ RunError.NoMemory) }
+{
+    let mut parser = Parser::from_vec(copies(alloc, &script.words)?);
+    let mut text = String::new(alloc);
+    let mut on = true;
+    for command in script.commands.iter() {
+        on = perform(alloc, script, command, &mut parser, on, &mut text)?;
+    }
+    Ok(text)
+}
+
+// What is written for a script, or its first bad line.
+fn output(alloc: Global, script: &[u8]) -> Result<String, RunError>
+    requires { length script.now ≤ most_bytes }
+    ensures ok { IfOk result (λ text. IsOutput script.now (string_bytes text)) }
+    ensures err { IfErr result (λ e. (e ≡ RunError.NoMemory)
+        ⊎ ((n : ℕ) × (e ≡ RunError.BadLine n) × (bad_line script.now ≡ Some n))) }
+{
+    let script = parse_script(alloc, script)?;
+    performed(alloc, &script)
+}
+
+/// Reads a whole script, does what it says, and then writes a line for each reply of the parser and for each whole line.
+///
+/// The words `--out=x`, `file` and the calls `next`, `value`, `next` write `Long "out"`, `"x"` and `Value "file"`. With the
+/// line `t --out` before them, `items` writes `[Long "out" = "x", Value "file"]`.
+///
+/// Errors: `TooLong` where more bytes were read than a script may have, `BadLine` with the number of the first bad line,
+/// `ReadFailed`, `NoMemory` where a growth outside the calls of the parser
+/// and outside `read_items` was refused. Nothing was written then. `WriteFailed`: some of
+/// the output may have gone out.
+pub fn run<R: Read, W: Write>(alloc: Global, reader: &mut R, writer: &mut W) -> Result<(), RunError>
+    ensures ok { OnOk result ((script text : List ℕ)
+        × ReadsWhole (R.remaining reader.old) (R.remaining reader.new) script
+        × IsOutput script text × Appends (W.contents writer.old) (W.contents writer.new) text) }
+
+    // When each error comes.
+    ensures bad_line { (line : ℕ) → result ≡ Err (RunError.BadLine line) → ((script : List ℕ)
+        × ReadsWhole (R.remaining reader.old) (R.remaining reader.new) script × (bad_line script ≡ Some line)) }
+    ensures too_long { result ≡ Err RunError.TooLong → ((script : List ℕ)
+        × Consumes (R.remaining reader.old) (R.remaining reader.new) script × (most_bytes < length script)) }
+    ensures write_failed { result ≡ Err RunError.WriteFailed → ((script : List ℕ)
+        × ReadsWhole (R.remaining reader.old) (R.remaining reader.new) script × (bad_line script ≡ None)) }
+
+    // What an error leaves, and how much is read.
+    ensures untouched { IfErr result (λ e. (e ≡ RunError.WriteFailed) ⊎ (writer.new ≡ writer.old)) }
+    ensures bounded { (script : List ℕ) × Consumes (R.remaining reader.old) (R.remaining reader.new) script
+        × (length script ≤ most_bytes + read_room) }
+{
+    let script = read_script(alloc, reader)?;
+    let text = output(alloc, &script)?;
+    if writer.write_all(text.as_bytes()).is_err() || writer.flush().is_err() {
+        return Err(RunError::WriteFailed);
+    }
+    Ok(())
+}

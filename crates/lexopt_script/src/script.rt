@@ -1,0 +1,334 @@
+//! Scripts: the words of a command line, and the calls that are made on it.
+//!
+//! A script is bytes, in lines that end with the byte 0A; the last line may lack it. A line is empty, or one of these.
+//!
+//! - `w`: the empty word.
+//! - `w TEXT`: the word TEXT, with one blank before it. `\\` in it is a backslash, `\n` the byte 0A, and `\xHH` the byte
+//!   of these two hexadecimal digits; no other backslash may stand in it.
+//! - `next`, `value`, `optional`: a call.
+//! - `values N`, `raw N`, `try N`: a call of `values`, `raw_args` or `try_raw_args`, and how many items are asked of its
+//!   view: a number of one to nine decimal digits.
+//! - `on`, `off`: sets whether `=` stands between a short option and its value.
+//! - `t OPTION`, `topt OPTION`, `tmany OPTION`: an option of the table, of one value, of a value that may be left out, or of
+//!   several. OPTION is `-` and one character, which is no dash, or `--` and a name, which may be empty; both in UTF-8,
+//!   and there are no escapes in it.
+//! - `items`: all words are read by the table, under the switch as last set, and the parser is left alone.
+//!
+//! Every other line is bad, and so is a word or an option behind the first line that reads the words.
+ghost use Rattle.std.specs.Prelude.{◌≡◌, ◌⊎◌, ℕ, ◌+◌, ◌++◌, ◌<◌, ◌≤◌, List, None, Some, IfErr, IfOk, MatchOption, OnOk, drop, length, map};
+ghost use Rattle.std.specs.Option.{option_map};
+ghost use Rattle.std.specs.Io.KnownBytes.{Consumes};
+ghost use Rattle.lexopt_line_spec.specs.Script.{bad_line, behind_backslash, commands_of, hexadecimal, in_front, is_bad, joined_to, meaning, meaning_of_call_or_word, meaning_with_option, meaning_with_text, most_bytes, number, one_character, option_named, reads_words, table_of, unescaped, words_of};
+ghost use Rattle.lexopt_items.specs.Items.{table_view};
+ghost use Rattle.lexopt_script.specs.Output.{ReadsWhole, read_room};
+ghost use Rattle.lexopt_script.specs.Meanings.{command_view, entry_view, meaning_view, name_view};
+
+use crate::run_error::RunError;
+use lexopt_items::items::Table;
+use lexopt_calls::reply::Call;
+use lexopt_words::codepoint::{FirstCodepoint, first_codepoint};
+use lexopt_words::os_string::OsString;
+use std::alloc::{AllocError, Global};
+use std::io::Read;
+use std::str;
+
+// The most bytes that a script may have.
+const LIMIT: usize = 1_048_576;
+
+// The room of one read: at most so many bytes are read past the limit.
+const ROOM: usize = 512;
+
+/// The words of a command line, the table of its options, and what is done, in order.
+#[derive(Drop)]
+pub struct Script {
+    pub words: Vec<OsString>,
+    pub table: Table,
+    pub commands: Vec<Command>,
+}
+
+/// What is done on the words of a script.
+#[derive(Drop)]
+pub enum Command {
+    /// A call on the parser of them.
+    Call(Call),
+    /// All of them are read by the table.
+    Items,
+}
+
+impl Command {
+    // Whether the words are read, which the switch alone does not.
+    fn reads_words(&self) -> bool
+        ensures { result ≡ reads_words (command_view self.now) }
+    {
+        match self {
+            Command::Call(call) => call.reads_line(),
+            Command::Items => true,
+        }
+    }
+}
+
+/// Reads a script, to the end or past the limit.
+pub fn read_script<R: Read>(alloc: Global, reader: &mut R) -> Result<Vec<u8>, RunError>
+    ensures ok { IfOk result (λ script. ReadsWhole (R.remaining reader.old) (R.remaining reader.new) script.items) }
+    ensures bounded { (script : List ℕ) × Consumes (R.remaining reader.old) (R.remaining reader.new) script
+        × (length script ≤ most_bytes + read_room) }
+    ensures err { IfErr result (λ e. (e ≡ RunError.NoMemory) ⊎ (e ≡ RunError.ReadFailed) ⊎ ((e ≡ RunError.TooLong)
+        × ((script : List ℕ) × Consumes (R.remaining reader.old) (R.remaining reader.new) script
+        × (most_bytes < length script)))) }
+{
+    let mut script = Vec::new(alloc);
+    let mut chunk = [0u8; ROOM];
+    loop {
+        match reader.read(&mut chunk) {
+            Ok(0) => return Ok(script),
+            Ok(count) => script.extend_from_slice(&chunk[..count])?,
+            Err(_) => return Err(RunError::ReadFailed),
+        }
+        if script.len() > LIMIT {
+            return Err(RunError::TooLong);
+        }
+    }
+}
+
+/// The words, the table and the commands of a script, or its first bad line.
+pub fn parse_script(alloc: Global, script: &[u8]) -> Result<Script, RunError>
+    requires { length script.now ≤ most_bytes }
+    ensures ok { IfOk result (λ s. (s.words.items ≡ words_of script.now) × (table_view s.table ≡ table_of script.now)
+        × (map command_view s.commands.items ≡ commands_of script.now) × (bad_line script.now ≡ None)) }
+    ensures err { IfErr result (λ e. (e ≡ RunError.NoMemory)
+        ⊎ ((n : ℕ) × (e ≡ RunError.BadLine n) × (bad_line script.now ≡ Some n))) }
+{
+    let mut words = Vec::new(alloc);
+    let mut table = Table::new(alloc);
+    let mut commands = Vec::new(alloc);
+    let mut is_read = false;
+    for (index, line) in script.split(|byte| *byte == b'\n').enumerate() {
+        let meaning = meaning_of(alloc, line)?;
+        if meaning.is_bad(is_read) {
+            return Err(RunError::BadLine(index + 1));
+        }
+        match meaning {
+            Meaning::Nothing => {}
+            Meaning::Bad => {}
+            Meaning::Word(word) => words.push(word)?,
+            Meaning::Entry(entry) => join(&mut table, entry)?,
+            Meaning::Command(command) => {
+                is_read |= command.reads_words();
+                commands.push(command)?;
+            }
+        }
+    }
+    Ok(Script {
+        words,
+        table,
+        commands,
+    })
+}
+
+// What a line of a script says.
+#[derive(Drop)]
+enum Meaning {
+    Nothing,
+    Word(OsString),
+    Entry(Entry),
+    Command(Command),
+    Bad,
+}
+
+// An option of the table, by how many values it has.
+#[derive(Drop)]
+enum Entry {
+    One(Name),
+    Optional(Name),
+    Several(Name),
+}
+
+// An option's name: a character, or a text without its dashes.
+#[derive(Drop)]
+enum Name {
+    Short(char),
+    Long(String),
+}
+
+impl Meaning {
+    // Whether the line is bad, where the words were read before it or were not.
+    fn is_bad(&self, is_read: bool) -> bool
+        ensures { result ≡ is_bad is_read (meaning_view self.now) }
+    {
+        match self {
+            Meaning::Nothing | Meaning::Command(_) => false,
+            Meaning::Word(_) | Meaning::Entry(_) => is_read,
+            Meaning::Bad => true,
+        }
+    }
+}
+
+// An option joins the table.
+fn join(table: &mut Table, entry: Entry) -> Result<(), AllocError>
+    ensures { OnOk result (table_view table.new ≡ joined_to (table_view table.old) (entry_view entry).kind (entry_view entry).name) }
+{
+    match entry {
+        Entry::One(Name::Short(option)) => table.shorts.push(option)?,
+        Entry::One(Name::Long(name)) => table.longs.push(name)?,
+        Entry::Optional(Name::Short(option)) => table.optional_shorts.push(option)?,
+        Entry::Optional(Name::Long(name)) => table.optional_longs.push(name)?,
+        Entry::Several(Name::Short(option)) => table.several_shorts.push(option)?,
+        Entry::Several(Name::Long(name)) => table.several_longs.push(name)?,
+    }
+    Ok(())
+}
+
+// The meaning of a line.
+fn meaning_of(alloc: Global, line: &[u8]) -> Result<Meaning, AllocError>
+    ensures { IfOk result (λ m. meaning_view m ≡ meaning line.now) }
+{
+    match line {
+        b"items" => Ok(Meaning::Command(Command::Items)),
+        _ => meaning_of_call_or_word(alloc, line),
+    }
+}
+
+// The meaning of a line that is a call or a word, an empty line among them.
+fn meaning_of_call_or_word(alloc: Global, line: &[u8]) -> Result<Meaning, AllocError>
+    ensures { IfOk result (λ m. meaning_view m ≡ meaning_of_call_or_word line.now) }
+{
+    match line {
+        [] => Ok(Meaning::Nothing),
+        b"next" => Ok(Meaning::Command(Command::Call(Call::Next))),
+        b"value" => Ok(Meaning::Command(Command::Call(Call::Value))),
+        b"optional" => Ok(Meaning::Command(Command::Call(Call::Optional))),
+        b"on" => Ok(Meaning::Command(Command::Call(Call::Switch(true)))),
+        b"off" => Ok(Meaning::Command(Command::Call(Call::Switch(false)))),
+        b"w" => Ok(Meaning::Word(OsString::new(alloc))),
+        _ => meaning_with_text(alloc, line),
+    }
+}
+
+// The meaning of a line that has a blank, and a text, a number or an option behind it.
+fn meaning_with_text(alloc: Global, line: &[u8]) -> Result<Meaning, AllocError>
+    ensures { IfOk result (λ m. meaning_view m ≡ meaning_with_text line.now) }
+{
+    if let Some(text) = line.strip_prefix(b"w ") {
+        return match unescaped(alloc, text)? {
+            Some(word) => Ok(Meaning::Word(word)),
+            None => Ok(Meaning::Bad),
+        };
+    }
+    let call = if let Some(digits) = line.strip_prefix(b"values ") {
+        number(digits).map(Call::Values)
+    } else if let Some(digits) = line.strip_prefix(b"raw ") {
+        number(digits).map(Call::Raw)
+    } else if let Some(digits) = line.strip_prefix(b"try ") {
+        number(digits).map(Call::TryRaw)
+    } else {
+        return meaning_with_option(alloc, line);
+    };
+    match call {
+        Some(call) => Ok(Meaning::Command(Command::Call(call))),
+        None => Ok(Meaning::Bad),
+    }
+}
+
+// The meaning of a line that has a blank, and an option of the table behind it.
+fn meaning_with_option(alloc: Global, line: &[u8]) -> Result<Meaning, AllocError>
+    ensures { IfOk result (λ m. meaning_view m ≡ meaning_with_option line.now) }
+{
+    let entry = if let Some(text) = line.strip_prefix(b"t ") {
+        option_named(alloc, text)?.map(Entry::One)
+    } else if let Some(text) = line.strip_prefix(b"topt ") {
+        option_named(alloc, text)?.map(Entry::Optional)
+    } else if let Some(text) = line.strip_prefix(b"tmany ") {
+        option_named(alloc, text)?.map(Entry::Several)
+    } else {
+        None
+    };
+    match entry {
+        Some(entry) => Ok(Meaning::Entry(entry)),
+        None => Ok(Meaning::Bad),
+    }
+}
+
+// The option that a text names: `-` and a character, or `--` and a name.
+fn option_named(alloc: Global, text: &[u8]) -> Result<Option<Name>, AllocError>
+    ensures { IfOk result (λ name. option_map name_view name ≡ option_named text.now) }
+{
+    if let Some(name) = text.strip_prefix(b"--") {
+        return match str::from_utf8(name) {
+            Ok(name) => Ok(Some(Name::Long(String::from_str(alloc, name)?))),
+            Err(_) => Ok(None),
+        };
+    }
+    match text.strip_prefix(b"-") {
+        Some(character) => Ok(one_character(character).map(Name::Short)),
+        None => Ok(None),
+    }
+}
+
+// The character that these bytes encode, if they are one and no more.
+fn one_character(bytes: &[u8]) -> Option<char>
+    ensures { result ≡ one_character bytes.now }
+{
+    match first_codepoint(bytes) {
+        FirstCodepoint::Character(character, size) if size == bytes.len() => Some(character),
+        _ => None,
+    }
+}
+
+// The number that one to nine decimal digits write.
+fn number(digits: &[u8]) -> Option<usize>
+    ensures { result ≡ number digits.now }
+{
+    if digits.len() > 9 || digits.starts_with(b"+") {
+        return None;
+    }
+    str::from_utf8(digits).ok()?.parse().ok()
+}
+
+// The bytes that a text of a script stands for, if each backslash in it begins an escape.
+fn unescaped(alloc: Global, text: &[u8]) -> Result<Option<OsString>, AllocError>
+    ensures { IfOk result (λ word. word ≡ unescaped text.now) }
+{
+    let mut bytes = Vec::new(alloc);
+    let mut rest = text;
+    while let Some((first, behind)) = rest.split_first() {
+        let (byte, behind) = match *first {
+            b'\\' => match escaped(behind) {
+                Some(pair) => pair,
+                None => return Ok(None),
+            },
+            byte => (byte, behind),
+        };
+        bytes.push(byte)?;
+        rest = behind;
+    }
+    Ok(Some(OsString::from_vec(bytes)))
+}
+
+// The byte that an escape stands for, of which the text behind its backslash is given, and what follows the escape.
+fn escaped(text: &[u8]) -> Option<(u8, &[u8])>
+    ensures { MatchOption result (behind_backslash text.now ≡ None)
+        (λ p. (behind_backslash text.now ≡ in_front p.0 (unescaped p.1.now)) × (length p.1.now < length text.now)) }
+{
+    match text {
+        [b'\\', behind @ ..] => Some((b'\\', behind)),
+        [b'n', behind @ ..] => Some((b'\n', behind)),
+        [b'x', high, low, behind @ ..] => {
+            let high = hexadecimal(*high)?;
+            let low = hexadecimal(*low)?;
+            Some((16 * high + low, behind))
+        }
+        _ => None,
+    }
+}
+
+// The value of a hexadecimal digit of either case.
+fn hexadecimal(digit: u8) -> Option<u8>
+    ensures { result ≡ hexadecimal digit }
+{
+    match digit {
+        b'0'..=b'9' => Some(digit - b'0'),
+        b'A'..=b'F' => Some(digit - b'A' + 10),
+        b'a'..=b'f' => Some(digit - b'a' + 10),
+        _ => None,
+    }
+}

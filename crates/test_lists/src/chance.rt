@@ -1,0 +1,119 @@
+//! Makes calls by chance on words by chance, and checks what comes against the laws alone.
+//!
+//! A round is a line of at most four words of at most eight bytes, ten calls of any
+//! kind, and two that take what is left; and the same words as a whole line, under a table and a switch by chance. The laws are
+//! those of the module `laws`. It prints how many rounds and calls were made, and the first round that broke a law, if one did.
+
+mod laws;
+mod numbers;
+
+use crate::chance::numbers::Chance;
+use anyhow::{Result, bail};
+use lexopt::items::{Item, Table, read_items};
+use lexopt::replay::{Call, Reply, replay};
+use lexopt::{Error, OsString, Parser};
+use lexopt_testing::parsers::copies;
+use std::alloc::Global;
+
+// How many calls are made by chance in a round, and how many take what is left.
+const CALLS: usize = 10;
+
+const LAST_CALLS: usize = 2;
+
+// Makes calls on the words, and takes what is left. The law that was broken, if one was.
+fn calls_by_chance(
+    alloc: Global,
+    chance: &mut Chance,
+    words: &[OsString],
+) -> Result<Option<&'static str>, Error> {
+    let calls = chance.calls(alloc, CALLS)?;
+    let mut parser = Parser::from_args(alloc, copies(alloc, words)?)?;
+    let mut replies = replay(alloc, &mut parser, &calls)?;
+    if !is_same_in_parts(alloc, chance, words, &calls, &replies)? {
+        return Ok(Some("calls made in two parts have the same replies"));
+    }
+    let mut rest = replay(
+        alloc,
+        &mut parser,
+        &[Call::Optional, Call::Raw(words.len())],
+    )?;
+    if !laws::is_end_of(&rest, words) {
+        return Ok(Some("the words left are the last ones"));
+    }
+    replies.append(&mut rest)?;
+    Ok(laws::broken_by_replies(words, &replies))
+}
+
+// Whether these calls have the same replies where they are made in two parts.
+fn is_same_in_parts(
+    alloc: Global,
+    chance: &mut Chance,
+    words: &[OsString],
+    calls: &[Call],
+    replies: &[Reply],
+) -> Result<bool, Error> {
+    let (first, second) = calls.split_at(
+        chance.below(calls.len().saturating_add(1)).min(calls.len()),
+    );
+    let mut parser = Parser::from_args(alloc, copies(alloc, words)?)?;
+    let before = replay(alloc, &mut parser, first)?;
+    let behind = replay(alloc, &mut parser, second)?;
+    Ok(replies.starts_with(&before) && replies.ends_with(&behind))
+}
+
+// What the words say by this table, if anything.
+fn items_of(
+    alloc: Global,
+    words: &[OsString],
+    on: bool,
+    table: &Table,
+) -> Result<Option<Vec<Item>>, Error> {
+    match read_items(alloc, copies(alloc, words)?, on, table) {
+        Ok(items) => Ok(Some(items)),
+        Err(Error::OutOfMemory) => Err(Error::OutOfMemory),
+        Err(_refused) => Ok(None),
+    }
+}
+
+// Reads the words as a whole line. The law that was broken, if one was.
+fn line_by_chance(
+    alloc: Global,
+    chance: &mut Chance,
+    words: &[OsString],
+) -> Result<Option<&'static str>, Error> {
+    let table = chance.table(alloc)?;
+    let on = chance.below(2) == 0;
+    let first = items_of(alloc, words, on, &table)?;
+    let second = items_of(alloc, words, on, &table)?;
+    if first != second {
+        return Ok(Some("words show one list of items at most"));
+    }
+    match first {
+        Some(items) => Ok(laws::broken_by_items(words, &items)),
+        None => Ok(None),
+    }
+}
+
+fn round(alloc: Global, chance: &mut Chance) -> Result<Option<&'static str>, Error> {
+    let words = chance.words(alloc)?;
+    match calls_by_chance(alloc, chance, &words)? {
+        Some(law) => Ok(Some(law)),
+        None => line_by_chance(alloc, chance, &words),
+    }
+}
+
+/// Makes so many rounds from this seed, and prints how many there were.
+pub fn print(rt: &(impl Print + AllocGlobal), seed: u64, rounds: u64) -> Result<()> {
+    let mut chance = Chance::new(seed);
+    for number in 0..rounds {
+        let Ok(broken) = round(rt.alloc(), &mut chance) else {
+            bail!("round {number}: out of memory");
+        };
+        if let Some(law) = broken {
+            bail!("round {number} broke a law: {law}");
+        }
+    }
+    let calls = rounds.saturating_mul(CALLS.saturating_add(LAST_CALLS) as u64);
+    println!(rt; "{rounds} rounds, {calls} calls, no law broken")?;
+    Ok(())
+}

@@ -1,0 +1,241 @@
+//! Reads every list of at most three of 25 words by `read_items`, and by a plain reader that is written from the rules
+//! alone, and compares the two.
+//!
+//! The tables have the letter `a`, the character U+FFFD, which stands for damage, and the marks, which are `-` and `=` as short
+//! options and `-` and the empty name as long ones. Each of the three is of no value, of one, of one that may be left out, or of
+//! several, in all 64 ways; and in four more tables all stand in lists of several kinds.
+//!
+//! Wherever the plain reader finds items, they are spelled by `spell`; the words are read as these items, and are the words of
+//! what is read.
+//!
+//! By each table it also spells every list of at most three of 27 items, with the switch on and off. Where there are words, they
+//! are read as the items. Where an item is at fault, those before it have words, and with it they have none; nor are they what
+//! any short list of words is read as. Where words that are spelled with one setting are read alike with the other, both
+//! settings have the same words.
+//!
+//! For each table it prints how many readings agreed and how many differed, with the switch on and off, and the first list
+//! that differed; the same of the items that were spelled again; and the counts of the lists of items. Items are compared as
+//! they are, and errors by their messages.
+//!
+//! Last it reads clusters, with the switch off: each list of one to four of twenty bytes, by `next` and by the plain pieces.
+
+mod clusters;
+mod lists;
+mod pieces;
+mod plain;
+mod short_lists;
+mod shown;
+mod spelled;
+mod tables;
+mod tally;
+
+use crate::lines::clusters::Counts;
+use crate::lines::plain::Refusal;
+use crate::lines::shown::{shown_items, shown_words};
+use crate::lines::spelled::Reading;
+use crate::lines::tables::{Choice, KINDS, OVERLAPS};
+use crate::lines::tally::Tally;
+use lexopt::items::{Item, Table, read_items};
+use lexopt::{Error, OsString};
+use lexopt_testing::words::WORDS;
+use std::alloc::{AllocError, Global};
+use std::io;
+
+// How lists of words were read in both ways, and how the items of those that have some were spelled.
+#[derive(Drop)]
+struct Found {
+    read: Tally,
+    spelled: Tally,
+}
+
+// A copy of these words.
+fn copies(alloc: Global, words: &[&[u8]]) -> Result<Vec<OsString>, AllocError> {
+    let mut copied = Vec::with_capacity(alloc, words.len())?;
+    for word in words {
+        copied.push(OsString::from_bytes(alloc, word)?)?;
+    }
+    Ok(copied)
+}
+
+// Whether `read_items` refuses the line by this message.
+fn is_refused_so(
+    alloc: Global,
+    message: &String,
+    words: Vec<OsString>,
+    short_equals: bool,
+    table: &Table,
+) -> Result<bool, AllocError> {
+    match read_items(alloc, words, short_equals, table) {
+        Ok(_items) => Ok(false),
+        Err(Error::OutOfMemory) => Err(AllocError),
+        Err(error) => Ok(error.to_string(alloc)? == *message),
+    }
+}
+
+// Whether `read_items` reads the words as what the plain reader says of them.
+fn agree(
+    alloc: Global,
+    plain: &Result<Vec<Item>, Refusal>,
+    words: Vec<OsString>,
+    short_equals: bool,
+    table: &Table,
+) -> Result<bool, AllocError> {
+    match plain {
+        Ok(items) => match read_items(alloc, words, short_equals, table) {
+            Ok(found) => Ok(found == *items),
+            Err(Error::OutOfMemory) => Err(AllocError),
+            Err(_error) => Ok(false),
+        },
+        Err(Refusal::Message(message)) => is_refused_so(alloc, message, words, short_equals, table),
+        Err(Refusal::NoMemory) => Err(AllocError),
+    }
+}
+
+impl Found {
+    fn new() -> Found {
+        Found {
+            read: Tally::new(),
+            spelled: Tally::new(),
+        }
+    }
+
+    // Spells these items, reads the words, and spells what is read.
+    fn spell(&mut self, reading: Reading<'_>, items: &[Item]) -> Result<(), AllocError> {
+        if reading.comes_back(items)? {
+            self.spelled.agree();
+        } else {
+            let Reading {
+                alloc,
+                short_equals,
+                ..
+            } = reading;
+            self.spelled
+                .differ(shown_items(alloc, items, short_equals)?);
+        }
+        Ok(())
+    }
+
+    // Reads these words in both ways, and spells what they say.
+    fn read(
+        &mut self,
+        alloc: Global,
+        words: &[&[u8]],
+        short_equals: bool,
+        table: &Table,
+    ) -> Result<(), AllocError> {
+        let copied = copies(alloc, words)?;
+        let plain = plain::read(alloc, words, short_equals, table);
+        if agree(alloc, &plain, copied, short_equals, table)? {
+            self.read.agree();
+        } else {
+            self.read.differ(shown_words(alloc, words, short_equals)?);
+        }
+        let reading = Reading {
+            alloc,
+            table,
+            short_equals,
+        };
+        match plain {
+            Ok(items) => self.spell(reading, &items),
+            Err(_refusal) => Ok(()),
+        }
+    }
+
+    // Reads these words with the switch on and off.
+    fn read_both(
+        &mut self,
+        alloc: Global,
+        words: &[&[u8]],
+        table: &Table,
+    ) -> Result<(), AllocError> {
+        self.read(alloc, words, true, table)?;
+        self.read(alloc, words, false, table)
+    }
+
+    // Reads all lists, the short ones first.
+    fn read_all(&mut self, alloc: Global, table: &Table) -> Result<(), AllocError> {
+        self.read_both(alloc, &[], table)?;
+        for first in WORDS {
+            self.read_both(alloc, &[first], table)?;
+        }
+        for first in WORDS {
+            for second in WORDS {
+                self.read_both(alloc, &[first, second], table)?;
+            }
+        }
+        for first in WORDS {
+            for second in WORDS {
+                for third in WORDS {
+                    self.read_both(alloc, &[first, second, third], table)?;
+                }
+            }
+        }
+        Ok(())
+    }
+
+    fn add(&mut self, other: &Found) {
+        self.read.add(&other.read);
+        self.spelled.add(&other.spelled);
+    }
+
+    fn print(&self, rt: &impl Print, name: &str) -> io::Result<()> {
+        self.read.print(rt, name)?;
+        self.spelled.print(rt, "spelled again")
+    }
+}
+
+// What was found by all tables.
+#[derive(Drop)]
+struct Total {
+    found: Found,
+    lists: lists::Counts,
+}
+
+impl Total {
+    fn new() -> Total {
+        Total {
+            found: Found::new(),
+            lists: lists::Counts::new(),
+        }
+    }
+
+    // Reads all lists of words by this table, spells all lists of items by it, and adds what is found.
+    fn read_by(&mut self, rt: &(impl Print + AllocGlobal), choice: Choice) -> io::Result<()> {
+        let alloc = rt.alloc();
+        let table = choice.table(alloc)?;
+        let mut found = Found::new();
+        found.read_all(alloc, &table)?;
+        self.found.add(&found);
+        found.print(rt, choice.name(alloc)?.as_str())?;
+        let mut lists = lists::Counts::new();
+        lists.spell_all(alloc, &table)?;
+        self.lists.add(&lists);
+        lists.print(rt)
+    }
+}
+
+/// Prints what was found.
+pub fn print(rt: &(impl Print + AllocGlobal)) -> io::Result<()> {
+    let mut total = Total::new();
+    for letter in KINDS {
+        for damage in KINDS {
+            for marks in KINDS {
+                let choice = Choice {
+                    letter,
+                    damage,
+                    marks,
+                };
+                total.read_by(rt, choice)?;
+            }
+        }
+    }
+    for lists in OVERLAPS {
+        total.read_by(rt, Choice::same(lists))?;
+    }
+    total.found.print(rt, "total")?;
+    total.lists.print(rt)?;
+    let Ok(Counts { agreed, differed }) = Counts::of_all(rt.alloc()) else {
+        return Err(io::Error::from(io::ErrorKind::Other));
+    };
+    println!(rt; "clusters: {agreed} agreed, {differed} differed")
+}

@@ -1,0 +1,85 @@
+//! Clusters of a few bytes each, read by `next` with the switch off: one option for each piece, and then the end.
+use crate::lines::pieces::first_piece;
+use lexopt::{Arg, Error, OsString, Parser};
+use std::alloc::Global;
+
+// The bytes at both ends of the ranges of table 3-7, and bytes that no row of it has.
+const BYTES: [u8; 20] = [
+    0x41, 0x7F, 0x80, 0x8F, 0x90, 0x9F, 0xA0, 0xBF, 0xC1, 0xC2, 0xDF, 0xE0, 0xE1, 0xED, 0xEE, 0xF0,
+    0xF1, 0xF4, 0xF5, 0xFF,
+];
+
+/// How many clusters were read as their pieces, and how many otherwise.
+#[derive(Clone, Copy)]
+pub struct Counts {
+    pub agreed: u64,
+    pub differed: u64,
+}
+
+// Whether the next argument is this option of one character.
+fn reads(parser: &mut Parser, option: char) -> Result<bool, Error> {
+    match parser.next()? {
+        Some(Arg::Short(found)) => Ok(found == option),
+        _ => Ok(false),
+    }
+}
+
+// Whether the cluster of these bytes is read as the character of each piece.
+fn agrees(alloc: Global, bytes: &[u8]) -> Result<bool, Error> {
+    let mut word = Vec::new(alloc);
+    word.push(b'-')?;
+    word.extend_from_slice(bytes)?;
+    let mut words = Vec::new(alloc);
+    words.push(OsString::from_vec(word))?;
+    let mut parser = Parser::from_args(alloc, words)?;
+    parser.set_short_equals(false);
+    let mut rest = bytes;
+    for _ in 0..bytes.len() {
+        let Some(piece) = first_piece(rest) else {
+            break;
+        };
+        if !reads(&mut parser, piece.shown())? {
+            return Ok(false);
+        }
+        rest = piece.rest;
+    }
+    Ok(parser.next()?.is_none())
+}
+
+impl Counts {
+    fn read(&mut self, alloc: Global, bytes: &[u8]) -> Result<(), Error> {
+        if agrees(alloc, bytes)? {
+            self.agreed = self.agreed.saturating_add(1);
+        } else {
+            self.differed = self.differed.saturating_add(1);
+        }
+        Ok(())
+    }
+
+    // Reads these bytes, and these with one or two behind them.
+    fn read_longer(&mut self, alloc: Global, first: u8, second: u8) -> Result<(), Error> {
+        self.read(alloc, &[first, second])?;
+        for third in BYTES {
+            self.read(alloc, &[first, second, third])?;
+            for fourth in BYTES {
+                self.read(alloc, &[first, second, third, fourth])?;
+            }
+        }
+        Ok(())
+    }
+
+    /// Reads each list of one to four of the bytes as a cluster.
+    pub fn of_all(alloc: Global) -> Result<Counts, Error> {
+        let mut counts = Counts {
+            agreed: 0,
+            differed: 0,
+        };
+        for first in BYTES {
+            counts.read(alloc, &[first])?;
+            for second in BYTES {
+                counts.read_longer(alloc, first, second)?;
+            }
+        }
+        Ok(counts)
+    }
+}

@@ -1,0 +1,235 @@
+//! Every list of at most three of some items, which are spelled, or at fault, with the switch on and off.
+use crate::lines::short_lists::{ReadLists, short_words};
+use crate::lines::shown::shown_items;
+use crate::lines::spelled::{Reading, Spelled};
+use lexopt::OsString;
+use lexopt::items::{Item, Table};
+use lexopt_testing::items::Given::{
+    Long, LongMany, LongValue, Positional, Short, ShortMany, ShortValue,
+};
+use lexopt_testing::items::{Given, items_of};
+use std::alloc::{AllocError, Global};
+use std::io;
+
+// Items of every kind. By some tables they are at fault, and by others not.
+const ITEMS: [Given; 27] = [
+    Short('a'),
+    ShortValue('a', b""),
+    ShortValue('a', b"=a"),
+    ShortValue('a', b"-a"),
+    ShortMany('a', &[]),
+    ShortMany('a', &[b"a"]),
+    ShortMany('a', &[b"-a"]),
+    ShortMany('a', &[b"a", b"-a"]),
+    ShortMany('a', &[b"-a", b"a"]),
+    ShortMany('a', &[b"-", b""]),
+    Short('\u{FFFD}'),
+    Short('-'),
+    ShortValue('-', b"a"),
+    ShortMany('-', &[b"a"]),
+    Short('='),
+    Long("a"),
+    LongValue("a", b""),
+    LongMany("a", &[b"-a"]),
+    LongMany("a", &[b"a", b"="]),
+    Long(""),
+    LongValue("", b"a"),
+    LongValue("\u{FFFD}", b"\xFF"),
+    Long("a="),
+    Positional(b""),
+    Positional(b"a"),
+    Positional(b"-a"),
+    Positional(b"--"),
+];
+
+/// How many lists were spelled and read again, how many were at fault, and how many were otherwise; how many have the same words
+/// with the switch on and off, which are read alike; and how many some short list of words is read as.
+#[derive(Drop)]
+pub struct Counts {
+    spelled: u64,
+    at_fault: u64,
+    differed: u64,
+    in_one_form: u64,
+    read: usize,
+    first: Option<String>,
+}
+
+// A setting of the switch, and what short lists of words are read as by it.
+#[derive(Drop)]
+struct Setting<'t, 'i> {
+    reading: Reading<'t>,
+    lists: ReadLists<'i>,
+}
+
+impl Setting<'_, '_> {
+    // Whether words spell the items before this one, none the items up to it, and no short list of words is read as these.
+    fn is_at_fault(&self, items: &[Item], index: usize) -> Result<bool, AllocError> {
+        let (Some(before), Some(with)) = (items.get(..index), items.get(..index.saturating_add(1)))
+        else {
+            return Ok(false);
+        };
+        if let Spelled::Fault(_) = self.reading.spelled(before)? {
+            return Ok(false);
+        }
+        if let Spelled::Words(_) = self.reading.spelled(with)? {
+            return Ok(false);
+        }
+        Ok(!self.lists.holds(with) && !self.lists.holds(items))
+    }
+}
+
+// What short lists of words are read as by this table, with this setting of the switch.
+fn setting_of<'t, 'i>(
+    alloc: Global,
+    table: &'t Table,
+    short_equals: bool,
+    items: &'i [Item],
+    words: &[OsString],
+) -> Result<Setting<'t, 'i>, AllocError> {
+    let reading = Reading {
+        alloc,
+        table,
+        short_equals,
+    };
+    let mut lists = ReadLists::new(alloc, items)?;
+    lists.read_words(reading)?;
+    lists.read_pairs(reading, words)?;
+    Ok(Setting { reading, lists })
+}
+
+impl Counts {
+    /// Nothing so far.
+    pub fn new() -> Counts {
+        Counts {
+            spelled: 0,
+            at_fault: 0,
+            differed: 0,
+            in_one_form: 0,
+            read: 0,
+            first: None,
+        }
+    }
+
+    // Counts a list that is otherwise.
+    fn differ(&mut self, reading: Reading<'_>, items: &[Item]) -> Result<(), AllocError> {
+        self.differed = self.differed.saturating_add(1);
+        if self.first.is_none() {
+            self.first = Some(shown_items(reading.alloc, items, reading.short_equals)?);
+        }
+        Ok(())
+    }
+
+    // Spells the items with one setting of the switch. The words, if there are any.
+    fn spell(
+        &mut self,
+        setting: &Setting<'_, '_>,
+        items: &[Item],
+    ) -> Result<Option<Vec<OsString>>, AllocError> {
+        match setting.reading.spelled(items)? {
+            Spelled::Words(words) => {
+                if setting.reading.reads_as(&words, items)? {
+                    self.spelled = self.spelled.saturating_add(1);
+                } else {
+                    self.differ(setting.reading, items)?;
+                }
+                Ok(Some(words))
+            }
+            Spelled::Fault(index) => {
+                if setting.is_at_fault(items, index)? {
+                    self.at_fault = self.at_fault.saturating_add(1);
+                } else {
+                    self.differ(setting.reading, items)?;
+                }
+                Ok(None)
+            }
+        }
+    }
+
+    // Words of both settings of which one list is read as the items by the other setting too: they are the same.
+    fn compare(
+        &mut self,
+        on: Reading<'_>,
+        off: Reading<'_>,
+        items: &[Item],
+        words: (&[OsString], &[OsString]),
+    ) -> Result<(), AllocError> {
+        let (with_on, with_off) = words;
+        if !off.reads_as(with_on, items)? && !on.reads_as(with_off, items)? {
+            return Ok(());
+        }
+        if with_on == with_off {
+            self.in_one_form = self.in_one_form.saturating_add(1);
+            Ok(())
+        } else {
+            self.differ(on, items)
+        }
+    }
+
+    // Spells a list with the switch on and off.
+    fn spell_both(
+        &mut self,
+        on: &Setting<'_, '_>,
+        off: &Setting<'_, '_>,
+        list: &[Given],
+    ) -> Result<(), AllocError> {
+        let items = items_of(on.reading.alloc, list)?;
+        let with_on = self.spell(on, &items)?;
+        let with_off = self.spell(off, &items)?;
+        match (with_on, with_off) {
+            (Some(with_on), Some(with_off)) => {
+                let words = (with_on.as_slice(), with_off.as_slice());
+                self.compare(on.reading, off.reading, &items, words)
+            }
+            _ => Ok(()),
+        }
+    }
+
+    /// Spells every list of at most three of the items by this table.
+    pub fn spell_all(&mut self, alloc: Global, table: &Table) -> Result<(), AllocError> {
+        let items = items_of(alloc, &ITEMS)?;
+        let words = short_words(alloc)?;
+        let on = setting_of(alloc, table, true, &items, &words)?;
+        let off = setting_of(alloc, table, false, &items, &words)?;
+        self.read = on.lists.count().saturating_add(off.lists.count());
+        self.spell_both(&on, &off, &[])?;
+        for first in ITEMS {
+            self.spell_both(&on, &off, &[first])?;
+            for second in ITEMS {
+                self.spell_both(&on, &off, &[first, second])?;
+                for third in ITEMS {
+                    self.spell_both(&on, &off, &[first, second, third])?;
+                }
+            }
+        }
+        Ok(())
+    }
+
+    /// Adds the counts of another.
+    pub fn add(&mut self, other: &Counts) {
+        self.spelled = self.spelled.saturating_add(other.spelled);
+        self.at_fault = self.at_fault.saturating_add(other.at_fault);
+        self.differed = self.differed.saturating_add(other.differed);
+        self.in_one_form = self.in_one_form.saturating_add(other.in_one_form);
+        self.read = self.read.saturating_add(other.read);
+    }
+
+    /// Prints the counts.
+    pub fn print(&self, rt: &impl Print) -> io::Result<()> {
+        let Counts {
+            spelled,
+            at_fault,
+            differed,
+            in_one_form,
+            read,
+            first,
+        } = self;
+        println!(rt;
+            "lists of items: {spelled} spelled, {at_fault} at fault, {differed} differed"
+        )?;
+        println!(rt; "in one form: {in_one_form}; read from short lists of words: {read}")?;
+        match first {
+            Some(first) => println!(rt; "first that differed: {first}"),
+            None => Ok(()),
+        }
+    }
+}

@@ -1,0 +1,337 @@
+//! Whole lines, read plainly: word by word, and what a word leaves open for the next one is kept beside them.
+//!
+//! It is written from the rules alone, to be compared with `read_items`, and calls nothing of what that stands on.
+use crate::lines::pieces::{first_piece, lossy, push_quoted};
+use lexopt::OsString;
+use lexopt::items::{Item, Table};
+use std::alloc::{AllocError, AllocFailed, Global};
+use std::mem;
+
+/// Why a line has no items.
+#[derive(Drop)]
+pub enum Refusal {
+    /// The words say nothing, for this reason.
+    Message(String),
+    NoMemory,
+}
+
+impl From<AllocError> for Refusal {
+    fn from(_error: AllocError) -> Refusal {
+        Refusal::NoMemory
+    }
+}
+
+impl<T: Drop> From<AllocFailed<T>> for Refusal {
+    fn from(_error: AllocFailed<T>) -> Refusal {
+        Refusal::NoMemory
+    }
+}
+
+// How many values an option has.
+#[derive(Clone, Copy)]
+enum Kind {
+    Flag,
+    One,
+    Optional,
+    Several,
+}
+
+#[derive(Drop)]
+enum Name {
+    Short(char),
+    Long(String),
+}
+
+// What stands behind an option in its word.
+#[derive(Clone, Copy)]
+enum Behind<'a> {
+    Nothing,
+    // A value behind `=`.
+    Joined(&'a [u8]),
+    // What is left of a cluster.
+    Attached(&'a [u8]),
+}
+
+// What the words so far leave open.
+#[derive(Drop)]
+enum Open {
+    Nothing,
+    // The next word is the value of this option.
+    Value(Name),
+    // These are values of this option, and plain words that follow are more.
+    Values(Name, Vec<OsString>),
+}
+
+impl Name {
+    fn is_among(&self, shorts: &[char], longs: &[String]) -> bool {
+        match self {
+            Name::Short(option) => shorts.contains(option),
+            Name::Long(name) => longs.contains(name),
+        }
+    }
+
+    // The first kind that holds the option counts.
+    fn kind(&self, table: &Table) -> Kind {
+        if self.is_among(&table.shorts, &table.longs) {
+            Kind::One
+        } else if self.is_among(&table.optional_shorts, &table.optional_longs) {
+            Kind::Optional
+        } else if self.is_among(&table.several_shorts, &table.several_longs) {
+            Kind::Several
+        } else {
+            Kind::Flag
+        }
+    }
+
+    fn with_value(self, value: Option<OsString>) -> Item {
+        match self {
+            Name::Short(option) => Item::Short(option, value),
+            Name::Long(name) => Item::Long(name, value),
+        }
+    }
+
+    fn with_values(self, values: Vec<OsString>) -> Item {
+        match self {
+            Name::Short(option) => Item::ShortMany(option, values),
+            Name::Long(name) => Item::LongMany(name, values),
+        }
+    }
+
+    // Adds the option with its dashes.
+    fn push_to(&self, text: &mut String) -> Result<(), AllocError> {
+        match self {
+            Name::Short(option) => {
+                text.push('-')?;
+                text.push(*option)
+            }
+            Name::Long(name) => {
+                text.push_str("--")?;
+                text.push_str(name)
+            }
+        }
+    }
+}
+
+// The option wants a value, and there is none.
+fn missing(alloc: Global, name: &Name) -> Result<Refusal, AllocError> {
+    let mut message = String::from_str(alloc, "missing argument for option '")?;
+    name.push_to(&mut message)?;
+    message.push('\'')?;
+    Ok(Refusal::Message(message))
+}
+
+// The option takes no value, and this one is joined to it.
+fn unexpected(alloc: Global, name: &Name, value: &[u8]) -> Result<Refusal, AllocError> {
+    let mut message = String::from_str(alloc, "unexpected argument for option '")?;
+    name.push_to(&mut message)?;
+    message.push_str("': ")?;
+    push_quoted(&mut message, value)?;
+    Ok(Refusal::Message(message))
+}
+
+// A word that an option of several values takes.
+fn is_plain(word: &[u8]) -> bool {
+    match word {
+        b"-" => true,
+        [b'-', ..] => false,
+        _ => true,
+    }
+}
+
+// What stands behind an option of a cluster.
+fn behind_short(rest: &[u8], short_equals: bool) -> Behind<'_> {
+    match rest {
+        [] => Behind::Nothing,
+        [b'=', value @ ..] if short_equals => Behind::Joined(value),
+        _ => Behind::Attached(rest),
+    }
+}
+
+// The name of a long option, up to the first `=`, and what stands behind it.
+fn long_parts(word: &[u8]) -> (&[u8], Behind<'_>) {
+    let mut parts = word.splitn(2, |byte| *byte == b'=');
+    let name = parts.next().unwrap_or(word);
+    match parts.next() {
+        Some(value) => (name, Behind::Joined(value)),
+        None => (name, Behind::Nothing),
+    }
+}
+
+#[derive(Drop)]
+struct Reader<'t> {
+    alloc: Global,
+    short_equals: bool,
+    table: &'t Table,
+    items: Vec<Item>,
+    open: Open,
+    ended: bool,
+}
+
+impl Reader<'_> {
+    fn word(&self, bytes: &[u8]) -> Result<OsString, AllocError> {
+        OsString::from_bytes(self.alloc, bytes)
+    }
+
+    // Ends the option that is open, if one is.
+    fn close(&mut self) -> Result<(), Refusal> {
+        match mem::replace(&mut self.open, Open::Nothing) {
+            Open::Nothing => {}
+            Open::Value(name) => return Err(missing(self.alloc, &name)?),
+            Open::Values(name, values) => {
+                if values.is_empty() {
+                    return Err(missing(self.alloc, &name)?);
+                }
+                self.items.push(name.with_values(values))?;
+            }
+        }
+        Ok(())
+    }
+
+    // Gives the word to the option that is open; false where none takes it.
+    fn give(&mut self, word: &[u8]) -> Result<bool, Refusal> {
+        match mem::replace(&mut self.open, Open::Nothing) {
+            Open::Nothing => Ok(false),
+            Open::Value(name) => {
+                let value = self.word(word)?;
+                self.items.push(name.with_value(Some(value)))?;
+                Ok(true)
+            }
+            Open::Values(name, mut values) => {
+                let takes = is_plain(word);
+                if takes {
+                    values.push(self.word(word)?)?;
+                }
+                self.open = Open::Values(name, values);
+                Ok(takes)
+            }
+        }
+    }
+
+    // Reads an option and what stands behind it; false where that is more of a cluster.
+    fn read_option(&mut self, name: Name, behind: Behind<'_>) -> Result<bool, Refusal> {
+        match name.kind(self.table) {
+            Kind::Flag => self.read_flag(name, behind),
+            Kind::One => self.read_one(name, behind),
+            Kind::Optional => self.read_optional(name, behind),
+            Kind::Several => self.read_several(name, behind),
+        }
+    }
+
+    fn read_flag(&mut self, name: Name, behind: Behind<'_>) -> Result<bool, Refusal> {
+        match behind {
+            Behind::Joined(value) => Err(unexpected(self.alloc, &name, value)?),
+            Behind::Attached(_rest) => {
+                self.items.push(name.with_value(None))?;
+                Ok(false)
+            }
+            Behind::Nothing => {
+                self.items.push(name.with_value(None))?;
+                Ok(true)
+            }
+        }
+    }
+
+    fn read_one(&mut self, name: Name, behind: Behind<'_>) -> Result<bool, Refusal> {
+        match behind {
+            Behind::Joined(value) | Behind::Attached(value) => {
+                let value = self.word(value)?;
+                self.items.push(name.with_value(Some(value)))?;
+            }
+            Behind::Nothing => self.open = Open::Value(name),
+        }
+        Ok(true)
+    }
+
+    fn read_optional(&mut self, name: Name, behind: Behind<'_>) -> Result<bool, Refusal> {
+        let value = match behind {
+            Behind::Joined(value) | Behind::Attached(value) => Some(self.word(value)?),
+            Behind::Nothing => None,
+        };
+        self.items.push(name.with_value(value))?;
+        Ok(true)
+    }
+
+    fn read_several(&mut self, name: Name, behind: Behind<'_>) -> Result<bool, Refusal> {
+        let mut values = Vec::new(self.alloc);
+        match behind {
+            Behind::Joined(value) => {
+                values.push(self.word(value)?)?;
+                self.items.push(name.with_values(values))?;
+            }
+            Behind::Attached(value) => {
+                values.push(self.word(value)?)?;
+                self.open = Open::Values(name, values);
+            }
+            Behind::Nothing => self.open = Open::Values(name, values),
+        }
+        Ok(true)
+    }
+
+    fn read_cluster(&mut self, cluster: &[u8]) -> Result<(), Refusal> {
+        let mut rest = cluster;
+        for _ in 0..cluster.len() {
+            let Some(piece) = first_piece(rest) else {
+                break;
+            };
+            let behind = behind_short(piece.rest, self.short_equals);
+            if self.read_option(Name::Short(piece.shown()), behind)? {
+                break;
+            }
+            rest = piece.rest;
+        }
+        Ok(())
+    }
+
+    fn read_long(&mut self, word: &[u8]) -> Result<(), Refusal> {
+        let (name, behind) = long_parts(word);
+        let name = Name::Long(lossy(self.alloc, name)?);
+        self.read_option(name, behind)?;
+        Ok(())
+    }
+
+    // Reads a word that no option took.
+    fn read_own(&mut self, word: &[u8]) -> Result<(), Refusal> {
+        match word {
+            b"--" if !self.ended => self.ended = true,
+            [b'-', b'-', long @ ..] if !self.ended => self.read_long(long)?,
+            [b'-', cluster @ ..] if !self.ended && !cluster.is_empty() => {
+                self.read_cluster(cluster)?;
+            }
+            _ => {
+                let word = self.word(word)?;
+                self.items.push(Item::Positional(word))?;
+            }
+        }
+        Ok(())
+    }
+
+    fn read_word(&mut self, word: &[u8]) -> Result<(), Refusal> {
+        if self.give(word)? {
+            return Ok(());
+        }
+        self.close()?;
+        self.read_own(word)
+    }
+}
+
+/// What the words say under the table.
+pub fn read(
+    alloc: Global,
+    words: &[&[u8]],
+    short_equals: bool,
+    table: &Table,
+) -> Result<Vec<Item>, Refusal> {
+    let mut reader = Reader {
+        alloc,
+        short_equals,
+        table,
+        items: Vec::new(alloc),
+        open: Open::Nothing,
+        ended: false,
+    };
+    for word in words {
+        reader.read_word(word)?;
+    }
+    reader.close()?;
+    Ok(reader.items)
+}

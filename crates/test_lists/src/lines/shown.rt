@@ -1,0 +1,38 @@
+//! Words and items as they are printed where something differs.
+use crate::lines::pieces::push_quoted;
+use lexopt::items::Item;
+use std::alloc::{AllocError, Global};
+
+// Adds the setting of the switch.
+fn push_switch(text: &mut String, short_equals: bool) -> Result<(), AllocError> {
+    text.push_str(if short_equals { "on" } else { "off" })
+}
+
+/// The words in quotes, and the switch.
+pub fn shown_words(
+    alloc: Global,
+    words: &[&[u8]],
+    short_equals: bool,
+) -> Result<String, AllocError> {
+    let mut text = String::new(alloc);
+    for word in words {
+        push_quoted(&mut text, word)?;
+        text.push(' ')?;
+    }
+    push_switch(&mut text, short_equals)?;
+    Ok(text)
+}
+
+/// The items, and the switch.
+pub fn shown_items(
+    alloc: Global,
+    items: &[Item],
+    short_equals: bool,
+) -> Result<String, AllocError> {
+    let mut text = String::new(alloc);
+    for item in items {
+        write!(text, "{item}; ")?;
+    }
+    push_switch(&mut text, short_equals)?;
+    Ok(text)
+}

@@ -1,0 +1,37 @@
+//! Tries the library on many lists of words, and prints what was found.
+//!
+//! With no argument it reads every short list of words, makes every sequence of calls on each, makes calls by chance, and
+//! answers the cases of standard input. With `chance SEED ROUNDS` it makes calls by chance alone, and with `answers` it answers
+//! cases alone; `bench/compare` asks for these.
+#![tactic(auto)]
+
+mod answers;
+mod chance;
+mod lines;
+mod sequences;
+
+use anyhow::{Result, bail};
+use std::env;
+
+// The rounds by chance that are always made, and their seed.
+const SEED: u64 = 1;
+
+const ROUNDS: u64 = 20_000;
+
+fn main(rt: HostRuntime) -> Result<()> {
+    let mut args = env::args(&rt)?;
+    let _program = args.next();
+    let Some(what) = args.next() else {
+        lines::print(&rt)?;
+        sequences::print(&rt)?;
+        chance::print(&rt, SEED, ROUNDS)?;
+        return answers::print(&rt);
+    };
+    match (what.as_str(), args.next(), args.next()) {
+        ("chance", Some(seed), Some(rounds)) => {
+            chance::print(&rt, seed.parse::<u64>()?, rounds.parse::<u64>()?)
+        }
+        ("answers", None, None) => answers::print(&rt),
+        _ => bail!("usage: test_lists [chance SEED ROUNDS | answers]"),
+    }
+}

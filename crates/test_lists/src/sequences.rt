@@ -1,0 +1,120 @@
+//! Tries every sequence of `next`, `value`, `optional_value` and `values` on every list of at most three of 25 words.
+//!
+//! Each call is made on the parser, and by `replay` on a copy: the replies agree. A sequence ends where `next` finds nothing
+//! more, where no value is there, and where no optional value is; `values` is read to its end. Before each call it checks what
+//! `raw_args`, `try_raw_args` and `optional_value` say of the line, on copies where they consume something.
+//!
+//! It prints how many lists it tried, and what went wrong first, if anything did.
+
+mod line;
+mod step;
+
+use crate::sequences::step::{STEPS, Step, is_last, made, replayed};
+use lexopt::{Error, Parser};
+use lexopt_testing::parsers::parser_of;
+use lexopt_testing::words::WORDS;
+use std::alloc::Global;
+use std::io;
+
+// No sequence is longer.
+const MOST_CALLS: u32 = 100;
+
+// What was tried, and the first thing that went wrong.
+#[derive(Drop)]
+struct Tried {
+    lists: u64,
+    fault: Option<&'static str>,
+}
+
+// A parser behind some calls.
+#[derive(Drop)]
+struct Place {
+    parser: Parser,
+    calls: u32,
+}
+
+impl Tried {
+    fn fault(&mut self, what: &'static str) {
+        if self.fault.is_none() {
+            self.fault = Some(what);
+        }
+    }
+
+    // Makes one call behind a place, in both ways. The place behind it, if a sequence goes on there.
+    fn step(&mut self, alloc: Global, place: &Place, step: Step) -> Result<Option<Place>, Error> {
+        let mut parser = place.parser.clone()?;
+        let mut copy = place.parser.clone()?;
+        let reply = made(alloc, &mut parser, step)?;
+        if reply != replayed(alloc, &mut copy, step)? {
+            self.fault("replay says otherwise");
+        }
+        if !line::agrees_with(step, &reply, &mut parser)? {
+            self.fault("words are left, or no values");
+        }
+        if is_last(&reply) {
+            return Ok(None);
+        }
+        let calls = place.calls.saturating_add(1);
+        if calls > MOST_CALLS {
+            self.fault("no end");
+            return Ok(None);
+        }
+        Ok(Some(Place { parser, calls }))
+    }
+
+    // Tries every sequence on a parser.
+    fn sequences(&mut self, alloc: Global, parser: Parser) -> Result<(), Error> {
+        let mut places = Vec::new(alloc);
+        places.push(Place { parser, calls: 0 })?;
+        for _ in 0..u64::MAX {
+            let Some(mut place) = places.pop() else {
+                break;
+            };
+            if !line::is_sound(alloc, &mut place.parser)? {
+                self.fault("raw_args, try_raw_args and optional_value do not agree");
+            }
+            for step in STEPS {
+                if let Some(next) = self.step(alloc, &place, step)? {
+                    places.push(next)?;
+                }
+            }
+        }
+        Ok(())
+    }
+
+    // Tries every sequence on these words.
+    fn list(&mut self, alloc: Global, words: &[&[u8]]) -> Result<(), Error> {
+        self.lists = self.lists.saturating_add(1);
+        self.sequences(alloc, parser_of(alloc, words)?)
+    }
+
+    fn lists(&mut self, alloc: Global) -> Result<(), Error> {
+        self.list(alloc, &[])?;
+        for first in WORDS {
+            self.list(alloc, &[first])?;
+            for second in WORDS {
+                self.list(alloc, &[first, second])?;
+                for third in WORDS {
+                    self.list(alloc, &[first, second, third])?;
+                }
+            }
+        }
+        Ok(())
+    }
+}
+
+/// Prints what was found.
+pub fn print(rt: &(impl Print + AllocGlobal)) -> io::Result<()> {
+    let mut tried = Tried {
+        lists: 0,
+        fault: None,
+    };
+    if tried.lists(rt.alloc()).is_err() {
+        tried.fault("a call was refused");
+    }
+    let lists = tried.lists;
+    match tried.fault {
+        None => println!(rt; "{lists} lists, no fault"),
+        Some(what) => println!(rt; "{lists} lists: {what}"),
+    }
+}

@@ -1,0 +1,53 @@
+//! What the calls that look at a line say of it.
+use crate::sequences::step::Step;
+use lexopt::replay::Reply;
+use lexopt::{Error, OsString, Parser};
+use lexopt_testing::parsers::copies;
+use std::alloc::Global;
+
+// Where no view is given: none is given again, `raw_args` refuses the value once, and it is an optional value.
+fn is_busy(parser: &mut Parser) -> Result<bool, Error> {
+    if parser.try_raw_args().is_some() {
+        return Ok(false);
+    }
+    let mut copy = parser.clone()?;
+    if !matches!(copy.raw_args(), Err(Error::UnexpectedValue { .. })) {
+        return Ok(false);
+    }
+    if copy.raw_args().is_err() || copy.try_raw_args().is_none() {
+        return Ok(false);
+    }
+    Ok(parser.clone()?.optional_value().is_some())
+}
+
+// Where a view is given, with these words: there is no optional value, and `raw_args` shows the same words.
+fn is_free(parser: &mut Parser, words: &[OsString]) -> Result<bool, Error> {
+    if parser.optional_value().is_some() {
+        return Ok(false);
+    }
+    let view = parser.raw_args()?;
+    Ok(view.as_slice() == words)
+}
+
+/// Whether `try_raw_args`, `raw_args` and `optional_value` agree. The line stays as it is.
+pub fn is_sound(alloc: Global, parser: &mut Parser) -> Result<bool, Error> {
+    let words = match parser.try_raw_args() {
+        Some(view) => Some(copies(alloc, view.as_slice())?),
+        None => None,
+    };
+    match words {
+        Some(words) => is_free(parser, &words),
+        None => is_busy(parser),
+    }
+}
+
+/// Whether no word is left where `next` found nothing more or `value` no word, and `values` has given one at least.
+pub fn agrees_with(step: Step, reply: &Reply, parser: &mut Parser) -> Result<bool, Error> {
+    match (step, reply) {
+        (Step::Next, Reply::End) | (Step::Value, Reply::Missing(_)) => {
+            Ok(parser.raw_args()?.as_slice().is_empty())
+        }
+        (_, Reply::Items(values)) => Ok(!values.is_empty()),
+        _ => Ok(true),
+    }
+}
