@@ -3,4 +3,4 @@
 
 pub use lexopt_calls::replay::replay;
 pub use lexopt_calls::reply::{Call, Reply};
-pub use lexopt_script::{RunError, run};
+pub use lexopt_script::run::{RunError, run};

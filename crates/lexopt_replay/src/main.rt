@@ -5,7 +5,7 @@
 //! line says why.
 #![tactic(auto)]
 
-use lexopt::replay::run;
+use lexopt_script::run::run;
 use std::io;
 use std::process::ExitCode;
 

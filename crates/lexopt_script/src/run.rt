@@ -8,7 +8,7 @@ ghost use Rattle.lexopt_script.specs.Output.{IsOutput, ReadsWhole, read_room};
 ghost use Rattle.lexopt_script.specs.Meanings.{command_view};
 ghost use Rattle.lexopt_script.specs.Performed.{IsWritten, Performs, answer_text};
 
-use crate::run_error::RunError;
+pub use crate::run_error::RunError;
 use crate::script::{Command, Script, parse_script, read_script};
 use lexopt_base::parser::Parser;
 use lexopt_calls::replay::reply_to;
