@@ -1,23 +1,8 @@
-//! Replays cases: scripts of calls and whole lines, each with the text that it is to write. It also has tests of calls, views,
-//! lists of calls and whole lines.
+//! Replays cases: scripts of calls and whole lines, each with the text that it is to write.
 //!
 //! Standard input holds the cases; the head of the file `stdin` says how they are written. Each case that comes to something
 //! else is printed, and behind each section the number of its cases that agree and that differ.
 #![tactic(auto)]
-
-mod callers;
-#[cfg(test)]
-mod calls;
-#[cfg(test)]
-mod example;
-#[cfg(test)]
-mod replays;
-#[cfg(test)]
-mod sizes;
-#[cfg(test)]
-mod views;
-#[cfg(test)]
-mod whole_lines;
 
 use lexopt::replay::run;
 use std::alloc::{AllocError, Global};

@@ -1,6 +1,6 @@
 //! Calls of a parser, compared with what is wanted.
 use lexopt::replay::{Call, Reply, replay};
-use lexopt::{Arg, Error, Parser};
+use lexopt::{Arg, Error, OsString, Parser};
 use std::alloc::Global;
 
 /// Whether the next argument is this short option.
@@ -37,34 +37,12 @@ pub fn takes(parser: &mut Parser, wanted: &[u8]) -> Result<bool, Error> {
     Ok(parser.value()?.as_bytes() == wanted)
 }
 
-/// What a test wants to be read next, which has no memory of its own.
-#[derive(Clone, Copy)]
-pub enum Wanted<'a> {
-    Short(char),
-    Long(&'a str),
-    /// An argument that is no option.
-    Word(&'a [u8]),
-    /// The value of the option that was read last.
-    Value(&'a [u8]),
-    /// The end of the line.
-    End,
-}
-
-/// Whether these are read, in their order: a value by `value`, and all else by `next`.
-pub fn reads(parser: &mut Parser, list: &[Wanted<'_>]) -> Result<bool, Error> {
-    for wanted in list {
-        let is_read = match *wanted {
-            Wanted::Short(option) => reads_short(parser, option)?,
-            Wanted::Long(name) => reads_long(parser, name)?,
-            Wanted::Word(word) => reads_word(parser, word)?,
-            Wanted::Value(value) => takes(parser, value)?,
-            Wanted::End => is_at_end(parser)?,
-        };
-        if !is_read {
-            return Ok(false);
-        }
+/// Whether there is a word, as of a view or of `optional_value`, and it has these bytes.
+pub fn gives(word: Option<OsString>, wanted: &[u8]) -> bool {
+    match word {
+        Some(word) => word.as_bytes() == wanted,
+        None => false,
     }
-    Ok(true)
 }
 
 /// Whether an answer is that this option misses its value; none where memory was refused.

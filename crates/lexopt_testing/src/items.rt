@@ -1,4 +1,5 @@
 //! Items that a test writes down, and tables that read them.
+use crate::parsers::words_from;
 use lexopt::OsString;
 use lexopt::items::{Item, Table};
 use std::alloc::{AllocError, Global};
@@ -17,15 +18,6 @@ pub enum Given {
     Positional(&'static [u8]),
 }
 
-// Words of these bytes.
-fn words(alloc: Global, list: &[&[u8]]) -> Result<Vec<OsString>, AllocError> {
-    let mut words = Vec::new(alloc);
-    for bytes in list {
-        words.push(OsString::from_bytes(alloc, bytes)?)?;
-    }
-    Ok(words)
-}
-
 impl Given {
     /// The item itself.
     pub fn item(self, alloc: Global) -> Result<Item, AllocError> {
@@ -34,14 +26,14 @@ impl Given {
             Given::ShortValue(option, value) => {
                 Item::Short(option, Some(OsString::from_bytes(alloc, value)?))
             }
-            Given::ShortMany(option, values) => Item::ShortMany(option, words(alloc, values)?),
+            Given::ShortMany(option, values) => Item::ShortMany(option, words_from(alloc, values)?),
             Given::Long(name) => Item::Long(String::from_str(alloc, name)?, None),
             Given::LongValue(name, value) => {
                 let name = String::from_str(alloc, name)?;
                 Item::Long(name, Some(OsString::from_bytes(alloc, value)?))
             }
             Given::LongMany(name, values) => {
-                Item::LongMany(String::from_str(alloc, name)?, words(alloc, values)?)
+                Item::LongMany(String::from_str(alloc, name)?, words_from(alloc, values)?)
             }
             Given::Positional(word) => Item::Positional(OsString::from_bytes(alloc, word)?),
         })

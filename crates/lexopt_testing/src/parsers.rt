@@ -22,22 +22,21 @@ pub fn copies(alloc: Global, words: &[OsString]) -> Result<Vec<OsString>, AllocE
     Ok(copied)
 }
 
+/// Words of these bytes.
+pub fn words_from(alloc: Global, list: &[&[u8]]) -> Result<Vec<OsString>, AllocError> {
+    let mut words = Vec::with_capacity(alloc, list.len())?;
+    for bytes in list {
+        words.push(OsString::from_bytes(alloc, bytes)?)?;
+    }
+    Ok(words)
+}
+
 /// A parser of these words, with no name.
 pub fn parser_of(alloc: Global, words: &[&[u8]]) -> Result<Parser, Error> {
-    let mut list = Vec::new(alloc);
-    for word in words {
-        let word = OsString::from_bytes(alloc, word)?;
-        list.push(word)?;
-    }
-    Parser::from_args(alloc, list)
+    Parser::from_args(alloc, words_from(alloc, words)?)
 }
 
 /// A parser of these words, the first of which is its name.
 pub fn named(alloc: Global, words: &[&[u8]]) -> Result<Parser, Error> {
-    let mut list = Vec::new(alloc);
-    for word in words {
-        let word = OsString::from_bytes(alloc, word)?;
-        list.push(word)?;
-    }
-    Parser::from_iter(alloc, list)
+    Parser::from_iter(alloc, words_from(alloc, words)?)
 }

@@ -1,5 +1,8 @@
 //! The example of the README.
 use lexopt::{Arg, Error, OsString, Parser};
+use lexopt_testing::calls::gives;
+use lexopt_testing::items::are_words;
+use lexopt_testing::parsers::words_of;
 use std::alloc::Global;
 use std::test::Fail;
 
@@ -38,13 +41,10 @@ fn read_options(parser: &mut Parser, options: &mut Options) -> Result<(), UsageE
     Ok(())
 }
 
-// Whether the line is understood, and what was read until then is `-n 10`, `--shout` and these files.
-fn reads(alloc: Global, line: &[&str], known: bool, files: &[&str]) -> Result<bool, Error> {
-    let mut words = Vec::new(alloc);
-    for word in line {
-        words.push(OsString::from_text(alloc, word)?)?;
-    }
-    let mut parser = Parser::from_vec(words);
+// Whether a line, whose words stand in these lines, is understood, and what was read until then is `-n 10`, `--shout` and
+// these files.
+fn reads(alloc: Global, line: &[u8], known: bool, files: &[&[u8]]) -> Result<bool, Error> {
+    let mut parser = Parser::from_vec(words_of(alloc, line)?);
     let mut options = Options {
         number: None,
         shout: false,
@@ -55,44 +55,45 @@ fn reads(alloc: Global, line: &[&str], known: bool, files: &[&str]) -> Result<bo
         Err(UsageError::CommandLine(error)) => return Err(error),
         Err(UsageError::UnknownOption) => false,
     };
-    let number = OsString::from_text(alloc, "10")?;
-    Ok(
-        is_known == known
-            && options.shout
-            && options.number == Some(number)
-            && are(&options.files, files),
-    )
+    let Options {
+        number,
+        shout,
+        files: found,
+    } = options;
+    Ok(is_known == known && shout && gives(number, b"10") && are_words(&found, files))
 }
 
-fn are(words: &[OsString], texts: &[&str]) -> bool {
-    words.len() == texts.len()
-        && words
-            .iter()
-            .zip(texts.iter())
-            .all(|(word, text)| word.as_bytes() == text.as_bytes())
-}
+// Lines, whether each is understood, and the files of it.
+const LINES: [(&[u8], bool, &[&[u8]]); 6] = [
+    (
+        b"-n10\n--shout\nfile\n--\n-x\n",
+        true,
+        &[b"file", b"-x", b""],
+    ),
+    (
+        b"--number=10\n--shout\nfile\n--\n-x\n",
+        true,
+        &[b"file", b"-x", b""],
+    ),
+    (
+        b"-n=10\nfile\n--shout\n--\n-x\n",
+        true,
+        &[b"file", b"-x", b""],
+    ),
+    (b"-n\n10\n--shout\nfile\n--\n-x", true, &[b"file", b"-x"]),
+    (
+        b"--number\n10\n--shout\nfile\n--\n-x",
+        true,
+        &[b"file", b"-x"],
+    ),
+    // An option that the program does not know.
+    (b"-n10\n--shout\nfile\n-x\n--\n", false, &[b"file"]),
+];
 
 #[test]
 fn reads_the_example(rt: HostRuntime) -> Result<(), Fail> {
-    for line in [
-        ["-n10", "--shout", "file", "--", "-x", ""],
-        ["--number=10", "--shout", "file", "--", "-x", ""],
-        ["-n=10", "file", "--shout", "--", "-x", ""],
-    ] {
-        assert!(rt; reads(rt.alloc(), &line, true, &["file", "-x", ""])?);
+    for (line, known, files) in LINES {
+        assert!(rt; reads(rt.alloc(), line, known, files)?);
     }
-    for line in [
-        ["-n", "10", "--shout", "file", "--", "-x"],
-        ["--number", "10", "--shout", "file", "--", "-x"],
-    ] {
-        assert!(rt; reads(rt.alloc(), &line, true, &["file", "-x"])?);
-    }
-    Ok(())
-}
-
-#[test]
-fn refuses_an_unknown_option(rt: HostRuntime) -> Result<(), Fail> {
-    let line = ["-n10", "--shout", "file", "-x", "--", ""];
-    assert!(rt; reads(rt.alloc(), &line, false, &["file"])?);
     Ok(())
 }

@@ -1,0 +1,49 @@
+//! Long names, many words and long scripts: nothing answers want of memory for their size.
+use lexopt::replay::run;
+use std::alloc::{AllocError, Global};
+use std::test::Fail;
+
+// How many pieces a long name has, and how many words of each kind a long script.
+const MANY: usize = 1_500;
+
+// Whether a script is run, and writes this text.
+fn writes(alloc: Global, script: &str, text: &str) -> bool {
+    let mut written = Vec::new(alloc);
+    run(alloc, &mut script.as_bytes(), &mut written).is_ok()
+        && written.as_slice() == text.as_bytes()
+}
+
+// Whether a long name with a long value, and the name alone, are read and told, where a piece of both is shown so in a name.
+fn is_told(alloc: Global, piece: &str, shown: &str) -> Result<bool, AllocError> {
+    let bytes = piece.repeat(alloc, MANY)?;
+    let name = shown.repeat(alloc, MANY)?;
+    let script = format!(in alloc; "w --{bytes}={bytes}\nw --{bytes}\nnext\nnext\nnext\nvalue\n")?;
+    let text = format!(in alloc;
+        "Long \"{name}\"\nerror: unexpected argument for option '--{name}': \"{bytes}\"\nLong \"{name}\"\nerror: missing argument for option '--{name}'\n"
+    )?;
+    Ok(writes(alloc, script.as_str(), text.as_str()))
+}
+
+#[test]
+fn long_names(rt: HostRuntime) -> Result<(), Fail> {
+    for (piece, shown) in [("n", "n"), ("µ", "µ"), ("\\xFF", "\u{fffd}")] {
+        assert!(rt; is_told(rt.alloc(), piece, shown)?, "{shown}");
+    }
+    Ok(())
+}
+
+// Whether a script of many words and calls writes each reply.
+fn reads_many(alloc: Global) -> Result<bool, AllocError> {
+    let words = "w --name=value\nw file\n".repeat(alloc, MANY)?;
+    let calls = "next\nvalue\nnext\n".repeat(alloc, MANY)?;
+    let replies = "Long \"name\"\n\"value\"\nValue \"file\"\n".repeat(alloc, MANY)?;
+    let script = format!(in alloc; "{words}{calls}next\n")?;
+    let text = format!(in alloc; "{replies}None\n")?;
+    Ok(writes(alloc, script.as_str(), text.as_str()))
+}
+
+#[test]
+fn many_words(rt: HostRuntime) -> Result<(), Fail> {
+    assert!(rt; reads_many(rt.alloc())?);
+    Ok(())
+}

@@ -1,0 +1,157 @@
+//! Views: several values of one option, and the words that are left; what no script asks of them. The callers with clauses
+//! of their own.
+use crate::callers::{negative_number, next_file, option_and_value, two_values};
+use lexopt::{Error, OsStr, OsString, Parser, RawArgs, ValuesIter};
+use lexopt_testing::calls::{gives, is_at_end, reads_short, reads_word, takes};
+use lexopt_testing::items::are_words;
+use lexopt_testing::parsers::parser_of;
+use std::alloc::Global;
+use std::test::Fail;
+
+fn shows(word: Option<OsStr<'_>>, wanted: &[u8]) -> bool {
+    match word {
+        Some(word) => word.as_bytes() == wanted,
+        None => false,
+    }
+}
+
+fn gives_both(view: &mut ValuesIter<'_>) -> bool {
+    gives(view.next(), b"b")
+        && gives(view.next(), b"c")
+        && view.next().is_none()
+        && view.next().is_none()
+}
+
+// Whether `-a` has the values `b` and `c`, and none behind them.
+fn has_both(parser: &mut Parser) -> Result<bool, Error> {
+    Ok(reads_short(parser, 'a')? && gives_both(&mut parser.values()?))
+}
+
+#[test]
+fn several_values(rt: HostRuntime) -> Result<(), Fail> {
+    let mut parser = parser_of(rt.alloc(), &[b"-a", b"b", b"c", b"-d"])?;
+    assert!(rt; has_both(&mut parser)? && reads_short(&mut parser, 'd')?);
+    Ok(())
+}
+
+// How many values of `-a` are collected.
+fn collected(alloc: Global, parser: &mut Parser) -> Result<usize, Error> {
+    if !reads_short(parser, 'a')? {
+        return Ok(0);
+    }
+    let values: Vec<OsString> = parser.values()?.collect(alloc)?;
+    Ok(values.len())
+}
+
+#[test]
+fn collected_values(rt: HostRuntime) -> Result<(), Fail> {
+    let mut parser = parser_of(rt.alloc(), &[b"-ab", b"c", b"-d"])?;
+    assert!(rt; collected(rt.alloc(), &mut parser)? == 2 && reads_short(&mut parser, 'd')?);
+    Ok(())
+}
+
+// How long the longest value of `-a` is.
+fn longest(parser: &mut Parser) -> Result<usize, Error> {
+    let mut most = 0;
+    if reads_short(parser, 'a')? {
+        for value in parser.values()? {
+            most = value.len().max(most);
+        }
+    }
+    Ok(most)
+}
+
+#[test]
+fn values_in_a_loop(rt: HostRuntime) -> Result<(), Fail> {
+    let mut parser = parser_of(rt.alloc(), &[b"-a", b"b", b"ccc", b"dd"])?;
+    assert!(rt; longest(&mut parser)? == 3 && is_at_end(&mut parser)?);
+    Ok(())
+}
+
+fn looks_first(view: &mut RawArgs<'_>) -> bool {
+    shows(view.peek(), b"a")
+        && view.next_if(|_| false).is_none()
+        && gives(
+            view.next_if(|word| word.as_bytes() == b"a".as_slice()),
+            b"a",
+        )
+        && view.peek().is_none()
+        && view.next_if(|_| true).is_none()
+}
+
+#[test]
+fn words_looked_at(rt: HostRuntime) -> Result<(), Fail> {
+    let mut parser = parser_of(rt.alloc(), &[b"a"])?;
+    assert!(rt; looks_first(&mut parser.raw_args()?) && is_at_end(&mut parser)?);
+    Ok(())
+}
+
+// Whether a view gives `-a`, lends the two words behind it, and then gives `--`.
+fn lends(view: &mut RawArgs<'_>) -> bool {
+    gives(view.next(), b"-a")
+        && are_words(view.as_slice(), &[b"--", b"b"])
+        && gives(view.next(), b"--")
+}
+
+// Whether the view that was tried is there, and lends and gives so.
+fn lends_if_free(parser: &mut Parser) -> bool {
+    match parser.try_raw_args() {
+        Some(mut view) => lends(&mut view),
+        None => false,
+    }
+}
+
+#[test]
+fn words_lent(rt: HostRuntime) -> Result<(), Fail> {
+    let mut parser = parser_of(rt.alloc(), &[b"-a", b"--", b"b"])?;
+    assert!(rt; lends_if_free(&mut parser) && reads_word(&mut parser, b"b")?);
+    Ok(())
+}
+
+// Whether `two_values` takes these values, and `negative_number` a word that is one, and no other.
+fn takes_by_callers(parser: &mut Parser) -> Result<bool, Error> {
+    let (first, second) = two_values(parser)?;
+    Ok(
+        gives(first, b"b")
+            && gives(second, b"c")
+            && negative_number(parser)?.is_none()
+            && takes(parser, b"d")?
+            && gives(negative_number(parser)?, b"-10"),
+    )
+}
+
+#[test]
+fn callers(rt: HostRuntime) -> Result<(), Fail> {
+    let mut parser = parser_of(rt.alloc(), &[b"-a", b"b", b"c", b"d", b"-10", b"-e"])?;
+    assert!(rt; reads_short(&mut parser, 'a')?);
+    assert!(rt; takes_by_callers(&mut parser)? && reads_short(&mut parser, 'e')?);
+    Ok(())
+}
+
+// Whether `option_and_value` reads `-n` and takes the value `10`.
+fn reads_number(alloc: Global, parser: &mut Parser) -> Result<bool, Error> {
+    match option_and_value(alloc, parser)? {
+        Some((option, value)) => Ok(option == 'n' && value.as_bytes() == b"10".as_slice()),
+        None => Ok(false),
+    }
+}
+
+// Whether `next_file` gives no option, and this word behind it.
+fn gives_behind_an_option(parser: &mut Parser, wanted: &[u8]) -> Result<bool, Error> {
+    Ok(next_file(parser)?.is_none() && gives(next_file(parser)?, wanted))
+}
+
+fn reads_by_callers(alloc: Global, parser: &mut Parser) -> Result<bool, Error> {
+    Ok(
+        reads_number(alloc, parser)?
+            && gives_behind_an_option(parser, b"a")?
+            && option_and_value(alloc, parser)?.is_none(),
+    )
+}
+
+#[test]
+fn callers_of_next(rt: HostRuntime) -> Result<(), Fail> {
+    let mut parser = parser_of(rt.alloc(), &[b"-n10", b"-n", b"a", b"b", b"c"])?;
+    assert!(rt; reads_by_callers(rt.alloc(), &mut parser)? && is_at_end(&mut parser)?);
+    Ok(())
+}
