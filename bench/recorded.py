@@ -1,4 +1,4 @@
-"""The cases whose answers stand in `crates/lexopt_cases/stdin`, and how they are written there (docs/formats.md).
+"""The cases whose answers stand in `crates/test_cases/stdin`, and how they are written there (docs/formats.md).
 
 They have the calls that a script has. Some are chosen by hand, the others are by a fixed seed.
 """

@@ -1,4 +1,4 @@
-//! Reads words many times, so that the cost of a read can be measured. `crates/lexopt_bench/src/main.rt` does the same with
+//! Reads words many times, so that the cost of a read can be measured. `crates/bench_port/src/main.rt` does the same with
 //! this repository's port, and says what the arguments and standard input are.
 
 mod items;

@@ -14,9 +14,11 @@ ghost use Rattle.lexopt_base.specs.Replies.{Gives, error_reply};
 ghost use Rattle.lexopt_items.specs.Items.{EndsBy, IsErrorOf, IsRefused, ReadsItem, ReadsValues, RefusesValues, ending_view, item_view, item_with, table_view};
 
 use crate::kinds::{Kind, kind_of_long, kind_of_short};
-use lexopt_calls::replay::{call_next, values_of};
-use lexopt_calls::reply::{Reply, write_list, write_long, write_positional, write_short, write_word};
 use lexopt_base::parser::Parser;
+use lexopt_calls::replay::{call_next, values_of};
+use lexopt_calls::reply::{
+    Reply, write_list, write_long, write_positional, write_short, write_word,
+};
 use lexopt_words::error::Error;
 use lexopt_words::os_string::OsString;
 use std::alloc::{AllocError, Global};

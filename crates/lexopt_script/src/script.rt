@@ -24,8 +24,8 @@ ghost use Rattle.lexopt_script.specs.Output.{ReadsWhole, read_room};
 ghost use Rattle.lexopt_script.specs.Meanings.{command_view, entry_view, meaning_view, name_view};
 
 use crate::run_error::RunError;
-use lexopt_items::items::Table;
 use lexopt_calls::reply::Call;
+use lexopt_items::items::Table;
 use lexopt_words::codepoint::{FirstCodepoint, first_codepoint};
 use lexopt_words::os_string::OsString;
 use std::alloc::{AllocError, Global};

@@ -1,9 +1,9 @@
 //! Calls that no script has, or not so: copies of a parser, and `optional_value` itself. The other calls that read a line are
 //! made by the tests beside this one, and rows of them stand among the cases.
 use lexopt::{Error, Parser};
-use lexopt_testing::calls::{gives, reads_short, reads_word, takes};
-use lexopt_testing::parsers::parser_of;
 use std::test::Fail;
+use test_helpers::calls::{gives, reads_short, reads_word, takes};
+use test_helpers::parsers::parser_of;
 
 // Whether what stands behind `-c` is its value with the switch off, and the next word is none.
 fn takes_with_equals(parser: &mut Parser) -> Result<bool, Error> {

@@ -1,10 +1,10 @@
 //! The example of the README.
 use lexopt::{Arg, Error, OsString, Parser};
-use lexopt_testing::calls::gives;
-use lexopt_testing::items::are_words;
-use lexopt_testing::parsers::words_of;
 use std::alloc::Global;
 use std::test::Fail;
+use test_helpers::calls::gives;
+use test_helpers::items::are_words;
+use test_helpers::parsers::words_of;
 
 // What a program was asked to do.
 #[derive(Drop)]

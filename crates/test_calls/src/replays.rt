@@ -1,9 +1,9 @@
 //! Lists of calls, and their replies as values. What they print stands among the cases.
 use lexopt::replay::{Call, replay};
 use lexopt::{Error, OsString, Parser};
-use lexopt_testing::parsers::parser_of;
 use std::alloc::Global;
 use std::test::Fail;
+use test_helpers::parsers::parser_of;
 
 // Whether these calls have these replies, as `Debug` writes them.
 fn answers(

@@ -2,11 +2,11 @@
 //! of their own.
 use crate::callers::{negative_number, next_file, option_and_value, two_values};
 use lexopt::{Error, OsStr, OsString, Parser, RawArgs, ValuesIter};
-use lexopt_testing::calls::{gives, is_at_end, reads_short, reads_word, takes};
-use lexopt_testing::items::are_words;
-use lexopt_testing::parsers::parser_of;
 use std::alloc::Global;
 use std::test::Fail;
+use test_helpers::calls::{gives, is_at_end, reads_short, reads_word, takes};
+use test_helpers::items::are_words;
+use test_helpers::parsers::parser_of;
 
 fn shows(word: Option<OsStr<'_>>, wanted: &[u8]) -> bool {
     match word {

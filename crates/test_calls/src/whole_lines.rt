@@ -2,11 +2,11 @@
 //! values. Other lines stand among the cases.
 use lexopt::Error;
 use lexopt::items::{Table, read_items};
-use lexopt_testing::items::Given::{LongMany, LongValue, Positional, Short, ShortMany, ShortValue};
-use lexopt_testing::items::{Given, items_of, table_of_each_kind};
-use lexopt_testing::parsers::words_of;
 use std::alloc::{AllocError, Global};
 use std::test::Fail;
+use test_helpers::items::Given::{LongMany, LongValue, Positional, Short, ShortMany, ShortValue};
+use test_helpers::items::{Given, items_of, table_of_each_kind};
+use test_helpers::parsers::words_of;
 
 // The table of the option `-` and the name `a=b`, of one value each.
 fn table_with_a_dash(alloc: Global) -> Result<Table, AllocError> {

@@ -12,7 +12,7 @@ use anyhow::{Result, bail};
 use lexopt::items::{Item, Table, read_items};
 use lexopt::replay::{Call, Reply, replay};
 use lexopt::{Error, OsString, Parser};
-use lexopt_testing::parsers::copies;
+use lexopt_words::words::copies;
 use std::alloc::Global;
 
 // How many calls are made by chance in a round, and how many take what is left.

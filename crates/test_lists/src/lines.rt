@@ -37,24 +37,16 @@ use crate::lines::tables::{Choice, KINDS, OVERLAPS};
 use crate::lines::tally::Tally;
 use lexopt::items::{Item, Table, read_items};
 use lexopt::{Error, OsString};
-use lexopt_testing::words::WORDS;
 use std::alloc::{AllocError, Global};
 use std::io;
+use test_helpers::parsers::words_from;
+use test_helpers::words::WORDS;
 
 // How lists of words were read in both ways, and how the items of those that have some were spelled.
 #[derive(Drop)]
 struct Found {
     read: Tally,
     spelled: Tally,
-}
-
-// A copy of these words.
-fn copies(alloc: Global, words: &[&[u8]]) -> Result<Vec<OsString>, AllocError> {
-    let mut copied = Vec::with_capacity(alloc, words.len())?;
-    for word in words {
-        copied.push(OsString::from_bytes(alloc, word)?)?;
-    }
-    Ok(copied)
 }
 
 // Whether `read_items` refuses the line by this message.
@@ -123,7 +115,7 @@ impl Found {
         short_equals: bool,
         table: &Table,
     ) -> Result<(), AllocError> {
-        let copied = copies(alloc, words)?;
+        let copied = words_from(alloc, words)?;
         let plain = plain::read(alloc, words, short_equals, table);
         if agree(alloc, &plain, copied, short_equals, table)? {
             self.read.agree();

@@ -11,10 +11,10 @@ mod step;
 
 use crate::sequences::step::{STEPS, Step, is_last, made, replayed};
 use lexopt::{Error, Parser};
-use lexopt_testing::parsers::parser_of;
-use lexopt_testing::words::WORDS;
 use std::alloc::Global;
 use std::io;
+use test_helpers::parsers::parser_of;
+use test_helpers::words::WORDS;
 
 // No sequence is longer.
 const MOST_CALLS: u32 = 100;

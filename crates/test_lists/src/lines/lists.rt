@@ -4,12 +4,12 @@ use crate::lines::shown::shown_items;
 use crate::lines::spelled::{Reading, Spelled};
 use lexopt::OsString;
 use lexopt::items::{Item, Table};
-use lexopt_testing::items::Given::{
-    Long, LongMany, LongValue, Positional, Short, ShortMany, ShortValue,
-};
-use lexopt_testing::items::{Given, items_of};
 use std::alloc::{AllocError, Global};
 use std::io;
+use test_helpers::items::Given::{
+    Long, LongMany, LongValue, Positional, Short, ShortMany, ShortValue,
+};
+use test_helpers::items::{Given, items_of};
 
 // Items of every kind. By some tables they are at fault, and by others not.
 const ITEMS: [Given; 27] = [

@@ -2,8 +2,8 @@
 use crate::lines::spelled::Reading;
 use lexopt::OsString;
 use lexopt::items::Item;
-use lexopt_testing::words::WORDS;
 use std::alloc::{AllocError, Global};
+use test_helpers::words::WORDS;
 
 // The most items of a list that has a number.
 const MOST_ITEMS: usize = 3;

@@ -2,7 +2,7 @@
 use lexopt::items::{Item, Table, read_items};
 use lexopt::spell::{SpellError, spell};
 use lexopt::{Error, OsString};
-use lexopt_testing::parsers::copies;
+use lexopt_words::words::copies;
 use std::alloc::{AllocError, Global};
 
 /// What `spell` answers where it has memory: words, or the index of the item at fault.

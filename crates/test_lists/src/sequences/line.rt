@@ -2,7 +2,7 @@
 use crate::sequences::step::Step;
 use lexopt::replay::Reply;
 use lexopt::{Error, OsString, Parser};
-use lexopt_testing::parsers::copies;
+use lexopt_words::words::copies;
 use std::alloc::Global;
 
 // Where no view is given: none is given again, `raw_args` refuses the value once, and it is an optional value.

@@ -1,9 +1,9 @@
 //! Errors: what each prints, what it holds, and what becomes one. Those of scripts, with their status.
 use lexopt::replay::RunError;
 use lexopt::{Arg, Error, OsString};
-use lexopt_testing::errors::prints;
 use std::alloc::{AllocError, AllocFailed, Global};
 use std::test::Fail;
+use test_helpers::errors::prints;
 
 // Whether a word that no program wanted is told so.
 fn refused_as(alloc: Global, word: &[u8], message: &str) -> Result<bool, AllocError> {

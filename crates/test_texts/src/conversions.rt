@@ -1,12 +1,12 @@
 //! Conversions of values.
 use lexopt::prelude::{Value, ValueExt};
 use lexopt::{Error, OsString};
-use lexopt_testing::calls::reads_short;
-use lexopt_testing::errors::prints;
-use lexopt_testing::parsers::parser_of;
 use std::alloc::Global;
 use std::fmt;
 use std::test::Fail;
+use test_helpers::calls::reads_short;
+use test_helpers::errors::prints;
+use test_helpers::parsers::parser_of;
 
 // An error of a program's own.
 #[derive(Debug, Drop)]

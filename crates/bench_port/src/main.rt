@@ -256,7 +256,7 @@ fn main(rt: HostRuntime) -> Result<()> {
     let alloc = rt.alloc();
     let mut args = env::args(&rt)?;
     let (Some(_program), Some(work), Some(times)) = (args.next(), args.next(), args.next()) else {
-        bail!("usage: lexopt_bench WORK TIMES");
+        bail!("usage: bench_port WORK TIMES");
     };
     let work = Work::of_name(&work).context(
         "the work is copy, next, collected, fallible, values, raw, parse, items, spell or spelled",

@@ -13,15 +13,6 @@ pub fn words_of(alloc: Global, lines: &[u8]) -> Result<Vec<OsString>, AllocError
     Ok(words)
 }
 
-/// A copy of these words.
-pub fn copies(alloc: Global, words: &[OsString]) -> Result<Vec<OsString>, AllocError> {
-    let mut copied = Vec::with_capacity(alloc, words.len())?;
-    for word in words {
-        copied.push(word.clone()?)?;
-    }
-    Ok(copied)
-}
-
 /// Words of these bytes.
 pub fn words_from(alloc: Global, list: &[&[u8]]) -> Result<Vec<OsString>, AllocError> {
     let mut words = Vec::with_capacity(alloc, list.len())?;

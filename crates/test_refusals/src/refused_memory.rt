@@ -6,17 +6,17 @@ use lexopt::items::read_items;
 use lexopt::replay::{Call, Reply, RunError, replay, run};
 use lexopt::spell::{Reason, SpellError, spell};
 use lexopt::{Error, OsString, Parser};
-use lexopt_testing::calls::{
-    is_at_end, is_missing, is_unexpected, left, reads_long, reads_short, reads_word, takes,
-};
-use lexopt_testing::items::Given::{
-    Long, LongMany, LongValue, Positional, Short, ShortMany, ShortValue,
-};
-use lexopt_testing::items::{Given, are_words, items_of, table_of_each_kind};
-use lexopt_testing::parsers::{named, parser_of, words_of};
-use lexopt_testing::scripts::{SCRIPT, WRITTEN};
 use std::alloc::{AllocError, Global};
 use std::test::Fail;
+use test_helpers::calls::{
+    is_at_end, is_missing, is_unexpected, left, reads_long, reads_short, reads_word, takes,
+};
+use test_helpers::items::Given::{
+    Long, LongMany, LongValue, Positional, Short, ShortMany, ShortValue,
+};
+use test_helpers::items::{Given, are_words, items_of, table_of_each_kind};
+use test_helpers::parsers::{named, parser_of, words_of};
+use test_helpers::scripts::{SCRIPT, WRITTEN};
 
 // What the stored script writes where its first `next` is refused.
 const NEXT_REFUSED: &[u8] =

@@ -2,12 +2,12 @@
 //! words, and what it prints.
 use lexopt::items::Table;
 use lexopt::spell::{Reason, SpellError, spell};
-use lexopt_testing::items::Given::{
-    Long, LongMany, LongValue, Positional, Short, ShortMany, ShortValue,
-};
-use lexopt_testing::items::{Given, are_words, items_of, table_of_each_kind};
 use std::alloc::{AllocError, Global};
 use std::test::Fail;
+use test_helpers::items::Given::{
+    Long, LongMany, LongValue, Positional, Short, ShortMany, ShortValue,
+};
+use test_helpers::items::{Given, are_words, items_of, table_of_each_kind};
 
 // Items, and the words that are to spell them.
 #[derive(Clone, Copy)]

@@ -1,9 +1,9 @@
 //! Readers and writers that fail, that are slow and that never end, and scripts that a case file cannot say.
 use lexopt::replay::{RunError, run};
-use lexopt_testing::scripts::{SCRIPT, WRITTEN};
 use std::io;
 use std::io::{Read, Write};
 use std::test::Fail;
+use test_helpers::scripts::{SCRIPT, WRITTEN};
 
 // Gives one byte at a time, and fails at this read, counted from 1; at 0 none fails.
 #[derive(Drop)]

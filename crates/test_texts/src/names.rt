@@ -1,12 +1,12 @@
 //! Binary names, and the words of the environment.
 use lexopt::{Error, Parser};
-use lexopt_testing::calls::{is_at_end, reads_short, takes};
-use lexopt_testing::errors::prints;
-use lexopt_testing::parsers::{named, parser_of};
 use std::alloc::Global;
 use std::env;
 use std::env::{Env, FillError};
 use std::test::Fail;
+use test_helpers::calls::{is_at_end, reads_short, takes};
+use test_helpers::errors::prints;
+use test_helpers::parsers::{named, parser_of};
 
 // Whether this is the name of the parser of these words.
 fn is_name(alloc: Global, words: &[&[u8]], name: &str) -> Result<bool, Error> {
