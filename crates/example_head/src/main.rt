@@ -8,6 +8,7 @@
 
 use lexopt_base::prelude::{Long, Short, ValueExt};
 use lexopt_base::{Error, OsStr, Parser};
+use std::alloc::Global;
 use std::env::Env;
 use std::io;
 use std::process::ExitCode;
@@ -38,25 +39,29 @@ fn take_dash_number(parser: &mut Parser) -> Option<usize> {
 
 // No positional argument is wanted. A program that wants some stops looking for `-NUM` at the first of them: it may stand
 // behind `--`, where `-10` is a positional argument too.
-fn read_options(rt: &(impl Env + AllocGlobal)) -> Result<Options, Error> {
-    let mut parser = Parser::from_env(rt, rt.alloc())?;
+fn read_options(alloc: Global, parser: &mut Parser) -> Result<Options, Error> {
     let mut options = Options {
         lines: 10,
         is_numbered: false,
     };
     for _ in 0..u64::MAX {
-        if let Some(lines) = take_dash_number(&mut parser) {
+        if let Some(lines) = take_dash_number(parser) {
             options.lines = lines;
             continue;
         }
         match parser.next()? {
             Some(Short('n') | Long("lines")) => options.lines = parser.value()?.parse()?,
             Some(Long("number")) => options.is_numbered = true,
-            Some(argument) => return Err(argument.unexpected(rt.alloc())),
+            Some(argument) => return Err(argument.unexpected(alloc)),
             None => break,
         }
     }
     Ok(options)
+}
+
+fn own_options(rt: &(impl Env + AllocGlobal)) -> Result<Options, Error> {
+    let mut parser = Parser::from_env(rt, rt.alloc())?;
+    read_options(rt.alloc(), &mut parser)
 }
 
 fn print_lines(rt: &(impl Input + Print + AllocGlobal), options: Options) -> io::Result<()> {
@@ -74,7 +79,7 @@ fn print_lines(rt: &(impl Input + Print + AllocGlobal), options: Options) -> io:
 }
 
 fn main(rt: HostRuntime) -> ExitCode {
-    let printed = match read_options(&rt) {
+    let printed = match own_options(&rt) {
         Ok(options) => print_lines(&rt, options),
         Err(error) => {
             let _ = eprintln!(rt; "example_head: {error}");

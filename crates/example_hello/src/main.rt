@@ -6,6 +6,7 @@
 
 use lexopt_base::prelude::{Long, Short, Value, ValueExt};
 use lexopt_base::{Error, Parser};
+use std::alloc::Global;
 use std::env::Env;
 use std::io;
 use std::process::ExitCode;
@@ -25,8 +26,8 @@ enum Request {
     Greet(Greeting),
 }
 
-fn read_request(rt: &(impl Env + AllocGlobal)) -> Result<Request, Error> {
-    let mut parser = Parser::from_env(rt, rt.alloc())?;
+// Reads what the words of the parser ask for.
+fn read_request(alloc: Global, parser: &mut Parser) -> Result<Request, Error> {
     let mut thing = None;
     let mut number = 1;
     let mut shout = false;
@@ -36,16 +37,24 @@ fn read_request(rt: &(impl Env + AllocGlobal)) -> Result<Request, Error> {
             Some(Long("shout")) => shout = true,
             Some(Long("help")) => return Ok(Request::Help),
             Some(Value(word)) if thing.is_none() => thing = Some(word.string()?),
-            Some(argument) => return Err(argument.unexpected(rt.alloc())),
+            Some(argument) => return Err(argument.unexpected(alloc)),
             None => break,
         }
     }
-    let thing = thing.ok_or("missing argument THING")?;
+    let Some(thing) = thing else {
+        return Err(Error::from("missing argument THING"));
+    };
     Ok(Request::Greet(Greeting {
         thing,
         number,
         shout,
     }))
+}
+
+// What the program was asked for.
+fn own_request(rt: &(impl Env + AllocGlobal)) -> Result<Request, Error> {
+    let mut parser = Parser::from_env(rt, rt.alloc())?;
+    read_request(rt.alloc(), &mut parser)
 }
 
 fn greet(rt: &(impl Print + AllocGlobal), greeting: Greeting) -> io::Result<()> {
@@ -64,7 +73,7 @@ fn greet(rt: &(impl Print + AllocGlobal), greeting: Greeting) -> io::Result<()> 
 }
 
 fn main(rt: HostRuntime) -> ExitCode {
-    let printed = match read_request(&rt) {
+    let printed = match own_request(&rt) {
         Ok(Request::Greet(greeting)) => greet(&rt, greeting),
         Ok(Request::Help) => {
             println!(rt; "usage: example_hello [-n|--number=NUM] [--shout] THING")

@@ -76,7 +76,10 @@ fn read_basename(alloc: Global, parser: &mut Parser) -> Result<Request, Error> {
             None => break,
         }
     }
-    Ok(Request::Basename(name.ok_or("missing argument NAME")?))
+    match name {
+        Some(name) => Ok(Request::Basename(name)),
+        None => Err(Error::from("missing argument NAME")),
+    }
 }
 
 fn read_request(rt: &(impl Env + AllocGlobal)) -> Result<Request, Error> {

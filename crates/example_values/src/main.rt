@@ -10,6 +10,7 @@
 use anyhow::bail;
 use lexopt_base::prelude::{Long, Short, ValueExt};
 use lexopt_base::{Error, OsString, Parser, Quoted};
+use std::alloc::Global;
 use std::env::Env;
 use std::io;
 use std::process::ExitCode;
@@ -77,25 +78,27 @@ fn read_files(parser: &mut Parser, files: &mut Vec<OsString>) -> Result<(), Erro
     Ok(())
 }
 
-fn read_options(rt: &(impl Env + AllocGlobal)) -> Result<Options, Error> {
-    let mut parser = Parser::from_env(rt, rt.alloc())?;
+fn read_options(alloc: Global, parser: &mut Parser) -> Result<Options, Error> {
     let mut options = Options {
         color: Color::Auto,
         in_place: None,
-        files: Vec::new(rt.alloc()),
+        files: Vec::new(alloc),
     };
     for _ in 0..u64::MAX {
         match parser.next()? {
-            Some(Long("color")) => options.color = read_color(&mut parser)?,
-            Some(Short('i') | Long("in-place")) => {
-                options.in_place = Some(read_in_place(&mut parser));
-            }
-            Some(Long("files")) => read_files(&mut parser, &mut options.files)?,
-            Some(argument) => return Err(argument.unexpected(rt.alloc())),
+            Some(Long("color")) => options.color = read_color(parser)?,
+            Some(Short('i') | Long("in-place")) => options.in_place = Some(read_in_place(parser)),
+            Some(Long("files")) => read_files(parser, &mut options.files)?,
+            Some(argument) => return Err(argument.unexpected(alloc)),
             None => break,
         }
     }
     Ok(options)
+}
+
+fn own_options(rt: &(impl Env + AllocGlobal)) -> Result<Options, Error> {
+    let mut parser = Parser::from_env(rt, rt.alloc())?;
+    read_options(rt.alloc(), &mut parser)
 }
 
 fn print_options(rt: &impl Print, options: &Options) -> io::Result<()> {
@@ -117,7 +120,7 @@ fn print_options(rt: &impl Print, options: &Options) -> io::Result<()> {
 }
 
 fn main(rt: HostRuntime) -> ExitCode {
-    let printed = match read_options(&rt) {
+    let printed = match own_options(&rt) {
         Ok(options) => print_options(&rt, &options),
         Err(error) => {
             let _ = eprintln!(rt; "example_values: {error}");
