@@ -1,55 +1,55 @@
 //! Code points: what some bytes begin with, and the lossy text of bytes.
 use lexopt_words::codepoint::{FirstCodepoint, first_codepoint, lossy_text};
+use std::alloc::{AllocError, Global};
 use std::test::Fail;
 
-fn is_character(bytes: &[u8], character: char, size: usize) -> bool {
+// What bytes begin with: a character, or damage where there is none; and its length, which is 0 where there are no bytes.
+fn first(bytes: &[u8]) -> (Option<char>, usize) {
     match first_codepoint(bytes) {
-        FirstCodepoint::Character(found, length) => found == character && length == size,
-        FirstCodepoint::Empty | FirstCodepoint::Damage(_) => false,
-    }
-}
-
-fn is_damage(bytes: &[u8], size: usize) -> bool {
-    match first_codepoint(bytes) {
-        FirstCodepoint::Damage(length) => length == size,
-        FirstCodepoint::Empty | FirstCodepoint::Character(_, _) => false,
+        FirstCodepoint::Empty => (None, 0),
+        FirstCodepoint::Character(character, length) => (Some(character), length),
+        FirstCodepoint::Damage(length) => (None, length),
     }
 }
 
 #[test]
 fn first_pieces(rt: HostRuntime) {
-    assert!(rt; matches!(first_codepoint(b""), FirstCodepoint::Empty));
-    assert!(rt; is_character(b"a\xffc", 'a', 1));
-    assert!(rt; is_character(b"\xc2\xb5", 'µ', 2));
-    assert!(rt; is_character(b"\xef\xbf\xbd", '\u{FFFD}', 3));
-    assert!(rt; is_character(b"\xf0\x9d\x84\x9e", '\u{1D11E}', 4));
-    for (bytes, size) in [
-        (b"\xffc".as_slice(), 1),
-        (b"\xc2".as_slice(), 1),
-        (b"\xc2a".as_slice(), 1),
-        (b"\xf0".as_slice(), 1),
-        (b"\xf0\x9d".as_slice(), 2),
-        (b"\xf0\x9d\x84".as_slice(), 3),
-        (b"\xf0\x9da".as_slice(), 2),
-        (b"\xf0\x9d\x84a".as_slice(), 3),
-        (b"\xed\xa0\x80".as_slice(), 1),
-        (b"\xa0\x80".as_slice(), 1),
-        (b"\x80".as_slice(), 1),
+    for (bytes, character, length) in [
+        (b"".as_slice(), None, 0),
+        (b"a\xffc", Some('a'), 1),
+        (b"\xc2\xb5", Some('µ'), 2),
+        (b"\xef\xbf\xbd", Some('\u{FFFD}'), 3),
+        (b"\xf0\x9d\x84\x9e", Some('\u{1D11E}'), 4),
+        (b"\xffc", None, 1),
+        (b"\xc2", None, 1),
+        (b"\xc2a", None, 1),
+        (b"\xf0", None, 1),
+        (b"\xf0\x9d", None, 2),
+        (b"\xf0\x9d\x84", None, 3),
+        (b"\xf0\x9da", None, 2),
+        (b"\xf0\x9d\x84a", None, 3),
+        (b"\xed\xa0\x80", None, 1),
+        (b"\xa0\x80", None, 1),
+        (b"\x80", None, 1),
     ] {
-        assert!(rt; is_damage(bytes, size), "{bytes:?}");
+        assert_eq!(rt; first(bytes), (character, length), "{bytes:?}");
     }
+}
+
+fn is_lossy(alloc: Global, bytes: &[u8], text: &str) -> Result<bool, AllocError> {
+    Ok(lossy_text(alloc, bytes)?.as_str() == text)
 }
 
 #[test]
 fn lossy_texts(rt: HostRuntime) -> Result<(), Fail> {
     for (bytes, text) in [
         (b"a\xffc".as_slice(), "a\u{FFFD}c"),
-        (b"\xed\xa0\x80".as_slice(), "\u{FFFD}\u{FFFD}\u{FFFD}"),
-        (b"\xf0\x9d\x84a".as_slice(), "\u{FFFD}a"),
-        (b"\xef\xbf\xbd".as_slice(), "\u{FFFD}"),
-        (b"".as_slice(), ""),
+        (b"\xed\xa0\x80", "\u{FFFD}\u{FFFD}\u{FFFD}"),
+        (b"\xf0\x9d\x84a", "\u{FFFD}a"),
+        (b"\xef\xbf\xbd", "\u{FFFD}"),
+        (b"", ""),
     ] {
-        assert_eq!(rt; lossy_text(rt.alloc(), bytes)?.as_str(), text);
+        assert!(rt; is_lossy(rt.alloc(), bytes, text)?, "{bytes:?}");
     }
     Ok(())
 }

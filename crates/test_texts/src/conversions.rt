@@ -1,7 +1,7 @@
 //! Conversions of values.
 use lexopt::prelude::{Value, ValueExt};
-use lexopt::{Error, OsString};
-use std::alloc::Global;
+use lexopt::{Error, OsString, Parser};
+use std::alloc::{AllocError, Global};
 use std::fmt;
 use std::test::Fail;
 use test_helpers::calls::reads_short;
@@ -21,82 +21,120 @@ impl fmt::Display for Bad {
 impl std::error::Error for Bad {}
 
 // Whether an answer is an error with this message.
-fn fails<T: Drop>(alloc: Global, answer: Result<T, Error>, message: &str) -> Result<bool, Fail> {
+fn fails<T: Drop>(
+    alloc: Global,
+    answer: Result<T, Error>,
+    message: &str,
+) -> Result<bool, AllocError> {
     match answer {
         Ok(_) => Ok(false),
-        Err(error) => Ok(prints(alloc, &error, message)?),
+        Err(error) => prints(alloc, &error, message),
+    }
+}
+
+// Whether the word of a text is that text.
+fn is_text(alloc: Global, text: &str) -> Result<bool, Error> {
+    let word = OsString::from_text(alloc, text)?;
+    Ok(word.string()?.as_str() == text)
+}
+
+// Whether damage is given back as it is.
+fn is_given_back(alloc: Global, bytes: &[u8]) -> Result<bool, Error> {
+    match OsString::from_bytes(alloc, bytes)?.string() {
+        Err(Error::NonUnicodeValue(word)) => Ok(word.as_bytes() == bytes),
+        _ => Ok(false),
     }
 }
 
 #[test]
 fn texts(rt: HostRuntime) -> Result<(), Fail> {
-    assert_eq!(rt; OsString::new(rt.alloc()).string()?.as_str(), "");
-    let word = OsString::from_text(rt.alloc(), "-10")?;
-    assert_eq!(rt; word.string()?.as_str(), "-10");
+    assert!(rt; is_text(rt.alloc(), "")? && is_text(rt.alloc(), "-10")?);
+    assert!(rt; is_given_back(rt.alloc(), b"foo\xff")?);
     Ok(())
 }
 
-#[test]
-fn damage_is_no_text(rt: HostRuntime) -> Result<(), Fail> {
-    let word = OsString::from_bytes(rt.alloc(), b"foo\xff")?;
-    match word.string() {
-        Err(Error::NonUnicodeValue(word)) => {
-            assert_eq!(rt; word.as_bytes(), b"foo\xff".as_slice());
-            Ok(())
-        }
-        _ => Err(Fail::from("no text")),
+// Whether the answer to a word is this number, or this message where it is none.
+fn is_number(
+    alloc: Global,
+    word: &[u8],
+    number: Option<i32>,
+    message: &str,
+) -> Result<bool, AllocError> {
+    match OsString::from_bytes(alloc, word)?.parse::<i32>() {
+        Ok(found) => Ok(Some(found) == number),
+        Err(error) => Ok(number.is_none() && prints(alloc, &error, message)?),
     }
 }
 
 #[test]
 fn numbers(rt: HostRuntime) -> Result<(), Fail> {
-    let word = OsString::from_text(rt.alloc(), "-10")?;
-    assert_eq!(rt; word.parse::<i32>()?, -10);
-    assert!(rt;
-        fails(
-            rt.alloc(),
-            word.parse::<u32>(),
-            "cannot parse argument \"-10\": invalid digit found in string"
-        )?
-    );
+    for (word, number, message) in [
+        (b"-10".as_slice(), Some(-10), ""),
+        (
+            b"foo\xff",
+            None,
+            "argument is invalid unicode: \"foo\\xFF\"",
+        ),
+    ] {
+        assert!(rt; is_number(rt.alloc(), word, number, message)?, "{message}");
+    }
     Ok(())
+}
+
+// Whether a function of the text answers, and whether its error is told.
+fn is_asked(alloc: Global) -> Result<bool, Error> {
+    let word = OsString::from_text(alloc, "-10")?;
+    let zero = word.parse_with(|_text| -> Result<u8, Bad> { Ok(0) })?;
+    let answer = word.parse_with(|_text| -> Result<u8, Bad> { Err(Bad) });
+    Ok(zero == 0 && fails(alloc, answer, "cannot parse argument \"-10\": bad")?)
+}
+
+// Whether no function is asked about damage.
+fn is_not_asked(alloc: Global) -> Result<bool, Error> {
+    let word = OsString::from_bytes(alloc, b"foo\xff")?;
+    let answer = word.parse_with(|_text| -> Result<u8, Bad> { Ok(0) });
+    Ok(fails(alloc, answer, "argument is invalid unicode: \"foo\\xFF\"")?)
 }
 
 #[test]
 fn functions_of_texts(rt: HostRuntime) -> Result<(), Fail> {
-    let word = OsString::from_text(rt.alloc(), "-10")?;
-    let zero = word.parse_with(|_text| -> Result<u8, Bad> { Ok(0) })?;
-    assert_eq!(rt; zero, 0);
-    let answer = word.parse_with(|_text| -> Result<u8, Bad> { Err(Bad) });
-    assert!(rt; fails(rt.alloc(), answer, "cannot parse argument \"-10\": bad")?);
+    assert!(rt; is_asked(rt.alloc())? && is_not_asked(rt.alloc())?);
     Ok(())
 }
 
-#[test]
-fn damage_is_not_parsed(rt: HostRuntime) -> Result<(), Fail> {
-    let message = "argument is invalid unicode: \"foo\\xFF\"";
-    let word = OsString::from_bytes(rt.alloc(), b"foo\xff")?;
-    assert!(rt; fails(rt.alloc(), word.parse::<i32>(), message)?);
-    let answer = word.parse_with(|_text| -> Result<u8, Bad> { Ok(0) });
-    assert!(rt; fails(rt.alloc(), answer, message)?);
-    Ok(())
+// Whether a number below 0 is none without a sign, and the error has a cause.
+fn has_a_cause(alloc: Global) -> Result<bool, Error> {
+    match OsString::from_text(alloc, "-10")?.parse::<u32>() {
+        Ok(_) => Ok(false),
+        Err(error) => Ok(
+            error.cause().is_some()
+                && prints(
+                    alloc,
+                    &error,
+                    "cannot parse argument \"-10\": invalid digit found in string",
+                )?,
+        ),
+    }
 }
 
 #[test]
 fn cause_of_a_failed_parse(rt: HostRuntime) -> Result<(), Fail> {
-    let word = OsString::from_text(rt.alloc(), "foo")?;
-    match word.parse::<i32>() {
-        Err(error) => assert!(rt; error.cause().is_some()),
-        Ok(_) => return Err(Fail::from("no number")),
-    }
+    assert!(rt; has_a_cause(rt.alloc())?);
     Ok(())
+}
+
+// Whether the value of `-n` is ten, and a positional comes next.
+fn reads_ten(parser: &mut Parser) -> Result<bool, Error> {
+    Ok(
+        reads_short(parser, 'n')?
+            && parser.value()?.parse::<i32>()? == 10
+            && matches!(parser.next()?, Some(Value(_))),
+    )
 }
 
 #[test]
 fn parsed_value(rt: HostRuntime) -> Result<(), Fail> {
     let mut parser = parser_of(rt.alloc(), &[b"-n", b"10", b"foo"])?;
-    assert!(rt; reads_short(&mut parser, 'n')?);
-    assert_eq!(rt; parser.value()?.parse::<i32>()?, 10);
-    assert!(rt; matches!(parser.next()?, Some(Value(_))));
+    assert!(rt; reads_ten(&mut parser)?);
     Ok(())
 }

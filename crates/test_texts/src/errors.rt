@@ -5,168 +5,171 @@ use std::alloc::{AllocError, AllocFailed, Global};
 use std::test::Fail;
 use test_helpers::errors::prints;
 
-// Whether a word that no program wanted is told so.
-fn refused_as(alloc: Global, word: &[u8], message: &str) -> Result<bool, AllocError> {
-    let word = OsString::from_bytes(alloc, word)?;
-    prints(alloc, &Arg::Value(word).unexpected(alloc), message)
+// How an error comes to be, and of what.
+#[derive(Clone, Copy)]
+enum Made {
+    // No value is there, for no option or for this one.
+    Missing,
+    MissingOf(&'static str),
+    // No program wanted this.
+    OfShort(char),
+    OfLong(&'static str),
+    OfWord(&'static [u8]),
+    OfValue(&'static str, &'static str),
+    // These bytes are no text.
+    OfBytes(&'static [u8]),
+    // This value was not parsed, and so it was told.
+    OfParse(&'static str, &'static str),
+    // A program's own message.
+    OfStr(&'static str),
+    OfString(&'static str),
+    OfCustom(&'static str),
+    // Memory was refused.
+    OfAlloc,
+    OfFailedAlloc,
 }
 
-// Whether a value that is no text is told so.
-fn no_text_as(alloc: Global, word: &[u8], message: &str) -> Result<bool, AllocError> {
-    let word = OsString::from_bytes(alloc, word)?;
-    prints(alloc, &Error::from(word), message)
+fn error_of(alloc: Global, made: Made) -> Result<Error, AllocError> {
+    Ok(match made {
+        Made::Missing => Error::MissingValue { option: None },
+        Made::MissingOf(option) => {
+            let option = Some(String::from_str(alloc, option)?);
+            Error::MissingValue { option }
+        }
+        Made::OfShort(option) => Arg::Short(option).unexpected(alloc),
+        Made::OfLong(name) => Arg::Long(name).unexpected(alloc),
+        Made::OfWord(word) => Arg::Value(OsString::from_bytes(alloc, word)?).unexpected(alloc),
+        Made::OfValue(option, value) => {
+            let option = String::from_str(alloc, option)?;
+            let value = OsString::from_text(alloc, value)?;
+            Error::UnexpectedValue { option, value }
+        }
+        Made::OfBytes(word) => Error::from(OsString::from_bytes(alloc, word)?),
+        Made::OfParse(value, cause) => {
+            let value = String::from_str(alloc, value)?;
+            let error = anyhow::Error::msg(cause);
+            Error::ParsingFailed { value, error }
+        }
+        Made::OfStr(message) => Error::from(message),
+        Made::OfString(message) => Error::from(String::from_str(alloc, message)?),
+        Made::OfCustom(message) => Error::Custom(anyhow::Error::msg(message)),
+        Made::OfAlloc => Error::from(AllocError),
+        Made::OfFailedAlloc => Error::from(AllocFailed { value: 0u8 }),
+    })
 }
 
-#[test]
-fn missing_argument(rt: HostRuntime) -> Result<(), Fail> {
-    let error = Error::MissingValue { option: None };
-    assert!(rt; prints(rt.alloc(), &error, "missing argument")?);
-    Ok(())
+const MESSAGES: [(Made, &str); 16] = [
+    (Made::Missing, "missing argument"),
+    (Made::MissingOf("-\""), "missing argument for option '-\"'"),
+    (Made::OfShort('o'), "invalid option '-o'"),
+    (Made::OfLong("opt"), "invalid option '--opt'"),
+    (Made::OfWord(b"foo"), "unexpected argument \"foo\""),
+    (
+        Made::OfWord(b"\0\r\x1f\xe2\x82A"),
+        "unexpected argument \"\\0\\r\\u{1f}\\xE2\\x82A\"",
+    ),
+    (
+        Made::OfWord(b"a\"b\\\t\x1b\x7f'\xc2\xb5\xff\xc2"),
+        "unexpected argument \"a\\\"b\\\\\\t\\u{1b}\\u{7f}'µ\\xFF\\xC2\"",
+    ),
+    (
+        Made::OfValue("--", "\n"),
+        "unexpected argument for option '--': \"\\n\"",
+    ),
+    (Made::OfBytes(b""), "argument is invalid unicode: \"\""),
+    (
+        Made::OfBytes(b"foo\xff"),
+        "argument is invalid unicode: \"foo\\xFF\"",
+    ),
+    (
+        Made::OfParse("1\t2", "no number"),
+        "cannot parse argument \"1\\t2\": no number",
+    ),
+    (
+        Made::OfStr("this is an error message"),
+        "this is an error message",
+    ),
+    (
+        Made::OfString("this is an error message"),
+        "this is an error message",
+    ),
+    (
+        Made::OfCustom("this is an error message"),
+        "this is an error message",
+    ),
+    (Made::OfAlloc, "out of memory"),
+    (Made::OfFailedAlloc, "out of memory"),
+];
+
+// Whether the error prints this message.
+fn tells(alloc: Global, made: Made, message: &str) -> Result<bool, AllocError> {
+    let error = error_of(alloc, made)?;
+    prints(alloc, &error, message)
 }
 
-#[test]
-fn missing_argument_for_an_option(rt: HostRuntime) -> Result<(), Fail> {
-    let option = String::from_str(rt.alloc(), "-\"")?;
-    let error = Error::MissingValue {
-        option: Some(option),
-    };
-    assert!(rt; prints(rt.alloc(), &error, "missing argument for option '-\"'")?);
-    Ok(())
-}
-
-#[test]
-fn invalid_options(rt: HostRuntime) -> Result<(), Fail> {
-    let alloc = rt.alloc();
-    assert!(rt;
-        prints(
-            alloc,
-            &Arg::Short('o').unexpected(alloc),
-            "invalid option '-o'"
-        )?
-    );
-    assert!(rt;
-        prints(
-            alloc,
-            &Arg::Long("opt").unexpected(alloc),
-            "invalid option '--opt'"
-        )?
-    );
-    Ok(())
-}
-
-#[test]
-fn unexpected_arguments(rt: HostRuntime) -> Result<(), Fail> {
-    for (word, message) in [
-        (b"foo".as_slice(), "unexpected argument \"foo\""),
-        (
-            b"\0\r\x1f\xe2\x82A".as_slice(),
-            "unexpected argument \"\\0\\r\\u{1f}\\xE2\\x82A\"",
-        ),
-        (
-            b"a\"b\\\t\x1b\x7f'\xc2\xb5\xff\xc2".as_slice(),
-            "unexpected argument \"a\\\"b\\\\\\t\\u{1b}\\u{7f}'µ\\xFF\\xC2\"",
-        ),
-    ] {
-        assert!(rt; refused_as(rt.alloc(), word, message)?);
+// The first message of these that its error does not print, or none.
+fn first_not_told(
+    alloc: Global,
+    rows: &[(Made, &'static str)],
+) -> Result<Option<&'static str>, AllocError> {
+    for (made, message) in rows {
+        if !tells(alloc, *made, message)? {
+            return Ok(Some(*message));
+        }
     }
-    Ok(())
+    Ok(None)
 }
 
 #[test]
-fn unexpected_value(rt: HostRuntime) -> Result<(), Fail> {
-    let option = String::from_str(rt.alloc(), "--")?;
-    let value = OsString::from_text(rt.alloc(), "\n")?;
-    let error = Error::UnexpectedValue { option, value };
-    assert!(rt;
-        prints(
-            rt.alloc(),
-            &error,
-            "unexpected argument for option '--': \"\\n\""
-        )?
-    );
-    Ok(())
-}
-
-#[test]
-fn values_that_are_no_text(rt: HostRuntime) -> Result<(), Fail> {
-    let alloc = rt.alloc();
-    assert!(rt; no_text_as(alloc, b"", "argument is invalid unicode: \"\"")?);
-    assert!(rt;
-        no_text_as(
-            alloc,
-            b"foo\xff",
-            "argument is invalid unicode: \"foo\\xFF\""
-        )?
-    );
-    Ok(())
-}
-
-#[test]
-fn failed_parse(rt: HostRuntime) -> Result<(), Fail> {
-    let value = String::from_str(rt.alloc(), "1\t2")?;
-    let error = anyhow::Error::msg("no number");
-    let error = Error::ParsingFailed { value, error };
-    assert!(rt;
-        prints(
-            rt.alloc(),
-            &error,
-            "cannot parse argument \"1\\t2\": no number"
-        )?
-    );
-    assert!(rt; error.cause().is_some());
-    Ok(())
-}
-
-#[test]
-fn custom_errors(rt: HostRuntime) -> Result<(), Fail> {
-    let message = "this is an error message";
-    assert!(rt; prints(rt.alloc(), &Error::from(message), message)?);
-    let text = String::from_str(rt.alloc(), message)?;
-    assert!(rt; prints(rt.alloc(), &Error::from(text), message)?);
-    assert!(rt;
-        prints(
-            rt.alloc(),
-            &Error::Custom(anyhow::Error::msg(message)),
-            message
-        )?
-    );
+fn messages(rt: HostRuntime) -> Result<(), Fail> {
+    assert_eq!(rt; first_not_told(rt.alloc(), &MESSAGES)?, None);
     Ok(())
 }
 
 // `anyhow` keeps at most 120 bytes of a message: of 121 letters it keeps a front and a mark that says so.
-#[test]
-fn long_message(rt: HostRuntime) -> Result<(), Fail> {
-    let mut text = String::new(rt.alloc());
+fn keeps_a_front(alloc: Global) -> Result<bool, AllocError> {
+    let mut text = String::new(alloc);
     for _ in 0..121 {
         text.push('x')?;
     }
     let whole = text.clone()?;
-    let kept = Error::from(text).to_string(rt.alloc())?;
-    assert!(rt; kept.as_str() != whole.as_str());
-    assert_eq!(rt; kept.as_bytes().get(..100), whole.as_bytes().get(..100));
+    let kept = Error::from(text).to_string(alloc)?;
+    Ok(kept.as_str() != whole.as_str() && kept.as_bytes().get(..100) == whole.as_bytes().get(..100))
+}
+
+#[test]
+fn long_message(rt: HostRuntime) -> Result<(), Fail> {
+    assert!(rt; keeps_a_front(rt.alloc())?);
     Ok(())
+}
+
+// Whether the cause of an error says this; none is that there is no cause.
+fn is_caused(alloc: Global, made: Made, by: Option<&str>) -> Result<bool, AllocError> {
+    let error = error_of(alloc, made)?;
+    match error.cause() {
+        Some(cause) => Ok(Some(cause.to_string(alloc)?.as_str()) == by),
+        None => Ok(by.is_none()),
+    }
 }
 
 #[test]
 fn causes(rt: HostRuntime) -> Result<(), Fail> {
-    let error = Error::from("this is an error message");
-    let Some(cause) = error.cause() else {
-        return Err(Fail::new("a custom error has a cause"));
-    };
-    assert_eq!(rt;
-        cause.to_string(rt.alloc())?.as_str(),
-        "this is an error message"
+    let custom = "this is an error message";
+    assert!(rt; is_caused(rt.alloc(), Made::OfStr(custom), Some(custom))?);
+    assert!(rt;
+        is_caused(
+            rt.alloc(),
+            Made::OfParse("1\t2", "no number"),
+            Some("no number")
+        )?
     );
-    assert!(rt; Arg::Short('o').unexpected(rt.alloc()).cause().is_none());
+    assert!(rt; is_caused(rt.alloc(), Made::OfShort('o'), None)?);
     Ok(())
 }
 
-#[test]
-fn refused_memory(rt: HostRuntime) -> Result<(), Fail> {
-    assert!(rt; prints(rt.alloc(), &Error::from(AllocError), "out of memory")?);
-    let failed = AllocFailed { value: 0u8 };
-    assert!(rt; prints(rt.alloc(), &Error::from(failed), "out of memory")?);
-    Ok(())
+// Whether an error of a script prints this message.
+fn says(alloc: Global, error: &RunError, message: &str) -> Result<bool, AllocError> {
+    Ok(error.to_string(alloc)?.as_str() == message)
 }
 
 #[test]
@@ -177,13 +180,14 @@ fn run_errors(rt: HostRuntime) -> Result<(), Fail> {
         (RunError::ReadFailed, "read failed", 1),
         (RunError::WriteFailed, "write failed", 1),
         (RunError::from(AllocError), "out of memory", 1),
+        (
+            RunError::from(AllocFailed { value: 0u8 }),
+            "out of memory",
+            1,
+        ),
     ] {
-        assert_eq!(rt; error.to_string(rt.alloc())?.as_str(), message);
+        assert!(rt; says(rt.alloc(), &error, message)?, "{message}");
         assert_eq!(rt; error.status(), status);
     }
-    assert_eq!(rt;
-        RunError::from(AllocFailed { value: 0u8 }),
-        RunError::NoMemory
-    );
     Ok(())
 }

@@ -1,6 +1,6 @@
 //! Binary names, and the words of the environment.
 use lexopt::{Error, Parser};
-use std::alloc::Global;
+use std::alloc::{AllocError, Global};
 use std::env;
 use std::env::{Env, FillError};
 use std::test::Fail;
@@ -9,58 +9,70 @@ use test_helpers::errors::prints;
 use test_helpers::parsers::{named, parser_of};
 
 // Whether this is the name of the parser of these words.
-fn is_name(alloc: Global, words: &[&[u8]], name: &str) -> Result<bool, Error> {
-    Ok(named(alloc, words)?.bin_name() == Some(name))
+fn is_name(alloc: Global, words: &[&[u8]], name: Option<&str>) -> Result<bool, Error> {
+    Ok(named(alloc, words)?.bin_name() == name)
+}
+
+// Words, and the name of a parser of them.
+const NAMES: [(&[&[u8]], Option<&str>); 16] = [
+    (&[], None),
+    (&[b""], Some("")),
+    (&[b"foo", b"-x"], Some("foo")),
+    (&[b"foo\xffbar"], Some("foo\u{FFFD}bar")),
+    (&[b"a\xffc"], Some("a\u{FFFD}c")),
+    (&[b"\xc2"], Some("\u{FFFD}")),
+    (&[b"\xc2a"], Some("\u{FFFD}a")),
+    (&[b"\xc2\xb5"], Some("µ")),
+    (&[b"\xf0"], Some("\u{FFFD}")),
+    (&[b"\xf0\x9d"], Some("\u{FFFD}")),
+    (&[b"\xf0\x9d\x84"], Some("\u{FFFD}")),
+    (&[b"\xf0\x9da"], Some("\u{FFFD}a")),
+    (&[b"\xf0\x9d\x84a"], Some("\u{FFFD}a")),
+    (&[b"\xf0\x9d\x84\x9e"], Some("\u{1D11E}")),
+    (&[b"\xed\xa0\x80"], Some("\u{FFFD}\u{FFFD}\u{FFFD}")),
+    (&[b"\xef\xbf\xbd"], Some("\u{FFFD}")),
+];
+
+// The place of the first words of these whose parser has another name, or none.
+fn first_otherwise(
+    alloc: Global,
+    rows: &[(&[&[u8]], Option<&str>)],
+) -> Result<Option<usize>, Error> {
+    for (place, (words, name)) in rows.iter().enumerate() {
+        if !is_name(alloc, words, *name)? {
+            return Ok(Some(place));
+        }
+    }
+    Ok(None)
 }
 
 #[test]
 fn names(rt: HostRuntime) -> Result<(), Fail> {
-    let alloc = rt.alloc();
-    assert!(rt; is_name(alloc, &[b"foo", b"-x"], "foo")?);
-    assert!(rt; is_name(alloc, &[b"foo\xffbar"], "foo\u{FFFD}bar")?);
-    assert!(rt; is_name(alloc, &[b""], "")?);
-    assert!(rt; named(alloc, &[])?.bin_name().is_none());
-    assert!(rt; parser_of(alloc, &[b"foo"])?.bin_name().is_none());
+    assert_eq!(rt; first_otherwise(rt.alloc(), &NAMES)?, None);
     Ok(())
 }
 
-#[test]
-fn names_of_damage(rt: HostRuntime) -> Result<(), Fail> {
-    for (bytes, name) in [
-        (b"a\xffc".as_slice(), "a\u{FFFD}c"),
-        (b"\xc2", "\u{FFFD}"),
-        (b"\xc2a", "\u{FFFD}a"),
-        (b"\xc2\xb5", "µ"),
-        (b"\xf0", "\u{FFFD}"),
-        (b"\xf0\x9d", "\u{FFFD}"),
-        (b"\xf0\x9d\x84", "\u{FFFD}"),
-        (b"\xf0\x9da", "\u{FFFD}a"),
-        (b"\xf0\x9d\x84a", "\u{FFFD}a"),
-        (b"\xf0\x9d\x84\x9e", "\u{1D11E}"),
-        (b"\xed\xa0\x80", "\u{FFFD}\u{FFFD}\u{FFFD}"),
-        (b"\xef\xbf\xbd", "\u{FFFD}"),
-    ] {
-        assert!(rt; is_name(rt.alloc(), &[bytes], name)?, "{name}");
-    }
-    Ok(())
+// Whether the words behind a name are read, and the name stays.
+fn reads_behind_a_name(parser: &mut Parser) -> Result<bool, Error> {
+    Ok(reads_short(parser, 'x')? && is_at_end(parser)? && parser.bin_name() == Some("foo"))
 }
 
-#[test]
-fn words_behind_a_name(rt: HostRuntime) -> Result<(), Fail> {
-    let mut parser = named(rt.alloc(), &[b"foo", b"-x"])?;
-    assert!(rt; reads_short(&mut parser, 'x')?);
-    assert!(rt; is_at_end(&mut parser)?);
-    assert_eq!(rt; parser.bin_name(), Some("foo"));
-    Ok(())
-}
-
-#[test]
-fn name_of_a_copy(rt: HostRuntime) -> Result<(), Fail> {
-    let parser = named(rt.alloc(), &[b"foo", b"-x"])?;
+// Whether a copy has the same name, and reads the same words; and a copy of a parser with no name has none.
+fn copies_have_names(alloc: Global) -> Result<bool, Error> {
+    let mut parser = named(alloc, &[b"foo", b"-x"])?;
     let mut copy = parser.clone()?;
-    assert_eq!(rt; copy.bin_name(), Some("foo"));
-    assert!(rt; reads_short(&mut copy, 'x')?);
-    assert!(rt; parser_of(rt.alloc(), &[])?.clone()?.bin_name().is_none());
+    let nameless = parser_of(alloc, &[b"foo"])?;
+    Ok(
+        reads_behind_a_name(&mut copy)?
+            && reads_behind_a_name(&mut parser)?
+            && nameless.bin_name().is_none()
+            && nameless.clone()?.bin_name().is_none(),
+    )
+}
+
+#[test]
+fn names_of_copies(rt: HostRuntime) -> Result<(), Fail> {
+    assert!(rt; copies_have_names(rt.alloc())?);
     Ok(())
 }
 
@@ -91,41 +103,52 @@ impl Env for Arguments<'_> {
     }
 }
 
+fn parser_of_arguments(alloc: Global, words: &[&[u8]]) -> Result<Parser, Error> {
+    Parser::from_env(&(Arguments { words }, alloc), alloc)
+}
+
+// Whether the first word is the name, and the others are read.
+fn reads_an_environment(alloc: Global) -> Result<bool, Error> {
+    let mut parser = parser_of_arguments(alloc, &[b"tool", b"-x", b"\xc2\xb5"])?;
+    let is_named = parser.bin_name() == Some("tool");
+    Ok(
+        is_named
+            && reads_short(&mut parser, 'x')?
+            && takes(&mut parser, b"\xc2\xb5")?
+            && is_at_end(&mut parser)?,
+    )
+}
+
 #[test]
 fn words_of_an_environment(rt: HostRuntime) -> Result<(), Fail> {
-    let words = Arguments {
-        words: &[b"tool", b"-x", b"\xc2\xb5"],
-    };
-    let mut parser = Parser::from_env(&(words, rt.alloc()), rt.alloc())?;
-    assert_eq!(rt; parser.bin_name(), Some("tool"));
-    assert!(rt; reads_short(&mut parser, 'x')?);
-    assert!(rt; takes(&mut parser, b"\xc2\xb5")?);
-    assert!(rt; is_at_end(&mut parser)?);
+    assert!(rt; reads_an_environment(rt.alloc())?);
     Ok(())
+}
+
+// Whether no words are no name.
+fn reads_no_words(alloc: Global) -> Result<bool, Error> {
+    let mut parser = parser_of_arguments(alloc, &[])?;
+    Ok(parser.bin_name().is_none() && is_at_end(&mut parser)?)
 }
 
 #[test]
 fn no_words_of_an_environment(rt: HostRuntime) -> Result<(), Fail> {
-    let words = Arguments { words: &[] };
-    let mut parser = Parser::from_env(&(words, rt.alloc()), rt.alloc())?;
-    assert!(rt; parser.bin_name().is_none());
-    assert!(rt; is_at_end(&mut parser)?);
+    assert!(rt; reads_no_words(rt.alloc())?);
     Ok(())
+}
+
+// Whether a word that is no text is a custom error, which prints this message.
+fn refuses_damage(alloc: Global, message: &str) -> Result<bool, AllocError> {
+    match parser_of_arguments(alloc, &[b"tool", b"foo\xff"]) {
+        Err(error) => Ok(matches!(error, Error::Custom(_)) && prints(alloc, &error, message)?),
+        Ok(_) => Ok(false),
+    }
 }
 
 #[test]
 fn word_of_an_environment_that_is_no_text(rt: HostRuntime) -> Result<(), Fail> {
-    let words = Arguments {
-        words: &[b"tool", b"foo\xff"],
-    };
-    match Parser::from_env(&(words, rt.alloc()), rt.alloc()) {
-        Err(error) => {
-            assert!(rt; matches!(error, Error::Custom(_)));
-            assert!(rt; prints(rt.alloc(), &error, "arguments unavailable")?);
-            Ok(())
-        }
-        Ok(_) => Err(Fail::from("a parser")),
-    }
+    assert!(rt; refuses_damage(rt.alloc(), "arguments unavailable")?);
+    Ok(())
 }
 
 #[test]

@@ -25,43 +25,61 @@ struct Fault {
     printed: &'static str,
 }
 
-// The place of the first row whose items other words spell, or none.
-fn first_otherwise(
+// What a table has beside two options of each kind.
+#[derive(Clone, Copy)]
+enum More {
+    Nothing,
+    // The option `-`, and the long option with no name, of one value each.
+    Marks,
+    // The option `-` with a value that may be left out.
+    OptionalDash,
+    // The option `-` with several values.
+    DashOfSeveral,
+    // The long option with no name, of several values.
+    NamelessOfSeveral,
+}
+
+fn table_with(alloc: Global, more: More) -> Result<Table, AllocError> {
+    let mut table = table_of_each_kind(alloc)?;
+    match more {
+        More::Nothing => {}
+        More::Marks => {
+            table.shorts.push('-')?;
+            table.longs.push(String::new(alloc))?;
+        }
+        More::OptionalDash => table.optional_shorts.push('-')?,
+        More::DashOfSeveral => table.several_shorts.push('-')?,
+        More::NamelessOfSeveral => table.several_longs.push(String::new(alloc))?,
+    }
+    Ok(table)
+}
+
+// Whether the words spell the items.
+fn is_spelled_so(
+    alloc: Global,
+    row: &Row,
+    short_equals: bool,
+    table: &Table,
+) -> Result<bool, SpellError> {
+    let items = items_of(alloc, row.items)?;
+    let words = spell(alloc, &items, short_equals, table)?;
+    Ok(are_words(&words, row.words))
+}
+
+// The place of the first row whose items other words spell, with this setting of the switch, or none.
+fn spelled_otherwise(
     alloc: Global,
     rows: &[Row],
     short_equals: bool,
-    table: &Table,
-) -> Result<Option<usize>, Fail> {
+    more: More,
+) -> Result<Option<usize>, SpellError> {
+    let table = table_with(alloc, more)?;
     for (place, row) in rows.iter().enumerate() {
-        let items = items_of(alloc, row.items)?;
-        let words = spell(alloc, &items, short_equals, table)?;
-        if !are_words(&words, row.words) {
+        if !is_spelled_so(alloc, row, short_equals, &table)? {
             return Ok(Some(place));
         }
     }
     Ok(None)
-}
-
-// The same by the table of each kind, with this setting of the switch.
-fn otherwise(alloc: Global, rows: &[Row], short_equals: bool) -> Result<Option<usize>, Fail> {
-    let table = table_of_each_kind(alloc)?;
-    first_otherwise(alloc, rows, short_equals, &table)
-}
-
-// The same with both settings.
-fn otherwise_in_either(alloc: Global, rows: &[Row]) -> Result<Option<usize>, Fail> {
-    match otherwise(alloc, rows, true)? {
-        Some(place) => Ok(Some(place)),
-        None => otherwise(alloc, rows, false),
-    }
-}
-
-// A table in which the marks have one value: the option `-`, and the long option with no name.
-fn table_of_marks(alloc: Global) -> Result<Table, AllocError> {
-    let mut table = table_of_each_kind(alloc)?;
-    table.shorts.push('-')?;
-    table.longs.push(String::new(alloc))?;
-    Ok(table)
 }
 
 // Whether the items are refused so, the error prints that, and its reason what stands behind the first `: ` of it.
@@ -70,7 +88,7 @@ fn is_refused_so(
     fault: &Fault,
     short_equals: bool,
     table: &Table,
-) -> Result<bool, Fail> {
+) -> Result<bool, AllocError> {
     let Some((_, message)) = fault.printed.split_once(": ") else {
         return Ok(false);
     };
@@ -92,8 +110,9 @@ fn told_otherwise(
     alloc: Global,
     faults: &[Fault],
     short_equals: bool,
-) -> Result<Option<usize>, Fail> {
-    let table = table_of_each_kind(alloc)?;
+    more: More,
+) -> Result<Option<usize>, AllocError> {
+    let table = table_with(alloc, more)?;
     for (place, fault) in faults.iter().enumerate() {
         if !is_refused_so(alloc, fault, short_equals, &table)? {
             return Ok(Some(place));
@@ -102,25 +121,11 @@ fn told_otherwise(
     Ok(None)
 }
 
-// The same with both settings.
-fn told_otherwise_in_either(alloc: Global, faults: &[Fault]) -> Result<Option<usize>, Fail> {
-    match told_otherwise(alloc, faults, true)? {
-        Some(place) => Ok(Some(place)),
-        None => told_otherwise(alloc, faults, false),
-    }
-}
-
-#[test]
-fn no_items(rt: HostRuntime) -> Result<(), Fail> {
-    let rows = [Row {
+const FLAGS: [Row; 5] = [
+    Row {
         items: &[],
         words: &[],
-    }];
-    assert_eq!(rt; otherwise_in_either(rt.alloc(), &rows)?, None);
-    Ok(())
-}
-
-const FLAGS: [Row; 4] = [
+    },
     Row {
         items: &[Short('v')],
         words: &[b"-v"],
@@ -138,12 +143,6 @@ const FLAGS: [Row; 4] = [
         words: &[b"--name"],
     },
 ];
-
-#[test]
-fn flags(rt: HostRuntime) -> Result<(), Fail> {
-    assert_eq!(rt; otherwise_in_either(rt.alloc(), &FLAGS)?, None);
-    Ok(())
-}
 
 // Whatever it looks like, the value is the next word.
 const SHORT_OF_ONE: [Row; 5] = [
@@ -169,12 +168,6 @@ const SHORT_OF_ONE: [Row; 5] = [
     },
 ];
 
-#[test]
-fn short_option_of_one_value(rt: HostRuntime) -> Result<(), Fail> {
-    assert_eq!(rt; otherwise_in_either(rt.alloc(), &SHORT_OF_ONE)?, None);
-    Ok(())
-}
-
 const SHORT_OPTIONAL: [Row; 4] = [
     Row {
         items: &[Short('c')],
@@ -193,12 +186,6 @@ const SHORT_OPTIONAL: [Row; 4] = [
         words: &[b"-c-x"],
     },
 ];
-
-#[test]
-fn short_option_of_a_value_that_may_be_left_out(rt: HostRuntime) -> Result<(), Fail> {
-    assert_eq!(rt; otherwise_in_either(rt.alloc(), &SHORT_OPTIONAL)?, None);
-    Ok(())
-}
 
 // With the switch on, `=` stands between where the value is empty or begins with `=`.
 const SHORT_OPTIONAL_ON: [Row; 3] = [
@@ -228,18 +215,6 @@ const SHORT_OPTIONAL_OFF: [Row; 2] = [
     },
 ];
 
-#[test]
-fn values_behind_a_character_with_the_switch_on(rt: HostRuntime) -> Result<(), Fail> {
-    assert_eq!(rt; otherwise(rt.alloc(), &SHORT_OPTIONAL_ON, true)?, None);
-    Ok(())
-}
-
-#[test]
-fn values_behind_a_character_with_the_switch_off(rt: HostRuntime) -> Result<(), Fail> {
-    assert_eq!(rt; otherwise(rt.alloc(), &SHORT_OPTIONAL_OFF, false)?, None);
-    Ok(())
-}
-
 const LONG: [Row; 6] = [
     Row {
         items: &[LongValue("out", b"v")],
@@ -267,12 +242,6 @@ const LONG: [Row; 6] = [
     },
 ];
 
-#[test]
-fn long_options(rt: HostRuntime) -> Result<(), Fail> {
-    assert_eq!(rt; otherwise_in_either(rt.alloc(), &LONG)?, None);
-    Ok(())
-}
-
 const MARKS: [Row; 3] = [
     Row {
         items: &[LongValue("", b"v")],
@@ -288,14 +257,6 @@ const MARKS: [Row; 3] = [
     },
 ];
 
-#[test]
-fn marks_of_one_value(rt: HostRuntime) -> Result<(), Fail> {
-    let table = table_of_marks(rt.alloc())?;
-    assert_eq!(rt; first_otherwise(rt.alloc(), &MARKS, true, &table)?, None);
-    assert_eq!(rt; first_otherwise(rt.alloc(), &MARKS, false, &table)?, None);
-    Ok(())
-}
-
 const OPTIONAL_DASH: [Row; 2] = [
     Row {
         items: &[Short('v'), ShortValue('-', b"x")],
@@ -307,21 +268,6 @@ const OPTIONAL_DASH: [Row; 2] = [
     },
 ];
 
-#[test]
-fn dash_with_an_optional_value(rt: HostRuntime) -> Result<(), Fail> {
-    let mut table = table_of_each_kind(rt.alloc())?;
-    table.optional_shorts.push('-')?;
-    assert_eq!(rt;
-        first_otherwise(rt.alloc(), &OPTIONAL_DASH, true, &table)?,
-        None
-    );
-    assert_eq!(rt;
-        first_otherwise(rt.alloc(), &OPTIONAL_DASH, false, &table)?,
-        None
-    );
-    Ok(())
-}
-
 const DASH_OF_SEVERAL: [Row; 2] = [
     Row {
         items: &[Short('v'), ShortMany('-', &[b"1", b"2"])],
@@ -332,21 +278,6 @@ const DASH_OF_SEVERAL: [Row; 2] = [
         words: &[b"-v--1", b"--", b"f"],
     },
 ];
-
-#[test]
-fn dash_with_several_values(rt: HostRuntime) -> Result<(), Fail> {
-    let mut table = table_of_each_kind(rt.alloc())?;
-    table.several_shorts.push('-')?;
-    assert_eq!(rt;
-        first_otherwise(rt.alloc(), &DASH_OF_SEVERAL, true, &table)?,
-        None
-    );
-    assert_eq!(rt;
-        first_otherwise(rt.alloc(), &DASH_OF_SEVERAL, false, &table)?,
-        None
-    );
-    Ok(())
-}
 
 // The option `-` goes on with the cluster of the flag before it.
 const DASHES: [Row; 3] = [
@@ -363,12 +294,6 @@ const DASHES: [Row; 3] = [
         words: &[b"-v-", b"-w-"],
     },
 ];
-
-#[test]
-fn dash_behind_a_flag(rt: HostRuntime) -> Result<(), Fail> {
-    assert_eq!(rt; otherwise_in_either(rt.alloc(), &DASHES)?, None);
-    Ok(())
-}
 
 const SEVERAL: [Row; 8] = [
     Row {
@@ -404,12 +329,6 @@ const SEVERAL: [Row; 8] = [
         words: &[b"--cmd=-x", b"f"],
     },
 ];
-
-#[test]
-fn several_values(rt: HostRuntime) -> Result<(), Fail> {
-    assert_eq!(rt; otherwise_in_either(rt.alloc(), &SEVERAL)?, None);
-    Ok(())
-}
 
 // With the switch on, a lone value of a short option of several is joined where a positional comes next and an option stands
 // somewhere behind that.
@@ -448,18 +367,6 @@ const NOT_JOINED: [Row; 3] = [
         words: &[b"-d", b"1", b"-d", b"2"],
     },
 ];
-
-#[test]
-fn lone_value_before_a_positional_and_an_option(rt: HostRuntime) -> Result<(), Fail> {
-    assert_eq!(rt; otherwise(rt.alloc(), &JOINED, true)?, None);
-    Ok(())
-}
-
-#[test]
-fn lone_value_elsewhere(rt: HostRuntime) -> Result<(), Fail> {
-    assert_eq!(rt; otherwise_in_either(rt.alloc(), &NOT_JOINED)?, None);
-    Ok(())
-}
 
 // The separator stands once at most: before a positional that would be one more of several values, or before the last
 // positionals, where one of them would be an option.
@@ -517,12 +424,6 @@ const POSITIONALS: [Row; 9] = [
     },
 ];
 
-#[test]
-fn positionals(rt: HostRuntime) -> Result<(), Fail> {
-    assert_eq!(rt; otherwise_in_either(rt.alloc(), &POSITIONALS)?, None);
-    Ok(())
-}
-
 // Damage stays as it is in a value and in a positional. U+FFFD in a name is that character, in three bytes.
 const DAMAGE: [Row; 7] = [
     Row {
@@ -555,9 +456,84 @@ const DAMAGE: [Row; 7] = [
     },
 ];
 
+// One value of a long option of several that has no name stands behind `=`.
+const NAMELESS: [Row; 1] = [Row {
+    items: &[LongMany("", &[b"a"])],
+    words: &[b"--=a"],
+}];
+
+// The settings of the switch under which rows hold.
+const EITHER: &[bool] = &[true, false];
+
+const ON: &[bool] = &[true];
+
+const OFF: &[bool] = &[false];
+
+// The places of the first rows, and of the first row among them, whose items other words spell, or none.
+fn first_otherwise(
+    alloc: Global,
+    forms: &[(&[Row], More, &[bool])],
+) -> Result<Option<(usize, usize)>, SpellError> {
+    for (place, (rows, more, settings)) in forms.iter().enumerate() {
+        for short_equals in settings.iter() {
+            if let Some(row) = spelled_otherwise(alloc, rows, *short_equals, *more)? {
+                return Ok(Some((place, row)));
+            }
+        }
+    }
+    Ok(None)
+}
+
+// Rows, the table that they go by, and the settings of the switch under which they hold.
+const OF_SHORTS: [(&[Row], More, &[bool]); 5] = [
+    (&FLAGS, More::Nothing, EITHER),
+    (&SHORT_OF_ONE, More::Nothing, EITHER),
+    (&SHORT_OPTIONAL, More::Nothing, EITHER),
+    (&SHORT_OPTIONAL_ON, More::Nothing, ON),
+    (&SHORT_OPTIONAL_OFF, More::Nothing, OFF),
+];
+
 #[test]
-fn damage(rt: HostRuntime) -> Result<(), Fail> {
-    assert_eq!(rt; otherwise_in_either(rt.alloc(), &DAMAGE)?, None);
+fn short_options(rt: HostRuntime) -> Result<(), Fail> {
+    assert_eq!(rt; first_otherwise(rt.alloc(), &OF_SHORTS)?, None);
+    Ok(())
+}
+
+const OF_LONGS: [(&[Row], More, &[bool]); 6] = [
+    (&LONG, More::Nothing, EITHER),
+    (&MARKS, More::Marks, EITHER),
+    (&OPTIONAL_DASH, More::OptionalDash, EITHER),
+    (&DASH_OF_SEVERAL, More::DashOfSeveral, EITHER),
+    (&DASHES, More::Nothing, EITHER),
+    (&NAMELESS, More::NamelessOfSeveral, ON),
+];
+
+#[test]
+fn long_options_and_marks(rt: HostRuntime) -> Result<(), Fail> {
+    assert_eq!(rt; first_otherwise(rt.alloc(), &OF_LONGS)?, None);
+    Ok(())
+}
+
+const OF_SEVERAL: [(&[Row], More, &[bool]); 3] = [
+    (&SEVERAL, More::Nothing, EITHER),
+    (&JOINED, More::Nothing, ON),
+    (&NOT_JOINED, More::Nothing, EITHER),
+];
+
+#[test]
+fn several_values(rt: HostRuntime) -> Result<(), Fail> {
+    assert_eq!(rt; first_otherwise(rt.alloc(), &OF_SEVERAL)?, None);
+    Ok(())
+}
+
+const OF_POSITIONALS: [(&[Row], More, &[bool]); 2] = [
+    (&POSITIONALS, More::Nothing, EITHER),
+    (&DAMAGE, More::Nothing, EITHER),
+];
+
+#[test]
+fn positionals_and_damage(rt: HostRuntime) -> Result<(), Fail> {
+    assert_eq!(rt; first_otherwise(rt.alloc(), &OF_POSITIONALS)?, None);
     Ok(())
 }
 
@@ -582,15 +558,6 @@ const EQUALS_IN_NAME: [Fault; 3] = [
     },
 ];
 
-#[test]
-fn equals_in_name(rt: HostRuntime) -> Result<(), Fail> {
-    assert_eq!(rt;
-        told_otherwise_in_either(rt.alloc(), &EQUALS_IN_NAME)?,
-        None
-    );
-    Ok(())
-}
-
 const UNEXPECTED_VALUE: [Fault; 2] = [
     Fault {
         items: &[ShortValue('v', b"x")],
@@ -605,15 +572,6 @@ const UNEXPECTED_VALUE: [Fault; 2] = [
         printed: "items[2]: by the table the option has no value, and is given one",
     },
 ];
-
-#[test]
-fn unexpected_value(rt: HostRuntime) -> Result<(), Fail> {
-    assert_eq!(rt;
-        told_otherwise_in_either(rt.alloc(), &UNEXPECTED_VALUE)?,
-        None
-    );
-    Ok(())
-}
 
 const MISSING_VALUE: [Fault; 4] = [
     Fault {
@@ -642,12 +600,6 @@ const MISSING_VALUE: [Fault; 4] = [
     },
 ];
 
-#[test]
-fn missing_value(rt: HostRuntime) -> Result<(), Fail> {
-    assert_eq!(rt; told_otherwise_in_either(rt.alloc(), &MISSING_VALUE)?, None);
-    Ok(())
-}
-
 const WANTS_MANY: [Fault; 3] = [
     Fault {
         items: &[ShortValue('d', b"1")],
@@ -668,12 +620,6 @@ const WANTS_MANY: [Fault; 3] = [
         printed: "items[0]: by the table the option has several values: give them as a list",
     },
 ];
-
-#[test]
-fn wants_many(rt: HostRuntime) -> Result<(), Fail> {
-    assert_eq!(rt; told_otherwise_in_either(rt.alloc(), &WANTS_MANY)?, None);
-    Ok(())
-}
 
 const NOT_MANY: [Fault; 4] = [
     Fault {
@@ -702,24 +648,12 @@ const NOT_MANY: [Fault; 4] = [
     },
 ];
 
-#[test]
-fn not_many(rt: HostRuntime) -> Result<(), Fail> {
-    assert_eq!(rt; told_otherwise_in_either(rt.alloc(), &NOT_MANY)?, None);
-    Ok(())
-}
-
 const EMPTY_VALUE: [Fault; 1] = [Fault {
     items: &[Short('v'), ShortValue('c', b"")],
     index: 1,
     reason: Reason::EmptyValue,
     printed: "items[1]: an empty value cannot stand right behind a character, and the switch turns `=` off",
 }];
-
-#[test]
-fn empty_value_with_the_switch_off(rt: HostRuntime) -> Result<(), Fail> {
-    assert_eq!(rt; told_otherwise(rt.alloc(), &EMPTY_VALUE, false)?, None);
-    Ok(())
-}
 
 const OPTION_AMONG_VALUES: [Fault; 4] = [
     Fault {
@@ -748,15 +682,6 @@ const OPTION_AMONG_VALUES: [Fault; 4] = [
     },
 ];
 
-#[test]
-fn option_among_values(rt: HostRuntime) -> Result<(), Fail> {
-    assert_eq!(rt;
-        told_otherwise_in_either(rt.alloc(), &OPTION_AMONG_VALUES)?,
-        None
-    );
-    Ok(())
-}
-
 const EMPTY_NAME: [Fault; 1] = [Fault {
     items: &[Positional(b"f"), Long("")],
     index: 1,
@@ -764,33 +689,13 @@ const EMPTY_NAME: [Fault; 1] = [Fault {
     printed: "items[1]: a long option with an empty name needs one value behind `=`",
 }];
 
-#[test]
-fn empty_name(rt: HostRuntime) -> Result<(), Fail> {
-    assert_eq!(rt; told_otherwise_in_either(rt.alloc(), &EMPTY_NAME)?, None);
-    Ok(())
-}
-
-// One value of it stands behind `=`, and several do not.
-#[test]
-fn empty_name_of_several_values(rt: HostRuntime) -> Result<(), Fail> {
-    let alloc = rt.alloc();
-    let mut table = table_of_each_kind(alloc)?;
-    table.several_longs.push(String::new(alloc))?;
-    let one = [Row {
-        items: &[LongMany("", &[b"a"])],
-        words: &[b"--=a"],
-    }];
-    assert_eq!(rt; first_otherwise(alloc, &one, true, &table)?, None);
-    let two = Fault {
-        items: &[Short('v'), LongMany("", &[b"a", b"b"])],
-        index: 1,
-        reason: Reason::EmptyName,
-        printed: "items[1]: a long option with an empty name needs one value behind `=`",
-    };
-    assert!(rt; is_refused_so(alloc, &two, true, &table)?);
-    assert!(rt; is_refused_so(alloc, &two, false, &table)?);
-    Ok(())
-}
+// Of several values of an option with no name none can stand behind `=`.
+const NAMELESS_OF_SEVERAL: [Fault; 1] = [Fault {
+    items: &[Short('v'), LongMany("", &[b"a", b"b"])],
+    index: 1,
+    reason: Reason::EmptyName,
+    printed: "items[1]: a long option with an empty name needs one value behind `=`",
+}];
 
 const BEHIND_SEPARATOR: [Fault; 5] = [
     Fault {
@@ -829,15 +734,6 @@ const BEHIND_SEPARATOR: [Fault; 5] = [
     },
 ];
 
-#[test]
-fn behind_separator(rt: HostRuntime) -> Result<(), Fail> {
-    assert_eq!(rt;
-        told_otherwise_in_either(rt.alloc(), &BEHIND_SEPARATOR)?,
-        None
-    );
-    Ok(())
-}
-
 // Only with the switch on can a lone value of a short option of several be joined, so that no separator is needed.
 const LONE_VALUE: [Fault; 1] = [Fault {
     items: &[ShortMany('d', &[b"1"]), Positional(b"f"), Short('v')],
@@ -845,12 +741,6 @@ const LONE_VALUE: [Fault; 1] = [Fault {
     reason: Reason::BehindSeparator,
     printed: "items[2]: an option cannot stand behind a positional that needs `--` before it",
 }];
-
-#[test]
-fn lone_value_with_the_switch_off(rt: HostRuntime) -> Result<(), Fail> {
-    assert_eq!(rt; told_otherwise(rt.alloc(), &LONE_VALUE, false)?, None);
-    Ok(())
-}
 
 const DASH_WITHOUT_FLAG: [Fault; 6] = [
     Fault {
@@ -891,15 +781,6 @@ const DASH_WITHOUT_FLAG: [Fault; 6] = [
     },
 ];
 
-#[test]
-fn dash_without_flag(rt: HostRuntime) -> Result<(), Fail> {
-    assert_eq!(rt;
-        told_otherwise_in_either(rt.alloc(), &DASH_WITHOUT_FLAG)?,
-        None
-    );
-    Ok(())
-}
-
 // Of two reasons the first of these is told: `=` in the name, the values, the empty name, a separator before the option, no flag
 // before `-`. Of two items that cannot be spelled the first is named.
 const TWO_REASONS: [Fault; 5] = [
@@ -935,9 +816,41 @@ const TWO_REASONS: [Fault; 5] = [
     },
 ];
 
+// Faults, the table that they go by, and the settings of the switch under which they are told.
+const FAULTS: [(&[Fault], More, &[bool]); 13] = [
+    (&EQUALS_IN_NAME, More::Nothing, EITHER),
+    (&UNEXPECTED_VALUE, More::Nothing, EITHER),
+    (&MISSING_VALUE, More::Nothing, EITHER),
+    (&WANTS_MANY, More::Nothing, EITHER),
+    (&NOT_MANY, More::Nothing, EITHER),
+    (&EMPTY_VALUE, More::Nothing, OFF),
+    (&OPTION_AMONG_VALUES, More::Nothing, EITHER),
+    (&EMPTY_NAME, More::Nothing, EITHER),
+    (&NAMELESS_OF_SEVERAL, More::NamelessOfSeveral, EITHER),
+    (&BEHIND_SEPARATOR, More::Nothing, EITHER),
+    (&LONE_VALUE, More::Nothing, OFF),
+    (&DASH_WITHOUT_FLAG, More::Nothing, EITHER),
+    (&TWO_REASONS, More::Nothing, EITHER),
+];
+
+// The places of the first faults, and of the first among them, that are told otherwise, or none.
+fn first_told_otherwise(
+    alloc: Global,
+    kinds: &[(&[Fault], More, &[bool])],
+) -> Result<Option<(usize, usize)>, AllocError> {
+    for (place, (faults, more, settings)) in kinds.iter().enumerate() {
+        for short_equals in settings.iter() {
+            if let Some(fault) = told_otherwise(alloc, faults, *short_equals, *more)? {
+                return Ok(Some((place, fault)));
+            }
+        }
+    }
+    Ok(None)
+}
+
 #[test]
-fn first_of_two_reasons(rt: HostRuntime) -> Result<(), Fail> {
-    assert_eq!(rt; told_otherwise_in_either(rt.alloc(), &TWO_REASONS)?, None);
+fn items_at_fault(rt: HostRuntime) -> Result<(), Fail> {
+    assert_eq!(rt; first_told_otherwise(rt.alloc(), &FAULTS)?, None);
     Ok(())
 }
 

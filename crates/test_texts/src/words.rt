@@ -1,37 +1,81 @@
 //! Words: their bytes, texts, copies, order and hashes, and what they print. Copies of arguments.
-use lexopt::{Arg, OsStr, OsString, Quoted};
+use lexopt::{Arg, Error, OsStr, OsString, Quoted};
+use std::alloc::{AllocError, Global};
 use std::hash::{DefaultHasher, Hash, Hasher};
 use std::test::Fail;
 
+// Whether a word has these bytes, and its copy, the view of it, its list of bytes and the word of that list.
+fn has_bytes(alloc: Global, bytes: &[u8]) -> Result<bool, AllocError> {
+    let view = OsStr::from_bytes(bytes);
+    let word = OsString::from_bytes(alloc, bytes)?;
+    let copy = word.clone()?;
+    let of_view = view.to_os_string(alloc)?;
+    let are_same = copy == word && of_view == word && word.as_os_str() == view;
+    let have_bytes = view.bytes == bytes
+        && word.as_bytes() == bytes
+        && copy.as_bytes() == bytes
+        && of_view.as_bytes() == bytes
+        && word.as_os_str().as_bytes() == bytes;
+    let is_long = word.len() == bytes.len() && word.is_empty() == bytes.is_empty();
+    let list = word.into_vec();
+    let is_list = list.as_slice() == bytes;
+    let is_again = OsString::from_vec(list).as_bytes() == bytes;
+    Ok(are_same && have_bytes && is_long && is_list && is_again)
+}
+
 #[test]
-fn words(rt: HostRuntime) -> Result<(), Fail> {
-    let alloc = rt.alloc();
-    let empty = OsString::new(alloc);
-    assert!(rt; empty.is_empty());
-    assert_eq!(rt; empty.len(), 0);
-    let word = OsString::from_bytes(alloc, b"foo\xff")?;
-    assert!(rt; !word.is_empty());
-    assert_eq!(rt; word.len(), 4);
-    assert_eq!(rt; word.as_bytes(), b"foo\xff".as_slice());
-    assert!(rt; word != empty);
-    let text = OsString::from_text(alloc, "foo")?;
-    assert!(rt; text == OsString::from_bytes(alloc, b"foo")?);
-    assert!(rt; text != word);
-    let bytes = word.into_vec();
-    assert_eq!(rt; bytes.as_slice(), b"foo\xff".as_slice());
-    assert_eq!(rt; OsString::from_vec(bytes).as_bytes(), b"foo\xff".as_slice());
+fn bytes_of_words(rt: HostRuntime) -> Result<(), Fail> {
+    for bytes in [
+        b"".as_slice(),
+        b"foo".as_slice(),
+        b"foo\xff".as_slice(),
+        b"\xff\xfe\0-".as_slice(),
+    ] {
+        assert!(rt; has_bytes(rt.alloc(), bytes)?, "{bytes:?}");
+    }
     Ok(())
+}
+
+// Whether the word of a text has its bytes, and words of other bytes are others.
+fn differ(alloc: Global) -> Result<bool, AllocError> {
+    let empty = OsString::new(alloc);
+    let text = OsString::from_text(alloc, "foo")?;
+    let word = OsString::from_bytes(alloc, b"foo\xff")?;
+    let views = OsStr::from_bytes(b"foo") != OsStr::from_bytes(b"foo\xff")
+        && OsStr::from_bytes(b"foo") != OsStr::from_bytes(b"fox");
+    Ok(
+        views
+            && empty.is_empty()
+            && empty.as_bytes() == b"".as_slice()
+            && text.as_bytes() == b"foo".as_slice()
+            && word != empty
+            && text != word,
+    )
+}
+
+#[test]
+fn other_words(rt: HostRuntime) -> Result<(), Fail> {
+    assert!(rt; differ(rt.alloc())?);
+    Ok(())
+}
+
+// Whether a word without its front is a value, and that without its own front the last letter.
+fn is_cut(alloc: Global) -> Result<bool, AllocError> {
+    let value = OsString::from_bytes(alloc, b"--name=a\xffb")?.without_front(7);
+    let is_value = value.as_bytes() == b"a\xffb".as_slice() && value.len() == 3;
+    let last = value.without_front(2);
+    let is_last = last.to_str() == Some("b");
+    Ok(is_value && is_last && last.into_vec().as_slice() == b"b".as_slice())
 }
 
 #[test]
 fn words_without_their_front(rt: HostRuntime) -> Result<(), Fail> {
-    let value = OsString::from_bytes(rt.alloc(), b"--name=a\xffb")?.without_front(7);
-    assert_eq!(rt; value.as_bytes(), b"a\xffb".as_slice());
-    assert_eq!(rt; value.len(), 3);
-    let last = value.without_front(2);
-    assert_eq!(rt; last.to_str(), Some("b"));
-    assert_eq!(rt; last.into_vec().as_slice(), b"b".as_slice());
+    assert!(rt; is_cut(rt.alloc())?);
     Ok(())
+}
+
+fn quotes(alloc: Global, bytes: &[u8], text: &str) -> Result<bool, AllocError> {
+    Ok(Quoted::new(bytes).to_string(alloc)?.as_str() == text)
 }
 
 #[test]
@@ -46,39 +90,28 @@ fn quoted_bytes(rt: HostRuntime) -> Result<(), Fail> {
         (b"\xe2\x82A".as_slice(), "\"\\xE2\\x82A\""),
         (b"\xf0\x9d".as_slice(), "\"\\xF0\\x9D\""),
     ] {
-        let found = Quoted::new(bytes).to_string(rt.alloc())?;
-        assert_eq!(rt; found.as_str(), text);
+        assert!(rt; quotes(rt.alloc(), bytes, text)?, "{text}");
     }
     Ok(())
 }
 
-#[test]
-fn views_and_clones(rt: HostRuntime) -> Result<(), Fail> {
-    let alloc = rt.alloc();
-    for bytes in [
-        b"".as_slice(),
-        b"foo".as_slice(),
-        b"foo\xff".as_slice(),
-        b"\xff\xfe\0-".as_slice(),
-    ] {
-        let view = OsStr::from_bytes(bytes);
-        let word = view.to_os_string(alloc)?;
-        assert_eq!(rt; word.as_bytes(), bytes);
-        let copy = word.clone()?;
-        assert!(rt; copy == word);
-        assert_eq!(rt; copy.as_bytes(), bytes);
-        assert!(rt; word.as_os_str() == view);
-        assert_eq!(rt; word.as_os_str().as_bytes(), bytes);
-        assert_eq!(rt; view.bytes, bytes);
-    }
-    assert!(rt; OsStr::from_bytes(b"foo") != OsStr::from_bytes(b"foo\xff"));
-    assert!(rt; OsStr::from_bytes(b"foo") != OsStr::from_bytes(b"fox"));
-    Ok(())
+// Whether bytes are this text, in a view, in a word and in the text that a word becomes; a word that is none stays one.
+fn has_text(alloc: Global, bytes: &[u8], text: Option<&str>) -> Result<bool, AllocError> {
+    let word = OsString::from_bytes(alloc, bytes)?;
+    let is_text = OsStr::from_bytes(bytes).to_str() == text && word.to_str() == text;
+    Ok(
+        is_text
+            && match word.into_string() {
+                Ok(found) => {
+                    Some(found.as_str()) == text && OsString::from_string(found).as_bytes() == bytes
+                }
+                Err(word) => text.is_none() && word.as_bytes() == bytes,
+            },
+    )
 }
 
 #[test]
 fn texts_of_words(rt: HostRuntime) -> Result<(), Fail> {
-    let alloc = rt.alloc();
     for (bytes, text) in [
         (b"".as_slice(), Some("")),
         (b"foo".as_slice(), Some("foo")),
@@ -90,27 +123,22 @@ fn texts_of_words(rt: HostRuntime) -> Result<(), Fail> {
         (b"\xf0\x9d\x84".as_slice(), None),
         (b"\xed\xa0\x80".as_slice(), None),
     ] {
-        assert_eq!(rt; OsStr::from_bytes(bytes).to_str(), text);
-        let word = OsString::from_bytes(alloc, bytes)?;
-        assert_eq!(rt; word.to_str(), text);
-        match word.into_string() {
-            Ok(found) => {
-                assert_eq!(rt; Some(found.as_str()), text);
-                let again = OsString::from_string(found);
-                assert_eq!(rt; again.as_bytes(), bytes);
-            }
-            Err(word) => {
-                assert!(rt; text.is_none());
-                assert_eq!(rt; word.as_bytes(), bytes);
-            }
-        }
+        assert!(rt; has_text(rt.alloc(), bytes, text)?, "{bytes:?}");
     }
     Ok(())
 }
 
+// Whether `Debug` writes this, of a word and of a view.
+fn debugs(alloc: Global, bytes: &[u8], text: &str) -> Result<bool, AllocError> {
+    let word = OsString::from_bytes(alloc, bytes)?;
+    let view = OsStr::from_bytes(bytes);
+    let of_word = format!(in alloc; "{word:?}")?;
+    let of_view = format!(in alloc; "{view:?}")?;
+    Ok(of_word.as_str() == text && of_view.as_str() == text)
+}
+
 #[test]
 fn debug_text_of_words(rt: HostRuntime) -> Result<(), Fail> {
-    let alloc = rt.alloc();
     for (bytes, text) in [
         (b"".as_slice(), "\"\""),
         (b"foo\xff".as_slice(), "\"foo\\xFF\""),
@@ -119,39 +147,49 @@ fn debug_text_of_words(rt: HostRuntime) -> Result<(), Fail> {
             "\"\\u{1b}\\u{1}\\xF0\\x9D'\"",
         ),
     ] {
-        let word = OsString::from_bytes(alloc, bytes)?;
-        assert_eq!(rt; format!(in alloc; "{word:?}")?.as_str(), text);
-        let view = OsStr::from_bytes(bytes);
-        assert_eq!(rt; format!(in alloc; "{view:?}")?.as_str(), text);
+        assert!(rt; debugs(rt.alloc(), bytes, text)?, "{text}");
     }
     Ok(())
 }
 
 // Words in their order, which is that of their lists of bytes: the first byte that differs decides, and a front comes first.
+const ORDERED: [&[u8]; 12] = [
+    b"",
+    b"\0",
+    b"-",
+    b"--",
+    b"-a",
+    b"-ab",
+    b"-b",
+    b"foo",
+    b"foo\xff",
+    b"fop",
+    b"\xc2\xb5",
+    b"\xff",
+];
+
+// Whether words stand to each other as their places do.
+fn are_ordered(alloc: Global, place: usize, other_place: usize) -> Result<bool, AllocError> {
+    let (Some(bytes), Some(others)) = (ORDERED.get(place), ORDERED.get(other_place)) else {
+        return Ok(false);
+    };
+    let word = OsString::from_bytes(alloc, bytes)?;
+    let other = OsString::from_bytes(alloc, others)?;
+    Ok(
+        word.cmp(&other) == place.cmp(&other_place)
+            && (word < other) == (place < other_place)
+            && (word == other) == (place == other_place),
+    )
+}
+
 #[test]
 fn order_of_words(rt: HostRuntime) -> Result<(), Fail> {
-    let alloc = rt.alloc();
-    let ordered = [
-        b"".as_slice(),
-        b"\0".as_slice(),
-        b"-".as_slice(),
-        b"--".as_slice(),
-        b"-a".as_slice(),
-        b"-ab".as_slice(),
-        b"-b".as_slice(),
-        b"foo".as_slice(),
-        b"foo\xff".as_slice(),
-        b"fop".as_slice(),
-        b"\xc2\xb5".as_slice(),
-        b"\xff".as_slice(),
-    ];
-    for (place, bytes) in ordered.iter().enumerate() {
-        let word = OsString::from_bytes(alloc, bytes)?;
-        for (other_place, other) in ordered.iter().enumerate() {
-            let other = OsString::from_bytes(alloc, other)?;
-            assert_eq!(rt; word.cmp(&other), place.cmp(&other_place));
-            assert_eq!(rt; word < other, place < other_place);
-            assert_eq!(rt; word == other, place == other_place);
+    for place in 0..ORDERED.len() {
+        for other_place in 0..ORDERED.len() {
+            assert!(rt;
+                are_ordered(rt.alloc(), place, other_place)?,
+                "{place} {other_place}"
+            );
         }
     }
     Ok(())
@@ -163,27 +201,35 @@ fn hash_of<T: Hash>(value: &T) -> u64 {
     state.finish()
 }
 
+// Whether a word has the hash of its copy and of its bytes, and another word another one.
+fn hashes(alloc: Global) -> Result<bool, AllocError> {
+    let word = OsString::from_bytes(alloc, b"foo\xff")?;
+    let copy = word.clone()?;
+    let other = OsString::from_text(alloc, "foo!")?;
+    let hash = hash_of(&word);
+    Ok(hash == hash_of(&copy) && hash == hash_of(&b"foo\xff".as_slice()) && hash != hash_of(&other))
+}
+
 #[test]
 fn hashes_of_words(rt: HostRuntime) -> Result<(), Fail> {
-    let alloc = rt.alloc();
-    let word = OsString::from_bytes(alloc, b"foo\xff")?;
-    assert_eq!(rt; hash_of(&word), hash_of(&word.clone()?));
-    assert_eq!(rt; hash_of(&word), hash_of(&b"foo\xff".as_slice()));
-    assert!(rt; hash_of(&word) != hash_of(&OsString::from_text(alloc, "foo!")?));
+    assert!(rt; hashes(rt.alloc())?);
     Ok(())
+}
+
+// Whether the copy of an argument is the same, and `Debug` writes this of it.
+fn is_copied(alloc: Global, argument: &Arg<'_>, text: &str) -> Result<bool, Error> {
+    let copy = argument.clone()?;
+    Ok(copy == *argument && format!(in alloc; "{copy:?}")?.as_str() == text)
 }
 
 #[test]
 fn copies_of_arguments(rt: HostRuntime) -> Result<(), Fail> {
-    let word = OsString::from_text(rt.alloc(), "foo")?;
-    for (argument, text) in [
-        (Arg::Short('a'), "Short('a')"),
-        (Arg::Long("n"), "Long(\"n\")"),
-        (Arg::Value(word), "Value(\"foo\")"),
-    ] {
-        let copy = argument.clone()?;
-        assert!(rt; copy == argument);
-        assert_eq!(rt; format!(in rt.alloc(); "{copy:?}")?.as_str(), text);
-    }
+    let alloc = rt.alloc();
+    let word = Arg::Value(OsString::from_text(alloc, "foo")?);
+    assert!(rt;
+        is_copied(alloc, &Arg::Short('a'), "Short('a')")?
+            && is_copied(alloc, &Arg::Long("n"), "Long(\"n\")")?
+            && is_copied(alloc, &word, "Value(\"foo\")")?
+    );
     Ok(())
 }
