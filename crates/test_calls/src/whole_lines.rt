@@ -8,14 +8,11 @@ use test_helpers::items::Given::{LongMany, LongValue, Positional, Short, ShortMa
 use test_helpers::items::{Given, items_of, table_of_each_kind};
 use test_helpers::parsers::words_of;
 
-// The table of the options `o`, `-` and `out`, of one value each.
+// The table of the option `-` and the name `a=b`, of one value each.
 fn table_with_a_dash(alloc: Global) -> Result<Table, AllocError> {
-    let Table {
-        mut shorts,
-        longs,
-        ..
-    } = table_of_each_kind(alloc)?;
-    shorts.push('-')?;
+    let shorts = Vec::from_array(alloc, ['-'])?;
+    let long = String::from_str(alloc, "a=b")?;
+    let longs = Vec::from_array(alloc, [long])?;
     Ok(Table::one_value(alloc, shorts, longs))
 }
 
@@ -39,10 +36,7 @@ fn one_value_each(rt: HostRuntime) -> Result<(), Fail> {
     for (words, text) in [
         (b"-a-\nv".as_slice(), "Short \"a\"\nShort \"-\" = \"v\"\n"),
         (b"-a-", "missing argument for option '--'"),
-        (
-            b"-vo=x\n--out\ny\n--\n-z\n--",
-            "Short \"v\"\nShort \"o\" = \"x\"\nLong \"out\" = \"y\"\nValue \"-z\"\nValue \"--\"\n",
-        ),
+        (b"--a=b", "unexpected argument for option '--a': \"b\""),
     ] {
         assert_eq!(rt; told(rt.alloc(), words)?.as_str(), text);
     }

@@ -1,5 +1,6 @@
 //! Readers and writers that fail, that are slow and that never end, and scripts that a case file cannot say.
 use lexopt::replay::{RunError, run};
+use std::alloc::{AllocError, Global};
 use std::io;
 use std::io::{Read, Write};
 use std::test::Fail;
@@ -79,92 +80,114 @@ impl Write for Narrow {
     }
 }
 
-#[test]
-fn reads_that_fail(rt: HostRuntime) -> Result<(), Fail> {
-    let alloc = rt.alloc();
-    for fails_at in 1..SCRIPT.len() + 2 {
-        let mut text = Vec::new(alloc);
-        let mut reader = Slow {
-            left: SCRIPT,
-            reads: 0,
-            fails_at,
-        };
-        assert_eq!(rt;
-            run(alloc, &mut reader, &mut text),
-            Err(RunError::ReadFailed)
-        );
-        assert!(rt; text.is_empty());
-    }
+// Whether a script that is read from here comes to this answer, and this is written for it.
+fn comes_to<R: Read>(
+    alloc: Global,
+    reader: &mut R,
+    answer: Result<(), RunError>,
+    written: &[u8],
+) -> bool {
     let mut text = Vec::new(alloc);
-    let mut reader = Slow {
+    run(alloc, reader, &mut text) == answer && text.as_slice() == written
+}
+
+// The stored script, of which this read fails.
+fn script_with_a_failing_read(fails_at: usize) -> Slow<'static> {
+    Slow {
         left: SCRIPT,
         reads: 0,
-        fails_at: 0,
-    };
-    assert_eq!(rt; run(alloc, &mut reader, &mut text), Ok(()));
-    assert_eq!(rt; text.as_slice(), WRITTEN);
-    Ok(())
+        fails_at,
+    }
 }
 
 #[test]
-fn writes_that_fail(rt: HostRuntime) -> Result<(), Fail> {
-    let alloc = rt.alloc();
-    for full in [Full::TakesNothing, Full::Fails] {
-        for room in 0..WRITTEN.len() {
-            let mut narrow = Narrow {
-                taken: Vec::new(alloc),
-                room,
-                full,
-                flushes: true,
-            };
-            let mut script = SCRIPT;
-            assert_eq!(rt;
-                run(alloc, &mut script, &mut narrow),
-                Err(RunError::WriteFailed)
-            );
-            assert_eq!(rt; narrow.taken.as_slice(), &WRITTEN[..room]);
-        }
+fn reads_that_fail(rt: HostRuntime) {
+    for fails_at in 1..SCRIPT.len() + 2 {
+        let answer = Err(RunError::ReadFailed);
+        assert!(rt;
+            comes_to(
+                rt.alloc(),
+                &mut script_with_a_failing_read(fails_at),
+                answer,
+                b""
+            )
+        );
     }
-    for (flushes, answer) in [(true, Ok(())), (false, Err(RunError::WriteFailed))] {
-        let mut narrow = Narrow {
-            taken: Vec::new(alloc),
-            room: WRITTEN.len(),
-            full: Full::Fails,
-            flushes,
-        };
-        let mut script = SCRIPT;
-        assert_eq!(rt; run(alloc, &mut script, &mut narrow), answer);
-        assert_eq!(rt; narrow.taken.as_slice(), WRITTEN);
+    assert!(rt;
+        comes_to(
+            rt.alloc(),
+            &mut script_with_a_failing_read(0),
+            Ok(()),
+            WRITTEN
+        )
+    );
+}
+
+// Whether the stored script comes to this answer where its writer has so much room, and what that took is a front of what is
+// to be written.
+fn goes_out(
+    alloc: Global,
+    room: usize,
+    full: Full,
+    flushes: bool,
+    answer: Result<(), RunError>,
+) -> bool {
+    let mut narrow = Narrow {
+        taken: Vec::new(alloc),
+        room,
+        full,
+        flushes,
+    };
+    let mut script = SCRIPT;
+    run(alloc, &mut script, &mut narrow) == answer
+        && Some(narrow.taken.as_slice()) == WRITTEN.get(..room)
+}
+
+#[test]
+fn writes_that_fail(rt: HostRuntime) {
+    let failed = Err(RunError::WriteFailed);
+    for room in 0..WRITTEN.len() {
+        assert!(rt; goes_out(rt.alloc(), room, Full::TakesNothing, true, failed));
+        assert!(rt; goes_out(rt.alloc(), room, Full::Fails, true, failed));
     }
-    Ok(())
+    assert!(rt; goes_out(rt.alloc(), WRITTEN.len(), Full::Fails, true, Ok(())));
+    assert!(rt; goes_out(rt.alloc(), WRITTEN.len(), Full::Fails, false, failed));
+}
+
+// Whether a script of this many line feeds, of which another byte takes the place of the first, comes to this answer.
+fn is_long(
+    alloc: Global,
+    first: u8,
+    length: usize,
+    answer: Result<(), RunError>,
+) -> Result<bool, AllocError> {
+    let mut script = vec![in alloc; b'\n'; length]?;
+    if let Some(place) = script.first_mut() {
+        *place = first;
+    }
+    Ok(comes_to(alloc, &mut script.as_slice(), answer, b""))
 }
 
 #[test]
 fn limits(rt: HostRuntime) -> Result<(), Fail> {
-    let alloc = rt.alloc();
-    let mut text = Vec::new(alloc);
-    assert_eq!(rt; run(alloc, &mut Endless, &mut text), Err(RunError::TooLong));
+    assert!(rt; comes_to(rt.alloc(), &mut Endless, Err(RunError::TooLong), b""));
     for (first, length, answer) in [
         (b'\n', 1_048_576, Ok(())),
         (b'\n', 1_048_577, Err(RunError::TooLong)),
         (b'x', 1_048_576, Err(RunError::BadLine(1))),
         (b'x', 1_048_577, Err(RunError::TooLong)),
     ] {
-        let mut script = vec![in alloc; b'\n'; length]?;
-        if let Some(place) = script.first_mut() {
-            *place = first;
-        }
-        let mut reader = script.as_slice();
-        assert_eq!(rt; run(alloc, &mut reader, &mut text), answer);
+        assert!(rt;
+            is_long(rt.alloc(), first, length, answer)?,
+            "{first} {length}"
+        );
     }
-    assert!(rt; text.is_empty());
     Ok(())
 }
 
 // Scripts that a case file cannot say.
 #[test]
-fn line_ends_and_bytes(rt: HostRuntime) -> Result<(), Fail> {
-    let alloc = rt.alloc();
+fn line_ends_and_bytes(rt: HostRuntime) {
     for (script, text, answer) in [
         (b"".as_slice(), b"".as_slice(), Ok(())),
         (b"w a\nnext", b"Value \"a\"\n", Ok(())),
@@ -175,10 +198,10 @@ fn line_ends_and_bytes(rt: HostRuntime) -> Result<(), Fail> {
         (b"next\r\n", b"", Err(RunError::BadLine(1))),
         (b"w a\n\xff\n", b"", Err(RunError::BadLine(2))),
     ] {
-        let mut written = Vec::new(alloc);
         let mut reader = script;
-        assert_eq!(rt; run(alloc, &mut reader, &mut written), answer);
-        assert_eq!(rt; written.as_slice(), text);
+        assert!(rt;
+            comes_to(rt.alloc(), &mut reader, answer, text),
+            "{script:?}"
+        );
     }
-    Ok(())
 }

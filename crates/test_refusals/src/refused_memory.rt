@@ -30,6 +30,25 @@ fn told(refused: bool, call: &str) -> Result<(), Fail> {
     }
 }
 
+// The same, if each answer was as wanted: there is then whether a call was refused.
+fn ended(seen: Option<bool>, call: &str) -> Result<(), Fail> {
+    match seen {
+        Some(refused) => told(refused, call),
+        None => Err(Fail::new("a call gave another answer")),
+    }
+}
+
+// Whether a long option is refused, and it and its value are read then.
+fn reads_long_option(parser: &mut Parser) -> Result<Option<bool>, Error> {
+    let refused = match reads_long(parser, "out") {
+        Ok(true) => false,
+        Err(Error::OutOfMemory) => true,
+        _ => return Ok(None),
+    };
+    let is_read = !refused || reads_long(parser, "out")?;
+    Ok((is_read && takes(parser, b"x")?).then_some(refused))
+}
+
 // `next` asks for memory once, for the name: it is refused in one run, and in each other run that has a parser the option
 // and its value are read, also where the request behind the one for the name is refused.
 #[test]
@@ -37,14 +56,21 @@ fn long_option(rt: HostRuntime) -> Result<(), Fail> {
     let Ok(mut parser) = parser_of(rt.alloc(), &[b"--out=x"]) else {
         return told(true, "from_args");
     };
-    let mut answer = reads_long(&mut parser, "out");
-    let refused = matches!(answer, Err(Error::OutOfMemory));
-    if refused {
-        answer = reads_long(&mut parser, "out");
-    }
-    assert!(rt; matches!(answer, Ok(true)));
-    assert!(rt; takes(&mut parser, b"x")?);
-    told(refused, "next")
+    ended(reads_long_option(&mut parser)?, "next")
+}
+
+// Whether the value of `-a` is unexpected, and reading goes on behind it.
+fn goes_on(parser: &mut Parser) -> Result<Option<bool>, Error> {
+    let is_read = reads_short(parser, 'a')?;
+    let first = is_unexpected(parser.next().err(), "-a", b"b");
+    let refused = first.is_none();
+    let answer = if refused {
+        is_unexpected(parser.next().err(), "-a", b"b")
+    } else {
+        first
+    };
+    let is_told = is_read && answer == Some(true);
+    Ok((is_told && reads_word(parser, b"c")?).then_some(refused))
 }
 
 #[test]
@@ -52,15 +78,19 @@ fn unexpected_value(rt: HostRuntime) -> Result<(), Fail> {
     let Ok(mut parser) = parser_of(rt.alloc(), &[b"-a=b", b"c"]) else {
         return told(true, "from_args");
     };
-    assert!(rt; reads_short(&mut parser, 'a')?);
-    let mut answer = is_unexpected(parser.next().err(), "-a", b"b");
-    let refused = answer.is_none();
-    if refused {
-        answer = is_unexpected(parser.next().err(), "-a", b"b");
-    }
-    assert_eq!(rt; answer, Some(true));
-    assert!(rt; reads_word(&mut parser, b"c")?);
-    told(refused, "next")
+    ended(goes_on(&mut parser)?, "next")
+}
+
+// Whether an option misses its value.
+fn misses(parser: &mut Parser, option: &str) -> Option<bool> {
+    let first = is_missing(parser.value().err(), option);
+    let refused = first.is_none();
+    let answer = if refused {
+        is_missing(parser.value().err(), option)
+    } else {
+        first
+    };
+    (answer == Some(true)).then_some(refused)
 }
 
 #[test]
@@ -69,13 +99,16 @@ fn missing_value(rt: HostRuntime) -> Result<(), Fail> {
         return told(true, "from_args");
     };
     assert!(rt; reads_short(&mut parser, 'a')?);
-    let mut answer = is_missing(parser.value().err(), "-a");
-    let refused = answer.is_none();
-    if refused {
-        answer = is_missing(parser.value().err(), "-a");
-    }
-    assert_eq!(rt; answer, Some(true));
-    told(refused, "value")
+    ended(misses(&mut parser, "-a"), "value")
+}
+
+// Whether both options of a damaged cluster are read, and no value is there.
+fn reads_damage(parser: &mut Parser) -> Result<bool, Error> {
+    Ok(
+        reads_short(parser, 'a')?
+            && reads_short(parser, '\u{fffd}')?
+            && parser.optional_value().is_none(),
+    )
 }
 
 // A damaged cluster: its options and the value that is not there take no memory, the error that names the damaged option
@@ -85,16 +118,22 @@ fn damaged_cluster(rt: HostRuntime) -> Result<(), Fail> {
     let Ok(mut parser) = parser_of(rt.alloc(), &[b"-a\xff"]) else {
         return told(true, "from_args");
     };
-    assert!(rt; reads_short(&mut parser, 'a')?);
-    assert!(rt; reads_short(&mut parser, '\u{fffd}')?);
-    assert!(rt; parser.optional_value().is_none());
-    let mut answer = is_missing(parser.value().err(), "-\u{fffd}");
-    let refused = answer.is_none();
-    if refused {
-        answer = is_missing(parser.value().err(), "-\u{fffd}");
-    }
-    assert_eq!(rt; answer, Some(true));
-    told(refused, "value")
+    assert!(rt; reads_damage(&mut parser)?);
+    ended(misses(&mut parser, "-\u{fffd}"), "value")
+}
+
+// Whether an option misses its values, and the next option is read then.
+fn misses_values(parser: &mut Parser) -> Result<Option<bool>, Error> {
+    let is_read = reads_short(parser, 'a')?;
+    let first = is_missing(parser.values().err(), "-a");
+    let refused = first.is_none();
+    let answer = if refused {
+        is_missing(parser.values().err(), "-a")
+    } else {
+        first
+    };
+    let is_told = is_read && answer == Some(true);
+    Ok((is_told && reads_short(parser, 'b')?).then_some(refused))
 }
 
 // Without a value `values` asks for memory for the error alone.
@@ -103,15 +142,23 @@ fn missing_values(rt: HostRuntime) -> Result<(), Fail> {
     let Ok(mut parser) = parser_of(rt.alloc(), &[b"-a", b"-b"]) else {
         return told(true, "from_args");
     };
-    assert!(rt; reads_short(&mut parser, 'a')?);
-    let mut answer = is_missing(parser.values().err(), "-a");
-    let refused = answer.is_none();
-    if refused {
-        answer = is_missing(parser.values().err(), "-a");
-    }
-    assert_eq!(rt; answer, Some(true));
-    assert!(rt; reads_short(&mut parser, 'b')?);
-    told(refused, "values")
+    ended(misses_values(&mut parser)?, "values")
+}
+
+// Whether a pending value is in the way of the words, and the next word is the value then.
+fn refuses_pending(parser: &mut Parser) -> Result<Option<bool>, Error> {
+    let is_read = reads_short(parser, 'a')?;
+    let first = is_unexpected(parser.raw_args().err(), "-a", b"b");
+    let refused = first.is_none();
+    let answer = if !refused {
+        first
+    } else if parser.try_raw_args().is_none() {
+        is_unexpected(parser.raw_args().err(), "-a", b"b")
+    } else {
+        None
+    };
+    let is_told = is_read && answer == Some(true);
+    Ok((is_told && takes(parser, b"c")?).then_some(refused))
 }
 
 // A pending value is refused by `raw_args`, and stays where the error finds no memory.
@@ -120,16 +167,17 @@ fn pending_value(rt: HostRuntime) -> Result<(), Fail> {
     let Ok(mut parser) = parser_of(rt.alloc(), &[b"-ab", b"c"]) else {
         return told(true, "from_args");
     };
-    assert!(rt; reads_short(&mut parser, 'a')?);
-    let mut answer = is_unexpected(parser.raw_args().err(), "-a", b"b");
-    let refused = answer.is_none();
-    if refused {
-        assert!(rt; parser.try_raw_args().is_none());
-        answer = is_unexpected(parser.raw_args().err(), "-a", b"b");
-    }
-    assert_eq!(rt; answer, Some(true));
-    assert!(rt; takes(&mut parser, b"c")?);
-    told(refused, "raw_args")
+    ended(refuses_pending(&mut parser)?, "raw_args")
+}
+
+// Whether a value and a word are given, and the option behind them is read.
+fn gives_items(parser: &mut Parser) -> Result<bool, Error> {
+    Ok(
+        reads_short(parser, 'a')?
+            && parser.values()?.next().is_some()
+            && parser.raw_args()?.next().is_some()
+            && reads_short(parser, 'y')?,
+    )
 }
 
 // Values and words are taken out of the parser's own: no item asks for memory.
@@ -138,11 +186,17 @@ fn items_of_views(rt: HostRuntime) -> Result<(), Fail> {
     let Ok(mut parser) = parser_of(rt.alloc(), &[b"-a=", b"x", b"-y"]) else {
         return told(true, "from_args");
     };
-    assert!(rt; reads_short(&mut parser, 'a')?);
-    assert!(rt; parser.values()?.next().is_some());
-    assert!(rt; parser.raw_args()?.next().is_some());
-    assert!(rt; reads_short(&mut parser, 'y')?);
+    assert!(rt; gives_items(&mut parser)?);
     Ok(())
+}
+
+// Whether `=` is an option where the switch is off.
+fn reads_switched(parser: &mut Parser) -> Result<bool, Error> {
+    let is_first = reads_short(parser, 'a')?;
+    parser.set_short_equals(false);
+    let is_equals = reads_short(parser, '=')?;
+    parser.set_short_equals(true);
+    Ok(is_first && is_equals && reads_short(parser, 'b')? && is_at_end(parser)?)
 }
 
 // A cluster read under both settings of the switch: no call asks for memory.
@@ -151,12 +205,7 @@ fn switched_cluster(rt: HostRuntime) -> Result<(), Fail> {
     let Ok(mut parser) = parser_of(rt.alloc(), &[b"-a=b"]) else {
         return told(true, "from_args");
     };
-    assert!(rt; reads_short(&mut parser, 'a')?);
-    parser.set_short_equals(false);
-    assert!(rt; reads_short(&mut parser, '=')?);
-    parser.set_short_equals(true);
-    assert!(rt; reads_short(&mut parser, 'b')?);
-    assert!(rt; is_at_end(&mut parser)?);
+    assert!(rt; reads_switched(&mut parser)?);
     Ok(())
 }
 
@@ -225,12 +274,16 @@ fn script_of_values(rt: HostRuntime) -> Result<(), Fail> {
     replays(rt.alloc(), script, whole, refused, "values")
 }
 
+// Whether a parser has this name, and reads this option.
+fn reads_named(parser: &mut Parser, name: &str, option: char) -> Result<bool, Error> {
+    Ok(parser.bin_name() == Some(name) && reads_short(parser, option)?)
+}
+
 #[test]
 fn named_parser(rt: HostRuntime) -> Result<(), Fail> {
     match named(rt.alloc(), &[b"foo\xff", b"-x"]) {
         Ok(mut parser) => {
-            assert_eq!(rt; parser.bin_name(), Some("foo\u{FFFD}"));
-            assert!(rt; reads_short(&mut parser, 'x')?);
+            assert!(rt; reads_named(&mut parser, "foo\u{FFFD}", 'x')?);
             Ok(())
         }
         Err(Error::OutOfMemory) => told(true, "from_iter"),
@@ -250,19 +303,22 @@ fn parser_of_the_environment(rt: HostRuntime) -> Result<(), Fail> {
     }
 }
 
+// Whether a copy is refused; the parser itself, and a copy if there is one, read the option and have the name.
+fn copies(parser: &mut Parser) -> Result<Option<bool>, Error> {
+    let is_copied = match parser.clone() {
+        Ok(mut copy) => Some(reads_named(&mut copy, "foo", 'x')?),
+        Err(_) => None,
+    };
+    let is_right = is_copied != Some(false) && reads_named(parser, "foo", 'x')?;
+    Ok(is_right.then_some(is_copied.is_none()))
+}
+
 #[test]
 fn copied_parser(rt: HostRuntime) -> Result<(), Fail> {
     let Ok(mut parser) = named(rt.alloc(), &[b"foo", b"-x"]) else {
         return told(true, "from_iter");
     };
-    let Ok(mut copy) = parser.clone() else {
-        assert!(rt; reads_short(&mut parser, 'x')?);
-        return told(true, "clone");
-    };
-    assert_eq!(rt; copy.bin_name(), Some("foo"));
-    assert!(rt; reads_short(&mut copy, 'x')?);
-    assert!(rt; reads_short(&mut parser, 'x')?);
-    Ok(())
+    ended(copies(&mut parser)?, "clone")
 }
 
 // The words and the calls of a list with every call, of which five can want memory in a reply or in a list of items.
