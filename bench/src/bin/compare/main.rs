@@ -1,5 +1,5 @@
-//! Answers calls, so that the answers can be compared. `crates/test_lists/src/answers.rt` does the same with this repository's port, and
-//! its `src/main.rt` says what a case is.
+//! Answers calls, so that the answers can be compared. `crates/test_lists/src/answers.rt` does the same with this
+//! repository's port, and says what a case is.
 
 mod answers;
 
