@@ -50,25 +50,3 @@ pub fn quoted(alloc: Global, word: &[u8]) -> Result<Vec<u8>, AllocError>
     bytes.push(b'\'')?;
     Ok(bytes)
 }
-
-#[cfg(test)]
-mod tests {
-    use super::*;
-    use std::test::Fail;
-
-    #[test]
-    fn quotes_where_a_word_needs_them(rt: HostRuntime) -> Result<(), Fail> {
-        for (word, wanted) in [
-            (b"".as_slice(), b"''".as_slice()),
-            (b"--out=a/b.c".as_slice(), b"--out=a/b.c".as_slice()),
-            (b"my file".as_slice(), b"'my file'".as_slice()),
-            (b"it's".as_slice(), b"'it'\\''s'".as_slice()),
-            (b"'".as_slice(), b"''\\'''".as_slice()),
-            (b"\xff".as_slice(), b"'\xff'".as_slice()),
-            (b"a\n*~$".as_slice(), b"'a\n*~$'".as_slice()),
-        ] {
-            assert_eq!(rt; quoted(rt.alloc(), word)?.as_slice(), wanted);
-        }
-        Ok(())
-    }
-}
