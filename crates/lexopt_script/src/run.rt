@@ -1,9 +1,11 @@
 //! Runs scripts: `run` reads a script, does what it says, and writes a line for each reply and for each whole line.
-ghost use Rattle.std.specs.Prelude.{◌≡◌, ◌⊎◌, ◌+◌, ◌++◌, ◌≤◌, ◌<◌, ℕ, List, None, Some, Err, IfOk, IfErr, OnOk, length, map, string_bytes};
+ghost use Rattle.std.specs.Prelude.{◌≡◌, ◌⊎◌, ◌+◌, ◌++◌, ◌≤◌, ◌<◌, ℕ, List, None, Some, Err, IfOk, IfErr, OnOk, length, map, codes, string_bytes};
 ghost use Rattle.std.specs.Io.KnownBytes.{Appends, Consumes};
-ghost use Rattle.lexopt_line_spec.specs.Script.{WholeLineText, bad_line, bracketed, item_text, line_of, most_bytes, switched};
+ghost use Rattle.lexopt_line_spec.specs.Script.{WholeLineText, bad_line, bracketed, item_text, line_of, most_bytes, reply_text, switched};
+ghost use Rattle.lexopt_spec.specs.UnreadLine.{fresh};
+ghost use Rattle.lexopt_words.specs.Message.{message};
 ghost use Rattle.lexopt_items.specs.Items.{item_view, table_view};
-ghost use Rattle.lexopt_calls.specs.Replies.{call_view};
+ghost use Rattle.lexopt_calls.specs.Replies.{call_view, reply_view};
 ghost use Rattle.lexopt_script.specs.Output.{IsOutput, ReadsWhole, read_room};
 ghost use Rattle.lexopt_script.specs.Meanings.{command_view};
 ghost use Rattle.lexopt_script.specs.Performed.{IsWritten, Performs, answer_text};
@@ -12,7 +14,7 @@ pub use crate::run_error::RunError;
 use crate::script::{Command, Script, parse_script, read_script};
 use lexopt_base::parser::Parser;
 use lexopt_calls::replay::reply_to;
-use lexopt_calls::reply::Call;
+use lexopt_calls::reply::{Call, Reply};
 use lexopt_items::items::{Item, Table, read_items};
 use lexopt_words::error::Error;
 use lexopt_words::os_string::OsString;
@@ -40,8 +42,15 @@ fn write_answer(answer: Result<Vec<Item>, Error>, text: &mut String) -> Result<(
 {
     match answer {
         Ok(items) => write_items(&items, text),
-        Err(error) => write!(text, "error: {error}"),
+        Err(error) => write_error(&error, text),
     }
+}
+
+// Writes why a whole line was refused.
+fn write_error(error: &Error, text: &mut String) -> Result<(), AllocError>
+    ensures { OnOk result (string_bytes text.new ≡ string_bytes text.old ++ (codes "error: " ++ message error.now)) }
+{
+    write!(text, "error: {error}")
 }
 
 // Reads the whole line of these words by the table, and writes a line for the answer.
@@ -70,6 +79,13 @@ fn switched(on: bool, call: &Call) -> bool
     }
 }
 
+// Writes a line for a reply.
+fn write_reply(reply: &Reply, text: &mut String) -> Result<(), AllocError>
+    ensures { OnOk result (string_bytes text.new ≡ string_bytes text.old ++ line_of (reply_text (reply_view reply.now))) }
+{
+    writeln!(text, "{reply}")
+}
+
 // Does what a command says, writes a line for it, and gives the switch behind it.
 fn perform(
     alloc: Global,
@@ -84,7 +100,7 @@ fn perform(
     match command {
         Command::Call(call) => {
             let reply = reply_to(alloc, parser, call)?;
-            writeln!(text, "{reply}")?;
+            write_reply(&reply, text)?;
             Ok(switched(on, call))
         }
         Command::Items => {
@@ -94,12 +110,20 @@ fn perform(
     }
 }
 
+// A parser of these words.
+fn parser_of(alloc: Global, words: &[OsString]) -> Result<Parser, RunError>
+    ensures ok { IfOk result (λ parser. parser ≡ fresh words.now) }
+    ensures err { IfErr result (λ e. e ≡ RunError.NoMemory) }
+{
+    Ok(Parser::from_vec(copies(alloc, words)?))
+}
+
 // Does what a script says, and gives what is written for it.
 fn performed(alloc: Global, script: &Script) -> Result<String, RunError>
     ensures ok { IfOk result (λ text. IsWritten script.now (string_bytes text)) }
     ensures err { IfErr result (λ e. e ≡ RunError.NoMemory) }
 {
-    let mut parser = Parser::from_vec(copies(alloc, &script.words)?);
+    let mut parser = parser_of(alloc, &script.words)?;
     let mut text = String::new(alloc);
     let mut on = true;
     for command in script.commands.iter() {
