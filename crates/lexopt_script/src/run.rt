@@ -115,7 +115,10 @@ fn parser_of(alloc: Global, words: &[OsString]) -> Result<Parser, RunError>
     ensures ok { IfOk result (λ parser. parser ≡ fresh words.now) }
     ensures err { IfErr result (λ e. e ≡ RunError.NoMemory) }
 {
-    Ok(Parser::from_vec(copies(alloc, words)?))
+    match copies(alloc, words) {
+        Ok(words) => Ok(Parser::from_vec(words)),
+        Err(_) => Err(RunError::NoMemory),
+    }
 }
 
 // Does what a script says, and gives what is written for it.
