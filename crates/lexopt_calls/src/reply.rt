@@ -89,7 +89,7 @@ impl fmt::Display for Reply {
             Reply::Done => f.write_str("ok"),
             Reply::Missing(option) => {
                 f.write_str("error: ")?;
-                write_missing_value(option.as_ref().map(|option| option.as_str()), f)
+                write_missing_value(option.as_deref(), f)
             }
             Reply::Unexpected(option, word) => {
                 f.write_str("error: ")?;

@@ -106,7 +106,7 @@ impl fmt::Display for Error {
     fn fmt<W: fmt::Write>(&self, f: &mut fmt::Formatter<W>) -> fmt::Result {
         match self {
             Error::MissingValue { option } => {
-                write_missing_value(option.as_ref().map(|option| option.as_str()), f)
+                write_missing_value(option.as_deref(), f)
             }
             Error::UnexpectedOption(option) => write!(f, "invalid option '{option}'"),
             Error::UnexpectedArgument(value) => {
