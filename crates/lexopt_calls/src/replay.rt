@@ -1,16 +1,14 @@
 //! Lists of calls on a parser: `replay` makes them, and gives a reply for each.
-ghost use Rattle.std.specs.Prelude.{◌≡◌, ◌+◌, ◌++◌, ◌≤◌, ◌↔◌, ℕ, List, Option, IsTrue, IfOk, IfErr, OnErr, map};
-ghost use Rattle.std.specs.List.{flat_map};
+ghost use Rattle.std.specs.Prelude.{◌≡◌, ◌++◌, ◌≤◌, ◌↔◌, ℕ, List, Option, IsTrue, IfOk, IfErr, OnErr};
 ghost use Rattle.std.specs.Option.{option_map};
 ghost use Rattle.lexopt_spec.specs.Steps as steps;
 ghost use Rattle.lexopt_spec.specs.Steps.{Next, Value};
-ghost use Rattle.lexopt_spec.specs.Account.{Segment, bytes_of, flat, handed, shown_of};
-ghost use Rattle.lexopt_line_spec.specs.Bound.{bound, replies_count};
-ghost use Rattle.lexopt_spec.specs.Runs.{AccountedRun, Part, Run, Step, values, raw, raw_if, try_raw, up_to};
+ghost use Rattle.lexopt_spec.specs.Runs.{Step, values, raw, raw_if, try_raw, up_to};
 ghost use Rattle.lexopt_spec.specs.Views.{ValueItems, WordItems};
 ghost use Rattle.lexopt_base.specs.Stages.{stage_of};
 ghost use Rattle.lexopt_base.specs.Replies.{Gives, error_reply, next_reply};
-ghost use Rattle.lexopt_calls.specs.Replies.{ReadsPieces, TakesThis, call_view, reply_view};
+ghost use Rattle.lexopt_calls.specs.Replies.{TakesThis, call_view, reply_view};
+ghost use Rattle.lexopt_calls.specs.Lists.{AccountsForBytes, KeepsBound, Replays, ReplaysPart, ReplaysPieces};
 
 use crate::reply::{Call, Reply};
 use lexopt_base::parser::Parser;
@@ -210,24 +208,20 @@ pub fn reply_to(alloc: Global, parser: &mut Parser, call: &Call) -> Result<Reply
 /// the calls was made then, and perhaps the next one, of whose items some may have been given; the replies are gone.
 pub fn replay(alloc: Global, parser: &mut Parser, calls: &[Call]) -> Result<Vec<Reply>, Error>
     // The replies and the line that is left are those of the grammar.
-    ensures run { IfOk result (λ replies. Run parser.old (map call_view calls.now) (map reply_view replies.items) parser.new) }
+    ensures run { IfOk result (λ replies. Replays parser.old calls.now replies.items parser.new) }
 
-    // Each byte of the line is in one segment of what the calls read, or still unread, in order; what the replies hand out is
-    // what the segments show; and the words left are a suffix of those at the start.
-    ensures account { IfOk result (λ replies. (segments : List Segment)
-        × AccountedRun parser.old (map call_view calls.now) (map reply_view replies.items) segments parser.new
-        × (flat parser.old ≡ bytes_of segments ++ flat parser.new)
-        × (flat_map handed (map reply_view replies.items) ≡ shown_of segments)) }
+    // Each byte of the line is in one segment of what the calls read, or still unread, in order. What the
+    // replies hand out is what the segments show. The words left are a suffix of those at the start.
+    ensures account { IfOk result (λ replies. AccountsForBytes parser.old calls.now replies.items parser.new) }
     ensures words_left { (gone : List (List ℕ)) × (parser.old.words ≡ gone ++ parser.new.words) }
 
-    // A cluster that is read by `next` alone is its lossy characters. And the options, values and words that are handed out
-    // number what the line can still give at the start, less what it can still give at the end, at most.
-    ensures pieces { IfOk result (λ replies. ReadsPieces parser.old (map call_view calls.now) (map reply_view replies.items) parser.new) }
-    ensures bounded { IfOk result (λ replies. replies_count (map reply_view replies.items) + bound parser.new ≤ bound parser.old) }
+    // A cluster that is read by `next` alone is its lossy characters. And no more is handed out than the line can give.
+    ensures pieces { IfOk result (λ replies. ReplaysPieces parser.old calls.now replies.items parser.new) }
+    ensures bounded { IfOk result (λ replies. KeepsBound parser.old replies.items parser.new) }
 
     // What an error leaves.
     ensures err { IfErr result (λ e. e ≡ Error.OutOfMemory) }
-    ensures part { OnErr result (Part parser.old (map call_view calls.now) parser.new) }
+    ensures part { OnErr result (ReplaysPart parser.old calls.now parser.new) }
 {
     let mut replies = Vec::new(alloc);
     for call in calls {

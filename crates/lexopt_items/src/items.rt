@@ -7,11 +7,11 @@ ghost use Rattle.lexopt_line_spec.specs.Script.{value_text};
 ghost use Rattle.lexopt_spec.specs.Steps.{end};
 ghost use Rattle.lexopt_line_spec.specs.Table as spec;
 ghost use Rattle.lexopt_line_spec.specs.Table.{one_value};
-ghost use Rattle.lexopt_line_spec.specs.Readings.{IsReading, start};
-ghost use Rattle.lexopt_line_spec.specs.Spelling.{HaveWholeNames, Shows, Spells};
+ghost use Rattle.lexopt_line_spec.specs.Readings.{IsReading};
 ghost use Rattle.lexopt_spec.specs.Runs.{Step, values};
 ghost use Rattle.lexopt_base.specs.Replies.{Gives, error_reply};
 ghost use Rattle.lexopt_items.specs.Items.{EndsBy, IsErrorOf, IsRefused, ReadsItem, ReadsValues, RefusesValues, ending_view, item_view, item_with, table_view};
+ghost use Rattle.lexopt_items.specs.Lines.{IsAnswered, IsSpellable, LineFails, LineReads, LineShows, LineSpells, NamesAreWhole, ShowsList, ShowsNothing, SpellsList};
 
 use crate::kinds::{Kind, kind_of_long, kind_of_short};
 use lexopt_base::parser::Parser;
@@ -355,29 +355,29 @@ pub fn read_items(
     short_equals: bool,
     table: &Table,
 ) -> Result<Vec<Item>, Error>
-    // Which calls and replies stand behind the answer.
-    ensures reading { IfOk result (λ items. IsReading (table_view table.now) (start short_equals words.items) end (map item_view items.items)) }
-    ensures refused { IfErr result (λ e. IsRefused (table_view table.now) (start short_equals words.items) e) }
+    // A reading of the line says the items, or ends with the error.
+    ensures reading { IfOk result (λ items. LineReads table.now short_equals words.items items.items) }
+    ensures refused { IfErr result (λ e. LineFails table.now short_equals words.items e) }
 
-    // What is answered, the words show, and they spell it where no option has U+FFFD in its name.
-    ensures shown { IfOk result (λ items. Shows (table_view table.now) short_equals words.items (map item_view items.items)) }
-    ensures spelled { IfOk result (λ items. HaveWholeNames (map item_view items.items)
-        → Spells (table_view table.now) short_equals words.items (map item_view items.items)) }
+    // The words show what is answered, and spell it where no option has U+FFFD in its name.
+    ensures shown { IfOk result (λ items. LineShows table.now short_equals words.items items.items) }
+    ensures spelled { IfOk result (λ items. NamesAreWhole items.items
+        → LineSpells table.now short_equals words.items items.items) }
 
-    // What is answered, some words legally spell, also where these words do not.
-    ensures spellable { IfOk result (λ items. (others : List (List ℕ)) × Spells (table_view table.now) short_equals others (map item_view items.items)) }
+    // Some words legally spell what is answered, also where these words do not.
+    ensures spellable { IfOk result (λ items. IsSpellable table.now short_equals items.items) }
 
-    // Words show at most one list, and what they show, and so what they spell, is answered, or memory is refused.
-    ensures one_list { (l m : List spec.Item) → Shows (table_view table.now) short_equals words.items l
-        → Shows (table_view table.now) short_equals words.items m → l ≡ m }
-    ensures answered { (l : List spec.Item) → Shows (table_view table.now) short_equals words.items l
-        → IfOk result (λ items. map item_view items.items ≡ l) × IfErr result (λ e. e ≡ Error.OutOfMemory) }
-    ensures answered_spelled { (l : List spec.Item) → Spells (table_view table.now) short_equals words.items l
-        → IfOk result (λ items. map item_view items.items ≡ l) × IfErr result (λ e. e ≡ Error.OutOfMemory) }
+    // Words show at most one list. What they show, and so what they spell, is answered, or memory is refused.
+    ensures one_list { (l m : List spec.Item) → ShowsList table.now short_equals words.items l
+        → ShowsList table.now short_equals words.items m → l ≡ m }
+    ensures answered { (l : List spec.Item) → ShowsList table.now short_equals words.items l
+        → IsAnswered l result }
+    ensures answered_spelled { (l : List spec.Item) → SpellsList table.now short_equals words.items l
+        → IsAnswered l result }
 
     // Another error comes only where the words show no list.
     ensures no_list { IfErr result (λ e. (e ≡ Error.OutOfMemory)
-        ⊎ ((l : List spec.Item) → Shows (table_view table.now) short_equals words.items l → ⊥)) }
+        ⊎ ShowsNothing table.now short_equals words.items) }
 {
     let room = words.len().min(FIRST_ROOM);
     let mut parser = Parser::from_vec(words);

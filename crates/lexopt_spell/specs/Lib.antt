@@ -1,3 +1,4 @@
 pub mod Messages
 pub mod Views
 pub mod Words
+pub mod Lines

@@ -1,12 +1,7 @@
 //! Words that spell what a line is to say: from items to words, for another program.
-ghost use Rattle.std.specs.Prelude.{◌≡◌, ◌⊎◌, ℕ, List, Ok, IfErr, IfOk, map};
-ghost use Rattle.lexopt_line_spec.specs.Readings.{IsReading, start};
-ghost use Rattle.lexopt_line_spec.specs.Speller.{IsAtFault, spelled};
-ghost use Rattle.lexopt_line_spec.specs.Spelling.{Shows, Spells};
-ghost use Rattle.lexopt_spec.specs.Steps as steps;
-ghost use Rattle.lexopt_line_spec.specs.Table as spec;
-ghost use Rattle.lexopt_items.specs.Items.{item_view, table_view};
-ghost use Rattle.lexopt_spell.specs.Views.{IsFault, NamesItemAtFault};
+ghost use Rattle.std.specs.Prelude.{◌≡◌, ◌⊎◌, ℕ, List, IfErr, IfOk};
+ghost use Rattle.lexopt_items.specs.Lines.{LineReads, LineShows, LineSpells};
+ghost use Rattle.lexopt_spell.specs.Lines.{HaveFault, HaveWords, IsAtFault, LineSaysNothingElse, NamesItemAtFault, NoWordsShow};
 
 use crate::added::adds;
 use crate::forms::Place;
@@ -131,25 +126,24 @@ pub fn spell(
     table: &Table,
 ) -> Result<Vec<OsString>, SpellError>
     // Which words are answered, and which item is named, and why. Nothing is said of `OutOfMemory`.
-    ensures form { IfOk result (λ words. spelled (table_view table.now) short_equals (map item_view items.now) ≡ Ok words.items) }
-    ensures fault { IfErr result (λ e. IsFault (spelled (table_view table.now) short_equals (map item_view items.now)) e) }
+    ensures form { IfOk result (λ words. HaveWords table.now short_equals items.now words.items) }
+    ensures fault { IfErr result (λ e. HaveFault table.now short_equals items.now e) }
 
-    // What is answered legally spells the items: a reading of it comes to the end and says them, and every reading does.
-    ensures spelled { IfOk result (λ words. Spells (table_view table.now) short_equals words.items (map item_view items.now)) }
-    ensures read { IfOk result (λ words. IsReading (table_view table.now) (start short_equals words.items) steps.end (map item_view items.now)) }
-    ensures said { IfOk result (λ words. (final : steps.Reply) (l : List spec.Item)
-        → IsReading (table_view table.now) (start short_equals words.items) final l → (final ≡ steps.end) × (map item_view items.now ≡ l)) }
+    // What is answered legally spells the items. A reading of it comes to the end and says them, as every reading does.
+    ensures spelled { IfOk result (λ words. LineSpells table.now short_equals words.items items.now) }
+    ensures read { IfOk result (λ words. LineReads table.now short_equals words.items items.now) }
+    ensures said { IfOk result (λ words. LineSaysNothingElse table.now short_equals words.items items.now) }
 
     // The items before the one that is named can be spelled, and with it they cannot. This is so of one item at most.
-    ensures at_fault { IfErr result (λ e. NamesItemAtFault (table_view table.now) short_equals (map item_view items.now) e) }
-    ensures one_fault { (i j : ℕ) → IsAtFault (table_view table.now) short_equals (map item_view items.now) i
-        → IsAtFault (table_view table.now) short_equals (map item_view items.now) j → i ≡ j }
+    ensures at_fault { IfErr result (λ e. NamesItemAtFault table.now short_equals items.now e) }
+    ensures one_fault { (i j : ℕ) → IsAtFault table.now short_equals items.now i
+        → IsAtFault table.now short_equals items.now j → i ≡ j }
 
     // Items that some words show, and so those that some words spell, are spelled, or memory is refused.
-    ensures answered { (words : List (List ℕ)) → Shows (table_view table.now) short_equals words (map item_view items.now)
+    ensures answered { (words : List (List ℕ)) → LineShows table.now short_equals words items.now
         → IfErr result (λ e. e ≡ SpellError.OutOfMemory) }
     ensures none { IfErr result (λ e. (e ≡ SpellError.OutOfMemory)
-        ⊎ ((words : List (List ℕ)) → Shows (table_view table.now) short_equals words (map item_view items.now) → ⊥)) }
+        ⊎ NoWordsShow table.now short_equals items.now) }
 {
     let mut words = Vec::with_capacity(alloc, items.len())?;
     let mut place = Place::Open;

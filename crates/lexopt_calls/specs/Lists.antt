@@ -1,0 +1,36 @@
+-- What `replay` tells of a list of calls: the relations of the grammar, over calls and replies of Rust.
+use Rattle.std.specs.Prelude.{◌≡◌, ◌+◌, ◌++◌, ◌≤◌, List, map}
+use Rattle.std.specs.List.{flat_map}
+use Rattle.lexopt_spec.specs.Account.{Segment, bytes_of, flat, handed, shown_of}
+use Rattle.lexopt_spec.specs.Runs as runs
+use Rattle.lexopt_spec.specs.UnreadLine.{UnreadLine}
+use Rattle.lexopt_line_spec.specs.Bound.{bound, replies_count}
+use Rattle.lexopt_calls.specs.Replies.{ReadsPieces, call_view, reply_view}
+use Rattle.lexopt_calls.specs.declared.reply.Call.{Call}
+use Rattle.lexopt_calls.specs.declared.reply.Reply.{Reply}
+
+-- made in order, the calls have these replies, and leave this line
+abbrev pub Replays : UnreadLine → List Call → List Reply → UnreadLine → Type 0
+Replays u calls replies v = runs.Run u (map call_view calls) (map reply_view replies) v
+
+-- of a longer list of calls a part was made, and perhaps some of the next call
+abbrev pub ReplaysPart : UnreadLine → List Call → UnreadLine → Type 0
+ReplaysPart u calls v = runs.Part u (map call_view calls) v
+
+-- Each byte of the line is in one segment of what the calls read, or still unread, in order. What the
+-- replies hand out is what the segments show.
+abbrev pub AccountsForBytes : UnreadLine → List Call → List Reply → UnreadLine → Type 0
+AccountsForBytes u calls replies v = (segments : List Segment)
+    × runs.AccountedRun u (map call_view calls) (map reply_view replies) segments v
+    × (flat u ≡ bytes_of segments ++ flat v)
+    × (flat_map handed (map reply_view replies) ≡ shown_of segments)
+
+-- a cluster that is read by `next` alone is its lossy characters
+abbrev pub ReplaysPieces : UnreadLine → List Call → List Reply → UnreadLine → Type 0
+ReplaysPieces u calls replies v =
+    ReadsPieces u (map call_view calls) (map reply_view replies) v
+
+-- The options, values and words that are handed out number at most what the line can give at the start,
+-- less what it can still give at the end.
+abbrev pub KeepsBound : UnreadLine → List Reply → UnreadLine → Type 0
+KeepsBound u replies v = replies_count (map reply_view replies) + bound v ≤ bound u

@@ -1,0 +1,45 @@
+-- What `spell` tells of a whole line, over a table and items of Rust. `short_equals` is the setting of the switch.
+use Rattle.std.specs.Prelude.{◌≡◌, ℕ, Bool, List, map, Ok}
+use Rattle.lexopt_spec.specs.Steps as steps
+use Rattle.lexopt_spec.specs.Steps.{Reply}
+use Rattle.lexopt_line_spec.specs.Readings.{IsReading, start}
+use Rattle.lexopt_line_spec.specs.Speller as spec
+use Rattle.lexopt_line_spec.specs.Speller.{spelled}
+use Rattle.lexopt_line_spec.specs.Table as table_spec
+use Rattle.lexopt_items.specs.Items.{item_view, table_view}
+use Rattle.lexopt_items.specs.Lines.{LineShows}
+use Rattle.lexopt_items.specs.declared.items.Item.{Item}
+use Rattle.lexopt_items.specs.declared.items.Table.{Table}
+use Rattle.lexopt_spell.specs.Views as views
+use Rattle.lexopt_spell.specs.declared.spell.SpellError.{SpellError}
+
+-- of the words that spell the items, the rules choose these
+abbrev pub HaveWords : Table → Bool → List Item → List (List ℕ) → Type 0
+HaveWords table short_equals items words =
+    spelled (table_view table) short_equals (map item_view items) ≡ Ok words
+
+-- by the rules the items have the fault that the error names. `OutOfMemory` says nothing of them
+abbrev pub HaveFault : Table → Bool → List Item → SpellError → Type 0
+HaveFault table short_equals items e =
+    views.IsFault (spelled (table_view table) short_equals (map item_view items)) e
+
+-- every reading of the words comes to the end of the line, and says these items
+abbrev pub LineSaysNothingElse : Table → Bool → List (List ℕ) → List Item → Type 0
+LineSaysNothingElse table short_equals words items = (final : Reply) (l : List table_spec.Item)
+    → IsReading (table_view table) (start short_equals words) final l
+    → (final ≡ steps.end) × (map item_view items ≡ l)
+
+-- the items before this one can be spelled, and with it they cannot
+abbrev pub IsAtFault : Table → Bool → List Item → ℕ → Type 0
+IsAtFault table short_equals items i =
+    spec.IsAtFault (table_view table) short_equals (map item_view items) i
+
+-- the error names the item at fault, or is `OutOfMemory`
+abbrev pub NamesItemAtFault : Table → Bool → List Item → SpellError → Type 0
+NamesItemAtFault table short_equals items e =
+    views.NamesItemAtFault (table_view table) short_equals (map item_view items) e
+
+-- no words show the items
+abbrev pub NoWordsShow : Table → Bool → List Item → Type 0
+NoWordsShow table short_equals items =
+    (words : List (List ℕ)) → LineShows table short_equals words items → ⊥
