@@ -20,7 +20,7 @@ CALLS = {
     "b": "bin_name",
 }
 
-# What stands before the value in the message of an error, and what behind it. An option stands in it as it is.
+# What stands before the value in the message of an error, and what after it. An option stands in it as it is.
 AROUND = {
     "A": (b"unexpected argument ", rb""),
     "U": (b"unexpected argument for option '%s': ", rb""),
@@ -61,15 +61,15 @@ class Answer:
         return self.fields[-1]
 
     def around_the_value(self):
-        """What the message has before the value and behind it."""
-        front, behind = AROUND[self.letter]
+        """What the message has before the value and after it."""
+        front, after = AROUND[self.letter]
         if b"%s" in front:
             front %= self.fields[0]
-        return front, re.search(behind, self.message)[0]
+        return front, re.search(after, self.message)[0]
 
 
 def answers_of(text):
-    """The answers that stand behind one another."""
+    """The answers that stand after one another."""
     found = []
     for letter, fields, message in re.findall(r'([A-Z-])((?::[0-9a-f]*)*)("[0-9a-f]*)?', text.decode()):
         fields = tuple(bytes.fromhex(field) for field in fields.split(":")[1:])

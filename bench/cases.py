@@ -76,7 +76,7 @@ def up_to(count, things):
 
 
 def lists_of(count, calls, front=""):
-    """All lists of so many of these calls, behind some others."""
+    """All lists of so many of these calls, after some others."""
     return [front + "".join(chosen) for chosen in product(calls, repeat=count)]
 
 
@@ -94,12 +94,12 @@ def all_lists(least, most, lists, constructor="a"):
 def edges(_cases):
     """All byte lists of length 1 to 4 over the edges, each in many places."""
     cluster = ["n0n0n0n0n0", "n0v0n0", "n0n0v0n0", "u0u0u0u0u0", "n0s2n0", "n0c0n0c0v0"]
-    behind = ["n0n0n0n0n0n0", "n0v0n0", "n0o0n0", "n0p0n0", "n0l0n0", "e0n0s1n0"]
+    after = ["n0n0n0n0n0n0", "n0v0n0", "n0o0n0", "n0p0n0", "n0l0n0", "e0n0s1n0"]
     for length in range(1, 5):
         for chosen in product(EDGES, repeat=length):
             text = b"".join(chosen)
             block = each([b"-" + text], cluster)
-            block += each([b"-a" + text], behind)
+            block += each([b"-a" + text], after)
             block += each([b"-a=" + text], ["n0n0n0", "n0l0l0"])
             block += each([b"--" + text], ["n0v0n0", "u0u0"])
             block += each([b"--=" + text], ["n0n0", "n0p0"])

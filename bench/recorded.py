@@ -127,7 +127,7 @@ def recorded(answers):
         calls = list(zip(calls[::2], calls[1::2]))
         lines += ["> " + word_of_script(bytes.fromhex(word)) for word in words.split(".")[1:]]
         lines += ["> " + call_of_script(*call) for call in calls]
-        # What is left stands behind the answers to the calls.
+        # What is left stands after the answers to the calls.
         for (letter, _), text in zip(calls, answer.split(b" ")):
             lines += ["< " + reply(letter, answers_of(text)).decode()]
         lines.append("")

@@ -64,13 +64,13 @@ def repeated(words):
     return lambda size: list(islice(cycle(words), size))
 
 
-def behind(front, words):
-    """These words, as many as are asked for, over and over, behind one word."""
+def after(front, words):
+    """These words, as many as are asked for, over and over, after one word."""
     return lambda size: [front, *islice(cycle(words), size)]
 
 
 def one_word(front, text):
-    """One word: this front, and behind it the text over and over, as many bytes as are asked for."""
+    """One word: this front, and after it the text over and over, as many bytes as are asked for."""
     return lambda size: [front + (text * (size // len(text) + 1))[:size]]
 
 
@@ -119,7 +119,7 @@ WORKLOADS = [
     Workload("a name of {size} damaged bytes", 100_000, one_word(b"--", b"\xff")),
     Workload("a cluster of {size} damaged bytes", 100_000, one_word(b"-", b"\xff")),
     Workload("{size} empty words", 10_000, repeated([b""])),
-    Workload("`-n` and {size} values", 10_000, behind(b"-n", [b"value"]), work="values"),
+    Workload("`-n` and {size} values", 10_000, after(b"-n", [b"value"]), work="values"),
     Workload(
         "{size} words taken unread",
         10_000,
@@ -147,7 +147,7 @@ WORKLOADS = [
     Workload(
         "`-x` and {size} values",
         10_000,
-        behind(b"-x", [b"value"]),
+        after(b"-x", [b"value"]),
         work="items",
         bounds={"items": (1.05, OF_EMPTY_WORDS)},
     ),

@@ -28,7 +28,7 @@ pub enum Item {
     Positional(OsString),
 }
 
-/// Reads a whole line by a table: behind each option of the table its values are read, and any other option has none.
+/// Reads a whole line by a table: after each option of the table its values are read, and any other option has none.
 pub fn read_items(
     words: Vec<OsString>,
     short_equals: bool,

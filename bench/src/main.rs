@@ -210,7 +210,7 @@ fn main() -> Result<(), Box<dyn std::error::Error>> {
     let mut input = Vec::new();
     io::stdin().read_to_end(&mut input)?;
     let mut words: Vec<&[u8]> = input.split(|byte| *byte == 0).collect();
-    let _behind_the_last = words.pop();
+    let _after_the_last = words.pop();
 
     let table = options();
     let mut seen = Seen::new();

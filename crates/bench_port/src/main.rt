@@ -266,7 +266,7 @@ fn main(rt: HostRuntime) -> Result<()> {
     let mut input = Vec::new(alloc);
     rt.reader().read_to_end(&mut input)?;
     let mut words: Vec<&[u8]> = input.split(|byte| *byte == 0).collect(alloc)?;
-    let _behind_the_last = words.pop();
+    let _after_the_last = words.pop();
 
     let table = options(alloc)?;
     let mut seen = Seen::new();

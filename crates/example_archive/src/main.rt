@@ -49,7 +49,7 @@ fn table(alloc: Global) -> Result<Table, AllocError> {
     Ok(table)
 }
 
-// The words that the program was called with, of any bytes, behind its name.
+// The words that the program was called with, of any bytes, after its name.
 fn own_words(rt: &(impl Env + AllocGlobal)) -> Result<Vec<OsString>, Error> {
     let alloc = rt.alloc();
     let mut words = Vec::new(alloc);

@@ -39,7 +39,7 @@ pub record IsReadAs (bytes word : List ℕ) : Type 0 where
 
 -- ---- how a word is written here
 
--- a byte between single quotes; a quote stands behind a backslash, outside of them
+-- a byte between single quotes; a quote stands after a backslash, outside of them
 abbrev pub in_quotes : ℕ → List ℕ
 in_quotes b = if b == quote then codes "'\\''" else b ∷ []
 

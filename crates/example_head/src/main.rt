@@ -1,6 +1,6 @@
 //! Prints the first lines of standard input: `example_head [-NUM] [-n|--lines=NUM] [--number]`.
 //!
-//! `-NUM` is a number behind one dash, as in `head -10`, which `next` would read as the options `1` and `0`.
+//! `-NUM` is a number after one dash, as in `head -10`, which `next` would read as the options `1` and `0`.
 //!
 //! The exit status is 0, or 2 where the command line, or memory to read it, was refused, or 1 where a line could not be read
 //! or printed; then standard error says why.
@@ -29,7 +29,7 @@ fn number_of(word: OsStr<'_>) -> Option<usize> {
     digits.parse().ok()
 }
 
-// Takes the next word, if it is a number behind one dash. In the middle of a word, as behind `-q` of `-q10`, there is none.
+// Takes the next word, if it is a number after one dash. In the middle of a word, as after `-q` of `-q10`, there is none.
 fn take_dash_number(parser: &mut Parser) -> Option<usize> {
     let mut words = parser.try_raw_args()?;
     let number = number_of(words.peek()?)?;
@@ -38,7 +38,7 @@ fn take_dash_number(parser: &mut Parser) -> Option<usize> {
 }
 
 // No positional argument is wanted. A program that wants some stops looking for `-NUM` at the first of them: it may stand
-// behind `--`, where `-10` is a positional argument too.
+// after `--`, where `-10` is a positional argument too.
 fn read_options(alloc: Global, parser: &mut Parser) -> Result<Options, Error> {
     let mut options = Options {
         lines: 10,

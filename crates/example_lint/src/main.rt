@@ -25,7 +25,7 @@ fn read_argument(alloc: Global, parser: &mut Parser) -> Result<bool, Error> {
         Some(Value(_file)) => {}
         Some(Long(name)) => {
             let error = Long(name).unexpected(alloc);
-            // A value that is joined to an unknown long option is no error of its own. What stands behind a short one may be
+            // A value that is joined to an unknown long option is no error of its own. What stands after a short one may be
             // more options, and is read on.
             let _value = parser.optional_value();
             return Err(error);

@@ -69,7 +69,7 @@ fn own_words(rt: &(impl Env + AllocGlobal)) -> Result<Vec<OsString>, Error> {
     Ok(words)
 }
 
-// Behind the number of seconds no word is read as an option: each one is the command's own.
+// After the number of seconds no word is read as an option: each one is the command's own.
 fn read_plan(rt: &(impl Env + AllocGlobal)) -> Result<Plan, Error> {
     let mut parser = Parser::from_iter(rt.alloc(), own_words(rt)?)?;
     let limits = read_limits(rt, &mut parser)?;

@@ -21,7 +21,7 @@ use Rattle.lexopt_base.specs.declared.parser.Parser.TheInside.{Inside}
 
 -- ---- kept words
 
--- behind the cursor stands the word that it passes next
+-- after the cursor stands the word that it passes next
 pub passed : (words : List (List ℕ)) (count : ℕ) → drop count words ≢ [] → drop count words ≡ word_before (count + 1) words ∷ drop (count + 1) words
 passed words count some = ⊎_elim
     (λ (within : count < length words). rw add-one (drop-cons words count [] within))
@@ -42,11 +42,11 @@ seen_from words copied zero first is same =
 seen_from words copied (suc n) first is same =
     let start : first ≡ n = omega arith in
     let one : suc n - first ≡ 1 = omega arith in
-    let behind : n + 1 ≡ suc n = omega arith in
+    let after : n + 1 ≡ suc n = omega arith in
     let here : n + 0 ≡ n = omega arith in
     let left : copied ≡ drop n words = same ∙ ap (λ m. drop m words) start in (
       ap (λ m. word_before m copied) one ∙ ap (λ (l : List (List ℕ)). get_or l 0 []) left ∙ get_or-drop n words 0 [] ∙ ap (λ m. get_or words m []) here,
-      ap (λ m. drop m copied) one ∙ ap (λ (l : List (List ℕ)). drop 1 l) left ∙ drop-drop 1 n words ∙ ap (λ m. drop m words) behind,
+      ap (λ m. drop m copied) one ∙ ap (λ (l : List (List ℕ)). drop 1 l) left ∙ drop-drop 1 n words ∙ ap (λ m. drop m words) after,
     )
 
 -- ---- states with no tail
@@ -69,7 +69,7 @@ no_tail_anywhere word other (PendingValue position) placed is = cc
 no_tail_anywhere word other (Shorts position) placed is = absurd (no_rest word position placed is)
 no_tail_anywhere word other FinishedOpts placed is = refl
 
--- the word behind the cursor is the next word of the line
+-- the word after the cursor is the next word of the line
 pub word_taken : (p : Inside) (u : UnreadLine) (result : Option (List ℕ)) (after : Kept) → line_of p ≡ u → IsPlaced p.words.current p.state → u.tail ≡ no_tail
     → TakesNext p.words result after → WordItem u result (line_of (record p { words = after }))
 word_taken p u None after seen placed none takes =
@@ -147,7 +147,7 @@ short_read_on word at size c shows takes below = record {
   placed = below;
 }
 
--- a piece is read, and nothing stands behind it
+-- a piece is read, and nothing stands after it
 pub short_read_out : (word : List ℕ) (at size c : ℕ) → c ≡ shown (decoded (drop at word)).char → size ≡ (decoded (drop at word)).size → length word ≤ at + size
     → IsShortRead word at c Ready
 short_read_out word at size c shows takes out = record {

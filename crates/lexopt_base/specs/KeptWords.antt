@@ -2,7 +2,7 @@
 use Rattle.std.specs.Prelude.{◌≡◌, ◌≤◌, ℕ, zero, suc, List, [], ◌∷◌, drop, slice_index_or, vec_len, Option, Some, None}
 use Rattle.lexopt_base.specs.declared.kept_words.KeptWords.TheInside.{Inside}
 
--- the word just before the cursor, or no bytes where there is none, and the words behind it
+-- the word just before the cursor, or no bytes where there is none, and the words after it
 pub record Kept : Type 0 where
   pub current : List ℕ
   pub left : List (List ℕ)
@@ -24,7 +24,7 @@ abbrev pub IsFirst : Option (List ℕ) → List (List ℕ) → Type 0
 IsFirst None words = words ≡ []
 IsFirst (Some word) words = (others : List (List ℕ)) × (words ≡ word ∷ others)
 
--- the word behind the cursor is taken, if there is one
+-- the word after the cursor is taken, if there is one
 abbrev pub TakesNext : Kept → Option (List ℕ) → Kept → Type 0
 TakesNext kept None after = (kept.left ≡ []) × (after ≡ kept)
 TakesNext kept (Some word) after = kept.left ≡ word ∷ after.left

@@ -32,7 +32,7 @@ last_of Long name = line.long_option name
 abbrev pub line_of : Inside → UnreadLine
 line_of p = record { tail = tail_of p.words.current p.state; words = p.words.left; ended = ended_of p.state; last = last_of p.last_option (string_bytes p.name); short_equals = p.short_equals; bin_name = option_map string_bytes p.bin_name }
 
--- the position lies in the word: behind a byte, and in a cluster before one
+-- the position lies in the word: after a byte, and in a cluster before one
 abbrev pub IsPlaced : List ℕ → State → Type 0
 IsPlaced word Ready = Unit {0}
 IsPlaced word (PendingValue position) = (0 < position) × (position ≤ length word)
@@ -52,14 +52,14 @@ pub record IsSound (p : Inside) : Type 0 where
   pub placed : IsPlaced p.words.current p.state
   pub option : HasOption p.last_option p.state
 
--- what is read of a cluster from this position of its word on: a character, and the state behind it
+-- what is read of a cluster from this position of its word on: a character, and the state after it
 pub record IsShortRead (word : List ℕ) (position c : ℕ) (state : State) : Type 0 where
   pub shown_is : c ≡ shown (first_piece (drop position word)).char
   pub tail : tail_of word state ≡ rest_of (after_first_piece (drop position word))
   pub ended : ended_of state ≡ false
   pub placed : IsPlaced word state
 
--- what is read of the word of a long option: its name, and the state behind it
+-- what is read of the word of a long option: its name, and the state after it
 pub record IsLongRead (word name : List ℕ) (state : State) : Type 0 where
   pub option : IsLongOption (drop 2 word) name (tail_of word state)
   pub ended : ended_of state ≡ false

@@ -11,7 +11,7 @@ use std::alloc::{AllocError, Global};
 use std::marker::Model;
 use std::mem;
 
-/// Words with a cursor. Contracts see the word just before the cursor, of which some may be unread, and the words behind
+/// Words with a cursor. Contracts see the word just before the cursor, of which some may be unread, and the words after
 /// it, of which all are.
 #[derive(Drop)]
 pub struct KeptWords {
@@ -53,7 +53,7 @@ impl KeptWords {
         self.words[self.count - 1].as_bytes()
     }
 
-    /// The word behind the cursor.
+    /// The word after the cursor.
     pub fn first(&self) -> Option<&OsString>
         ensures { IsFirst (option_map (λ word. word.now) result) self.now.left }
     {
@@ -68,7 +68,7 @@ impl KeptWords {
         self.count += 1;
     }
 
-    /// Takes the word behind the cursor, which moves over its place.
+    /// Takes the word after the cursor, which moves over its place.
     #[inline(always)]
     pub fn take_next(&mut self) -> Option<OsString>
         ensures { TakesNext self.old result self.new }
@@ -83,9 +83,9 @@ impl KeptWords {
         Some(word)
     }
 
-    /// Takes the word behind the cursor; the word just before the cursor stays just before it.
+    /// Takes the word after the cursor; the word just before the cursor stays just before it.
     #[inline(always)]
-    pub fn take_behind(&mut self) -> Option<OsString>
+    pub fn take_after(&mut self) -> Option<OsString>
         requires { self.old.current ≢ [] }
         ensures taken { TakesNext self.old result self.new }
         ensures current { self.new.current ≡ self.old.current }
@@ -101,14 +101,14 @@ impl KeptWords {
         Some(word)
     }
 
-    /// The words behind the cursor.
+    /// The words after the cursor.
     pub fn left(&self) -> &[OsString]
         ensures { result.now ≡ self.now.left }
     {
         &self.words[self.count..]
     }
 
-    /// A copy of the word just before the cursor and of the words behind it.
+    /// A copy of the word just before the cursor and of the words after it.
     pub fn copied(&self) -> Result<KeptWords, AllocError>
         ensures { IfOk result (λ kept. kept ≡ self.now) }
     {

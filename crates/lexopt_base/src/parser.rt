@@ -149,7 +149,7 @@ impl Parser {
     }
 
     /// The binary name that `from_iter` and `from_env` keep: the first word as text, in which each damaged piece is one
-    /// U+FFFD. `None` where there was no word, and behind `from_args`. No call changes it.
+    /// U+FFFD. `None` where there was no word, and after `from_args`. No call changes it.
     pub fn bin_name(&self) -> Option<&str>
         ensures { option_map (λ name. name.now) result ≡ self.now.bin_name }
     {
@@ -169,7 +169,7 @@ impl Parser {
     /// Reads the next option or positional argument; `Ok(None)` at the end of the line.
     ///
     /// The words `-ab --name=x file` give `Short('a')`, `Short('b')`, `Long("name")`, then, if nobody asks for it by
-    /// `value`, an `UnexpectedValue` error with `x`, and then `Value` of `file`. Behind the separator `--` each word is a
+    /// `value`, an `UnexpectedValue` error with `x`, and then `Value` of `file`. After the separator `--` each word is a
     /// `Value`. The syntax is that of POSIX and GNU, as lexopt documents it; a short option is one character of UTF-8, and
     /// each damaged piece of an option is read as one U+FFFD.
     ///
@@ -226,7 +226,7 @@ impl Parser {
         Ok(Parser::unread(alloc, words, bin_name))
     }
 
-    // A parser of the words behind the cursor.
+    // A parser of the words after the cursor.
     #[inline(always)]
     fn unread(alloc: Global, words: KeptWords, bin_name: Option<String>) -> Parser
         ensures { result ≡ record (fresh words.left) { bin_name = option_map string_bytes bin_name } }
@@ -363,7 +363,7 @@ impl Parser {
     {
         match self.state {
             State::Ready | State::FinishedOpts => self.words.take_next(),
-            State::PendingValue(_) | State::Shorts(_) => self.words.take_behind(),
+            State::PendingValue(_) | State::Shorts(_) => self.words.take_after(),
         }
     }
 
@@ -577,7 +577,7 @@ fn is_joined(word: &[u8], position: usize, short_equals: bool) -> bool
     word[position] == b'=' && short_equals
 }
 
-// The short option at this position of a word, and the state behind it.
+// The short option at this position of a word, and the state after it.
 #[inline(always)]
 fn read_short(word: &[u8], position: usize) -> (char, State)
     requires { position < length word.now }
@@ -593,7 +593,7 @@ fn read_short(word: &[u8], position: usize) -> (char, State)
     (piece.shown(), state)
 }
 
-// The name of the long option in a word, and the state behind it.
+// The name of the long option in a word, and the state after it.
 #[inline(always)]
 fn read_long(word: &[u8]) -> (&[u8], State)
     requires { 2 ≤ length word.now }

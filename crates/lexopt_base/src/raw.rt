@@ -19,7 +19,7 @@ pub struct RawArgs<'a> {
 impl Parser {
     /// The words that are left, unread. The separator is a word like any other here, and ends no options.
     ///
-    /// Behind `-a` of `-a -b --` it gives `-b` and `--`.
+    /// After `-a` of `-a -b --` it gives `-b` and `--`.
     ///
     /// Errors: `UnexpectedValue` where a value of the last option was not taken, as `b` of `-ab`; it is consumed, so a
     /// second call succeeds. `OutOfMemory` only in its place; nothing is consumed.

@@ -40,7 +40,7 @@ abbrev pub TakesThis : List ℕ → UnreadLine → Option (List ℕ) → UnreadL
 TakesThis wanted u None after = (after ≡ u) × ((others : List (List ℕ)) → u.words ≡ wanted ∷ others → ⊥)
 TakesThis wanted u (Some word) after = (word ≡ wanted) × WordItem u (Some word) after
 
--- Where the line begins with a cluster that has no `=` behind its first byte, or the switch is off, and the calls are `next`, once for each
+-- Where the line begins with a cluster that has no `=` after its first byte, or the switch is off, and the calls are `next`, once for each
 -- of its pieces: the replies are its lossy characters, so none wants memory, and the word is gone.
 abbrev pub ReadsPieces : UnreadLine → List runs.Call → List steps.Reply → UnreadLine → Type 0
 ReadsPieces u calls replies v =

@@ -202,7 +202,7 @@ pub fn reply_to(alloc: Global, parser: &mut Parser, call: &Call) -> Result<Reply
 ///
 /// On the words `-a=b --n=x` the calls `Next`, `Value`, `Next`, `Next` are answered `Short('a')`, `Taken` of `b`,
 /// `LongName` of `n`, and `Unexpected` of `--n` and `x`. An error of the parser is a reply like any other, `NoMemory` among
-/// them, and the calls behind it are made.
+/// them, and the calls after it are made.
 ///
 /// The only error is `OutOfMemory`, where the list of the replies or what is copied into it found no memory. Some front of
 /// the calls was made then, and perhaps the next one, of whose items some may have been given; the replies are gone.

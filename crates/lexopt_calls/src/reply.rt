@@ -11,7 +11,7 @@ use lexopt_words::message::{write_missing_value, write_no_memory, write_unexpect
 use lexopt_words::os_string::{OsString, Quoted};
 use std::fmt;
 
-/// A call on a command line. A view that it asks for is dropped behind the items that are asked of it.
+/// A call on a command line. A view that it asks for is dropped after the items that are asked of it.
 #[derive(Debug, PartialEq, Eq, Drop)]
 pub enum Call {
     /// `next`: asks for the next option or positional argument.

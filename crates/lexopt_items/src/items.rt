@@ -44,7 +44,7 @@ pub struct Table {
     pub longs: Vec<String>,
     /// Options of one character with a value that may be left out: it stands in their word, never in the next.
     pub optional_shorts: Vec<char>,
-    /// Options with a name and a value that may be left out: it stands behind `=`.
+    /// Options with a name and a value that may be left out: it stands after `=`.
     pub optional_longs: Vec<String>,
     /// Options of one character with several values, one at least: a value joined by `=` alone,
     /// or all up to the next word that looks like an option.
@@ -64,7 +64,7 @@ pub enum Item {
     ShortMany(char, Vec<OsString>),
     /// An option with a name that has several values, with all of them: one at least.
     LongMany(String, Vec<OsString>),
-    /// A word that is no option, or that stands behind the separator.
+    /// A word that is no option, or that stands after the separator.
     Positional(OsString),
 }
 
@@ -338,7 +338,7 @@ fn refused(ending: Ending) -> Result<Vec<Item>, Error>
     Err(Error::from(ending))
 }
 
-/// Reads a whole line by a table: behind each option of the table its values are read, and any other option has none.
+/// Reads a whole line by a table: after each option of the table its values are read, and any other option has none.
 ///
 /// Under a table with `o` and `out` of one value, `color` of a value that may be left out, and `d` of several, the words
 /// `-vo=x --out y --color=z -d 1 2 -- file` give `Short('v', None)`, `Short('o', Some(x))`, `Long("out", Some(y))`,

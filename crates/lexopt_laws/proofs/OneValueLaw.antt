@@ -2,7 +2,7 @@
 use Rattle.std.proofs.Common.{◌≡◌, ℕ, Bool, true, false, List, [], refl, sym, ap, subst, ◌∙◌, cond}
 use Rattle.lexopt_line_spec.specs.Table.{Name, short, long, Item, Kind, flag, one, optional, several, kind, one_value, holds_in}
 use Rattle.lexopt_line_spec.specs.Spelling as large
-use Rattle.lexopt_line_spec.specs.Spelling.{Letters, Behind, Completes}
+use Rattle.lexopt_line_spec.specs.Spelling.{Letters, After, Completes}
 use Rattle.lexopt_laws.specs.OneValueSpelling as small
 use Rattle.lexopt_laws.specs.OneValueSpelling.{ValueKind, bare, valued, OneValueTable, value_kind, CompletesValue, widened}
 
@@ -32,25 +32,25 @@ same_kind : (t : OneValueTable) (name : Name) → kind (widened t) name ≡ same
 unfolding value_kind
 same_kind t name = one_value_kind t.shorts t.longs name ∙ as_kind (holds_in t.shorts t.longs name)
 
-completes_forth : (k : ValueKind) (name : Name) (behind : Behind) (words : List (List ℕ)) (item : Item) (left : List (List ℕ))
-    → CompletesValue k name behind words item left → Completes (same_as k) name behind words item left
-completes_forth bare name behind words item left h = h
-completes_forth valued name behind words item left h = h
+completes_forth : (k : ValueKind) (name : Name) (after : After) (words : List (List ℕ)) (item : Item) (left : List (List ℕ))
+    → CompletesValue k name after words item left → Completes (same_as k) name after words item left
+completes_forth bare name after words item left h = h
+completes_forth valued name after words item left h = h
 
-completes_back : (k : ValueKind) (name : Name) (behind : Behind) (words : List (List ℕ)) (item : Item) (left : List (List ℕ))
-    → Completes (same_as k) name behind words item left → CompletesValue k name behind words item left
-completes_back bare name behind words item left h = h
-completes_back valued name behind words item left h = h
+completes_back : (k : ValueKind) (name : Name) (after : After) (words : List (List ℕ)) (item : Item) (left : List (List ℕ))
+    → Completes (same_as k) name after words item left → CompletesValue k name after words item left
+completes_back bare name after words item left h = h
+completes_back valued name after words item left h = h
 
-forth : (t : OneValueTable) (name : Name) (behind : Behind) (words : List (List ℕ)) (item : Item) (left : List (List ℕ))
-    → CompletesValue (value_kind t name) name behind words item left → Completes (kind (widened t) name) name behind words item left
-forth t name behind words item left h =
-    subst (λ (k : Kind). Completes k name behind words item left) (sym (same_kind t name)) (completes_forth (value_kind t name) name behind words item left h)
+forth : (t : OneValueTable) (name : Name) (after : After) (words : List (List ℕ)) (item : Item) (left : List (List ℕ))
+    → CompletesValue (value_kind t name) name after words item left → Completes (kind (widened t) name) name after words item left
+forth t name after words item left h =
+    subst (λ (k : Kind). Completes k name after words item left) (sym (same_kind t name)) (completes_forth (value_kind t name) name after words item left h)
 
-back : (t : OneValueTable) (name : Name) (behind : Behind) (words : List (List ℕ)) (item : Item) (left : List (List ℕ))
-    → Completes (kind (widened t) name) name behind words item left → CompletesValue (value_kind t name) name behind words item left
-back t name behind words item left h =
-    completes_back (value_kind t name) name behind words item left (subst (λ (k : Kind). Completes k name behind words item left) (same_kind t name) h)
+back : (t : OneValueTable) (name : Name) (after : After) (words : List (List ℕ)) (item : Item) (left : List (List ℕ))
+    → Completes (kind (widened t) name) name after words item left → CompletesValue (value_kind t name) name after words item left
+back t name after words item left h =
+    completes_back (value_kind t name) name after words item left (subst (λ (k : Kind). Completes k name after words item left) (same_kind t name) h)
 
 is_flag : (k : ValueKind) → same_as k ≡ flag → k ≡ bare
 is_flag bare h = refl
@@ -60,30 +60,30 @@ cluster_forth : (letters : Letters) (t : OneValueTable) (switch : Bool) (words l
     → small.OneValueCluster letters t switch words left bytes items → large.Cluster letters (widened t) switch words left bytes items
 cluster_forth letters t switch words left bytes items (small.flag_first c character others more letter k no_mark spelled) =
     large.flag_first c character others more letter (same_kind t (short c) ∙ ap same_as k) no_mark (cluster_forth letters t switch words left others more spelled)
-cluster_forth letters t switch words left bytes items (small.last_option c character others behind item letter ends completes) =
-    large.last_option c character others behind item letter ends (forth t (short c) behind words item left completes)
+cluster_forth letters t switch words left bytes items (small.last_option c character others after item letter ends completes) =
+    large.last_option c character others after item letter ends (forth t (short c) after words item left completes)
 
 cluster_back : (letters : Letters) (t : OneValueTable) (switch : Bool) (words left : List (List ℕ)) (bytes : List ℕ) (items : List Item)
     → large.Cluster letters (widened t) switch words left bytes items → small.OneValueCluster letters t switch words left bytes items
 cluster_back letters t switch words left bytes items (large.flag_first c character others more letter k no_mark spelled) =
     small.flag_first c character others more letter (is_flag (value_kind t (short c)) (sym (same_kind t (short c)) ∙ k)) no_mark
     (cluster_back letters t switch words left others more spelled)
-cluster_back letters t switch words left bytes items (large.last_option c character others behind item letter ends completes) =
-    small.last_option c character others behind item letter ends (back t (short c) behind words item left completes)
+cluster_back letters t switch words left bytes items (large.last_option c character others after item letter ends completes) =
+    small.last_option c character others after item letter ends (back t (short c) after words item left completes)
 
 group_forth : (letters : Letters) (t : OneValueTable) (switch : Bool) (words : List (List ℕ)) (items : List Item) (left : List (List ℕ))
     → small.OneValueGroup letters t switch words items left → large.Group letters (widened t) switch words items left
 group_forth letters t switch words items left (small.cluster bytes others are other spelled) =
     large.cluster bytes others are other (cluster_forth letters t switch others left bytes items spelled)
-group_forth letters t switch words items left (small.long_option text bytes name behind item others are is none letter completes item_is) =
-    large.long_option text bytes name behind item others are is none letter (forth t (long name) behind others item left completes) item_is
+group_forth letters t switch words items left (small.long_option text bytes name after item others are is none letter completes item_is) =
+    large.long_option text bytes name after item others are is none letter (forth t (long name) after others item left completes) item_is
 
 group_back : (letters : Letters) (t : OneValueTable) (switch : Bool) (words : List (List ℕ)) (items : List Item) (left : List (List ℕ))
     → large.Group letters (widened t) switch words items left → small.OneValueGroup letters t switch words items left
 group_back letters t switch words items left (large.cluster bytes others are other spelled) =
     small.cluster bytes others are other (cluster_back letters t switch others left bytes items spelled)
-group_back letters t switch words items left (large.long_option text bytes name behind item others are is none letter completes item_is) =
-    small.long_option text bytes name behind item others are is none letter (back t (long name) behind others item left completes) item_is
+group_back letters t switch words items left (large.long_option text bytes name after item others are is none letter completes item_is) =
+    small.long_option text bytes name after item others are is none letter (back t (long name) after others item left completes) item_is
 
 pub line_forth : (letters : Letters) (t : OneValueTable) (switch : Bool) (words : List (List ℕ)) (items : List Item)
     → small.OneValueLine letters t switch words items → large.Line letters (widened t) switch words items

@@ -9,7 +9,7 @@ use lib.Utf8.{scalar}
 use Rattle.lexopt_spec.specs.UnreadLine.{dash, equals, is_plain}
 use Rattle.lexopt_line_spec.specs.Table.{short, long, Item, option, many, positional, Kind, flag, one, optional, several, kind, Table}
 use Rattle.lexopt_line_spec.specs.Spelling.{Spells}
-use Rattle.lexopt_line_spec.specs.Speller.{Reason, no_name, equals_in_name, unexpected_value, missing_value, wants_many, not_many, empty_value, option_among_values, empty_name, behind_separator, dash_without_flag, Place, open_line, in_cluster, behind_values, behind_positional, ended, Form, attached_form, short_form, long_form, words_form, short_words_form, short_many_form, long_many_form, Added, short_added, is_named, long_placed, long_added, adds, is_positional, separator_comes_too_early, separator_is_due, is_plain_item, Fault, with_rest, with_rests, spelled_from, spelled, is_of_the_place}
+use Rattle.lexopt_line_spec.specs.Speller.{Reason, no_name, equals_in_name, unexpected_value, missing_value, wants_many, not_many, empty_value, option_among_values, empty_name, past_separator, dash_without_flag, Place, open_line, in_cluster, after_values, after_positional, ended, Form, attached_form, short_form, long_form, words_form, short_words_form, short_many_form, long_many_form, Added, short_added, is_named, long_placed, long_added, adds, is_positional, separator_comes_too_early, separator_is_due, is_plain_item, Fault, with_rest, with_rests, spelled_from, spelled, is_of_the_place}
 use Rattle.lexopt_line_spec.proofs.SpellerAnswers.{none_is}
 use Rattle.lexopt_line_spec.proofs.SpellerTests.{has_equals}
 use Rattle.lexopt_line_spec.proofs.SpellerSound.{spelled_spells}
@@ -107,10 +107,10 @@ Answer = Bool → Bool → Place → Result Added Reason
 abbrev InCluster : Answer → Type 0
 InCluster answer = (joins due : Bool) → (b : Added) × (answer joins due in_cluster ≡ Ok b)
 
--- why it is not added at this place: it is so at every place; or right behind a flag of one character it is added
+-- why it is not added at this place: it is so at every place; or right after a flag of one character it is added
 data Why (answer : Answer) (place : Place) (r : Reason) : Type 0 where
   of_item : is_of_the_place r ≡ false → ((joins due : Bool) (other : Place) (a : Added) → answer joins due other ≡ Ok a → ⊥) → Why answer place r
-  of_place : is_of_the_place r ≡ true → (r ≡ behind_separator → place ≡ ended) → InCluster answer → Why answer place r
+  of_place : is_of_the_place r ≡ true → (r ≡ past_separator → place ≡ ended) → InCluster answer → Why answer place r
 
 -- with one form there is another, where one of several values is joined or not
 abbrev Either : (Bool → Result Form Reason) → Type 0
@@ -126,8 +126,8 @@ short_in_cluster d c form x f either is = λ y e.
     let g = either x y f is in
     let b = flag_goes_on d c g.0 in (b.0, ap (short_added true d in_cluster c) g.1 ∙ b.1)
 
-no_separator : {X : Type 0} (r : Reason) → Refusing (Err dash_without_flag) r → r ≡ behind_separator → X
-no_separator r is separator = absurd (let e : dash_without_flag ≡ behind_separator = refusing dash_without_flag r is ∙ separator in cc)
+no_separator : {X : Type 0} (r : Reason) → Refusing (Err dash_without_flag) r → r ≡ past_separator → X
+no_separator r is separator = absurd (let e : dash_without_flag ≡ past_separator = refusing dash_without_flag r is ∙ separator in cc)
 
 short_why : (s d : Bool) (place : Place) (c : ℕ) (form : Bool → Result Form Reason) (x : Bool) (r : Reason) (o : Result Form Reason) → form x ≡ o → OfItem o → Either form
     → Refusing (short_added s d place c o) r → Why (λ y e other. short_added s d other c (form y)) place r
@@ -137,33 +137,33 @@ short_why true d place c form x r (Err s) form_is of either is = of_item (reason
     let th = short_through true d other c (form y) a ok in
     let f = either y x th.formed th.is in none_is s f.0 (sym form_is ∙ f.1))
 short_why true d ended c form x r (Ok f) form_is of either is =
-    of_place (reason_of behind_separator r refl is) (λ separator. refl) (short_in_cluster d c form x f either form_is)
+    of_place (reason_of past_separator r refl is) (λ separator. refl) (short_in_cluster d c form x f either form_is)
 short_why true true in_cluster c form x r (Ok f) form_is of either is = none_is r _ (sym is)
 short_why true true open_line c form x r (Ok f) form_is of either is =
     of_place (reason_of dash_without_flag r refl is) (no_separator r is) (short_in_cluster true c form x f either form_is)
-short_why true true behind_values c form x r (Ok f) form_is of either is =
+short_why true true after_values c form x r (Ok f) form_is of either is =
     of_place (reason_of dash_without_flag r refl is) (no_separator r is) (short_in_cluster true c form x f either form_is)
-short_why true true behind_positional c form x r (Ok f) form_is of either is =
+short_why true true after_positional c form x r (Ok f) form_is of either is =
     of_place (reason_of dash_without_flag r refl is) (no_separator r is) (short_in_cluster true c form x f either form_is)
 short_why true false open_line c form x r (Ok f) form_is of either is = none_is r _ (sym is)
 short_why true false in_cluster c form x r (Ok f) form_is of either is = none_is r _ (sym is)
-short_why true false behind_values c form x r (Ok f) form_is of either is = none_is r _ (sym is)
-short_why true false behind_positional c form x r (Ok f) form_is of either is = none_is r _ (sym is)
+short_why true false after_values c form x r (Ok f) form_is of either is = none_is r _ (sym is)
+short_why true false after_positional c form x r (Ok f) form_is of either is = none_is r _ (sym is)
 
 placed_why : (n : Bool) (place : Place) (name : List ℕ) (f : Form) (r : Reason) → Refusing (long_placed n place name f) r → Why (λ y e other. long_placed n other name f) place r
 placed_why false place name f r is = of_item (reason_of empty_name r refl is) (λ y e other a ok. none_is _ a ok)
-placed_why true ended name f r is = of_place (reason_of behind_separator r refl is) (λ separator. refl) (λ y e. (_, refl))
+placed_why true ended name f r is = of_place (reason_of past_separator r refl is) (λ separator. refl) (λ y e. (_, refl))
 placed_why true open_line name f r is = none_is r _ (sym is)
 placed_why true in_cluster name f r is = none_is r _ (sym is)
-placed_why true behind_values name f r is = none_is r _ (sym is)
-placed_why true behind_positional name f r is = none_is r _ (sym is)
+placed_why true after_values name f r is = none_is r _ (sym is)
+placed_why true after_positional name f r is = none_is r _ (sym is)
 
 long_why : (u e : Bool) (place : Place) (name : List ℕ) (form : Result Form Reason) (r : Reason) → OfItem form → Refusing (long_added u e place name form) r
     → Why (λ y d other. long_added u e other name form) place r
 long_why false e place name form r of is = of_item (reason_of no_name r refl is) (λ y d other a ok. none_is _ a ok)
 long_why true true place name form r of is = of_item (reason_of equals_in_name r refl is) (λ y d other a ok. none_is _ a ok)
 long_why true false place name (Err s) r of is = of_item (reason_of s r (of s refl) is) (λ y d other a ok. none_is _ a ok)
-long_why true false place name (Ok f) r of is = placed_why (is_named name f.behind) place name f r is
+long_why true false place name (Ok f) r of is = placed_why (is_named name f.after) place name f r is
 
 either_many : (switch : Bool) (k : Kind) (values : List (List ℕ)) → Either (λ y. short_many_form (switch && y) k values)
 either_many switch k values = λ x y f is. let o = form_joined (switch && x) (switch && y) k values f is in (o.0, o.1)
@@ -271,10 +271,10 @@ flag_added switch c true false one s_is d_is k_is = absurd (let e : one ≡ flag
 flag_added switch c true false optional s_is d_is k_is = absurd (let e : optional ≡ flag = k_is in cc)
 flag_added switch c true false several s_is d_is k_is = absurd (let e : several ≡ flag = k_is in cc)
 
-pub behind_flag : (t : Table) (switch : Bool) (l : List Item) (f : Fault) (it : Item) (others : List Item) → spelled t switch l ≡ Err f → is_of_the_place f.reason ≡ true
+pub after_flag : (t : Table) (switch : Bool) (l : List Item) (f : Fault) (it : Item) (others : List Item) → spelled t switch l ≡ Err f → is_of_the_place f.reason ≡ true
     → drop f.index l ≡ it ∷ others → (c : ℕ) → IsScalar c → c ≢ dash → kind t (short c) ≡ flag
     → (words : List (List ℕ)) × Spells t switch words (option (short c) None ∷ it ∷ [])
-behind_flag t switch l f it others is of dropped c scalar_is other flag_is =
+after_flag t switch l f it others is of dropped c scalar_is other flag_is =
     let no = spelled_refused t switch l f it others is dropped in
     let b = goes_on t switch it no.place f.reason of (why t switch no.joins no.due no.place it f.reason no.is)
     (separator_comes_too_early []) (separator_is_due []) in
@@ -284,9 +284,9 @@ behind_flag t switch l f it others is of dropped c scalar_is other flag_is =
     let some = can_words t switch (option (short c) None ∷ it ∷ []) can in
     (some.0, spelled_spells t switch (option (short c) None ∷ it ∷ []) some.0 some.1)
 
--- ---- behind the separator
+-- ---- after the separator
 
-separator_stands : (t : Table) (switch : Bool) (it : Item) (place : Place) (r : Reason) → r ≡ behind_separator → Why (λ y e other. adds t switch y e other it) place r → place ≡ ended
+separator_stands : (t : Table) (switch : Bool) (it : Item) (place : Place) (r : Reason) → r ≡ past_separator → Why (λ y e other. adds t switch y e other it) place r → place ≡ ended
 separator_stands t switch it place r is (of_item of none) = absurd (true≢false (sym (ap is_of_the_place is) ∙ of))
 separator_stands t switch it place r is (of_place of separator goes_on) = separator is
 
@@ -304,7 +304,7 @@ option_last (option name value ∷ front) it other = refl
 option_last (many name values ∷ front) it other = refl
 option_last (positional w ∷ front) it other = option_last front it other
 
--- with an option in the place of the item at fault, and nothing behind it, the separator is due as before
+-- with an option in the place of the item at fault, and nothing after it, the separator is due as before
 due_same : (t : Table) (switch : Bool) (items : List Item) (place : Place) (f : Fault) (it : Item) → is_positional it ≡ false → spelled_from t switch items place ≡ Err f
     → separator_is_due (take f.index items ++ it ∷ []) ≡ separator_is_due items
 due_same t switch items place f it other is =
@@ -337,11 +337,11 @@ early_same t switch [] place f it other is = no_both t switch [] place f is (nil
 early_same t switch (item ∷ items) place f it other is = early_by t switch place item items f it other (fails t switch place item items f is)
 
 abbrev NoOption : Table → Bool → Item → List Item → Type 0
-NoOption t switch it items = (place : Place) (f : Fault) → spelled_from t switch items place ≡ Err f → f.reason ≡ behind_separator
+NoOption t switch it items = (place : Place) (f : Fault) → spelled_from t switch items place ≡ Err f → f.reason ≡ past_separator
     → ¬ Can t switch (take f.index items ++ it ∷ []) place
 
 no_first : (t : Table) (switch : Bool) (place : Place) (item : Item) (items : List Item) (f : Fault) (it : Item) → is_positional it ≡ false → NoOption t switch it items
-    → spelled_from t switch (item ∷ items) place ≡ Err f → f.reason ≡ behind_separator → Fails t switch place item items f
+    → spelled_from t switch (item ∷ items) place ≡ Err f → f.reason ≡ past_separator → Fails t switch place item items f
     → ¬ Can t switch (take f.index (item ∷ items) ++ it ∷ []) place
 no_first t switch place item items f it other more is reason (here r err first) can =
     let x = separator_comes_too_early items in
@@ -363,8 +363,8 @@ no_option t switch it other [] = λ place f is reason can. no_both t switch [] p
 no_option t switch it other (item ∷ items) = λ place f is reason can.
     no_first t switch place item items f it other (no_option t switch it other items) is reason (fails t switch place item items f is) can
 
-pub no_option_behind : (t : Table) (switch : Bool) (l : List Item) (f : Fault) → spelled t switch l ≡ Err f → f.reason ≡ behind_separator
+pub no_option_after : (t : Table) (switch : Bool) (l : List Item) (f : Fault) → spelled t switch l ≡ Err f → f.reason ≡ past_separator
     → (it : Item) → is_positional it ≡ false → (words : List (List ℕ)) → Spells t switch words (take f.index l ++ it ∷ []) → ⊥
-no_option_behind t switch l f is reason it other words spells =
+no_option_after t switch l f is reason it other words spells =
     no_option t switch it other l open_line f (from_words (spelled_from t switch l open_line) f is) reason
     (spells_can t switch words (take f.index l ++ it ∷ []) spells)

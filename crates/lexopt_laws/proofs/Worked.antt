@@ -16,7 +16,7 @@ use Rattle.lexopt_spec.specs.Runs.{Call, Run}
 use Rattle.lexopt_line_spec.specs.Table.{short, long, Item, option, positional, flag, kind, Table}
 use Rattle.lexopt_line_spec.specs.Readings.{start, Asked}
 use Rattle.lexopt_line_spec.specs.Spelling as lines
-use Rattle.lexopt_line_spec.specs.Spelling.{exact, damaged, Behind, nothing, attached, joined, Completes, BeginsWithMark, IsBehindLast, a_value, Cluster, flag_first, last_option, Group, cluster, Line, no_words, plain_word, group, IsLong, name_alone, name_and_value, Shows}
+use Rattle.lexopt_line_spec.specs.Spelling.{exact, damaged, After, nothing, attached, joined, Completes, BeginsWithMark, IsAfterLast, a_value, Cluster, flag_first, last_option, Group, cluster, Line, no_words, plain_word, group, IsLong, name_alone, name_and_value, Shows}
 use Rattle.lexopt_spec.proofs.PlainFronts.{plain_holds, plain_passes, front-none, front_only}
 use Rattle.lexopt_line_spec.proofs.WholeLines.{shown_said}
 
@@ -83,13 +83,13 @@ flag_of {t = t} {switch = switch} {words = words} {left = left} {items = items} 
     flag_first c (encode_utf8 c) others items (scalar, refl) is (not_mark switch others none) spelled
 
 -- the last option of a cluster
-pub last_of : {t : Table} {switch : Bool} {words left : List (List ℕ)} (c : ℕ) (others : List ℕ) (behind : Behind) (item : Item) → IsScalar c
-    → IsBehindLast switch others behind → Completes (kind t (short c)) (short c) behind words item left
+pub last_of : {t : Table} {switch : Bool} {words left : List (List ℕ)} (c : ℕ) (others : List ℕ) (after : After) (item : Item) → IsScalar c
+    → IsAfterLast switch others after → Completes (kind t (short c)) (short c) after words item left
     → Cluster exact t switch words left (encode_utf8 c ++ others) (item ∷ [])
-last_of c others behind item scalar ends completes = last_option c (encode_utf8 c) others behind item (scalar, refl) ends completes
+last_of c others after item scalar ends completes = last_option c (encode_utf8 c) others after item (scalar, refl) ends completes
 
-pub value_behind : {switch : Bool} (b : ℕ) (bs : List ℕ) → switch && b == equals ≡ false → IsBehindLast switch (b ∷ bs) (attached (b ∷ bs))
-value_behind {switch = switch} b bs none = a_value (some b bs) (not_mark switch (b ∷ bs) none) refl
+pub value_after : {switch : Bool} (b : ℕ) (bs : List ℕ) → switch && b == equals ≡ false → IsAfterLast switch (b ∷ bs) (attached (b ∷ bs))
+value_after {switch = switch} b bs none = a_value (some b bs) (not_mark switch (b ∷ bs) none) refl
 
 pub cluster_line : {t : Table} {switch : Bool} {others left : List (List ℕ)} {items : List Item} (bytes : List ℕ) (front : List Item) → begins dash bytes ≡ false
     → Cluster exact t switch others left bytes front → Line exact t switch left items → Line exact t switch ((dash ∷ bytes) ∷ others) (front ++ items)

@@ -10,13 +10,13 @@ use Rattle.lexopt_spec.specs.Pieces.{replacement}
 use Rattle.lexopt_spec.specs.UnreadLine.{dash, equals, BeginsWith, IsPlain}
 use Rattle.lexopt_line_spec.specs.Table.{Item, Table}
 use Rattle.lexopt_line_spec.specs.Spelling as spelling
-use Rattle.lexopt_line_spec.specs.Spelling.{exact, damaged, Behind, nothing, attached, joined, Completes, BeginsWithMark, IsBehindLast, a_value, Cluster, flag_first, last_option, Group, cluster, Line, no_words, plain_word, group, IsLong, name_alone, name_and_value, Shows}
+use Rattle.lexopt_line_spec.specs.Spelling.{exact, damaged, After, nothing, attached, joined, Completes, BeginsWithMark, IsAfterLast, a_value, Cluster, flag_first, last_option, Group, cluster, Line, no_words, plain_word, group, IsLong, name_alone, name_and_value, Shows}
 use Rattle.lexopt_spec.proofs.PlainFronts.{plain_passes}
 use Rattle.lexopt_spec.proofs.Fronts.{decoded_is_first}
 
--- a damaged piece, with these bytes behind it, may stand for U+FFFD
-pub damage_of : (b : ℕ) (bs behind : List ℕ) → decoded (b ∷ bs ++ behind) ≡ bad (length (b ∷ bs)) → damaged.character replacement (b ∷ bs) behind
-damage_of b bs behind is = inr (refl, decoded_is_first (b ∷ bs ++ behind) (bad (length (b ∷ bs))) (omega arith) is)
+-- a damaged piece, with these bytes after it, may stand for U+FFFD
+pub damage_of : (b : ℕ) (bs after : List ℕ) → decoded (b ∷ bs ++ after) ≡ bad (length (b ∷ bs)) → damaged.character replacement (b ∷ bs) after
+damage_of b bs after is = inr (refl, decoded_is_first (b ∷ bs ++ after) (bad (length (b ∷ bs))) (omega arith) is)
 
 -- no UTF-8 begins with FF
 both : (a b : Bool) → a && b ≡ true → (a ≡ true) × (b ≡ true)
@@ -26,10 +26,10 @@ both false b is = absurd (true≢false (sym is))
 ff_is_damage : (bs : List ℕ) → (decoded (0xFF ∷ bs)).char ≡ None
 ff_is_damage bs = ap (λ (t : Bool). (cond t (bad 0) (bad 1)).char) (ne_eqb (length (0xFF ∷ bs)) 0 (omega arith))
 
-ff_no_character : (c : ℕ) (bytes behind bs : List ℕ) → IsScalar c → bytes ≡ encode_utf8 c → bytes ++ behind ≡ 0xFF ∷ bs → ⊥
-ff_no_character c bytes behind bs scalar is all =
+ff_no_character : (c : ℕ) (bytes after bs : List ℕ) → IsScalar c → bytes ≡ encode_utf8 c → bytes ++ after ≡ 0xFF ∷ bs → ⊥
+ff_no_character c bytes after bs scalar is all =
     let read : (decoded (0xFF ∷ bs)).char ≡ Some c =
-    ap (λ l. (decoded l).char) (sym all ∙ ap (λ l. l ++ behind) is) ∙ ap (λ (p : Decoded). p.char) (decoded-encode c behind scalar) in
+    ap (λ l. (decoded l).char) (sym all ∙ ap (λ l. l ++ after) is) ∙ ap (λ (p : Decoded). p.char) (decoded-encode c after scalar) in
     let e : None ≡ Some c = sym (ff_is_damage bs) ∙ read in cc
 
 ff_no_text : (bs : List ℕ) → IsUtf8 (0xFF ∷ bs) → ⊥
@@ -38,12 +38,12 @@ ff_no_text bs (c ∷ cs, (scalars_are, is)) = ff_no_character c (encode_utf8 c) 
 
 ff_no_cluster : (t : Table) (switch : Bool) (words left : List (List ℕ)) (bytes bs : List ℕ) (items : List Item) → bytes ≡ 0xFF ∷ bs → Cluster exact t switch words left bytes items → ⊥
 ff_no_cluster t switch words left bytes bs items is (flag_first c character others more letter k no_mark spelled) = ff_no_character c character others bs letter.0 letter.1 is
-ff_no_cluster t switch words left bytes bs items is (last_option c character others behind item letter ends completes) = ff_no_character c character others bs letter.0 letter.1 is
+ff_no_cluster t switch words left bytes bs items is (last_option c character others after item letter ends completes) = ff_no_character c character others bs letter.0 letter.1 is
 
-ff_no_name : (text bytes bs : List ℕ) (behind : Behind) → text ≡ 0xFF ∷ bs → IsLong text bytes behind → IsUtf8 bytes → ⊥
-ff_no_name text bytes bs behind is (name_alone one same none) utf8 = ff_no_text bs (subst IsUtf8 (sym same ∙ is) utf8)
-ff_no_name text [] bs behind is (name_and_value v same marked) utf8 = let e : equals ∷ v ≡ 0xFF ∷ bs = sym same ∙ is in let f : equals ≡ 0xFF = cc in absurd (omega arith)
-ff_no_name text (b ∷ more) bs behind is (name_and_value v same marked) utf8 =
+ff_no_name : (text bytes bs : List ℕ) (after : After) → text ≡ 0xFF ∷ bs → IsLong text bytes after → IsUtf8 bytes → ⊥
+ff_no_name text bytes bs after is (name_alone one same none) utf8 = ff_no_text bs (subst IsUtf8 (sym same ∙ is) utf8)
+ff_no_name text [] bs after is (name_and_value v same marked) utf8 = let e : equals ∷ v ≡ 0xFF ∷ bs = sym same ∙ is in let f : equals ≡ 0xFF = cc in absurd (omega arith)
+ff_no_name text (b ∷ more) bs after is (name_and_value v same marked) utf8 =
     let e : b ∷ (more ++ equals ∷ v) ≡ 0xFF ∷ bs = sym same ∙ is in
     let f : b ≡ 0xFF = cc in
     ff_no_text more (subst (λ (x : ℕ). IsUtf8 (x ∷ more)) f utf8)
@@ -54,7 +54,7 @@ ff_no_group t switch words others left items bs is (cluster bytes rest are other
     let e : (dash ∷ bytes) ∷ rest ≡ (dash ∷ 0xFF ∷ bs) ∷ others = sym are ∙ is in
     let same : bytes ≡ 0xFF ∷ bs = cc in
     ff_no_cluster t switch rest left bytes bs items same spelled
-ff_no_group t switch words others left items bs is (spelling.long_option text bytes name behind item rest are cut none letters completes item_is) =
+ff_no_group t switch words others left items bs is (spelling.long_option text bytes name after item rest are cut none letters completes item_is) =
     let e : (dash ∷ dash ∷ text) ∷ rest ≡ (dash ∷ 0xFF ∷ bs) ∷ others = sym are ∙ is in
     let same : dash ≡ 0xFF = cc in
     absurd (omega arith)
@@ -66,10 +66,10 @@ ff_no_long t switch words others left items bs is (cluster bytes rest are other 
     let e : (dash ∷ bytes) ∷ rest ≡ (dash ∷ dash ∷ 0xFF ∷ bs) ∷ others = sym are ∙ is in
     let same : bytes ≡ dash ∷ 0xFF ∷ bs = cc in
     other (subst (BeginsWith dash) (sym same) refl)
-ff_no_long t switch words others left items bs is (spelling.long_option text bytes name behind item rest are cut none letters completes item_is) =
+ff_no_long t switch words others left items bs is (spelling.long_option text bytes name after item rest are cut none letters completes item_is) =
     let e : (dash ∷ dash ∷ text) ∷ rest ≡ (dash ∷ dash ∷ 0xFF ∷ bs) ∷ others = sym are ∙ is in
     let same : text ≡ 0xFF ∷ bs = cc in
-    ff_no_name text bytes bs behind same cut (subst IsUtf8 (sym letters.1) letters.0)
+    ff_no_name text bytes bs after same cut (subst IsUtf8 (sym letters.1) letters.0)
 
 -- a line whose first word is an option is spelled by a group
 option_line : (t : Table) (switch : Bool) (words : List (List ℕ)) (items : List Item) (w : List ℕ) (others : List (List ℕ)) → words ≡ w ∷ others

@@ -43,21 +43,21 @@ fn views_have_these_replies()
         (short 0x61 ∷ items (codes "b" ∷ []) ∷ positional (codes "c") ∷ []) v }
     ensures values_before_the_separator { (v : UnreadLine) × Run (fresh (codes "-a" ∷ codes "--" ∷ codes "b" ∷ [])) (next ∷ values 9 ∷ next ∷ [])
         (short 0x61 ∷ missing (Some (codes "-a")) ∷ positional (codes "b") ∷ []) v }
-    ensures values_behind_the_separator { (v : UnreadLine) × Run (fresh (codes "--" ∷ codes "-x" ∷ codes "--" ∷ [])) (next ∷ values 9 ∷ next ∷ [])
+    ensures values_after_the_separator { (v : UnreadLine) × Run (fresh (codes "--" ∷ codes "-x" ∷ codes "--" ∷ [])) (next ∷ values 9 ∷ next ∷ [])
         (positional (codes "-x") ∷ items (codes "--" ∷ []) ∷ end ∷ []) v }
     ensures pending_is_refused { (v : UnreadLine) × Run (fresh (codes "-ab" ∷ codes "c" ∷ codes "d" ∷ [])) (next ∷ try_raw 9 ∷ raw 9 ∷ try_raw 9 ∷ next ∷ [])
         (short 0x61 ∷ busy ∷ unexpected (codes "-a") (codes "b") ∷ items (codes "c" ∷ codes "d" ∷ []) ∷ end ∷ []) v }
     ensures raw_separator { (v : UnreadLine) × Run (fresh (codes "--" ∷ codes "-x" ∷ [])) (raw 1 ∷ next ∷ []) (items (codes "--" ∷ []) ∷ short 0x78 ∷ []) v }
 {}
 
-// Behind `next` on the words `-ab c -d` and `-a=b c`; the fourth line is one that no parser can be.
+// After `next` on the words `-ab c -d` and `-a=b c`; the fourth line is one that no parser can be.
 fn items_come_one_by_one()
     ensures values { ValueItems 4 at_start (record (fresh (codes "c" ∷ codes "-d" ∷ [])) { tail = rest (codes "b"); last = short_option 0x61 })
         (codes "b" ∷ codes "c" ∷ []) (record (fresh (codes "-d" ∷ [])) { last = short_option 0x61 }) at_end }
     ensures joined_value { ValueItems 2 at_start (record (fresh (codes "c" ∷ [])) { tail = rest (codes "=b"); last = short_option 0x61 })
         (codes "b" ∷ []) (record (fresh (codes "c" ∷ [])) { last = short_option 0x61 }) at_end }
     ensures words { WordItems 3 (fresh (codes "a" ∷ codes "--" ∷ [])) (codes "a" ∷ codes "--" ∷ []) (fresh []) }
-    ensures pending_behind_the_start { let u : UnreadLine = record (fresh []) { tail = rest (codes "b"); last = short_option 0x61 } in ValueItem going_on u None u at_end }
+    ensures pending_after_the_start { let u : UnreadLine = record (fresh []) { tail = rest (codes "b"); last = short_option 0x61 } in ValueItem going_on u None u at_end }
 {}
 
 // A run with these replies has these segments.
@@ -74,13 +74,13 @@ fn bytes_are_accounted_for()
         (short 0xFFFD ∷ maybe (Some (codes "a")) ∷ []) (mark (codes "-") ∷ damage (0xF0 ∷ 0x9D ∷ []) ∷ given (codes "a") ∷ []) v }
 {}
 
-// Behind `next` on the words `-ab c d e`.
+// After `next` on the words `-ab c d e`.
 fn calls_are_cut_short()
     ensures at_once { let u : UnreadLine = record (fresh (codes "c" ∷ codes "d" ∷ codes "e" ∷ [])) { tail = rest (codes "b"); last = short_option 0x61 } in
         Part u (values 3 ∷ raw 9 ∷ []) u }
-    ensures behind_an_item { let u : UnreadLine = record (fresh (codes "c" ∷ codes "d" ∷ codes "e" ∷ [])) { tail = rest (codes "b"); last = short_option 0x61 } in
+    ensures after_an_item { let u : UnreadLine = record (fresh (codes "c" ∷ codes "d" ∷ codes "e" ∷ [])) { tail = rest (codes "b"); last = short_option 0x61 } in
         Part u (values 3 ∷ raw 9 ∷ []) (record u { tail = no_tail }) }
-    ensures behind_a_call { let u : UnreadLine = record (fresh (codes "c" ∷ codes "d" ∷ codes "e" ∷ [])) { tail = rest (codes "b"); last = short_option 0x61 } in
+    ensures after_a_call { let u : UnreadLine = record (fresh (codes "c" ∷ codes "d" ∷ codes "e" ∷ [])) { tail = rest (codes "b"); last = short_option 0x61 } in
         Part u (values 2 ∷ raw 9 ∷ []) (record u { tail = no_tail; words = codes "e" ∷ [] }) }
 {}
 

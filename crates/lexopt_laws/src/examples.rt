@@ -96,10 +96,10 @@ fn lines_have_binary_names()
 fn values_are_pending()
     ensures nothing { pending (fresh (codes "a" ∷ [])) ≡ None }
     ensures joined { pending_in false (joined (codes "x")) ≡ Some (codes "x", true) }
-    ensures behind_equals { pending_in true (rest (codes "==b")) ≡ Some (codes "=b", true) }
+    ensures after_equals { pending_in true (rest (codes "==b")) ≡ Some (codes "=b", true) }
     ensures switched_off { pending_in false (rest (codes "==b")) ≡ Some (codes "==b", false) }
     ensures attached { pending_in true (rest (codes "value")) ≡ Some (codes "value", false) }
-    ensures empty_behind_equals { pending_in true (rest (codes "=")) ≡ Some ([], true) }
+    ensures empty_after_equals { pending_in true (rest (codes "=")) ≡ Some ([], true) }
     ensures rest_of_none { rest_of [] ≡ no_tail }
 {}
 
@@ -133,19 +133,19 @@ fn texts_are_unescaped()
     ensures byte { unescaped (codes "a\\xfFb") ≡ Some (0x61 ∷ 0xFF ∷ 0x62 ∷ []) }
     ensures other { unescaped (codes "\\q") ≡ None }
     ensures cut { unescaped (codes "\\x4") ≡ None }
-    ensures nothing_behind { unescaped (codes "\\") ≡ None }
+    ensures nothing_after { unescaped (codes "\\") ≡ None }
 {}
 
 fn scripts_have_bad_lines()
     ensures bad_escape { bad_line (codes "w a\\q") ≡ Some 1 }
-    ensures word_behind_a_call { bad_line (codes "w a\nnext\nw b") ≡ Some 3 }
+    ensures word_after_a_call { bad_line (codes "w a\nnext\nw b") ≡ Some 3 }
     ensures no_such_call { bad_line (codes "\nvalues") ≡ Some 2 }
-    ensures blank_behind { bad_line (codes "next ") ≡ Some 1 }
+    ensures blank_after { bad_line (codes "next ") ≡ Some 1 }
     ensures empty { bad_line [] ≡ None }
     ensures empty_lines { bad_line (codes "\n\nnext\n") ≡ None }
     ensures carriage_return { bad_line (codes "next\r") ≡ Some 1 }
-    ensures word_behind_a_switch { bad_line (codes "off\nw a\non\nw b\noptional") ≡ None }
-    ensures word_behind_optional { bad_line (codes "optional\nw a") ≡ Some 2 }
+    ensures word_after_a_switch { bad_line (codes "off\nw a\non\nw b\noptional") ≡ None }
+    ensures word_after_optional { bad_line (codes "optional\nw a") ≡ Some 2 }
 {}
 
 fn a_script_has_words_and_calls()
@@ -164,10 +164,10 @@ fn lines_name_options()
     ensures damaged_name { bad_line (codes "t --" ++ 0xFF ∷ []) ≡ Some 1 }
     ensures empty_name { bad_line (codes "t --") ≡ None }
     ensures two_bytes { bad_line (codes "topt -" ++ 0xC2 ∷ 0xB5 ∷ []) ≡ None }
-    ensures behind_items { bad_line (codes "items\nt -a") ≡ Some 2 }
-    ensures behind_the_whole_line { bad_line (codes "items\nw a") ≡ Some 2 }
-    ensures behind_a_call { bad_line (codes "tmany -a\nnext\ntmany -b") ≡ Some 3 }
-    ensures behind_a_switch { bad_line (codes "off\nt -a\nitems\non\nitems") ≡ None }
+    ensures after_items { bad_line (codes "items\nt -a") ≡ Some 2 }
+    ensures after_the_whole_line { bad_line (codes "items\nw a") ≡ Some 2 }
+    ensures after_a_call { bad_line (codes "tmany -a\nnext\ntmany -b") ≡ Some 3 }
+    ensures after_a_switch { bad_line (codes "off\nt -a\nitems\non\nitems") ≡ None }
 {}
 
 #[tactic(auto, unfolding(crate::proofs::Computing::computing))]

@@ -12,7 +12,7 @@ ghost use Rattle.lexopt_line_spec.specs.Table as table;
 ghost use Rattle.lexopt_line_spec.specs.Table.{Item, Table, flag, kind};
 ghost use Rattle.lexopt_line_spec.specs.Readings.{IsReading, start};
 ghost use Rattle.lexopt_line_spec.specs.Spelling.{HaveWholeNames, Shows, Spells};
-ghost use Rattle.lexopt_line_spec.specs.Speller.{Fault, IsAtFault, behind_separator, is_of_the_place, is_positional, spelled};
+ghost use Rattle.lexopt_line_spec.specs.Speller.{Fault, IsAtFault, past_separator, is_of_the_place, is_positional, spelled};
 ghost use Rattle.lexopt_laws.specs.OneValueSpelling.{OneValueShows, OneValueSpells, OneValueTable, widened};
 ghost use Rattle.lexopt_spec.specs.Views.{Stage, ValueItem, ValueItems, WordItems, at_end, at_start, available, plain_front, values_left};
 
@@ -56,7 +56,7 @@ pub fn some_calls_are_never_refused()
     ensures values { (n : ℕ) (u v : UnreadLine) → available u ≢ [] → Step (values n) u no_memory v → ⊥ }
 {}
 
-/// A tail stands only with a last option and never behind the separator: so it is at the start, and so it stays, whatever
+/// A tail stands only with a last option and never after the separator: so it is at the start, and so it stays, whatever
 /// is called, and also where memory is wanted.
 pub fn lines_stay_lines()
     ensures start { (words : List (List ℕ)) → IsLine (fresh words) }
@@ -67,8 +67,8 @@ pub fn lines_stay_lines()
 /// The words that can be values are the longest front of plain words, and no other front is.
 pub fn plain_words_are_the_longest_front()
     ensures test { (ended : Bool) (w : List ℕ) → (is_plain ended w ≡ true → IsPlain ended w) × (IsPlain ended w → is_plain ended w ≡ true) }
-    ensures front { (ended : Bool) (words : List (List ℕ)) → (behind : List (List ℕ)) × IsPlainFront ended words (plain_front ended words) behind }
-    ensures no_other { (ended : Bool) (words front behind : List (List ℕ)) → IsPlainFront ended words front behind → plain_front ended words ≡ front }
+    ensures front { (ended : Bool) (words : List (List ℕ)) → (after : List (List ℕ)) × IsPlainFront ended words (plain_front ended words) after }
+    ensures no_other { (ended : Bool) (words front after : List (List ℕ)) → IsPlainFront ended words front after → plain_front ended words ≡ front }
 {}
 
 /// Items that are asked of a view one by one are what the call answers that asks so many; where fewer came, all came; what
@@ -196,7 +196,7 @@ pub fn both_settings_have_one_form()
 {}
 
 /// What the reason says of an item at fault: it is of the item, and then no line has that item; or of its place, and then a
-/// line of two can be spelled, any flag of one character but `-` and right behind it that item. Where the reason is the
+/// line of two can be spelled, any flag of one character but `-` and right after it that item. Where the reason is the
 /// separator, no option at all can be spelled in its place.
 pub fn reasons_are_of_the_item_or_of_its_place()
     ensures item { (t : Table) (switch : Bool) (l : List Item) (f : Fault) (it : Item) (others : List Item) → spelled t switch l ≡ Err f
@@ -206,6 +206,6 @@ pub fn reasons_are_of_the_item_or_of_its_place()
         → is_of_the_place f.reason ≡ true → drop f.index l ≡ it ∷ others
         → (c : ℕ) → IsScalar c → c ≢ dash → kind t (table.short c) ≡ flag
         → (words : List (List ℕ)) × Spells t switch words (table.option (table.short c) None ∷ it ∷ []) }
-    ensures behind_separator { (t : Table) (switch : Bool) (l : List Item) (f : Fault) → spelled t switch l ≡ Err f → f.reason ≡ behind_separator
+    ensures past_separator { (t : Table) (switch : Bool) (l : List Item) (f : Fault) → spelled t switch l ≡ Err f → f.reason ≡ past_separator
         → (it : Item) → is_positional it ≡ false → (words : List (List ℕ)) → Spells t switch words (take f.index l ++ it ∷ []) → ⊥ }
 {}

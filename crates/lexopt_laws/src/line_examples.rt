@@ -29,7 +29,7 @@ fn options_of_one_value_are_spelled()
         (option (short 0x6E) (Some (codes "10")) ∷ positional (codes "foo") ∷ positional (codes "-") ∷ positional (codes "baz") ∷ positional (codes "-qux") ∷ []) }
     ensures empty_name { Spells (one_value [] ([] ∷ [])) true (codes "--=" ∷ []) (option (long []) (Some []) ∷ []) }
     ensures separator_as_value { Spells (one_value (codes "o") []) true (codes "-o" ∷ codes "--" ∷ []) (option (short 0x6F) (Some (codes "--")) ∷ []) }
-    ensures separator_behind_flag { Spells (one_value [] []) true (codes "-o" ∷ codes "--" ∷ []) (option (short 0x6F) None ∷ []) }
+    ensures separator_after_flag { Spells (one_value [] []) true (codes "-o" ∷ codes "--" ∷ []) (option (short 0x6F) None ∷ []) }
     ensures separator_as_positional { Spells (one_value [] []) true (codes "--" ∷ codes "--" ∷ []) (positional (codes "--") ∷ []) }
     ensures equals_as_option { Spells (one_value (codes "=") []) true (codes "-==v" ∷ []) (option (short 0x3D) (Some (codes "v")) ∷ []) }
     ensures equals_as_option_switched_off { Spells (one_value (codes "=") []) false (codes "-==v" ∷ []) (option (short 0x3D) (Some (codes "=v")) ∷ []) }
@@ -58,7 +58,7 @@ fn options_of_optional_values_are_spelled()
         (option (short 0x69) (Some (codes "=x")) ∷ []) }
     ensures before_an_option { Spells (record (one_value (codes "o") []) { optional_shorts = codes "i" }) true (codes "-io" ∷ codes "x" ∷ [])
         (option (short 0x69) (Some (codes "o")) ∷ positional (codes "x") ∷ []) }
-    ensures behind_an_option { Spells (record (one_value (codes "o") []) { optional_shorts = codes "i" }) true (codes "-oi" ∷ codes "x" ∷ [])
+    ensures after_an_option { Spells (record (one_value (codes "o") []) { optional_shorts = codes "i" }) true (codes "-oi" ∷ codes "x" ∷ [])
         (option (short 0x6F) (Some (codes "i")) ∷ positional (codes "x") ∷ []) }
     ensures long { Spells (record (one_value (codes "o") []) { optional_longs = codes "color" ∷ [] }) true
         (codes "--color" ∷ codes "--color=auto" ∷ codes "--color" ∷ codes "auto" ∷ [])
@@ -97,9 +97,9 @@ fn the_first_kind_holds()
 {}
 
 fn some_words_show_no_list()
-    ensures value_behind_a_flag { (l : List Item) → Shows (one_value (codes "o") (codes "out" ∷ [])) true (codes "-v=1" ∷ []) l → ⊥ }
-    ensures value_behind_a_first_flag { (l : List Item) → Shows (one_value [] []) true (codes "-a=b" ∷ []) l → ⊥ }
-    ensures value_behind_a_long_flag { (l : List Item) → Shows (one_value [] []) true (codes "--=" ∷ []) l → ⊥ }
+    ensures value_after_a_flag { (l : List Item) → Shows (one_value (codes "o") (codes "out" ∷ [])) true (codes "-v=1" ∷ []) l → ⊥ }
+    ensures value_after_a_first_flag { (l : List Item) → Shows (one_value [] []) true (codes "-a=b" ∷ []) l → ⊥ }
+    ensures value_after_a_long_flag { (l : List Item) → Shows (one_value [] []) true (codes "--=" ∷ []) l → ⊥ }
     ensures name_with_equals { (l : List Item) → Shows (one_value [] (codes "a=b" ∷ [])) true (codes "--a=b" ∷ []) l → ⊥ }
     ensures no_value { (l : List Item) → Shows (one_value (codes "o") (codes "out" ∷ [])) true (codes "-o" ∷ []) l → ⊥ }
     ensures no_value_of_dash { (l : List Item) → Shows (one_value (codes "-") []) true (codes "-a-" ∷ []) l → ⊥ }

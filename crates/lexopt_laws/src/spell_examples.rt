@@ -1,7 +1,7 @@
 //! Worked examples of words that spell items, computed by the definition.
 ghost use Rattle.std.specs.Prelude.{◌≡◌, [], ◌∷◌, true, false, Ok, Err, Some, None, codes};
 ghost use Rattle.lexopt_line_spec.specs.Table.{long, many, one_value, option, positional, short};
-ghost use Rattle.lexopt_line_spec.specs.Speller.{behind_separator, dash_without_flag, empty_name, empty_value, equals_in_name, missing_value, not_many, option_among_values, spelled, unexpected_value, wants_many};
+ghost use Rattle.lexopt_line_spec.specs.Speller.{past_separator, dash_without_flag, empty_name, empty_value, equals_in_name, missing_value, not_many, option_among_values, spelled, unexpected_value, wants_many};
 
 #[test]
 fn the_definition_spells_the_worked_examples() {
@@ -25,7 +25,7 @@ fn flags_and_options_of_one_value_have_these_words()
         ≡ Ok (codes "-o" ∷ [] ∷ []) }
     ensures joined_to_a_name { spelled (one_value (codes "o") (codes "out" ∷ [] ∷ [])) true (option (long (codes "v")) None ∷ option (long (codes "out")) (Some (codes "x")) ∷ option (long (codes "out")) (Some []) ∷ option (long []) (Some (codes "x")) ∷ [])
         ≡ Ok (codes "--v" ∷ codes "--out=x" ∷ codes "--out=" ∷ codes "--=x" ∷ []) }
-    ensures dash_behind_a_flag { spelled (one_value (codes "o") (codes "out" ∷ [] ∷ [])) true (option (short 0x76) None ∷ option (short 0x2D) None ∷ option (short 0x2D) None ∷ option (short 0x76) None ∷ [])
+    ensures dash_after_a_flag { spelled (one_value (codes "o") (codes "out" ∷ [] ∷ [])) true (option (short 0x76) None ∷ option (short 0x2D) None ∷ option (short 0x2D) None ∷ option (short 0x76) None ∷ [])
         ≡ Ok (codes "-v--" ∷ codes "-v" ∷ []) }
     ensures equals_as_a_flag { spelled (one_value (codes "o") (codes "out" ∷ [] ∷ [])) true (option (short 0x3D) None ∷ [])
         ≡ Ok (codes "-=" ∷ []) }
@@ -41,7 +41,7 @@ fn options_of_optional_values_have_these_words()
         ≡ Ok (codes "-ix" ∷ codes "--color=" ∷ []) }
     ensures empty { spelled (record (one_value [] []) { optional_shorts = codes "i"; optional_longs = codes "color" ∷ [] }) true (option (short 0x69) (Some []) ∷ [])
         ≡ Ok (codes "-i=" ∷ []) }
-    ensures behind_a_mark { spelled (record (one_value [] []) { optional_shorts = codes "i"; optional_longs = codes "color" ∷ [] }) true (option (short 0x69) (Some (codes "=x")) ∷ [])
+    ensures after_a_mark { spelled (record (one_value [] []) { optional_shorts = codes "i"; optional_longs = codes "color" ∷ [] }) true (option (short 0x69) (Some (codes "=x")) ∷ [])
         ≡ Ok (codes "-i==x" ∷ []) }
     ensures equals_switched_off { spelled (record (one_value [] []) { optional_shorts = codes "i"; optional_longs = codes "color" ∷ [] }) false (option (short 0x69) (Some (codes "=x")) ∷ [])
         ≡ Ok (codes "-i=x" ∷ []) }
@@ -87,7 +87,7 @@ fn items_are_refused()
         ≡ Err (record { index = 0; reason = not_many }) }
     ensures empty_attached { spelled (record (one_value [] []) { optional_shorts = codes "i"; optional_longs = codes "color" ∷ [] }) false (option (short 0x69) (Some []) ∷ [])
         ≡ Err (record { index = 0; reason = empty_value }) }
-    ensures option_behind_values { spelled (record (one_value [] []) { several_shorts = codes "d"; several_longs = codes "cmd" ∷ [] }) true (many (short 0x64) (codes "1" ∷ codes "-x" ∷ []) ∷ [])
+    ensures option_after_values { spelled (record (one_value [] []) { several_shorts = codes "d"; several_longs = codes "cmd" ∷ [] }) true (many (short 0x64) (codes "1" ∷ codes "-x" ∷ []) ∷ [])
         ≡ Err (record { index = 0; reason = option_among_values }) }
     ensures option_before_values { spelled (record (one_value [] []) { several_shorts = codes "d"; several_longs = codes "cmd" ∷ [] }) true (many (long (codes "cmd")) (codes "-x" ∷ codes "1" ∷ []) ∷ [])
         ≡ Err (record { index = 0; reason = option_among_values }) }
@@ -96,12 +96,12 @@ fn items_are_refused()
         ≡ Err (record { index = 0; reason = missing_value }) }
     ensures name_with_a_mark { spelled (one_value (codes "o") (codes "out" ∷ [] ∷ [])) true (option (long (codes "a=b")) None ∷ [])
         ≡ Err (record { index = 0; reason = equals_in_name }) }
-    ensures behind_the_separator { spelled (one_value (codes "o") (codes "out" ∷ [] ∷ [])) true (positional (codes "-x") ∷ positional (codes "f") ∷ option (short 0x76) None ∷ [])
-        ≡ Err (record { index = 2; reason = behind_separator }) }
+    ensures after_the_separator { spelled (one_value (codes "o") (codes "out" ∷ [] ∷ [])) true (positional (codes "-x") ∷ positional (codes "f") ∷ option (short 0x76) None ∷ [])
+        ≡ Err (record { index = 2; reason = past_separator }) }
     ensures values_before_a_positional { spelled (record (one_value [] []) { several_shorts = codes "d"; several_longs = codes "cmd" ∷ [] }) false (many (short 0x64) (codes "1" ∷ []) ∷ positional (codes "f") ∷ option (short 0x76) None ∷ [])
-        ≡ Err (record { index = 2; reason = behind_separator }) }
-    ensures behind_a_row { spelled (one_value (codes "o") (codes "out" ∷ [] ∷ [])) true (positional (codes "f") ∷ positional (codes "-x") ∷ option (short 0x76) None ∷ [])
-        ≡ Err (record { index = 2; reason = behind_separator }) }
+        ≡ Err (record { index = 2; reason = past_separator }) }
+    ensures after_a_row { spelled (one_value (codes "o") (codes "out" ∷ [] ∷ [])) true (positional (codes "f") ∷ positional (codes "-x") ∷ option (short 0x76) None ∷ [])
+        ≡ Err (record { index = 2; reason = past_separator }) }
     ensures dash_alone { spelled (one_value (codes "o") (codes "out" ∷ [] ∷ [])) true (option (short 0x6F) (Some (codes "x")) ∷ option (short 0x2D) None ∷ [])
         ≡ Err (record { index = 1; reason = dash_without_flag }) }
 {}

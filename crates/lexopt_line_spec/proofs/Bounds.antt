@@ -14,7 +14,7 @@ use Rattle.lexopt_spec.specs.Runs.{Call, next, value, optional, values, raw, try
 use Rattle.lexopt_line_spec.proofs.Hands.{Hands, hands_nothing, hands_words, hands_pending, value_hands, optional_hands, values_hands, raw_hands, words_hands, word_if_hands, try_raw_hands}
 use Rattle.lexopt_line_spec.proofs.NoOption.{NoOption, no_option_count, value_no_option, optional_no_option, values_no_option, words_no_option, word_if_no_option, raw_no_option, try_raw_no_option}
 
--- the reply and the line behind it together keep within the line
+-- the reply and the line after it together keep within the line
 abbrev Within : UnreadLine → ℕ → UnreadLine → Type 0
 Within u count v = count + bound v ≤ bound u
 

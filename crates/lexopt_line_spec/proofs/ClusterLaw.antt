@@ -7,11 +7,11 @@ use Rattle.lexopt_spec.specs.Steps as steps
 use Rattle.lexopt_spec.specs.Steps.{Reply, ReadsShort}
 use Rattle.lexopt_line_spec.specs.Table.{Name, short, Item, option, Kind, flag, kind, Table}
 use Rattle.lexopt_line_spec.specs.Spelling as spelling
-use Rattle.lexopt_line_spec.specs.Spelling.{damaged, Behind, nothing, attached, Completes, no_value, BeginsWithMark, IsBehindLast, nothing_more, a_value, marked_value, Cluster, flag_first, last_option, Shows}
+use Rattle.lexopt_line_spec.specs.Spelling.{damaged, After, nothing, attached, Completes, no_value, BeginsWithMark, IsAfterLast, nothing_more, a_value, marked_value, Cluster, flag_first, last_option, Shows}
 use Rattle.lexopt_line_spec.proofs.Letters.{IsRead, letter_read, read_letter}
-use Rattle.lexopt_line_spec.proofs.Unread.{ClusterShows, PartsShow, behind_of, GoesOnShowing, NextShows}
+use Rattle.lexopt_line_spec.proofs.Unread.{ClusterShows, PartsShow, after_of, GoesOnShowing, NextShows}
 
--- ---- what stands behind the last character
+-- ---- what stands after the last character
 
 whole : (switch : Bool) (b : ℕ) (bs : List ℕ) → ¬ BeginsWithMark switch (b ∷ bs) → pending_in switch (rest (b ∷ bs)) ≡ Some (b ∷ bs, false)
 whole false b bs no_mark = refl
@@ -20,29 +20,29 @@ whole true b bs no_mark = rw (ne_eqb b equals (λ is. no_mark (refl, is))) refl
 marked : (b : ℕ) (bs : List ℕ) → b ≡ equals → pending_in true (rest (b ∷ bs)) ≡ Some (bs, true)
 marked b bs is = rw (eq-eqb b equals is) refl
 
-pub is_behind : (switch : Bool) (bytes : List ℕ) (behind : Behind) → IsBehindLast switch bytes behind → behind ≡ behind_of (pending_in switch (rest_of bytes))
-is_behind switch bytes behind (nothing_more none is) = is ∙ ap (λ l. behind_of (pending_in switch (rest_of l))) (sym none)
-is_behind switch [] behind (a_value some no_mark is) = absurd (some refl)
-is_behind switch (b ∷ bs) behind (a_value some no_mark is) = is ∙ ap behind_of (sym (whole switch b bs no_mark))
-is_behind switch bytes behind (marked_value v on bytes_are is) =
-    is ∙ ap (λ s. behind_of (pending_in s (rest_of (equals ∷ v)))) (sym on) ∙ ap (λ l. behind_of (pending_in switch (rest_of l))) (sym bytes_are)
+pub is_after : (switch : Bool) (bytes : List ℕ) (after : After) → IsAfterLast switch bytes after → after ≡ after_of (pending_in switch (rest_of bytes))
+is_after switch bytes after (nothing_more none is) = is ∙ ap (λ l. after_of (pending_in switch (rest_of l))) (sym none)
+is_after switch [] after (a_value some no_mark is) = absurd (some refl)
+is_after switch (b ∷ bs) after (a_value some no_mark is) = is ∙ ap after_of (sym (whole switch b bs no_mark))
+is_after switch bytes after (marked_value v on bytes_are is) =
+    is ∙ ap (λ s. after_of (pending_in s (rest_of (equals ∷ v)))) (sym on) ∙ ap (λ l. after_of (pending_in switch (rest_of l))) (sym bytes_are)
 
-pub behind_is : (switch : Bool) (bytes : List ℕ) → IsBehindLast switch bytes (behind_of (pending_in switch (rest_of bytes)))
-behind_is switch [] = nothing_more refl refl
-behind_is false (b ∷ bs) = a_value (λ none. let e : b ∷ bs ≡ [] = none in cc) (λ mark. let e : false ≡ true = mark.0 in cc) refl
-behind_is true (b ∷ bs) = ⊎_elim
-    (λ (same : b ≡ equals). marked_value bs refl (ap (λ x. x ∷ bs) same) (ap behind_of (marked b bs same)))
+pub rest_is : (switch : Bool) (bytes : List ℕ) → IsAfterLast switch bytes (after_of (pending_in switch (rest_of bytes)))
+rest_is switch [] = nothing_more refl refl
+rest_is false (b ∷ bs) = a_value (λ none. let e : b ∷ bs ≡ [] = none in cc) (λ mark. let e : false ≡ true = mark.0 in cc) refl
+rest_is true (b ∷ bs) = ⊎_elim
+    (λ (same : b ≡ equals). marked_value bs refl (ap (λ x. x ∷ bs) same) (ap after_of (marked b bs same)))
     (λ (other : b ≢ equals). a_value (λ none. let e : b ∷ bs ≡ [] = none in cc) (λ mark. other mark.1)
-    (ap behind_of (whole true b bs (λ mark. other mark.1))))
+    (ap after_of (whole true b bs (λ mark. other mark.1))))
     (cases_eq b equals)
 
 -- where nothing is pending, nothing is left of the word
-pub nothing_left : (switch : Bool) (bytes : List ℕ) → nothing ≡ behind_of (pending_in switch (rest_of bytes)) → rest_of bytes ≡ no_tail
+pub nothing_left : (switch : Bool) (bytes : List ℕ) → nothing ≡ after_of (pending_in switch (rest_of bytes)) → rest_of bytes ≡ no_tail
 nothing_left switch [] is = refl
 nothing_left false (b ∷ bs) is = absurd (let e : nothing ≡ attached (b ∷ bs) = is in cc)
 nothing_left true (b ∷ bs) is = ⊎_elim
-    (λ (same : b ≡ equals). absurd (let e : nothing ≡ spelling.joined bs = is ∙ ap behind_of (marked b bs same) in cc))
-    (λ (other : b ≢ equals). absurd (let e : nothing ≡ attached (b ∷ bs) = is ∙ ap behind_of (whole true b bs (λ mark. other mark.1)) in cc))
+    (λ (same : b ≡ equals). absurd (let e : nothing ≡ spelling.joined bs = is ∙ ap after_of (marked b bs same) in cc))
+    (λ (other : b ≢ equals). absurd (let e : nothing ≡ attached (b ∷ bs) = is ∙ ap after_of (whole true b bs (λ mark. other mark.1)) in cc))
     (cases_eq b equals)
 
 -- ---- an option, by its kind
@@ -51,21 +51,21 @@ abbrev pub line_of : Tail → List (List ℕ) → Bool → LastOption → Bool �
 line_of tail words ended last switch bin = record { tail = tail; words = words; ended = ended; last = last; short_equals = switch; bin_name = bin }
 
 -- an option that completes, where this tail is left of its word
-pub completed : (t : Table) (name : Name) (k : Kind) (tail : Tail) (words left : List (List ℕ)) (last : LastOption) (bin : Option (List ℕ)) (switch : Bool) (behind : Behind) (item : Item)
-    (others : List Item) → kind t name ≡ k → behind ≡ behind_of (pending_in switch tail) → (nothing ≡ behind_of (pending_in switch tail) → tail ≡ no_tail)
-    → Completes k name behind words item left → Shows t switch left others → GoesOnShowing t k name (line_of tail words false last switch bin) (item ∷ others)
-completed t name flag tail words left last bin switch behind item others k is none (no_value alone item_is left_is) line = record {
+pub completed : (t : Table) (name : Name) (k : Kind) (tail : Tail) (words left : List (List ℕ)) (last : LastOption) (bin : Option (List ℕ)) (switch : Bool) (after : After) (item : Item)
+    (others : List Item) → kind t name ≡ k → after ≡ after_of (pending_in switch tail) → (nothing ≡ after_of (pending_in switch tail) → tail ≡ no_tail)
+    → Completes k name after words item left → Shows t switch left others → GoesOnShowing t k name (line_of tail words false last switch bin) (item ∷ others)
+completed t name flag tail words left last bin switch after item others k is none (no_value alone item_is left_is) line = record {
   others = others;
   shows = subst (λ (x : Tail). PartsShow t switch x false words others) (sym (none (sym alone ∙ is)))
       (subst (λ (ws : List (List ℕ)). Shows t switch ws others) left_is line);
   items_are = ap (λ x. x ∷ others) item_is;
 }
-completed t name value_kind tail words left last bin switch behind item others k is none completes line = record {
+completed t name value_kind tail words left last bin switch after item others k is none completes line = record {
   left = left;
   item = item;
   others = others;
-  completes = subst (λ (x : Kind). Completes x name (behind_of (pending_in switch tail)) words item left) (sym k)
-      (subst (λ (b : Behind). Completes value_kind name b words item left) is completes);
+  completes = subst (λ (x : Kind). Completes x name (after_of (pending_in switch tail)) words item left) (sym k)
+      (subst (λ (b : After). Completes value_kind name b words item left) is completes);
   line = line;
   items_are = refl;
 }
@@ -74,50 +74,50 @@ completed t name value_kind tail words left last bin switch behind item others k
 
 cluster_some : (t : Table) (switch : Bool) (words left : List (List ℕ)) (bytes : List ℕ) (items : List Item) → Cluster damaged t switch words left bytes items → bytes ≢ []
 cluster_some t switch words left bytes items (flag_first c character others more letter k no_mark cluster) = (letter_read c character others letter).some
-cluster_some t switch words left bytes items (last_option c character others behind item letter ends completes) = (letter_read c character others letter).some
+cluster_some t switch words left bytes items (last_option c character others after item letter ends completes) = (letter_read c character others letter).some
 
 rest_of-some : (bytes : List ℕ) → bytes ≢ [] → rest_of bytes ≡ rest bytes
 rest_of-some [] some = absurd (some refl)
 rest_of-some (b ∷ bs) some = refl
 
-letter_step : (u : UnreadLine) (c : ℕ) (bytes behind : List ℕ) → IsRead c bytes behind
-    → ReadsShort (bytes ++ behind) u (steps.short c) (record u { last = short_option c; tail = rest_of behind })
-letter_step u c bytes behind read = record {
+letter_step : (u : UnreadLine) (c : ℕ) (bytes after : List ℕ) → IsRead c bytes after
+    → ReadsShort (bytes ++ after) u (steps.short c) (record u { last = short_option c; tail = rest_of after })
+letter_step u c bytes after read = record {
   some = read.some;
   reply_is = ap steps.short (sym read.is);
-  after_is = ap (λ (x : ℕ). record u { last = short_option x; tail = rest_of behind }) (sym read.is)
-      ∙ ap (λ (l : List ℕ). record u { last = short_option (shown (first_piece (bytes ++ behind)).char); tail = rest_of l }) (sym read.after);
+  after_is = ap (λ (x : ℕ). record u { last = short_option x; tail = rest_of after }) (sym read.is)
+      ∙ ap (λ (l : List ℕ). record u { last = short_option (shown (first_piece (bytes ++ after)).char); tail = rest_of l }) (sym read.after);
 }
 
 pub cluster_reads : (t : Table) (switch : Bool) (words left : List (List ℕ)) (bytes : List ℕ) (front : List Item) (tail : Tail) (last : LastOption) (bin : Option (List ℕ)) (others : List Item)
     → Cluster damaged t switch words left bytes front → Shows t switch left others
     → (r : Reply) × (v : UnreadLine) × ReadsShort bytes (line_of tail words false last switch bin) r v × NextShows t r v (front ++ others)
-cluster_reads t switch words left bytes front tail last bin others (flag_first c character behind items letter k no_mark cluster) line =
-    let v = line_of (rest_of behind) words false (short_option c) switch bin in (
+cluster_reads t switch words left bytes front tail last bin others (flag_first c character after items letter k no_mark cluster) line =
+    let v = line_of (rest_of after) words false (short_option c) switch bin in (
       _,
       _,
-      letter_step (line_of tail words false last switch bin) c character behind (letter_read c character behind letter),
+      letter_step (line_of tail words false last switch bin) c character after (letter_read c character after letter),
       subst (λ (x : Kind). GoesOnShowing t x (short c) v (option (short c) None ∷ (items ++ others))) (sym k)
           (record {
             others = items ++ others;
-            shows = subst (λ (x : Tail). PartsShow t switch x false words (items ++ others)) (sym (rest_of-some behind (cluster_some t switch words left behind items cluster)))
+            shows = subst (λ (x : Tail). PartsShow t switch x false words (items ++ others)) (sym (rest_of-some after (cluster_some t switch words left after items cluster)))
                 (no_mark, record { left = left; front = items; others = others; cluster = cluster; line = line; items_are = refl });
             items_are = refl;
           }),
     )
-cluster_reads t switch words left bytes front tail last bin others (last_option c character behind_it behind item letter ends completes) line = (
+cluster_reads t switch words left bytes front tail last bin others (last_option c character after_it after item letter ends completes) line = (
   _,
   _,
-  letter_step (line_of tail words false last switch bin) c character behind_it (letter_read c character behind_it letter),
-  completed t (short c) (kind t (short c)) (rest_of behind_it) words left (short_option c) bin switch behind item others refl
-      (is_behind switch behind_it behind ends) (nothing_left switch behind_it) completes line,
+  letter_step (line_of tail words false last switch bin) c character after_it (letter_read c character after_it letter),
+  completed t (short c) (kind t (short c)) (rest_of after_it) words left (short_option c) bin switch after item others refl
+      (is_after switch after_it after ends) (nothing_left switch after_it) completes line,
 )
 
 -- ---- from the step to items
 
-built : (t : Table) (switch : Bool) (c : ℕ) (piece behind : List ℕ) (words : List (List ℕ)) (last : LastOption) (bin : Option (List ℕ)) (items : List Item) (k : Kind)
-    → damaged.character c piece behind → kind t (short c) ≡ k → GoesOnShowing t k (short c) (line_of (rest_of behind) words false last switch bin) items
-    → ClusterShows t switch (piece ++ behind) words items
+built : (t : Table) (switch : Bool) (c : ℕ) (piece after : List ℕ) (words : List (List ℕ)) (last : LastOption) (bin : Option (List ℕ)) (items : List Item) (k : Kind)
+    → damaged.character c piece after → kind t (short c) ≡ k → GoesOnShowing t k (short c) (line_of (rest_of after) words false last switch bin) items
+    → ClusterShows t switch (piece ++ after) words items
 built t switch c piece [] words last bin items flag letter k leads = record {
   left = words;
   front = option (short c) None ∷ [];
@@ -138,11 +138,11 @@ built t switch c piece (b ∷ bs) words last bin items flag letter k leads =
       line = s.line;
       items_are = leads.items_are ∙ ap (λ l. option (short c) None ∷ l) s.items_are;
     }
-built t switch c piece behind words last bin items value_kind letter k shows = record {
+built t switch c piece after words last bin items value_kind letter k shows = record {
   left = shows.left;
   front = shows.item ∷ [];
   others = shows.others;
-  cluster = last_option c piece behind _ shows.item letter (behind_is switch behind) shows.completes;
+  cluster = last_option c piece after _ shows.item letter (rest_is switch after) shows.completes;
   line = shows.line;
   items_are = shows.items_are;
 }

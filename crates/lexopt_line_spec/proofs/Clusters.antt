@@ -19,15 +19,15 @@ contains_drop zero bs has = has
 contains_drop (suc n) [] has = has
 contains_drop (suc n) (b ∷ bs) has = contains_more b bs (contains_drop n bs has)
 
-contains_behind : (n : ℕ) (b : ℕ) (bs : List ℕ) → 0 < n → Contains (drop n (b ∷ bs)) equals → Contains bs equals
-contains_behind zero b bs some has = absurd (omega arith)
-contains_behind (suc n) b bs some has = contains_drop n bs has
+contains_after : (n : ℕ) (b : ℕ) (bs : List ℕ) → 0 < n → Contains (drop n (b ∷ bs)) equals → Contains bs equals
+contains_after zero b bs some has = absurd (omega arith)
+contains_after (suc n) b bs some has = contains_drop n bs has
 
-free_behind : (switch : Bool) (b : ℕ) (bs : List ℕ) → IsFree switch bs → IsFree switch (after_first_piece (b ∷ bs))
-free_behind switch b bs (inl off) = inl off
-free_behind switch b bs (inr none) =
+free_after : (switch : Bool) (b : ℕ) (bs : List ℕ) → IsFree switch bs → IsFree switch (after_first_piece (b ∷ bs))
+free_after switch b bs (inl off) = inl off
+free_after switch b bs (inr none) =
     let bounds = piece-bounds (b ∷ bs) (let some : 0 < length (b ∷ bs) = omega arith in some) in
-    inr (λ has. none (contains_behind (decoded (b ∷ bs)).size b bs bounds.0 has))
+    inr (λ has. none (contains_after (decoded (b ∷ bs)).size b bs bounds.0 has))
 
 free_tail : (switch : Bool) (b : ℕ) (bs : List ℕ) → IsFree switch (b ∷ bs) → IsFree switch bs
 free_tail switch b bs (inl off) = inl off
@@ -84,7 +84,7 @@ rest_read (suc most) (b ∷ bs) u (r ∷ rs) v few tail free run =
     let first = next_answers u r _ run.0 _ reads (λ h. h) run.1 in
     let more = rest_read most (after_first_piece (b ∷ bs)) run.0 rs v (omega arith) (ap (λ (l : UnreadLine). l.tail) first.1)
     (subst (λ (s : Bool). IsFree s (after_first_piece (b ∷ bs))) (sym (ap (λ (l : UnreadLine). l.short_equals) first.1))
-    (free_behind u.short_equals b bs (free_tail u.short_equals b bs free)))
+    (free_after u.short_equals b bs (free_tail u.short_equals b bs free)))
     run.2 in
     record {
       replies_are = ap (λ x. x ∷ rs) first.0 ∙ ap (λ l. short (shown (first_piece (b ∷ bs)).char) ∷ l) more.replies_are;
@@ -102,7 +102,7 @@ word_read u v b bs ws (r ∷ rs) none open_line words other free run =
     let first = next_answers u r _ run.0 _ step (λ h. h) run.1 in
     let after = after_first_piece (b ∷ bs) in
     let more = rest_read (length after) after run.0 rs v (omega arith) (ap (λ (l : UnreadLine). l.tail) first.1)
-    (subst (λ (s : Bool). IsFree s after) (sym (ap (λ (l : UnreadLine). l.short_equals) first.1)) (free_behind u.short_equals b bs free))
+    (subst (λ (s : Bool). IsFree s after) (sym (ap (λ (l : UnreadLine). l.short_equals) first.1)) (free_after u.short_equals b bs free))
     run.2 in (
       ap (λ x. x ∷ rs) first.0 ∙ ap (λ l. short (shown (first_piece (b ∷ bs)).char) ∷ l) more.replies_are,
       more.no_tail_is,

@@ -1,4 +1,4 @@
--- The step that a reading makes behind an option of some kind.
+-- The step that a reading makes after an option of some kind.
 use Rattle.std.proofs.Common.{◌≡◌, ◌≢◌, ◌↔◌, false, List, refl, subst, inl, inr}
 use Rattle.lexopt_spec.specs.UnreadLine.{UnreadLine, IsLine}
 use Rattle.lexopt_spec.specs.Steps as steps
@@ -8,14 +8,14 @@ use Rattle.lexopt_spec.specs.Runs as calls
 use Rattle.lexopt_spec.specs.Runs.{Call, Step}
 use Rattle.lexopt_line_spec.specs.Table.{Name, Item, Kind, flag, one, optional, several, kind, Table}
 use Rattle.lexopt_line_spec.specs.Readings.{IsDue, IsLast, IsFull, GoesOn}
-use Rattle.lexopt_line_spec.proofs.Unread.{ShowsBehind, ValueShows}
+use Rattle.lexopt_line_spec.proofs.Unread.{ShowsAfter, ValueShows}
 use Rattle.lexopt_line_spec.proofs.ValueLaw.{value_law}
 use Rattle.lexopt_line_spec.proofs.OptionalLaw.{optional_law}
 use Rattle.lexopt_line_spec.proofs.FullValues.{FullStep, full_step}
 use Rattle.lexopt_line_spec.proofs.SeveralLaw.{several_law}
 use Rattle.lexopt_line_spec.proofs.ReplyKinds.{IsValueReply, value_reply, optional_reply, values_reply}
 
--- the call that is due behind an option of this kind answers so, where memory is enough
+-- the call that is due after an option of this kind answers so, where memory is enough
 abbrev pub DueStep : Kind → UnreadLine → Reply → UnreadLine → Type 0
 DueStep flag u r v = NextStep u r v
 DueStep one u r v = ValueStep u r v
@@ -42,7 +42,7 @@ last_full (calls.values n) steps.end is = tt
 last_full (calls.values n) final is = absurd is
 last_full call final is = tt
 
--- behind an option that has values, the call that is due gives a value, or says that there is none
+-- after an option that has values, the call that is due gives a value, or says that there is none
 pub due_reply : (k : Kind) (u v : UnreadLine) (r : Reply) → k ≢ flag → DueStep k u r v → IsValueReply r
 due_reply flag u v r other step = absurd (other refl)
 due_reply one u v r other step = value_reply u v r step
@@ -51,7 +51,7 @@ due_reply several u v r other step = values_reply u v r step
 
 -- and what the line shows there is what that call says of it
 pub due_law : (t : Table) (k : Kind) (name : Name) (u v : UnreadLine) (r : Reply) (l : List Item) → k ≢ flag → (kind t name ≡ k) × (u.ended ≡ false) → IsLine u → DueStep k u r v
-    → ShowsBehind t name u l ↔ ValueShows t name r v l
+    → ShowsAfter t name u l ↔ ValueShows t name r v l
 due_law t flag name u v r l other is line step = absurd (other refl)
 due_law t one name u v r l other is line step = value_law t name u v r l is.0 line step
 due_law t optional name u v r l other is line step = optional_law t name u v r l is.0 line step

@@ -5,7 +5,7 @@ use Rattle.lexopt_spec.specs.Steps as steps
 use Rattle.lexopt_spec.specs.Steps.{Reply, NextStep}
 use Rattle.lexopt_spec.specs.Runs.{Call, next, value, Step, Run}
 use Rattle.lexopt_line_spec.specs.Table.{Name, short, long, Item, option, positional, Kind, flag, one, optional, several, kind, Table}
-use Rattle.lexopt_line_spec.specs.Readings.{IsDue, IsFull, GoesOn, AskedBehind, last, more}
+use Rattle.lexopt_line_spec.specs.Readings.{IsDue, IsFull, GoesOn, AskedAfter, last, more}
 use Rattle.lexopt_line_spec.proofs.Lines.{next_line}
 use Rattle.lexopt_line_spec.proofs.RunAccounts.{step_line}
 use Rattle.lexopt_line_spec.proofs.Calls.{call_answer}
@@ -20,19 +20,19 @@ use Rattle.lexopt_line_spec.proofs.NextLaw.{next_law}
 use Rattle.lexopt_line_spec.proofs.Readings.{complete}
 use Rattle.lexopt_line_spec.proofs.ReplyKinds.{next_open}
 
--- behind an option of this kind the line is read to its end
+-- after an option of this kind the line is read to its end
 pub record IsRead (t : Table) (k : Kind) (u : UnreadLine) : Type 0 where
   pub calls : List Call
   pub replies : List Reply
   pub after : UnreadLine
   pub run : Run u calls replies after
-  pub asked : AskedBehind t steps.end k calls replies
+  pub asked : AskedAfter t steps.end k calls replies
 
 -- what shows these items is read to its end
 abbrev Reads : Table → List Item → Type 0
 Reads t l = (u : UnreadLine) → IsLine u → ShowsFrom t u l → IsRead t flag u
 
--- and so for the items behind the first
+-- and so for the items after the first
 abbrev Later : Table → List Item → Type 0
 Later t l = (x : Item) (xs : List Item) → l ≡ x ∷ xs → Reads t xs
 

@@ -6,7 +6,7 @@ use Rattle.lexopt_spec.specs.Steps.{Reply, items, missing}
 use Rattle.lexopt_spec.specs.Views.{plain_front, available, available_with, without, ValuesStep, no_values, some_values}
 use Rattle.lexopt_spec.specs.Runs.{values}
 use Rattle.lexopt_line_spec.specs.Readings.{IsFull}
-use Rattle.lexopt_spec.proofs.PlainFronts.{front_cut, left_behind_front}
+use Rattle.lexopt_spec.proofs.PlainFronts.{front_cut, left_after_front}
 
 -- `values` with enough items asked of it answers so
 pub data FullStep (u : UnreadLine) (reply : Reply) (after : UnreadLine) : Type 0 where
@@ -30,15 +30,15 @@ full_values n u v came few (no_values none is after) = absurd (let e : items cam
 full_values n u v came few (some_values some is after) =
     let same : came ≡ take n (available u) = ap items_of is in same ∙ all_came n (available u) (subst (λ l. length l < n) same few)
 
--- with these values, found so, and the line behind them
+-- with these values, found so, and the line after them
 some_given : (u v : UnreadLine) (r : Reply) (p : Option (List ℕ × Bool)) (front left : List (List ℕ)) → pending u ≡ p → IsPlainFront u.ended u.words front left
     → available_with p front ≢ [] → r ≡ items (available_with p front) → v ≡ without p (length (available_with p front)) u → FullStep u r v
 some_given u v r (Some (value, true)) front left p is some r_is v_is = joined_one value p r_is v_is
 some_given u v r (Some (value, false)) front left p is some r_is v_is =
-    attached_first value front left p is r_is (v_is ∙ ap (λ (l : List (List ℕ)). record u { tail = no_tail; words = l }) (left_behind_front u.ended u.words front left is))
+    attached_first value front left p is r_is (v_is ∙ ap (λ (l : List (List ℕ)). record u { tail = no_tail; words = l }) (left_after_front u.ended u.words front left is))
 some_given u v r None [] left p is some r_is v_is = absurd (some refl)
 some_given u v r None (w ∷ ws) left p is some r_is v_is =
-    words_alone (w ∷ ws) left p is some r_is (v_is ∙ ap (λ (l : List (List ℕ)). record u { words = l }) (left_behind_front u.ended u.words (w ∷ ws) left is))
+    words_alone (w ∷ ws) left p is some r_is (v_is ∙ ap (λ (l : List (List ℕ)). record u { words = l }) (left_after_front u.ended u.words (w ∷ ws) left is))
 
 none_given : (u v : UnreadLine) (r : Reply) (p : Option (List ℕ × Bool)) (front left : List (List ℕ)) → pending u ≡ p → IsPlainFront u.ended u.words front left
     → available_with p front ≡ [] → r ≡ missing (spelling u.last) → v ≡ u → FullStep u r v

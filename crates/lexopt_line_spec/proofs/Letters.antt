@@ -10,50 +10,50 @@ use Rattle.lexopt_spec.specs.Pieces.{IsDamage, IsFirstPiece, first_piece, after_
 use Rattle.lexopt_line_spec.specs.Spelling.{damaged}
 use Rattle.lexopt_spec.proofs.Fronts.{decoded_is_first, first_is_decoded, damage_some}
 
--- these bytes, with those behind them, are read as the character c
-pub record IsRead (c : ℕ) (bytes behind : List ℕ) : Type 0 where
-  pub some : bytes ++ behind ≢ []
-  pub is : shown (first_piece (bytes ++ behind)).char ≡ c
-  pub after : after_first_piece (bytes ++ behind) ≡ behind
+-- these bytes, with those after them, are read as the character c
+pub record IsRead (c : ℕ) (bytes following : List ℕ) : Type 0 where
+  pub some : bytes ++ following ≢ []
+  pub is : shown (first_piece (bytes ++ following)).char ≡ c
+  pub after : after_first_piece (bytes ++ following) ≡ following
 
 no_bytes : (bs : List ℕ) → 0 < length bs → bs ≢ []
 no_bytes bs some none = let e : length bs ≡ 0 = ap length none in omega arith
 
-read_by : (bytes behind : List ℕ) (char : Option ℕ) → bytes ++ behind ≢ [] → (decoded (bytes ++ behind)).size ≡ length bytes
-    → (decoded (bytes ++ behind)).char ≡ char → IsRead (shown char) bytes behind
-read_by bytes behind char some size is = record {
+read_by : (bytes following : List ℕ) (char : Option ℕ) → bytes ++ following ≢ [] → (decoded (bytes ++ following)).size ≡ length bytes
+    → (decoded (bytes ++ following)).char ≡ char → IsRead (shown char) bytes following
+read_by bytes following char some size is = record {
   some = some;
   is = ap shown is;
-  after = ap (λ n. drop n (bytes ++ behind)) size ∙ drop-append_seam bytes behind;
+  after = ap (λ n. drop n (bytes ++ following)) size ∙ drop-append_seam bytes following;
 }
 
-pub exact_read : (c : ℕ) (bytes behind : List ℕ) → IsScalar c → bytes ≡ encode_utf8 c → IsRead c bytes behind
-exact_read c bytes behind scalar is =
-    let read : decoded (bytes ++ behind) ≡ good c (length bytes) =
-    ap (λ l. decoded (l ++ behind)) is ∙ decoded-encode c behind scalar ∙ ap (λ l. good c (length l)) (sym is) in
-    let char : (decoded (bytes ++ behind)).char ≡ Some c = ap (λ (p : Decoded). p.char) read in
-    read_by bytes behind (Some c)
+pub exact_read : (c : ℕ) (bytes following : List ℕ) → IsScalar c → bytes ≡ encode_utf8 c → IsRead c bytes following
+exact_read c bytes following scalar is =
+    let read : decoded (bytes ++ following) ≡ good c (length bytes) =
+    ap (λ l. decoded (l ++ following)) is ∙ decoded-encode c following scalar ∙ ap (λ l. good c (length l)) (sym is) in
+    let char : (decoded (bytes ++ following)).char ≡ Some c = ap (λ (p : Decoded). p.char) read in
+    read_by bytes following (Some c)
     (λ none. let e : (decoded []).char ≡ Some c = sym (ap (λ l. (decoded l).char) none) ∙ char in cc)
     (ap (λ (p : Decoded). p.size) read) char
 
-damage_read : (bytes behind : List ℕ) → IsDamage (bytes ++ behind) (length bytes) → IsRead replacement bytes behind
-damage_read bytes behind is =
-    let first = first_is_decoded (bytes ++ behind) (length bytes) None is in
-    read_by bytes behind None (no_bytes (bytes ++ behind) (damage_some (bytes ++ behind) (length bytes) is.within is.longest)) (sym first.0) (sym first.1)
+damage_read : (bytes following : List ℕ) → IsDamage (bytes ++ following) (length bytes) → IsRead replacement bytes following
+damage_read bytes following is =
+    let first = first_is_decoded (bytes ++ following) (length bytes) None is in
+    read_by bytes following None (no_bytes (bytes ++ following) (damage_some (bytes ++ following) (length bytes) is.within is.longest)) (sym first.0) (sym first.1)
 
-pub letter_read : (c : ℕ) (bytes behind : List ℕ) → damaged.character c bytes behind → IsRead c bytes behind
-letter_read c bytes behind (inl exact) = exact_read c bytes behind exact.0 exact.1
-letter_read c bytes behind (inr damage) = subst (λ (x : ℕ). IsRead x bytes behind) (sym damage.0) (damage_read bytes behind damage.1)
+pub letter_read : (c : ℕ) (bytes following : List ℕ) → damaged.character c bytes following → IsRead c bytes following
+letter_read c bytes following (inl exact) = exact_read c bytes following exact.0 exact.1
+letter_read c bytes following (inr damage) = subst (λ (x : ℕ). IsRead x bytes following) (sym damage.0) (damage_read bytes following damage.1)
 
 -- the first piece of some bytes stands for what is read
 pub record IsLetter (bs : List ℕ) : Type 0 where
   pub whole : (first_piece bs).bytes ++ after_first_piece bs ≡ bs
   pub letter : damaged.character (shown (first_piece bs).char) (first_piece bs).bytes (after_first_piece bs)
 
-stands : (bs bytes behind : List ℕ) (n : ℕ) (char : Option ℕ) → bytes ++ behind ≡ bs → bytes ≡ take n bs → n ≤ length bs → IsFirstPiece bs n char
-    → damaged.character (shown char) bytes behind
-stands bs bytes behind n (Some c) whole is within first = inl (first.scalar, is ∙ first.encodes)
-stands bs bytes behind n None whole is within first =
+stands : (bs bytes following : List ℕ) (n : ℕ) (char : Option ℕ) → bytes ++ following ≡ bs → bytes ≡ take n bs → n ≤ length bs → IsFirstPiece bs n char
+    → damaged.character (shown char) bytes following
+stands bs bytes following n (Some c) whole is within first = inl (first.scalar, is ∙ first.encodes)
+stands bs bytes following n None whole is within first =
     inr (refl, subst (λ (l : List ℕ). IsDamage l (length bytes)) (sym whole) (subst (λ (m : ℕ). IsDamage bs m) (sym (ap length is ∙ length-take-le n bs within)) first))
 
 pub read_letter : (bs : List ℕ) → 0 < length bs → IsLetter bs

@@ -8,7 +8,7 @@ use Rattle.bstr.proofs.lemmas.PieceLemmas.{piece-bounds}
 use Rattle.lexopt_spec.specs.Pieces.{first_piece, after_first_piece, shown, replacement, lossy, lossy_characters}
 use Rattle.lexopt_line_spec.specs.Table.{Name, short, long, Item, option, positional, Kind, many, flag, one, optional, several, kind, Table}
 use Rattle.lexopt_line_spec.specs.Spelling as spelling
-use Rattle.lexopt_line_spec.specs.Spelling.{Letters, exact, damaged, Behind, Completes, no_value, no_optional, attached_optional, joined_optional, joined_several, attached_several, several_words, attached_value, joined_value, next_word, Cluster, flag_first, last_option, Group, cluster, Line, no_words, plain_word, group, separator, Spells, Shows, IsWholeName, HaveNames, HaveWholeNames}
+use Rattle.lexopt_line_spec.specs.Spelling.{Letters, exact, damaged, After, Completes, no_value, no_optional, attached_optional, joined_optional, joined_several, attached_several, several_words, attached_value, joined_value, next_word, Cluster, flag_first, last_option, Group, cluster, Line, no_words, plain_word, group, separator, Spells, Shows, IsWholeName, HaveNames, HaveWholeNames}
 use Rattle.lexopt_spec.proofs.PieceSteps.{pieces-nil, pieces-step}
 use Rattle.lexopt_line_spec.proofs.Letters.{exact_read, read_letter}
 
@@ -42,9 +42,9 @@ shorter bs n some le = let bounds = piece-bounds bs some in let left = length-dr
 joined : (c : ℕ) (cs : List ℕ) → scalar c ≡ true → scalars cs ≡ true → scalars (c ∷ cs) ≡ true
 joined c cs a b = rw a b
 
-pub letter_scalar : (c : ℕ) (bytes behind : List ℕ) → damaged.character c bytes behind → scalar c ≡ true
-letter_scalar c bytes behind (inl is) = is.0
-letter_scalar c bytes behind (inr is) = subst (λ (x : ℕ). scalar x ≡ true) (sym is.0) refl
+pub letter_scalar : (c : ℕ) (bytes after : List ℕ) → damaged.character c bytes after → scalar c ≡ true
+letter_scalar c bytes after (inl is) = is.0
+letter_scalar c bytes after (inr is) = subst (λ (x : ℕ). scalar x ≡ true) (sym is.0) refl
 
 -- lossy text is text
 pub characters : (n : ℕ) (bs : List ℕ) → length bs ≤ n → scalars (lossy_characters bs) ≡ true
@@ -97,41 +97,41 @@ name_damaged name bytes utf8 is =
 -- ---- from one way of spelling to another
 
 pub record Carries (A B : Letters) (P : Name → Type 0) : Type 0 where
-  pub characters : (c : ℕ) (bytes behind : List ℕ) → P (short c) → A.character c bytes behind → B.character c bytes behind
+  pub characters : (c : ℕ) (bytes after : List ℕ) → P (short c) → A.character c bytes after → B.character c bytes after
   pub names : (name bytes : List ℕ) → P (long name) → A.name name bytes → B.name name bytes
 
 named : (P : Name → Type 0) (name : Name) (value : Option (List ℕ)) (item : Item) (others : List Item) → item ≡ option name value → HaveNames P (item ∷ others) → P name
 named P name value item others is have = (subst (λ (x : Item). HaveNames P (x ∷ others)) is have).0
 
-completes_named : (P : Name → Type 0) (k : Kind) (name : Name) (behind : Behind) (words left : List (List ℕ)) (item : Item) (others : List Item)
-    → Completes k name behind words item left → HaveNames P (item ∷ others) → P name
-completes_named P flag name behind words left item others (no_value b i l) have = named P name None item others i have
-completes_named P one name behind words left item others (attached_value v b i l) have = named P name (Some v) item others i have
-completes_named P one name behind words left item others (joined_value v b i l) have = named P name (Some v) item others i have
-completes_named P one name behind words left item others (next_word w b i l) have = named P name (Some w) item others i have
-completes_named P optional name behind words left item others (no_optional b i l) have = named P name None item others i have
-completes_named P optional name behind words left item others (attached_optional v b i l) have = named P name (Some v) item others i have
-completes_named P optional name behind words left item others (joined_optional v b i l) have = named P name (Some v) item others i have
-completes_named P several name behind words left item others (joined_several v b i l) have = (subst (λ (x : Item). HaveNames P (x ∷ others)) i have).0
-completes_named P several name behind words left item others (attached_several v f b g i) have = (subst (λ (x : Item). HaveNames P (x ∷ others)) i have).0
-completes_named P several name behind words left item others (several_words f b g some i) have = (subst (λ (x : Item). HaveNames P (x ∷ others)) i have).0
+completes_named : (P : Name → Type 0) (k : Kind) (name : Name) (after : After) (words left : List (List ℕ)) (item : Item) (others : List Item)
+    → Completes k name after words item left → HaveNames P (item ∷ others) → P name
+completes_named P flag name after words left item others (no_value b i l) have = named P name None item others i have
+completes_named P one name after words left item others (attached_value v b i l) have = named P name (Some v) item others i have
+completes_named P one name after words left item others (joined_value v b i l) have = named P name (Some v) item others i have
+completes_named P one name after words left item others (next_word w b i l) have = named P name (Some w) item others i have
+completes_named P optional name after words left item others (no_optional b i l) have = named P name None item others i have
+completes_named P optional name after words left item others (attached_optional v b i l) have = named P name (Some v) item others i have
+completes_named P optional name after words left item others (joined_optional v b i l) have = named P name (Some v) item others i have
+completes_named P several name after words left item others (joined_several v b i l) have = (subst (λ (x : Item). HaveNames P (x ∷ others)) i have).0
+completes_named P several name after words left item others (attached_several v f b g i) have = (subst (λ (x : Item). HaveNames P (x ∷ others)) i have).0
+completes_named P several name after words left item others (several_words f b g some i) have = (subst (λ (x : Item). HaveNames P (x ∷ others)) i have).0
 
 cluster_carried : (A B : Letters) (P : Name → Type 0) → Carries A B P → (t : Table) (switch : Bool) (words left : List (List ℕ)) (bytes : List ℕ) (items : List Item)
     → Cluster A t switch words left bytes items → HaveNames P items → Cluster B t switch words left bytes items
 cluster_carried A B P carries t switch words left bytes items (flag_first c character others more letter k no_mark spelled) have =
     flag_first c character others more (carries.characters c character others have.0 letter) k no_mark
     (cluster_carried A B P carries t switch words left others more spelled have.1)
-cluster_carried A B P carries t switch words left bytes items (last_option c character others behind item letter ends completes) have =
-    last_option c character others behind item
-    (carries.characters c character others (completes_named P (kind t (short c)) (short c) behind words left item [] completes have) letter) ends completes
+cluster_carried A B P carries t switch words left bytes items (last_option c character others after item letter ends completes) have =
+    last_option c character others after item
+    (carries.characters c character others (completes_named P (kind t (short c)) (short c) after words left item [] completes have) letter) ends completes
 
 group_carried : (A B : Letters) (P : Name → Type 0) → Carries A B P → (t : Table) (switch : Bool) (words : List (List ℕ)) (items : List Item) (left : List (List ℕ))
     → Group A t switch words items left → HaveNames P items → Group B t switch words items left
 group_carried A B P carries t switch words items left (cluster bytes others are other spelled) have =
     cluster bytes others are other (cluster_carried A B P carries t switch others left bytes items spelled have)
-group_carried A B P carries t switch words items left (spelling.long_option text bytes name behind item others are is none letters completes item_is) have =
-    spelling.long_option text bytes name behind item others are is none
-    (carries.names name bytes (completes_named P (kind t (long name)) (long name) behind others left item [] completes (subst (HaveNames P) item_is have)) letters) completes item_is
+group_carried A B P carries t switch words items left (spelling.long_option text bytes name after item others are is none letters completes item_is) have =
+    spelling.long_option text bytes name after item others are is none
+    (carries.names name bytes (completes_named P (kind t (long name)) (long name) after others left item [] completes (subst (HaveNames P) item_is have)) letters) completes item_is
 
 names_split : (P : Name → Type 0) (xs ys : List Item) → HaveNames P (xs ++ ys) → HaveNames P xs × HaveNames P ys
 names_split P [] ys have = (tt, have)
@@ -154,7 +154,7 @@ line_carried A B P carries t switch words items (separator ws) have = separator 
 pub shown_spells : (t : Table) (switch : Bool) (words : List (List ℕ)) (items : List Item) → Shows t switch words items → HaveWholeNames items → Spells t switch words items
 shown_spells t switch words items shows whole = line_carried damaged exact IsWholeName
     (record {
-      characters = λ c bytes behind other letter. ⊎_elim (λ is. is) (λ is. absurd (other is.0)) letter;
+      characters = λ c bytes after other letter. ⊎_elim (λ is. is) (λ is. absurd (other is.0)) letter;
       names = λ name bytes none is. name_exact name bytes is none;
     })
     t switch words items shows whole
@@ -167,5 +167,5 @@ any_names (positional word ∷ items) = any_names items
 
 pub spelled_shows : (t : Table) (switch : Bool) (words : List (List ℕ)) (items : List Item) → Spells t switch words items → Shows t switch words items
 spelled_shows t switch words items spells = line_carried exact damaged (λ name. Unit {0})
-    (record { characters = λ c bytes behind any is. inl is; names = λ name bytes any is. name_damaged name bytes is.0 is.1 })
+    (record { characters = λ c bytes after any is. inl is; names = λ name bytes any is. name_damaged name bytes is.0 is.1 })
     t switch words items spells (any_names items)

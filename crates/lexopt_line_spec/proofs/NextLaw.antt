@@ -9,7 +9,7 @@ use Rattle.lexopt_spec.specs.Steps as steps
 use Rattle.lexopt_spec.specs.Steps.{Reply, IsLongOption, alone, with_value, ReadsPositional, no_word_left, word_left, ReadsWord, no_word, reads_separator, reads_long, reads_cluster, reads_positional, NextStep, equals_value, next_in_cluster, after_separator}
 use Rattle.lexopt_line_spec.specs.Table.{long, Item, option, positional, Kind, flag, kind, Table}
 use Rattle.lexopt_line_spec.specs.Spelling as spelling
-use Rattle.lexopt_line_spec.specs.Spelling.{damaged, Behind, nothing, Completes, no_value, BeginsWithMark, IsLong, name_alone, name_and_value, Group, cluster, no_words, plain_word, group, separator, Shows}
+use Rattle.lexopt_line_spec.specs.Spelling.{damaged, After, nothing, Completes, no_value, BeginsWithMark, IsLong, name_alone, name_and_value, Group, cluster, no_words, plain_word, group, separator, Shows}
 use Rattle.lexopt_spec.proofs.LineLemmas.{plain_short, long_exists}
 use Rattle.lexopt_line_spec.proofs.Exact.{next_same}
 use Rattle.lexopt_line_spec.proofs.Total.{spelled}
@@ -21,7 +21,7 @@ use Rattle.lexopt_line_spec.proofs.ClusterLaw.{line_of, completed, cluster_reads
 abbrev Read : (UnreadLine → Reply → UnreadLine → Type 0) → Table → UnreadLine → List Item → Type 0
 Read Step t u items = (r : Reply) × (v : UnreadLine) × Step u r v × NextShows t r v items
 
--- behind the separator
+-- after the separator
 ended_reads : (t : Table) (words : List (List ℕ)) (last : LastOption) (bin : Option (List ℕ)) (switch : Bool) (items : List Item) → items ≡ map positional words
     → Read ReadsPositional t (line_of no_tail words true last switch bin) items
 ended_reads t [] last bin switch items is = (_, _, no_word_left refl refl refl, is)
@@ -32,22 +32,22 @@ cut_some : (bytes v : List ℕ) → bytes ++ equals ∷ v ≢ []
 cut_some [] v is = let e : equals ∷ v ≡ [] = is in cc
 cut_some (b ∷ bs) v is = let e : b ∷ (bs ++ equals ∷ v) ≡ [] = is in cc
 
-long_reads : (t : Table) (words others left : List (List ℕ)) (last : LastOption) (bin : Option (List ℕ)) (switch : Bool) (text bytes name : List ℕ) (behind : Behind) (item : Item) (items : List Item)
-    → words ≡ (dash ∷ dash ∷ text) ∷ others → IsLong text bytes behind → ¬ Contains bytes equals → lossy bytes ≡ name
-    → Completes (kind t (long name)) (long name) behind others item left → Shows t switch left items → Read ReadsWord t (line_of no_tail words false last switch bin) (item ∷ items)
-long_reads t words others left last bin switch text bytes name behind item items are (name_alone some is b) none shows completes line = (
+long_reads : (t : Table) (words others left : List (List ℕ)) (last : LastOption) (bin : Option (List ℕ)) (switch : Bool) (text bytes name : List ℕ) (after : After) (item : Item) (items : List Item)
+    → words ≡ (dash ∷ dash ∷ text) ∷ others → IsLong text bytes after → ¬ Contains bytes equals → lossy bytes ≡ name
+    → Completes (kind t (long name)) (long name) after others item left → Shows t switch left items → Read ReadsWord t (line_of no_tail words false last switch bin) (item ∷ items)
+long_reads t words others left last bin switch text bytes name after item items are (name_alone some is b) none shows completes line = (
   _,
   _,
   reads_long text bytes no_tail others are (λ nil. some (sym is ∙ nil)) (alone none is) refl refl,
   subst (λ (n : List ℕ). GoesOnShowing t (kind t (long n)) (long n) (line_of no_tail others false (unread.long_option (lossy bytes)) switch bin) (item ∷ items)) (sym shows)
-      (completed t (long name) (kind t (long name)) no_tail others left (unread.long_option (lossy bytes)) bin switch behind item items refl b (λ h. refl) completes line),
+      (completed t (long name) (kind t (long name)) no_tail others left (unread.long_option (lossy bytes)) bin switch after item items refl b (λ h. refl) completes line),
 )
-long_reads t words others left last bin switch text bytes name behind item items are (name_and_value v is b) none shows completes line = (
+long_reads t words others left last bin switch text bytes name after item items are (name_and_value v is b) none shows completes line = (
   _,
   _,
   reads_long text bytes (joined v) others are (λ nil. cut_some bytes v (sym is ∙ nil)) (with_value v none is) refl refl,
   subst (λ (n : List ℕ). GoesOnShowing t (kind t (long n)) (long n) (line_of (joined v) others false (unread.long_option (lossy bytes)) switch bin) (item ∷ items)) (sym shows)
-      (completed t (long name) (kind t (long name)) (joined v) others left (unread.long_option (lossy bytes)) bin switch behind item items refl b
+      (completed t (long name) (kind t (long name)) (joined v) others left (unread.long_option (lossy bytes)) bin switch after item items refl b
       (λ h. absurd (let e : nothing ≡ spelling.joined v = h in cc)) completes line),
 )
 
@@ -56,9 +56,9 @@ group_reads : (t : Table) (words left : List (List ℕ)) (last : LastOption) (bi
 group_reads t words left last bin switch front items (cluster bytes others are other spelled) line =
     let a = cluster_reads t switch others left bytes front no_tail last bin items spelled line in
     (a.0, a.1, reads_cluster bytes others are other a.2, a.3)
-group_reads t words left last bin switch front items (spelling.long_option text bytes name behind item others are is none shows completes item_is) line =
+group_reads t words left last bin switch front items (spelling.long_option text bytes name after item others are is none shows completes item_is) line =
     subst (λ (l : List Item). Read ReadsWord t (line_of no_tail words false last switch bin) (l ++ items)) (sym item_is)
-    (long_reads t words others left last bin switch text bytes name behind item items are is none shows completes line)
+    (long_reads t words others left last bin switch text bytes name after item items are is none shows completes line)
 
 words_read : (t : Table) (words : List (List ℕ)) (last : LastOption) (bin : Option (List ℕ)) (switch : Bool) (items : List Item) → Shows t switch words items
     → Read ReadsWord t (line_of no_tail words false last switch bin) items
@@ -93,7 +93,7 @@ ended_built t [] last bin switch = (_, _, no_word_left refl refl refl, λ items 
 ended_built t (w ∷ ws) last bin switch =
     (_, _, word_left w ws refl refl refl, λ items leads. leads.items_are ∙ ap (λ l. positional w ∷ l) leads.shows)
 
--- a group, and what the words behind it show
+-- a group, and what the words after it show
 grouped : (t : Table) (switch : Bool) (words left : List (List ℕ)) (front others items : List Item) → Group damaged t switch words front left
     → Shows t switch left others → items ≡ front ++ others → Shows t switch words items
 grouped t switch words left front others items first line is = subst (Shows t switch words) (sym is) (group words left front others first line)

@@ -5,25 +5,25 @@ use Rattle.lexopt_spec.specs.Steps as steps
 use Rattle.lexopt_spec.specs.Steps.{Reply}
 use Rattle.lexopt_spec.specs.Runs.{Call, Run}
 use Rattle.lexopt_line_spec.specs.Table.{Name, short, long, Item, option, positional, Kind, many, flag, kind, Table}
-use Rattle.lexopt_line_spec.specs.Readings.{IsDue, IsLast, GoesOn, AskedBehind, last, more, item_behind, items_said}
+use Rattle.lexopt_line_spec.specs.Readings.{IsDue, IsLast, GoesOn, AskedAfter, last, more, item_after, items_said}
 use Rattle.lexopt_line_spec.proofs.RunAccounts.{step_line}
-use Rattle.lexopt_line_spec.proofs.Unread.{ShowsFrom, ShowsBehind, Leads, GoesOnShowing}
+use Rattle.lexopt_line_spec.proofs.Unread.{ShowsFrom, ShowsAfter, Leads, GoesOnShowing}
 use Rattle.lexopt_line_spec.proofs.NextLaw.{next_law}
 use Rattle.lexopt_line_spec.proofs.ReplyKinds.{IsNextReply, next_reply, next_open}
 use Rattle.lexopt_line_spec.proofs.DueSteps.{DueStep, due_step, last_full, due_reply, due_law, last_found, more_found}
 
--- ---- what is shown, behind an option of some kind
+-- ---- what is shown, after an option of some kind
 
 abbrev pub DueShows : Table → Kind → Name → UnreadLine → List Item → Type 0
 DueShows t flag name u l = ShowsFrom t u l
-DueShows t k name u l = ShowsBehind t name u l
+DueShows t k name u l = ShowsAfter t name u l
 
--- what the replies say, behind an option of this kind and name
+-- what the replies say, after an option of this kind and name
 abbrev pub said : Kind → Name → List Reply → List Item
 said flag name replies = items_said replies
-said k name replies = item_behind name replies ∷ items_said replies
+said k name replies = item_after name replies ∷ items_said replies
 
-next_reply_item : (name : Name) (r : Reply) (replies : List Reply) → IsNextReply r → item_behind name (r ∷ replies) ≡ option name None
+next_reply_item : (name : Name) (r : Reply) (replies : List Reply) → IsNextReply r → item_after name (r ∷ replies) ≡ option name None
 next_reply_item name (steps.short c) replies is = refl
 next_reply_item name (steps.long n) replies is = refl
 next_reply_item name (steps.positional word) replies is = refl
@@ -31,15 +31,15 @@ next_reply_item name steps.end replies is = refl
 next_reply_item name (steps.unexpected o word) replies is = refl
 next_reply_item name reply replies is = absurd is
 
--- an option behind which `next` is called has no value
-pub flag_item : (t : Table) (final : Reply) (name : Name) (u after : UnreadLine) (calls : List Call) (replies : List Reply) (k : Kind) → k ≡ flag → AskedBehind t final k calls replies
-    → Run u calls replies after → item_behind name replies ≡ option name None
+-- an option after which `next` is called has no value
+pub flag_item : (t : Table) (final : Reply) (name : Name) (u after : UnreadLine) (calls : List Call) (replies : List Reply) (k : Kind) → k ≡ flag → AskedAfter t final k calls replies
+    → Run u calls replies after → item_after name replies ≡ option name None
 flag_item t final name u after calls replies k is (last k' call due ends) run =
     next_reply_item name final [] (next_reply u run.0 final (due_step flag call u run.0 final (subst (λ (x : Kind). IsDue x call) is due) (last_full call final ends) (last_found final ends) run.1))
 flag_item t final name u after calls replies k is (more k' k2 call reply calls' replies' due full goes asked) run =
     next_reply_item name reply replies' (next_reply u run.0 reply (due_step flag call u run.0 reply (subst (λ (x : Kind). IsDue x call) is due) full (more_found t reply k2 goes) run.1))
 
--- ---- one step, and what is shown before it and behind it
+-- ---- one step, and what is shown before it and after it
 
 abbrev name_of : Name → Reply → Name
 name_of name (steps.short c) = short c
@@ -49,9 +49,9 @@ name_of name reply = name
 abbrev pub IsKnown : Table → Kind → Name → UnreadLine → Type 0
 IsKnown t k name u = k ≢ flag → (kind t name ≡ k) × (u.ended ≡ false)
 
--- behind no option
-pub no_option_behind : (t : Table) (name : Name) (u : UnreadLine) → IsKnown t flag name u
-no_option_behind t name u other = absurd (other refl)
+-- after no option
+pub no_option_after : (t : Table) (name : Name) (u : UnreadLine) → IsKnown t flag name u
+no_option_after t name u other = absurd (other refl)
 
 known_then : (t : Table) (k0 : Kind) (name : Name) (u v : UnreadLine) (r : Reply) (k : Kind) → IsLine u → DueStep k0 u r v → GoesOn t r k → IsKnown t k (name_of name r) v
 known_then t flag name u v (steps.short c) k line step goes other = (sym goes, next_open u v _ line step tt)
@@ -66,10 +66,10 @@ known_then t k0 name u v reply k line step goes other = absurd goes
 
 -- these replies follow an option that has no value
 abbrev IsAlone : Kind → Name → List Reply → Type 0
-IsAlone k name replies = k ≡ flag → item_behind name replies ≡ option name None
+IsAlone k name replies = k ≡ flag → item_after name replies ≡ option name None
 
 option_shown : (t : Table) (k : Kind) (name : Name) (v : UnreadLine) (replies : List Reply) → IsAlone k name replies → DueShows t k name v (said k name replies)
-    → GoesOnShowing t k name v (item_behind name replies ∷ items_said replies)
+    → GoesOnShowing t k name v (item_after name replies ∷ items_said replies)
 option_shown t flag name v replies is shows = record { others = items_said replies; shows = shows; items_are = ap (λ x. x ∷ items_said replies) (is refl) }
 option_shown t k name v replies is shows = shows
 
@@ -77,10 +77,10 @@ step_shown : (t : Table) (k k2 : Kind) (name : Name) (u v : UnreadLine) (r : Rep
     → IsAlone k2 (name_of name r) replies → DueShows t k2 (name_of name r) v (said k2 (name_of name r) replies) → DueShows t k name u (said k name (r ∷ replies))
 step_shown t flag k2 name u v (steps.short c) replies known line step goes is shows =
     (next_law t u v (steps.short c) _ line step).1
-    (subst (λ (x : Kind). GoesOnShowing t x (short c) v (item_behind (short c) replies ∷ items_said replies)) goes (option_shown t k2 (short c) v replies is shows))
+    (subst (λ (x : Kind). GoesOnShowing t x (short c) v (item_after (short c) replies ∷ items_said replies)) goes (option_shown t k2 (short c) v replies is shows))
 step_shown t flag k2 name u v (steps.long n) replies known line step goes is shows =
     (next_law t u v (steps.long n) _ line step).1
-    (subst (λ (x : Kind). GoesOnShowing t x (long n) v (item_behind (long n) replies ∷ items_said replies)) goes (option_shown t k2 (long n) v replies is shows))
+    (subst (λ (x : Kind). GoesOnShowing t x (long n) v (item_after (long n) replies ∷ items_said replies)) goes (option_shown t k2 (long n) v replies is shows))
 step_shown t flag k2 name u v (steps.positional word) replies known line step goes is shows =
     (next_law t u v (steps.positional word) _ line step).1
     (record { others = items_said replies; shows = subst (λ (x : Kind). DueShows t x name v (said x name replies)) goes shows; items_are = refl })
@@ -104,18 +104,18 @@ step_shown t k k2 name u v (steps.long n) replies known line step goes is shows 
 step_shown t k k2 name u v (steps.positional word) replies known line step goes is shows = absurd (due_reply k u v _ (λ same. cc) step)
 step_shown t k k2 name u v reply replies known line step goes is shows = absurd goes
 
--- where the line shows these items, the line behind the step shows others: if they are what the later replies say, so are these
+-- where the line shows these items, the line after the step shows others: if they are what the later replies say, so are these
 pub record ShownThen (t : Table) (k : Kind) (name : Name) (v : UnreadLine) (replies : List Reply) (l all : List Item) : Type 0 where
   pub others : List Item
   pub shows : DueShows t k name v others
   pub so : others ≡ said k name replies → l ≡ all
 
 option_then : (t : Table) (k : Kind) (name : Name) (v : UnreadLine) (replies : List Reply) (l : List Item) → IsAlone k name replies → GoesOnShowing t k name v l
-    → ShownThen t k name v replies l (item_behind name replies ∷ items_said replies)
+    → ShownThen t k name v replies l (item_after name replies ∷ items_said replies)
 option_then t flag name v replies l is leads = record {
   others = leads.others;
   shows = leads.shows;
-  so = λ same. leads.items_are ∙ ap (λ x. x ∷ leads.others) (sym (is refl)) ∙ ap (λ m. item_behind name replies ∷ m) same;
+  so = λ same. leads.items_are ∙ ap (λ x. x ∷ leads.others) (sym (is refl)) ∙ ap (λ m. item_after name replies ∷ m) same;
 }
 option_then t k name v replies l is shows = record { others = l; shows = shows; so = λ same. same }
 
@@ -160,7 +160,7 @@ end_shown t flag name u v line step = (next_law t u v steps.end [] line step).1 
 end_shown t k name u v line step = absurd (due_reply k u v _ (λ same. cc) step)
 
 pub sound : (t : Table) (k : Kind) (name : Name) (u after : UnreadLine) (calls : List Call) (replies : List Reply) → IsKnown t k name u → IsLine u
-    → AskedBehind t steps.end k calls replies → Run u calls replies after → DueShows t k name u (said k name replies)
+    → AskedAfter t steps.end k calls replies → Run u calls replies after → DueShows t k name u (said k name replies)
 sound t k name u after calls replies known line (last k' call due is) run =
     end_shown t k name u run.0 line (due_step k call u run.0 steps.end due (last_full call steps.end is) (last_found steps.end is) run.1)
 sound t k name u after calls replies known line (more k' l call reply calls' replies' due full goes asked) run =
@@ -186,7 +186,7 @@ final_end t k name u v (steps.unexpected o w) l known line is step shows =
 final_end t k name u v reply l known line is step shows = absurd is
 
 pub complete : (t : Table) (final : Reply) (k : Kind) (name : Name) (u after : UnreadLine) (calls : List Call) (replies : List Reply) (l : List Item) → IsKnown t k name u → IsLine u
-    → AskedBehind t final k calls replies → Run u calls replies after → DueShows t k name u l → (final ≡ steps.end) × (l ≡ said k name replies)
+    → AskedAfter t final k calls replies → Run u calls replies after → DueShows t k name u l → (final ≡ steps.end) × (l ≡ said k name replies)
 complete t final k name u after calls replies l known line (last k' call due is) run shows =
     final_end t k name u run.0 final l known line is (due_step k call u run.0 final due (last_full call final is) (last_found final is) run.1) shows
 complete t final k name u after calls replies l known line (more k' k2 call reply calls' replies' due full goes asked) run shows =

@@ -53,7 +53,7 @@ values_reply u v r (attached_first x f l a g is b) = subst IsValueReply (sym is)
 values_reply u v r (words_alone f l a g some is b) = subst IsValueReply (sym is) tt
 values_reply u v r (nothing_given a none is b) = subst IsValueReply (sym is) tt
 
--- behind an option no separator was read
+-- after an option no separator was read
 abbrev IsOptionReply : Reply → Type 0
 IsOptionReply (steps.short c) = Unit {0}
 IsOptionReply (steps.long name) = Unit {0}

@@ -6,7 +6,7 @@ use Rattle.lexopt_spec.specs.Steps.{Reply, Next, Value}
 use Rattle.lexopt_spec.specs.Runs as calls
 use Rattle.lexopt_spec.specs.Runs.{Call, Step, next, value}
 use Rattle.lexopt_line_spec.specs.Table.{Name, short, long, Item, option, many, positional, Kind, flag, one, optional, several, kind, Table}
-use Rattle.lexopt_line_spec.specs.Readings.{IsDue, IsFull, IsLast, GoesOn, last, more, item_behind, items_said, IsReading, SaysUpTo}
+use Rattle.lexopt_line_spec.specs.Readings.{IsDue, IsFull, IsLast, GoesOn, last, more, item_after, items_said, IsReading, SaysUpTo}
 use Rattle.lexopt_line_spec.proofs.Readings.{flag_item}
 
 pub says_positional : (t : Table) (u v : UnreadLine) (word : List ℕ) → Next u (steps.positional word) v → SaysUpTo t u (positional word ∷ []) v
@@ -28,7 +28,7 @@ goes_on : (t : Table) (name : Name) (k : Kind) → kind t name ≡ k → GoesOn 
 goes_on t (short c) k is = sym is
 goes_on t (long name) k is = sym is
 
-option_items : (name : Name) (replies : List Reply) → items_said (option_reply name ∷ replies) ≡ item_behind name replies ∷ items_said replies
+option_items : (name : Name) (replies : List Reply) → items_said (option_reply name ∷ replies) ≡ item_after name replies ∷ items_said replies
 option_items (short c) replies = refl
 option_items (long name) replies = refl
 

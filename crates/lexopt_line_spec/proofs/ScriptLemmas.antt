@@ -9,22 +9,22 @@ use Rattle.std.proofs.lemmas.List.{at_drop_more, at_drop_all, take_all}
 use Rattle.std.proofs.lemmas.List.Splits.{length-slice_split}
 use Rattle.std.proofs.lemmas.List.Sums.{count_by-le-length}
 use Rattle.lexopt_line_spec.specs.Table.{Table, one_value}
-use Rattle.lexopt_line_spec.specs.Script.{newline, backslash, lines_of, in_front, unescaped, behind_backslash, one_character, Command, Entry, Meaning, nothing, word, entry, command, bad, meaning, reads_words, is_reading, is_bad, first_bad, bad_line, word_of, entry_of, command_of, words_of, commands_of, table_with, table_of}
+use Rattle.lexopt_line_spec.specs.Script.{newline, backslash, lines_of, in_front, unescaped, after_backslash, one_character, Command, Entry, Meaning, nothing, word, entry, command, bad, meaning, reads_words, is_reading, is_bad, first_bad, bad_line, word_of, entry_of, command_of, words_of, commands_of, table_with, table_of}
 
 -- ---- a text
 
 pub unescaped-plain : (b : ℕ) (bs : List ℕ) → b ≢ backslash → unescaped (b ∷ bs) ≡ in_front b (unescaped bs)
-unescaped-plain b bs plain = cond-false (b == backslash) (behind_backslash bs) (in_front b (unescaped bs)) (ne_eqb b backslash plain)
+unescaped-plain b bs plain = cond-false (b == backslash) (after_backslash bs) (in_front b (unescaped bs)) (ne_eqb b backslash plain)
 
 append-in_front : (done : List ℕ) (b : ℕ) (more : Option (List ℕ)) → option_map (λ bs. done ++ bs) (in_front b more) ≡ option_map (λ bs. (done ++ b ∷ []) ++ bs) more
 append-in_front done b None = refl
 append-in_front done b (Some bs) = ap Some (sym (append_assoc done (b ∷ []) bs))
 
 -- one more byte of a text
-pub unescaped_step : (done new rest behind : List ℕ) (b : ℕ) (all : Option (List ℕ)) → unescaped rest ≡ in_front b (unescaped behind) → new ≡ done ++ b ∷ []
-    → option_map (λ bs. done ++ bs) (unescaped rest) ≡ all → option_map (λ bs. new ++ bs) (unescaped behind) ≡ all
-unescaped_step done new rest behind b all is is_new so_far =
-    rw is_new (sym (append-in_front done b (unescaped behind)) ∙ ap (option_map (λ bs. done ++ bs)) (sym is) ∙ so_far)
+pub unescaped_step : (done new rest after : List ℕ) (b : ℕ) (all : Option (List ℕ)) → unescaped rest ≡ in_front b (unescaped after) → new ≡ done ++ b ∷ []
+    → option_map (λ bs. done ++ bs) (unescaped rest) ≡ all → option_map (λ bs. new ++ bs) (unescaped after) ≡ all
+unescaped_step done new rest after b all is is_new so_far =
+    rw is_new (sym (append-in_front done b (unescaped after)) ∙ ap (option_map (λ bs. done ++ bs)) (sym is) ∙ so_far)
 
 -- the first piece is a character, and takes all bytes
 pub whole_character : (bs : List ℕ) (n c : ℕ) → (decoded bs).size ≡ n → n ≡ length bs → (decoded bs).char ≡ Some c → Some c ≡ one_character bs

@@ -10,31 +10,31 @@ use Rattle.lexopt_spec.specs.Pieces.{lossy}
 use Rattle.lexopt_spec.specs.UnreadLine.{dash, equals, BeginsWith, IsPlain, is_plain, IsNormalIn}
 use Rattle.lexopt_line_spec.specs.Table.{Name, short, long, Item, option, many, positional, Kind, flag, one, optional, several, kind, Table}
 use Rattle.lexopt_line_spec.specs.Spelling as spelling
-use Rattle.lexopt_line_spec.specs.Spelling.{damaged, Behind, nothing, attached, joined, no_value, attached_value, joined_value, next_word, no_optional, attached_optional, joined_optional, joined_several, attached_several, several_words, Completes, IsBehindLast, nothing_more, a_value, marked_value, Cluster, flag_first, last_option, IsLong, name_alone, name_and_value, Group, cluster, Line, no_words, plain_word, group, separator, Shows}
-use Rattle.lexopt_line_spec.specs.Speller.{Place, open_line, in_cluster, behind_values, behind_positional, ended, Form, name_only, in_word, attached_form, short_form, long_form, words_form, short_words_form, short_many_form, long_many_form, Added, short_added, is_named, long_placed, long_added, stands, positional_added, adds}
+use Rattle.lexopt_line_spec.specs.Spelling.{damaged, After, nothing, attached, joined, no_value, attached_value, joined_value, next_word, no_optional, attached_optional, joined_optional, joined_several, attached_several, several_words, Completes, IsAfterLast, nothing_more, a_value, marked_value, Cluster, flag_first, last_option, IsLong, name_alone, name_and_value, Group, cluster, Line, no_words, plain_word, group, separator, Shows}
+use Rattle.lexopt_line_spec.specs.Speller.{Place, open_line, in_cluster, after_values, after_positional, ended, Form, name_only, in_word, attached_form, short_form, long_form, words_form, short_words_form, short_many_form, long_many_form, Added, short_added, is_named, long_placed, long_added, stands, positional_added, adds}
 use Rattle.lexopt_line_spec.proofs.Names.{letter_scalar}
 use Rattle.lexopt_spec.proofs.PlainFronts.{plain_passes}
 use Rattle.lexopt_line_spec.proofs.SpellerTests.{all_pass, has_equals, letter_dash, lossy_text, lossy_free, lossy_some}
 use Rattle.lexopt_line_spec.proofs.SpellerPlaces.{Can, nil_can, can_cons, positionals_can, words_ok}
 
--- behind these places the items may follow words that are left
+-- after these places the items may follow words that are left
 abbrev Follows : Place → List (List ℕ) → Type 0
-Follows place left = (place ≡ open_line) ⊎ ((place ≡ in_cluster) ⊎ ((place ≡ behind_values) × ¬ IsNormalIn false left))
+Follows place left = (place ≡ open_line) ⊎ ((place ≡ in_cluster) ⊎ ((place ≡ after_values) × ¬ IsNormalIn false left))
 
 record Ready (t : Table) (switch : Bool) (left : List (List ℕ)) (items : List Item) : Type 0 where
   open_too : Can t switch items open_line
   in_cluster_too : Can t switch items in_cluster
-  behind_values_too : ¬ IsNormalIn false left → Can t switch items behind_values
-  behind_positional_too : Can t switch items behind_positional
+  after_values_too : ¬ IsNormalIn false left → Can t switch items after_values
+  after_positional_too : Can t switch items after_positional
 
 followed : (t : Table) (switch : Bool) (place : Place) (left : List (List ℕ)) (items : List Item) → Follows place left → Ready t switch left items → Can t switch items place
 followed t switch place left items (inl is) ready = subst (Can t switch items) (sym is) ready.open_too
 followed t switch place left items (inr (inl is)) ready = subst (Can t switch items) (sym is) ready.in_cluster_too
-followed t switch place left items (inr (inr is)) ready = subst (Can t switch items) (sym is.0) (ready.behind_values_too is.1)
+followed t switch place left items (inr (inr is)) ready = subst (Can t switch items) (sym is.0) (ready.after_values_too is.1)
 
 -- ---- the form of an option's values
 
--- behind a character. One of several values is joined, where that is what is shown
+-- after a character. One of several values is joined, where that is what is shown
 data ShortForm (switch : Bool) (k : Kind) (name : Name) (item : Item) (left : List (List ℕ)) : Type 0 where
   of_option : (value : Option (List ℕ)) (f : Form) → item ≡ option name value → short_form switch k value ≡ Ok f → Follows f.place left → ShortForm switch k name item left
   of_many : (joins : Bool) (values : List (List ℕ)) (f : Form) → item ≡ many name values → short_many_form (switch && joins) k values ≡ Ok f → Follows f.place left
@@ -66,8 +66,8 @@ words_short switch name item left v (w ∷ ws) is plain calm =
     (ap (λ x. short_many_form x several (v ∷ w ∷ ws)) (and_right switch false refl) ∙ ap (λ x. short_words_form (is_plain false v) x v (w ∷ ws)) (all_pass (w ∷ ws) plain) ∙ f.1)
     (inr (inr (f.2, calm)))
 
--- what may stand behind a character
-abbrev Fits : Bool → Behind → Type 0
+-- what may stand after a character
+abbrev Fits : Bool → After → Type 0
 Fits switch nothing = Unit {0}
 Fits switch (attached v) = v ≢ []
 Fits switch (joined v) = switch ≡ true
@@ -78,23 +78,23 @@ joined_short switch name item left v is on = of_many true (v ∷ []) _ is (ap (�
 tail_all : (v : List ℕ) (vs : List (List ℕ)) → All (IsPlain false) (v ∷ vs) → All (IsPlain false) vs
 tail_all v vs all = λ k d within. all (suc k) d (omega (arith, within))
 
-short_of : (switch : Bool) (k : Kind) (name : Name) (behind : Behind) (words : List (List ℕ)) (item : Item) (left : List (List ℕ)) → Fits switch behind
-    → Completes k name behind words item left → ShortForm switch k name item left
-short_of switch flag name behind words item left fits (no_value b i l) = of_option None _ i refl (inr (inl refl))
-short_of switch one name behind words item left fits (attached_value v b i l) = of_option (Some v) _ i refl (inl refl)
-short_of switch one name behind words item left fits (joined_value v b i l) = of_option (Some v) _ i refl (inl refl)
-short_of switch one name behind words item left fits (next_word v b i l) = of_option (Some v) _ i refl (inl refl)
-short_of switch optional name behind words item left fits (no_optional b i l) = of_option None _ i refl (inl refl)
-short_of switch optional name behind words item left fits (attached_optional v b i l) = optional_short switch name item left v i (inr (subst (Fits switch) b fits))
-short_of switch optional name behind words item left fits (joined_optional v b i l) = optional_short switch name item left v i (inl (subst (Fits switch) b fits))
-short_of switch several name behind words item left fits (joined_several v b i l) = joined_short switch name item left v i (subst (Fits switch) b fits)
-short_of switch several name behind words item left fits (attached_several v front b g i) = words_short switch name item left v front i g.plain g.longest
-short_of switch several name behind words item left fits (several_words [] b g some i) = absurd (some refl)
-short_of switch several name behind words item left fits (several_words (v ∷ vs) b g some i) = words_short switch name item left v vs i (tail_all v vs g.plain) g.longest
+short_of : (switch : Bool) (k : Kind) (name : Name) (after : After) (words : List (List ℕ)) (item : Item) (left : List (List ℕ)) → Fits switch after
+    → Completes k name after words item left → ShortForm switch k name item left
+short_of switch flag name after words item left fits (no_value b i l) = of_option None _ i refl (inr (inl refl))
+short_of switch one name after words item left fits (attached_value v b i l) = of_option (Some v) _ i refl (inl refl)
+short_of switch one name after words item left fits (joined_value v b i l) = of_option (Some v) _ i refl (inl refl)
+short_of switch one name after words item left fits (next_word v b i l) = of_option (Some v) _ i refl (inl refl)
+short_of switch optional name after words item left fits (no_optional b i l) = of_option None _ i refl (inl refl)
+short_of switch optional name after words item left fits (attached_optional v b i l) = optional_short switch name item left v i (inr (subst (Fits switch) b fits))
+short_of switch optional name after words item left fits (joined_optional v b i l) = optional_short switch name item left v i (inl (subst (Fits switch) b fits))
+short_of switch several name after words item left fits (joined_several v b i l) = joined_short switch name item left v i (subst (Fits switch) b fits)
+short_of switch several name after words item left fits (attached_several v front b g i) = words_short switch name item left v front i g.plain g.longest
+short_of switch several name after words item left fits (several_words [] b g some i) = absurd (some refl)
+short_of switch several name after words item left fits (several_words (v ∷ vs) b g some i) = words_short switch name item left v vs i (tail_all v vs g.plain) g.longest
 
--- behind a name
+-- after a name
 record LongFits (bytes : List ℕ) (f : Form) (left : List (List ℕ)) : Type 0 where
-  named : is_named bytes f.behind ≡ true
+  named : is_named bytes f.after ≡ true
   follows : Follows f.place left
 
 data LongForm (k : Kind) (bytes : List ℕ) (item : Item) (left : List (List ℕ)) : Type 0 where
@@ -110,7 +110,7 @@ name_some [] some = absurd (some refl)
 name_some (b ∷ bs) some = refl
 
 joined_long : (k : Kind) (bytes : List ℕ) (item : Item) (left : List (List ℕ)) (v : List ℕ) → item ≡ option (long bytes) (Some v)
-    → long_form k (Some v) ≡ Ok (record { behind = joined v; words = []; place = open_line }) → LongForm k bytes item left
+    → long_form k (Some v) ≡ Ok (record { after = joined v; words = []; place = open_line }) → LongForm k bytes item left
 joined_long k bytes item left v is form = of_option_long (Some v) _ is form (record { named = name_joined bytes v; follows = inl refl })
 
 alone_long : (k : Kind) (bytes : List ℕ) (item : Item) (left : List (List ℕ)) → bytes ≢ [] → item ≡ option (long bytes) None
@@ -123,26 +123,26 @@ many_long bytes item left v [] is some plain calm = of_many_long (v ∷ []) _ is
 many_long bytes item left v (w ∷ ws) is some plain calm =
     of_many_long (v ∷ w ∷ ws) _ is (ap (λ x. words_form x (v ∷ w ∷ ws)) (all_pass (v ∷ w ∷ ws) plain)) (record { named = name_some bytes some; follows = inr (inr (refl, calm)) })
 
--- behind a name stands nothing, where the name has bytes, or a joined value
-abbrev FitsLong : List ℕ → Behind → Type 0
+-- after a name stands nothing, where the name has bytes, or a joined value
+abbrev FitsLong : List ℕ → After → Type 0
 FitsLong bytes nothing = bytes ≢ []
 FitsLong bytes (attached v) = ⊥
 FitsLong bytes (joined v) = Unit {0}
 
-long_of : (k : Kind) (bytes : List ℕ) (behind : Behind) (words : List (List ℕ)) (item : Item) (left : List (List ℕ)) → FitsLong bytes behind
-    → Completes k (long bytes) behind words item left → LongForm k bytes item left
-long_of flag bytes behind words item left fits (no_value b i l) = alone_long flag bytes item left (subst (FitsLong bytes) b fits) i refl
-long_of one bytes behind words item left fits (attached_value v b i l) = joined_long one bytes item left v i refl
-long_of one bytes behind words item left fits (joined_value v b i l) = joined_long one bytes item left v i refl
-long_of one bytes behind words item left fits (next_word v b i l) = joined_long one bytes item left v i refl
-long_of optional bytes behind words item left fits (no_optional b i l) = alone_long optional bytes item left (subst (FitsLong bytes) b fits) i refl
-long_of optional bytes behind words item left fits (attached_optional v b i l) = joined_long optional bytes item left v i refl
-long_of optional bytes behind words item left fits (joined_optional v b i l) = joined_long optional bytes item left v i refl
-long_of several bytes behind words item left fits (joined_several v b i l) =
+long_of : (k : Kind) (bytes : List ℕ) (after : After) (words : List (List ℕ)) (item : Item) (left : List (List ℕ)) → FitsLong bytes after
+    → Completes k (long bytes) after words item left → LongForm k bytes item left
+long_of flag bytes after words item left fits (no_value b i l) = alone_long flag bytes item left (subst (FitsLong bytes) b fits) i refl
+long_of one bytes after words item left fits (attached_value v b i l) = joined_long one bytes item left v i refl
+long_of one bytes after words item left fits (joined_value v b i l) = joined_long one bytes item left v i refl
+long_of one bytes after words item left fits (next_word v b i l) = joined_long one bytes item left v i refl
+long_of optional bytes after words item left fits (no_optional b i l) = alone_long optional bytes item left (subst (FitsLong bytes) b fits) i refl
+long_of optional bytes after words item left fits (attached_optional v b i l) = joined_long optional bytes item left v i refl
+long_of optional bytes after words item left fits (joined_optional v b i l) = joined_long optional bytes item left v i refl
+long_of several bytes after words item left fits (joined_several v b i l) =
     of_many_long (v ∷ []) _ i refl (record { named = name_joined bytes v; follows = inl refl })
-long_of several bytes behind words item left fits (attached_several v front b g i) = absurd (subst (FitsLong bytes) b fits)
-long_of several bytes behind words item left fits (several_words [] b g some i) = absurd (some refl)
-long_of several bytes behind words item left fits (several_words (v ∷ vs) b g some i) =
+long_of several bytes after words item left fits (attached_several v front b g i) = absurd (subst (FitsLong bytes) b fits)
+long_of several bytes after words item left fits (several_words [] b g some i) = absurd (some refl)
+long_of several bytes after words item left fits (several_words (v ∷ vs) b g some i) =
     many_long bytes item left v vs i (subst (FitsLong bytes) b fits) g.plain g.longest
 
 -- ---- what an item adds
@@ -159,12 +159,12 @@ short_is false d place c f is at = absurd (true≢false (sym is))
 short_is true d ended c f is at = ⊎_elim (λ same. absurd (let e : ended ≡ in_cluster = same in cc)) (λ other. absurd (other.1 refl)) at
 short_is true false open_line c f is at = (_, refl, refl)
 short_is true false in_cluster c f is at = (_, refl, refl)
-short_is true false behind_values c f is at = (_, refl, refl)
-short_is true false behind_positional c f is at = (_, refl, refl)
+short_is true false after_values c f is at = (_, refl, refl)
+short_is true false after_positional c f is at = (_, refl, refl)
 short_is true true open_line c f is at = ⊎_elim (λ same. absurd (let e : open_line ≡ in_cluster = same in cc)) (λ other. absurd (true≢false other.0)) at
 short_is true true in_cluster c f is at = (_, refl, refl)
-short_is true true behind_positional c f is at = ⊎_elim (λ same. absurd (let e : behind_positional ≡ in_cluster = same in cc)) (λ other. absurd (true≢false other.0)) at
-short_is true true behind_values c f is at = ⊎_elim (λ same. absurd (let e : behind_values ≡ in_cluster = same in cc)) (λ other. absurd (true≢false other.0)) at
+short_is true true after_positional c f is at = ⊎_elim (λ same. absurd (let e : after_positional ≡ in_cluster = same in cc)) (λ other. absurd (true≢false other.0)) at
+short_is true true after_values c f is at = ⊎_elim (λ same. absurd (let e : after_values ≡ in_cluster = same in cc)) (λ other. absurd (true≢false other.0)) at
 
 short_adds : (t : Table) (switch : Bool) (place : Place) (c : ℕ) (item : Item) (left : List (List ℕ)) → scalar c ≡ true → ShortPlace c place
     → ShortForm switch (kind t (short c)) (short c) item left → AddsAt t switch place item left
@@ -182,14 +182,14 @@ placed_is false place name f named at = absurd (true≢false (sym named))
 placed_is true ended name f named at = absurd (at refl)
 placed_is true open_line name f named at = (_, refl, refl)
 placed_is true in_cluster name f named at = (_, refl, refl)
-placed_is true behind_values name f named at = (_, refl, refl)
-placed_is true behind_positional name f named at = (_, refl, refl)
+placed_is true after_values name f named at = (_, refl, refl)
+placed_is true after_positional name f named at = (_, refl, refl)
 
-long_is : (u e : Bool) (place : Place) (name : List ℕ) (f : Form) → u ≡ true → e ≡ false → place ≢ ended → is_named name f.behind ≡ true
+long_is : (u e : Bool) (place : Place) (name : List ℕ) (f : Form) → u ≡ true → e ≡ false → place ≢ ended → is_named name f.after ≡ true
     → (a : Added) × (long_added u e place name (Ok f) ≡ Ok a) × (a.place ≡ f.place)
 long_is false e place name f text none at named = absurd (true≢false (sym text))
 long_is true true place name f text none at named = absurd (true≢false none)
-long_is true false place name f text none at named = placed_is (is_named name f.behind) place name f named at
+long_is true false place name f text none at named = placed_is (is_named name f.after) place name f named at
 
 long_adds : (t : Table) (switch : Bool) (place : Place) (name : List ℕ) (item : Item) (left : List (List ℕ)) → IsUtf8 name → has_equals name ≡ false
     → place ≢ ended → LongForm (kind t (long name)) name item left → AddsAt t switch place item left
@@ -204,10 +204,10 @@ long_adds t switch place name item left text none at (of_many_long values f i fo
 
 -- ---- clusters
 
-fits_behind : (switch : Bool) (bytes : List ℕ) (behind : Behind) → IsBehindLast switch bytes behind → Fits switch behind
-fits_behind switch bytes behind (nothing_more none is) = subst (Fits switch) (sym is) tt
-fits_behind switch bytes behind (a_value some mark is) = subst (Fits switch) (sym is) some
-fits_behind switch bytes behind (marked_value v on is b) = subst (Fits switch) (sym b) on
+fits_after : (switch : Bool) (bytes : List ℕ) (after : After) → IsAfterLast switch bytes after → Fits switch after
+fits_after switch bytes after (nothing_more none is) = subst (Fits switch) (sym is) tt
+fits_after switch bytes after (a_value some mark is) = subst (Fits switch) (sym is) some
+fits_after switch bytes after (marked_value v on is b) = subst (Fits switch) (sym b) on
 
 abbrev ClusterPlace : List ℕ → Place → Type 0
 ClusterPlace bytes place = (place ≡ in_cluster) ⊎ (¬ BeginsWith dash bytes × (place ≢ ended))
@@ -228,44 +228,44 @@ cluster_can t switch words left bytes front items place (flag_first c character 
     let a = flag_adds t switch place c (letter_scalar c character others letter) (short_place c character others place letter at) k in
     can_cons t switch false false place (option (short c) None) (more ++ items) a.0 a.1
     (cluster_can t switch words left others more items a.0.place spelled (inl a.2) ready)
-cluster_can t switch words left bytes front items place (last_option c character others behind item letter ends completes) at ready =
+cluster_can t switch words left bytes front items place (last_option c character others after item letter ends completes) at ready =
     let a = short_adds t switch place c item left (letter_scalar c character others letter) (short_place c character others place letter at)
-    (short_of switch (kind t (short c)) (short c) behind words item left (fits_behind switch others behind ends) completes) in
+    (short_of switch (kind t (short c)) (short c) after words item left (fits_after switch others after ends) completes) in
     can_cons t switch a.0 false place item items a.1 a.2 (followed t switch a.1.place left items a.3 ready)
 
 -- ---- long options
 
-long_fits : (text bytes name : List ℕ) (behind : Behind) → lossy bytes ≡ name → IsLong text bytes behind → FitsLong name behind
-long_fits text bytes name behind is (name_alone some text_is b) = subst (FitsLong name) (sym b) (λ nil. lossy_some bytes some (is ∙ nil))
-long_fits text bytes name behind is (name_and_value v text_is b) = subst (FitsLong name) (sym b) tt
+long_fits : (text bytes name : List ℕ) (after : After) → lossy bytes ≡ name → IsLong text bytes after → FitsLong name after
+long_fits text bytes name after is (name_alone some text_is b) = subst (FitsLong name) (sym b) (λ nil. lossy_some bytes some (is ∙ nil))
+long_fits text bytes name after is (name_and_value v text_is b) = subst (FitsLong name) (sym b) tt
 
 group_can : (t : Table) (switch : Bool) (words : List (List ℕ)) (front : List Item) (left : List (List ℕ)) (items : List Item) (place : Place)
     → Group damaged t switch words front left → place ≢ ended → Ready t switch left items → Can t switch (front ++ items) place
 group_can t switch words front left items place (cluster bytes others are other spelled) at ready =
     cluster_can t switch others left bytes front items place spelled (inr (other, at)) ready
-group_can t switch words front left items place (spelling.long_option text bytes name behind item others are is none letters completes items_are) at ready =
+group_can t switch words front left items place (spelling.long_option text bytes name after item others are is none letters completes items_are) at ready =
     let a = long_adds t switch place name item left (subst IsUtf8 letters (lossy_text bytes)) (ap has_equals (sym letters) ∙ lossy_free bytes none) at
-    (long_of (kind t (long name)) name behind others item left (long_fits text bytes name behind letters is) completes) in
+    (long_of (kind t (long name)) name after others item left (long_fits text bytes name after letters is) completes) in
     subst (λ (l : List Item). Can t switch (l ++ items) place) (sym items_are)
     (can_cons t switch a.0 false place item items a.1 a.2 (followed t switch a.1.place left items a.3 ready))
 
 -- ---- a whole line
 
--- a plain word may stand by itself behind these
+-- a plain word may stand by itself after these
 data IsRow : Place → Type 0 where
   at_open : IsRow open_line
   at_cluster : IsRow in_cluster
-  at_positional : IsRow behind_positional
+  at_positional : IsRow after_positional
 
-row_leads : (w : List ℕ) (place : Place) → IsRow place → (positional_added (stands true false place) place w).place ≡ behind_positional
+row_leads : (w : List ℕ) (place : Place) → IsRow place → (positional_added (stands true false place) place w).place ≡ after_positional
 row_leads w open_line at_open = refl
 row_leads w in_cluster at_cluster = refl
-row_leads w behind_positional at_positional = refl
-row_leads w behind_values at = elim at [ ]
+row_leads w after_positional at_positional = refl
+row_leads w after_values at = elim at [ ]
 row_leads w ended at = elim at [ ]
 
 plain_can : (t : Table) (switch : Bool) (w : List ℕ) (items : List Item) (place : Place) → is_plain false w ≡ true → IsRow place
-    → Can t switch items behind_positional → Can t switch (positional w ∷ items) place
+    → Can t switch items after_positional → Can t switch (positional w ∷ items) place
 plain_can t switch w items place plain at can =
     can_cons t switch false false place (positional w) items (positional_added (stands (is_plain false w) false place) place w) refl
     (subst (Can t switch items) (sym (ap (λ p. (positional_added (stands p false place) place w).place) plain ∙ row_leads w place at)) can)
@@ -274,30 +274,30 @@ line_ready : (t : Table) (switch : Bool) (words : List (List ℕ)) (items : List
 line_ready t switch words items no_words = record {
   open_too = nil_can t switch open_line;
   in_cluster_too = nil_can t switch in_cluster;
-  behind_values_too = λ calm. nil_can t switch behind_values;
-  behind_positional_too = nil_can t switch behind_positional;
+  after_values_too = λ calm. nil_can t switch after_values;
+  after_positional_too = nil_can t switch after_positional;
 }
 line_ready t switch words items (plain_word w ws more plain line) =
     let later = line_ready t switch ws more line in
     record {
-      open_too = plain_can t switch w more open_line (plain_passes false w plain) at_open later.behind_positional_too;
-      in_cluster_too = plain_can t switch w more in_cluster (plain_passes false w plain) at_cluster later.behind_positional_too;
-      behind_values_too = λ calm. absurd (calm plain);
-      behind_positional_too = plain_can t switch w more behind_positional (plain_passes false w plain) at_positional later.behind_positional_too;
+      open_too = plain_can t switch w more open_line (plain_passes false w plain) at_open later.after_positional_too;
+      in_cluster_too = plain_can t switch w more in_cluster (plain_passes false w plain) at_cluster later.after_positional_too;
+      after_values_too = λ calm. absurd (calm plain);
+      after_positional_too = plain_can t switch w more after_positional (plain_passes false w plain) at_positional later.after_positional_too;
     }
 line_ready t switch words items (group ws left front more first line) =
     let later = line_ready t switch left more line in
     record {
       open_too = group_can t switch ws front left more open_line first (λ e. let f : open_line ≡ ended = e in cc) later;
       in_cluster_too = group_can t switch ws front left more in_cluster first (λ e. let f : in_cluster ≡ ended = e in cc) later;
-      behind_values_too = λ calm. group_can t switch ws front left more behind_values first (λ e. let f : behind_values ≡ ended = e in cc) later;
-      behind_positional_too = group_can t switch ws front left more behind_positional first (λ e. let f : behind_positional ≡ ended = e in cc) later;
+      after_values_too = λ calm. group_can t switch ws front left more after_values first (λ e. let f : after_values ≡ ended = e in cc) later;
+      after_positional_too = group_can t switch ws front left more after_positional first (λ e. let f : after_positional ≡ ended = e in cc) later;
     }
 line_ready t switch words items (separator ws) = record {
   open_too = positionals_can t switch ws open_line;
   in_cluster_too = positionals_can t switch ws in_cluster;
-  behind_values_too = λ calm. positionals_can t switch ws behind_values;
-  behind_positional_too = positionals_can t switch ws behind_positional;
+  after_values_too = λ calm. positionals_can t switch ws after_values;
+  after_positional_too = positionals_can t switch ws after_positional;
 }
 
 pub shown_can : (t : Table) (switch : Bool) (words : List (List ℕ)) (items : List Item) → Shows t switch words items → Can t switch items open_line

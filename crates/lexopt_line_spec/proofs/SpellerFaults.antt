@@ -113,7 +113,7 @@ pub fails : (t : Table) (switch : Bool) (place : Place) (item : Item) (items : L
 unfolding spelled_from
 fails t switch place item items f is = fails_by t switch place item items f (adds t switch (separator_comes_too_early items) (separator_is_due items) place item) refl is
 
--- with fewer items behind it, the item leads to a place from which no more can be spelled
+-- with fewer items after it, the item leads to a place from which no more can be spelled
 cannot : (t : Table) (switch : Bool) (place : Place) (item : Item) (items : List Item) (n : ℕ) (a : Added) → adds t switch (separator_comes_too_early items) (separator_is_due items) place item ≡ Ok a
     → ¬ Can t switch (take n items) a.place → ¬ Can t switch (item ∷ take n items) place
 cannot t switch place item items n a is none can =

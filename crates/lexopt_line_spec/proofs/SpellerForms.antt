@@ -6,30 +6,30 @@ use Rattle.std.specs.Prelude.{Ok}
 use Rattle.std.specs.List.{list_all}
 use Rattle.lexopt_spec.specs.UnreadLine.{dash, equals, BeginsWith, is_plain, IsNormalIn}
 use Rattle.lexopt_line_spec.specs.Table.{Name, Item, option, many, Kind, flag, one, optional, several}
-use Rattle.lexopt_line_spec.specs.Spelling.{Behind, nothing, attached, joined, no_value, joined_value, next_word, no_optional, attached_optional, joined_optional, joined_several, attached_several, several_words, Completes, BeginsWithMark, IsBehindLast, nothing_more, a_value, marked_value}
-use Rattle.lexopt_line_spec.specs.Speller.{Place, open_line, in_cluster, behind_values, Form, name_only, in_word, attached_form, short_form, long_form, words_form, short_words_form, short_many_form, long_many_form, behind_bytes}
+use Rattle.lexopt_line_spec.specs.Spelling.{After, nothing, attached, joined, no_value, joined_value, next_word, no_optional, attached_optional, joined_optional, joined_several, attached_several, several_words, Completes, BeginsWithMark, IsAfterLast, nothing_more, a_value, marked_value}
+use Rattle.lexopt_line_spec.specs.Speller.{Place, open_line, in_cluster, after_values, Form, name_only, in_word, attached_form, short_form, long_form, words_form, short_words_form, short_many_form, long_many_form, after_bytes}
 use Rattle.lexopt_line_spec.proofs.SpellerAnswers.{Formed, none_is}
 use Rattle.lexopt_line_spec.proofs.SpellerTests.{all_plain, dashed}
 
--- the form completes the item, and leads to this place: behind a flag, to that one
+-- the form completes the item, and leads to this place: after a flag, to that one
 pub record Holds (flagged : Place) (k : Kind) (name : Name) (item : Item) (f : Form) : Type 0 where
-  pub completes : (left : List (List ℕ)) → (f.place ≡ behind_values → ¬ IsNormalIn false left) → Completes k name f.behind (f.words ++ left) item left
-  pub place : (f.place ≡ open_line) ⊎ ((f.place ≡ behind_values) ⊎ ((k ≡ flag) × (item ≡ option name None) × (f ≡ name_only flagged)))
+  pub completes : (left : List (List ℕ)) → (f.place ≡ after_values → ¬ IsNormalIn false left) → Completes k name f.after (f.words ++ left) item left
+  pub place : (f.place ≡ open_line) ⊎ ((f.place ≡ after_values) ⊎ ((k ≡ flag) × (item ≡ option name None) × (f ≡ name_only flagged)))
 
--- behind a character
+-- after a character
 pub record HoldsShort (switch : Bool) (k : Kind) (name : Name) (item : Item) (f : Form) : Type 0 where
   pub holds : Holds in_cluster k name item f
-  pub behind : IsBehindLast switch (behind_bytes f.behind) f.behind
+  pub after : IsAfterLast switch (after_bytes f.after) f.after
 
-abbrev pub NotAttached : Behind → Type 0
+abbrev pub NotAttached : After → Type 0
 NotAttached nothing = Unit {0}
 NotAttached (attached v) = ⊥
 NotAttached (joined v) = Unit {0}
 
--- behind a name
+-- after a name
 pub record HoldsLong (k : Kind) (name : Name) (item : Item) (f : Form) : Type 0 where
   pub holds : Holds open_line k name item f
-  pub unattached : NotAttached f.behind
+  pub unattached : NotAttached f.after
 
 nil_some : (b : ℕ) (bs : List ℕ) → b ∷ bs ≢ []
 nil_some b bs is = let e : b ∷ bs ≡ [] = is in cc
@@ -38,9 +38,9 @@ off_mark : (bytes : List ℕ) → ¬ BeginsWithMark false bytes
 off_mark bytes mark = true≢false (sym mark.0)
 
 -- a word that is no plain one does not begin with `=`, and has bytes
-dashed_behind : (switch : Bool) (v : List ℕ) → BeginsWith dash v → IsBehindLast switch v (attached v)
-dashed_behind switch [] begins = absurd begins
-dashed_behind switch (b ∷ bs) begins = a_value (nil_some b bs) (λ mark. let e : equals ≡ dash = sym mark.1 ∙ begins in absurd (omega arith)) refl
+dashed_after : (switch : Bool) (v : List ℕ) → BeginsWith dash v → IsAfterLast switch v (attached v)
+dashed_after switch [] begins = absurd begins
+dashed_after switch (b ∷ bs) begins = a_value (nil_some b bs) (λ mark. let e : equals ≡ dash = sym mark.1 ∙ begins in absurd (omega arith)) refl
 
 -- ---- one value or none
 
@@ -50,7 +50,7 @@ alone_holds flagged name = record { completes = λ left none. no_value refl refl
 attached_holds : (switch : Bool) (name : Name) (v : List ℕ) (f : Form) → attached_form switch v ≡ Ok f → HoldsShort switch optional name (option name (Some v)) f
 attached_holds true name [] f is = IfOk-at_ok (HoldsShort true optional name (option name (Some []))) is (record {
   holds = record { completes = λ left none. joined_optional [] refl refl refl; place = inl refl };
-  behind = marked_value [] refl refl refl;
+  after = marked_value [] refl refl refl;
 })
 attached_holds false name [] f is = none_is _ f is
 attached_holds true name (b ∷ bs) f is = by (b == equals) refl is
@@ -60,30 +60,30 @@ attached_holds true name (b ∷ bs) f is = by (b == equals) refl is
         → HoldsShort true optional name (option name (Some (b ∷ bs))) f
     by true mark h = IfOk-at_ok (HoldsShort true optional name (option name (Some (b ∷ bs)))) h (record {
       holds = record { completes = λ left none. joined_optional (b ∷ bs) refl refl refl; place = inl refl };
-      behind = marked_value (b ∷ bs) refl refl refl;
+      after = marked_value (b ∷ bs) refl refl refl;
     })
     by false mark h = IfOk-at_ok (HoldsShort true optional name (option name (Some (b ∷ bs)))) h (record {
       holds = record { completes = λ left none. attached_optional (b ∷ bs) refl refl refl; place = inl refl };
-      behind = a_value (nil_some b bs) (λ is_mark. true≢false (sym (eq-eqb b equals is_mark.1) ∙ mark)) refl;
+      after = a_value (nil_some b bs) (λ is_mark. true≢false (sym (eq-eqb b equals is_mark.1) ∙ mark)) refl;
     })
 attached_holds false name (b ∷ bs) f is = IfOk-at_ok (HoldsShort false optional name (option name (Some (b ∷ bs)))) is (record {
   holds = record { completes = λ left none. attached_optional (b ∷ bs) refl refl refl; place = inl refl };
-  behind = a_value (nil_some b bs) (off_mark (b ∷ bs)) refl;
+  after = a_value (nil_some b bs) (off_mark (b ∷ bs)) refl;
 })
 
 pub short_holds : (switch : Bool) (k : Kind) (name : Name) (value : Option (List ℕ)) (f : Form) → short_form switch k value ≡ Ok f
     → HoldsShort switch k name (option name value) f
 short_holds switch flag name None f is = IfOk-at_ok (HoldsShort switch flag name (option name None)) is
-    (record { holds = alone_holds in_cluster name; behind = nothing_more refl refl })
+    (record { holds = alone_holds in_cluster name; after = nothing_more refl refl })
 short_holds switch flag name (Some v) f is = none_is _ f is
 short_holds switch one name None f is = none_is _ f is
 short_holds switch one name (Some v) f is = IfOk-at_ok (HoldsShort switch one name (option name (Some v))) is (record {
   holds = record { completes = λ left none. next_word v refl refl refl; place = inl refl };
-  behind = nothing_more refl refl;
+  after = nothing_more refl refl;
 })
 short_holds switch optional name None f is = IfOk-at_ok (HoldsShort switch optional name (option name None)) is (record {
   holds = record { completes = λ left none. no_optional refl refl refl; place = inl refl };
-  behind = nothing_more refl refl;
+  after = nothing_more refl refl;
 })
 short_holds switch optional name (Some v) f is = attached_holds switch name v f is
 short_holds switch several name value f is = none_is _ f is
@@ -109,7 +109,7 @@ long_holds several name value f is = none_is _ f is
 -- ---- several values
 
 words_hold : (flagged : Place) (name : Name) (v : List ℕ) (vs : List (List ℕ)) → list_all (is_plain false) (v ∷ vs) ≡ true
-    → Holds flagged several name (many name (v ∷ vs)) (record { behind = nothing; words = v ∷ vs; place = behind_values })
+    → Holds flagged several name (many name (v ∷ vs)) (record { after = nothing; words = v ∷ vs; place = after_values })
 words_hold flagged name v vs plain = record {
   completes = λ left none. several_words (v ∷ vs) refl (record { words_are = refl; plain = all_plain (v ∷ vs) plain; longest = none refl })
       (λ nil. let e : v ∷ vs ≡ [] = nil in cc) refl;
@@ -120,7 +120,7 @@ short_words_hold : (switch p ps : Bool) (name : Name) (v : List ℕ) (vs : List 
     → short_words_form p ps v vs ≡ Ok f → HoldsShort switch several name (many name (v ∷ vs)) f
 short_words_hold switch true true name v vs f first others is = IfOk-at_ok (HoldsShort switch several name (many name (v ∷ vs))) is (record {
   holds = words_hold in_cluster name v vs (and_from _ _ first others);
-  behind = nothing_more refl refl;
+  after = nothing_more refl refl;
 })
 short_words_hold switch true false name v vs f first others is = none_is _ f is
 short_words_hold switch false true name v vs f first others is = IfOk-at_ok (HoldsShort switch several name (many name (v ∷ vs))) is (record {
@@ -128,7 +128,7 @@ short_words_hold switch false true name v vs f first others is = IfOk-at_ok (Hol
     completes = λ left none. attached_several v vs refl (record { words_are = refl; plain = all_plain vs others; longest = none refl }) refl;
     place = inr (inl refl);
   };
-  behind = dashed_behind switch v (dashed v first);
+  after = dashed_after switch v (dashed v first);
 })
 short_words_hold switch false false name v vs f first others is = none_is _ f is
 
@@ -140,7 +140,7 @@ short_many_holds switch joins optional name values f may is = none_is _ f is
 short_many_holds switch joins several name [] f may is = none_is _ f is
 short_many_holds switch true several name (v ∷ []) f may is = IfOk-at_ok (HoldsShort switch several name (many name (v ∷ []))) is (record {
   holds = record { completes = λ left none. joined_several v refl refl refl; place = inl refl };
-  behind = marked_value v (may refl) refl refl;
+  after = marked_value v (may refl) refl refl;
 })
 short_many_holds switch false several name (v ∷ []) f may is = short_words_hold switch (is_plain false v) true name v [] f refl refl is
 short_many_holds switch joins several name (v ∷ w ∷ vs) f may is =

@@ -8,7 +8,7 @@ use Rattle.std.specs.Str.{is_utf8}
 use lib.Utf8.{scalar}
 use Rattle.lexopt_spec.specs.UnreadLine.{dash, is_plain}
 use Rattle.lexopt_line_spec.specs.Table.{short, long, Item, option, many, positional, Kind, flag, one, optional, several, kind, Table}
-use Rattle.lexopt_line_spec.specs.Speller.{Reason, Place, open_line, in_cluster, behind_values, behind_positional, ended, Form, short_form, long_form, short_words_form, short_many_form, long_many_form, Added, short_added, is_named, long_placed, long_added, stands, positional_added, adds, is_positional, separator_comes_too_early, is_plain_item, separator_is_due, Fault, Rest, with_rest, with_rests, spelled_from}
+use Rattle.lexopt_line_spec.specs.Speller.{Reason, Place, open_line, in_cluster, after_values, after_positional, ended, Form, short_form, long_form, short_words_form, short_many_form, long_many_form, Added, short_added, is_named, long_placed, long_added, stands, positional_added, adds, is_positional, separator_comes_too_early, is_plain_item, separator_is_due, Fault, Rest, with_rest, with_rests, spelled_from}
 use Rattle.lexopt_line_spec.proofs.SpellerAnswers.{Formed, Adding, Going, none_is}
 use Rattle.lexopt_line_spec.proofs.SpellerTests.{has_equals}
 
@@ -67,7 +67,7 @@ all_positional (positional w ∷ items) are = let more = all_positional items ar
 pub all_can : (t : Table) (switch : Bool) (items : List Item) (place : Place) → AllPositional items → Can t switch items place
 all_can t switch items place all = subst (λ (l : List Item). Can t switch l place) (sym all.1) (positionals_can t switch all.0 place)
 
--- behind the separator there are no options
+-- after the separator there are no options
 short_ended : {X : Type 0} (s d : Bool) (c : ℕ) (form : Result Form Reason) (a : Added) → Adding (short_added s d ended c form) a → X
 short_ended false d c form a is = none_is _ a is
 short_ended true d c (Err reason) a is = none_is _ a is
@@ -81,7 +81,7 @@ long_ended : {X : Type 0} (u e : Bool) (name : List ℕ) (form : Result Form Rea
 long_ended false e name form a is = none_is _ a is
 long_ended true true name form a is = none_is _ a is
 long_ended true false name (Err reason) a is = none_is _ a is
-long_ended true false name (Ok f) a is = placed_ended (is_named name f.behind) name f a is
+long_ended true false name (Ok f) a is = placed_ended (is_named name f.after) name f a is
 
 pub option_ended : {X : Type 0} (t : Table) (switch joins due : Bool) (item : Item) (a : Added) → is_positional item ≡ false → adds t switch joins due ended item ≡ Ok a → X
 option_ended t switch joins due (option (short c) value) a other is = short_ended (scalar c) (c == dash) c (short_form switch (kind t (short c)) value) a is
@@ -102,25 +102,25 @@ ended_positional t switch (positional w ∷ items) can =
     let s = can_split t switch ended (positional w) items can in
     ended_positional t switch items (IfOk-at_ok (λ (a : Added). Can t switch items a.place → Can t switch items ended) s.1 (λ h. h) s.2)
 
--- ---- behind values, and behind nothing
+-- ---- after values, and after nothing
 
-short_same : (s d : Bool) (c : ℕ) (form : Result Form Reason) → short_added s d open_line c form ≡ short_added s d behind_values c form
+short_same : (s d : Bool) (c : ℕ) (form : Result Form Reason) → short_added s d open_line c form ≡ short_added s d after_values c form
 short_same false d c form = refl
 short_same true d c (Err reason) = refl
 short_same true false c (Ok f) = refl
 short_same true true c (Ok f) = refl
 
-placed_same : (n : Bool) (name : List ℕ) (f : Form) → long_placed n open_line name f ≡ long_placed n behind_values name f
+placed_same : (n : Bool) (name : List ℕ) (f : Form) → long_placed n open_line name f ≡ long_placed n after_values name f
 placed_same false name f = refl
 placed_same true name f = refl
 
-long_same : (u e : Bool) (name : List ℕ) (form : Result Form Reason) → long_added u e open_line name form ≡ long_added u e behind_values name form
+long_same : (u e : Bool) (name : List ℕ) (form : Result Form Reason) → long_added u e open_line name form ≡ long_added u e after_values name form
 long_same false e name form = refl
 long_same true true name form = refl
 long_same true false name (Err reason) = refl
-long_same true false name (Ok f) = placed_same (is_named name f.behind) name f
+long_same true false name (Ok f) = placed_same (is_named name f.after) name f
 
-option_same : (t : Table) (switch joins due : Bool) (item : Item) → is_positional item ≡ false → adds t switch joins due open_line item ≡ adds t switch joins due behind_values item
+option_same : (t : Table) (switch joins due : Bool) (item : Item) → is_positional item ≡ false → adds t switch joins due open_line item ≡ adds t switch joins due after_values item
 option_same t switch joins due (option (short c) value) other = short_same (scalar c) (c == dash) c (short_form switch (kind t (short c)) value)
 option_same t switch joins due (many (short c) values) other = short_same (scalar c) (c == dash) c (short_many_form (switch && joins) (kind t (short c)) values)
 option_same t switch joins due (option (long name) value) other = long_same (is_utf8 name) (has_equals name) name (long_form (kind t (long name)) value)
@@ -128,25 +128,25 @@ option_same t switch joins due (many (long name) values) other = long_same (is_u
 option_same t switch joins due (positional w) other = absurd (true≢false other)
 
 options_same : (t : Table) (switch : Bool) (item : Item) (items : List Item) → is_positional item ≡ false
-    → spelled_from t switch (item ∷ items) open_line ≡ spelled_from t switch (item ∷ items) behind_values
+    → spelled_from t switch (item ∷ items) open_line ≡ spelled_from t switch (item ∷ items) after_values
 unfolding spelled_from
 options_same t switch item items other = ap (λ o. with_rests o (spelled_from t switch items)) (option_same t switch (separator_comes_too_early items) (separator_is_due items) item other)
 
--- from behind nothing to behind values, unless the separator would come too early
-pub closed : (t : Table) (switch : Bool) (items : List Item) → separator_comes_too_early items ≡ false → Can t switch items open_line → Can t switch items behind_values
-closed t switch [] early can = nil_can t switch behind_values
+-- from after nothing to after values, unless the separator would come too early
+pub closed : (t : Table) (switch : Bool) (items : List Item) → separator_comes_too_early items ≡ false → Can t switch items open_line → Can t switch items after_values
+closed t switch [] early can = nil_can t switch after_values
 closed t switch (option name value ∷ items) early can = (can.0, sym (options_same t switch (option name value) items refl) ∙ can.1)
 closed t switch (many name values ∷ items) early can = (can.0, sym (options_same t switch (many name values) items refl) ∙ can.1)
 closed t switch (positional w ∷ items) early can =
-    all_can t switch (positional w ∷ items) behind_values (all_positional (positional w ∷ items) (not-false (list_all is_positional items) early))
+    all_can t switch (positional w ∷ items) after_values (all_positional (positional w ∷ items) (not-false (list_all is_positional items) early))
 
 -- and back
-pub opened : (t : Table) (switch : Bool) (items : List Item) → Can t switch items behind_values → Can t switch items open_line
+pub opened : (t : Table) (switch : Bool) (items : List Item) → Can t switch items after_values → Can t switch items open_line
 opened t switch [] can = nil_can t switch open_line
 opened t switch (option name value ∷ items) can = (can.0, options_same t switch (option name value) items refl ∙ can.1)
 opened t switch (many name values ∷ items) can = (can.0, options_same t switch (many name values) items refl ∙ can.1)
 opened t switch (positional w ∷ items) can =
-    let s = can_split t switch behind_values (positional w) items can in
+    let s = can_split t switch after_values (positional w) items can in
     all_can t switch (positional w ∷ items) open_line
     (all_positional (positional w ∷ items) (ended_positional t switch items (IfOk-at_ok (λ (a : Added). Can t switch items a.place → Can t switch items ended) s.1 (λ h. h) s.2)))
 
@@ -155,25 +155,25 @@ opened t switch (positional w ∷ items) can =
 -- from what the item leads to where this is joined or not, to what it leads to where that is
 pub data Moved (x y : Bool) (before after : Place) : Type 0 where
   stays : after ≡ before → Moved x y before after
-  opens : before ≡ behind_values → after ≡ open_line → Moved x y before after
-  closes : before ≡ open_line → after ≡ behind_values → x ≡ true → y ≡ false → Moved x y before after
+  opens : before ≡ after_values → after ≡ open_line → Moved x y before after
+  closes : before ≡ open_line → after ≡ after_values → x ≡ true → y ≡ false → Moved x y before after
 
 -- and where the separator is due, or not
 pub data Ended (due : Bool) (before after : Place) : Type 0 where
   as_before : after ≡ before → Ended due before after
-  ends : before ≡ behind_positional → after ≡ ended → due ≡ true → Ended due before after
-  ends_later : before ≡ ended → after ≡ behind_positional → Ended due before after
+  ends : before ≡ after_positional → after ≡ ended → due ≡ true → Ended due before after
+  ends_later : before ≡ ended → after ≡ after_positional → Ended due before after
 
 abbrev pub Other : Bool → Bool → Kind → List (List ℕ) → Form → Type 0
 Other x y k values f = (g : Form) × (short_many_form y k values ≡ Ok g) × Moved x y f.place g.place
 
-pub words_ok : (p : Bool) (v : List ℕ) (vs : List (List ℕ)) → (g : Form) × (short_words_form p true v vs ≡ Ok g) × (g.place ≡ behind_values)
+pub words_ok : (p : Bool) (v : List ℕ) (vs : List (List ℕ)) → (g : Form) × (short_words_form p true v vs ≡ Ok g) × (g.place ≡ after_values)
 words_ok true v vs = (_, refl, refl)
 words_ok false v vs = (_, refl, refl)
 
-pub words_place : (p : Bool) (v : List ℕ) (f : Form) → Formed (short_words_form p true v []) f → f.place ≡ behind_values
-words_place true v f is = IfOk-at_ok (λ (g : Form). g.place ≡ behind_values) is refl
-words_place false v f is = IfOk-at_ok (λ (g : Form). g.place ≡ behind_values) is refl
+pub words_place : (p : Bool) (v : List ℕ) (f : Form) → Formed (short_words_form p true v []) f → f.place ≡ after_values
+words_place true v f is = IfOk-at_ok (λ (g : Form). g.place ≡ after_values) is refl
+words_place false v f is = IfOk-at_ok (λ (g : Form). g.place ≡ after_values) is refl
 
 one_joined : (x y : Bool) (v : List ℕ) (f : Form) → Formed (short_many_form x several (v ∷ [])) f → Other x y several (v ∷ []) f
 one_joined true true v f is = (f, is, stays refl)
@@ -206,17 +206,17 @@ short_through false d place c form a is = none_is _ a is
 short_through true d place c (Err reason) a is = none_is _ a is
 short_through true d ended c (Ok f) a is = none_is _ a is
 short_through true true open_line c (Ok f) a is = none_is _ a is
-short_through true true behind_values c (Ok f) a is = none_is _ a is
-short_through true true behind_positional c (Ok f) a is = none_is _ a is
+short_through true true after_values c (Ok f) a is = none_is _ a is
+short_through true true after_positional c (Ok f) a is = none_is _ a is
 short_through true true in_cluster c (Ok f) a is = IfOk-at_ok (Through true true in_cluster c (Ok f)) is
     (record { formed = f; is = refl; leads = refl; other = λ g. (_, refl, refl) })
 short_through true false open_line c (Ok f) a is = IfOk-at_ok (Through true false open_line c (Ok f)) is
     (record { formed = f; is = refl; leads = refl; other = λ g. (_, refl, refl) })
-short_through true false behind_positional c (Ok f) a is = IfOk-at_ok (Through true false behind_positional c (Ok f)) is
+short_through true false after_positional c (Ok f) a is = IfOk-at_ok (Through true false after_positional c (Ok f)) is
     (record { formed = f; is = refl; leads = refl; other = λ g. (_, refl, refl) })
 short_through true false in_cluster c (Ok f) a is = IfOk-at_ok (Through true false in_cluster c (Ok f)) is
     (record { formed = f; is = refl; leads = refl; other = λ g. (_, refl, refl) })
-short_through true false behind_values c (Ok f) a is = IfOk-at_ok (Through true false behind_values c (Ok f)) is
+short_through true false after_values c (Ok f) a is = IfOk-at_ok (Through true false after_values c (Ok f)) is
     (record { formed = f; is = refl; leads = refl; other = λ g. (_, refl, refl) })
 
 pub data Changed (x y due : Bool) (before after : Place) : Type 0 where
@@ -251,8 +251,8 @@ positional_ends true true false w in_cluster = ends_later refl refl
 positional_ends true false true w in_cluster = ends refl refl refl
 positional_ends true false false w in_cluster = as_before refl
 positional_ends false d e w in_cluster = as_before refl
-positional_ends plain d e w behind_values = as_before refl
-positional_ends plain d e w behind_positional = as_before refl
+positional_ends plain d e w after_values = as_before refl
+positional_ends plain d e w after_positional = as_before refl
 positional_ends plain d e w ended = as_before refl
 
 -- whether one of several values is joined or not, and the separator is due or not, the item is added, or it is not
@@ -289,7 +289,7 @@ changed_can t switch x e items y before after early due (ended_too (ends was is_
 changed_can t switch x e items y before after early due (ended_too (ends_later was is_now)) can =
     all_can t switch items after (all_positional items (ended_positional t switch items (subst (Can t switch items) was can)))
 
--- what can be spelled behind an item, can be with it
+-- what can be spelled after an item, can be with it
 pub can_cons : (t : Table) (switch joins due : Bool) (place : Place) (item : Item) (items : List Item) (a : Added) → adds t switch joins due place item ≡ Ok a
     → Can t switch items a.place → Can t switch (item ∷ items) place
 can_cons t switch joins due place item items a is can =

@@ -11,8 +11,8 @@ use lib.Utf8.{scalar}
 use Rattle.lexopt_spec.specs.UnreadLine.{dash, equals, BeginsWith, IsPlain, is_plain, IsNormalIn}
 use Rattle.lexopt_line_spec.specs.Table.{Name, short, long, Item, option, many, positional, flag, kind, Table}
 use Rattle.lexopt_line_spec.specs.Spelling as spelling
-use Rattle.lexopt_line_spec.specs.Spelling.{exact, Behind, nothing, attached, joined, Completes, BeginsWithMark, IsBehindLast, Cluster, flag_first, last_option, nothing_more, IsLong, name_alone, name_and_value, Group, cluster, Line, no_words, plain_word, group, separator, Spells}
-use Rattle.lexopt_line_spec.specs.Speller.{Reason, Place, open_line, in_cluster, behind_values, behind_positional, ended, Form, name_only, short_form, long_form, short_many_form, long_many_form, behind_bytes, Added, with_form, short_added, is_named, long_placed, long_added, stands, positional_added, adds, separator_comes_too_early, separator_is_due, Fault, Rest, glued, with_rest, with_rests, spelled_from, words_of, spelled}
+use Rattle.lexopt_line_spec.specs.Spelling.{exact, After, nothing, attached, joined, Completes, BeginsWithMark, IsAfterLast, Cluster, flag_first, last_option, nothing_more, IsLong, name_alone, name_and_value, Group, cluster, Line, no_words, plain_word, group, separator, Spells}
+use Rattle.lexopt_line_spec.specs.Speller.{Reason, Place, open_line, in_cluster, after_values, after_positional, ended, Form, name_only, short_form, long_form, short_many_form, long_many_form, after_bytes, Added, with_form, short_added, is_named, long_placed, long_added, stands, positional_added, adds, separator_comes_too_early, separator_is_due, Fault, Rest, glued, with_rest, with_rests, spelled_from, words_of, spelled}
 use Rattle.lexopt_spec.proofs.PlainFronts.{plain_holds}
 use Rattle.lexopt_line_spec.proofs.SpellerAnswers.{Adding, Going, none_is}
 use Rattle.lexopt_line_spec.proofs.SpellerTests.{has_equals, no_equals, dash_first, dash_begins, some_bytes}
@@ -20,7 +20,7 @@ use Rattle.lexopt_line_spec.proofs.SpellerForms.{HoldsShort, HoldsLong, short_ho
 
 -- ---- what is said of the words, by the place that they follow
 
--- the bytes, with the words behind them, end a cluster and the line
+-- the bytes, with the words after them, end a cluster and the line
 pub record Clustered (t : Table) (switch : Bool) (bytes : List ℕ) (words : List (List ℕ)) (items : List Item) : Type 0 where
   pub front : List Item
   pub others : List Item
@@ -37,8 +37,8 @@ pub record Closed (t : Table) (switch : Bool) (r : Rest) (items : List Item) : T
 abbrev pub Right : Table → Bool → Place → Rest → List Item → Type 0
 Right t switch open_line r items = Closed t switch r items
 Right t switch in_cluster r items = Closed t switch r items ⊎ (BeginsWith dash r.first × Clustered t switch r.first r.words items)
-Right t switch behind_values r items = Closed t switch r items × ¬ IsNormalIn false r.words
-Right t switch behind_positional r items = Closed t switch r items
+Right t switch after_values r items = Closed t switch r items × ¬ IsNormalIn false r.words
+Right t switch after_positional r items = Closed t switch r items
 Right t switch ended r items = (r.first ≡ []) × (items ≡ map positional r.words)
 
 -- ---- an item's words
@@ -52,24 +52,24 @@ abbrev glue : Added → Rest → Rest
 glue a r = glued a.goes_on (a.word ++ r.first) (a.words ++ r.words)
 
 -- what follows an option that is no flag of a cluster
-closed_behind : (t : Table) (switch : Bool) (place : Place) (r : Rest) (items : List Item) → (place ≡ open_line) ⊎ (place ≡ behind_values) → Right t switch place r items
-    → Closed t switch r items × (place ≡ behind_values → ¬ IsNormalIn false r.words)
-closed_behind t switch place r items (inl is) right =
-    (subst (λ (p : Place). Right t switch p r items) is right, λ other. absurd (let e : open_line ≡ behind_values = sym is ∙ other in cc))
-closed_behind t switch place r items (inr is) right =
+closed_after : (t : Table) (switch : Bool) (place : Place) (r : Rest) (items : List Item) → (place ≡ open_line) ⊎ (place ≡ after_values) → Right t switch place r items
+    → Closed t switch r items × (place ≡ after_values → ¬ IsNormalIn false r.words)
+closed_after t switch place r items (inl is) right =
+    (subst (λ (p : Place). Right t switch p r items) is right, λ other. absurd (let e : open_line ≡ after_values = sym is ∙ other in cc))
+closed_after t switch place r items (inr is) right =
     let both = subst (λ (p : Place). Right t switch p r items) is right in (both.0, λ same. both.1)
 
 no_mark : (switch : Bool) (bytes : List ℕ) → BeginsWith dash bytes → ¬ BeginsWithMark switch bytes
 no_mark switch [] begins mark = begins
 no_mark switch (b ∷ bs) begins mark = let e : equals ≡ dash = sym mark.1 ∙ begins in absurd (omega arith)
 
-tail_nil : (name behind first : List ℕ) → first ≡ [] → (name ++ behind) ++ first ≡ name ++ behind
-tail_nil name behind first none = ap (λ l. (name ++ behind) ++ l) none ∙ append-nil (name ++ behind)
+tail_nil : (name after first : List ℕ) → first ≡ [] → (name ++ after) ++ first ≡ name ++ after
+tail_nil name after first none = ap (λ l. (name ++ after) ++ l) none ∙ append-nil (name ++ after)
 
 -- an option of a cluster, with what follows
 clustered : (t : Table) (switch : Bool) (c : ℕ) (item : Item) (f : Form) (r : Rest) (items : List Item) → IsScalar c
     → HoldsShort switch (kind t (short c)) (short c) item f → Right t switch f.place r items
-    → Clustered t switch ((encode_utf8 c ++ behind_bytes f.behind) ++ r.first) (f.words ++ r.words) (item ∷ items)
+    → Clustered t switch ((encode_utf8 c ++ after_bytes f.after) ++ r.first) (f.words ++ r.words) (item ∷ items)
 clustered t switch c item f r items is_scalar holds right = ⊎_elim
     (λ open_at. last (inl open_at))
     (λ other. ⊎_elim
@@ -78,41 +78,41 @@ clustered t switch c item f r items is_scalar holds right = ⊎_elim
     other)
     holds.holds.place
   where
-    last : (f.place ≡ open_line) ⊎ (f.place ≡ behind_values) → Clustered t switch ((encode_utf8 c ++ behind_bytes f.behind) ++ r.first) (f.words ++ r.words) (item ∷ items)
+    last : (f.place ≡ open_line) ⊎ (f.place ≡ after_values) → Clustered t switch ((encode_utf8 c ++ after_bytes f.after) ++ r.first) (f.words ++ r.words) (item ∷ items)
     last at =
-        let closed = closed_behind t switch f.place r items at right in
+        let closed = closed_after t switch f.place r items at right in
         record {
           front = item ∷ [];
           others = items;
           left = r.words;
-          spelled = subst (λ (l : List ℕ). Cluster exact t switch (f.words ++ r.words) r.words l (item ∷ [])) (sym (tail_nil (encode_utf8 c) (behind_bytes f.behind) r.first closed.0.none))
-              (last_option c (encode_utf8 c) (behind_bytes f.behind) f.behind item (is_scalar, refl) holds.behind (holds.holds.completes r.words closed.1));
+          spelled = subst (λ (l : List ℕ). Cluster exact t switch (f.words ++ r.words) r.words l (item ∷ [])) (sym (tail_nil (encode_utf8 c) (after_bytes f.after) r.first closed.0.none))
+              (last_option c (encode_utf8 c) (after_bytes f.after) f.after item (is_scalar, refl) holds.after (holds.holds.completes r.words closed.1));
           line = closed.0.line;
           items_are = refl;
         }
 
     alone : (k : kind t (short c) ≡ flag) → (item ≡ option (short c) None) → (f ≡ name_only in_cluster) → Closed t switch r items
-        → Clustered t switch ((encode_utf8 c ++ behind_bytes f.behind) ++ r.first) (f.words ++ r.words) (item ∷ items)
+        → Clustered t switch ((encode_utf8 c ++ after_bytes f.after) ++ r.first) (f.words ++ r.words) (item ∷ items)
     alone k item_is f_is closed =
-        let calm : f.place ≡ behind_values → ¬ IsNormalIn false r.words =
-        λ values_at. absurd (let e : in_cluster ≡ behind_values = sym (ap (λ (g : Form). g.place) f_is) ∙ values_at in cc) in
+        let calm : f.place ≡ after_values → ¬ IsNormalIn false r.words =
+        λ values_at. absurd (let e : in_cluster ≡ after_values = sym (ap (λ (g : Form). g.place) f_is) ∙ values_at in cc) in
         record {
           front = item ∷ [];
           others = items;
           left = r.words;
-          spelled = subst (λ (l : List ℕ). Cluster exact t switch (f.words ++ r.words) r.words l (item ∷ [])) (sym (tail_nil (encode_utf8 c) (behind_bytes f.behind) r.first closed.none))
-              (last_option c (encode_utf8 c) (behind_bytes f.behind) f.behind item (is_scalar, refl) holds.behind (holds.holds.completes r.words calm));
+          spelled = subst (λ (l : List ℕ). Cluster exact t switch (f.words ++ r.words) r.words l (item ∷ [])) (sym (tail_nil (encode_utf8 c) (after_bytes f.after) r.first closed.none))
+              (last_option c (encode_utf8 c) (after_bytes f.after) f.after item (is_scalar, refl) holds.after (holds.holds.completes r.words calm));
           line = closed.line;
           items_are = refl;
         }
 
     in_flags : (k : kind t (short c) ≡ flag) → (item ≡ option (short c) None) → (f ≡ name_only in_cluster)
         → Closed t switch r items ⊎ (BeginsWith dash r.first × Clustered t switch r.first r.words items)
-        → Clustered t switch ((encode_utf8 c ++ behind_bytes f.behind) ++ r.first) (f.words ++ r.words) (item ∷ items)
+        → Clustered t switch ((encode_utf8 c ++ after_bytes f.after) ++ r.first) (f.words ++ r.words) (item ∷ items)
     in_flags k item_is f_is (inl closed) = alone k item_is f_is closed
     in_flags k item_is f_is (inr more) =
         let l = more.1 in
-        subst (λ (g : Form). Clustered t switch ((encode_utf8 c ++ behind_bytes g.behind) ++ r.first) (g.words ++ r.words) (item ∷ items)) (sym f_is)
+        subst (λ (g : Form). Clustered t switch ((encode_utf8 c ++ after_bytes g.after) ++ r.first) (g.words ++ r.words) (item ∷ items)) (sym f_is)
         (record {
           front = option (short c) None ∷ l.front;
           others = l.others;
@@ -130,14 +130,14 @@ cluster_word t switch bytes words items other l =
     subst (Line exact t switch ((dash ∷ bytes) ∷ words)) (sym l.items_are)
     (group ((dash ∷ bytes) ∷ words) l.left l.front l.others (cluster bytes words refl other l.spelled) l.line)
 
-begins_name : (c : ℕ) (behind first : List ℕ) → BeginsWith dash ((encode_utf8 c ++ behind) ++ first) → c ≡ dash
-begins_name c behind first begins = dash_first c (behind ++ first) (subst (BeginsWith dash) (append_assoc (encode_utf8 c) behind first) begins)
+begins_name : (c : ℕ) (after first : List ℕ) → BeginsWith dash ((encode_utf8 c ++ after) ++ first) → c ≡ dash
+begins_name c after first begins = dash_first c (after ++ first) (subst (BeginsWith dash) (append_assoc (encode_utf8 c) after first) begins)
 
-name_begins : (c : ℕ) (behind first : List ℕ) → c ≡ dash → BeginsWith dash ((encode_utf8 c ++ behind) ++ first)
-name_begins c behind first is = subst (BeginsWith dash) (sym (append_assoc (encode_utf8 c) behind first)) (dash_begins c (behind ++ first) is)
+name_begins : (c : ℕ) (after first : List ℕ) → c ≡ dash → BeginsWith dash ((encode_utf8 c ++ after) ++ first)
+name_begins c after first is = subst (BeginsWith dash) (sym (append_assoc (encode_utf8 c) after first)) (dash_begins c (after ++ first) is)
 
-name_some : (c : ℕ) (behind first : List ℕ) → IsScalar c → (encode_utf8 c ++ behind) ++ first ≢ []
-name_some c behind first is_scalar none = some_bytes c (behind ++ first) is_scalar (sym (append_assoc (encode_utf8 c) behind first) ∙ none)
+name_some : (c : ℕ) (after first : List ℕ) → IsScalar c → (encode_utf8 c ++ after) ++ first ≢ []
+name_some c after first is_scalar none = some_bytes c (after ++ first) is_scalar (sym (append_assoc (encode_utf8 c) after first) ∙ none)
 
 new_word : (t : Table) (switch : Bool) (c : ℕ) (item : Item) (f : Form) (r : Rest) (items : List Item) → IsScalar c → c ≢ dash
     → HoldsShort switch (kind t (short c)) (short c) item f → Right t switch f.place r items
@@ -145,11 +145,11 @@ new_word : (t : Table) (switch : Bool) (c : ℕ) (item : Item) (f : Form) (r : R
 new_word t switch c item f r items is_scalar other holds right = (
   record {
     none = refl;
-    line = cluster_word t switch ((encode_utf8 c ++ behind_bytes f.behind) ++ r.first) (f.words ++ r.words) (item ∷ items)
-        (λ begins. other (begins_name c (behind_bytes f.behind) r.first begins))
+    line = cluster_word t switch ((encode_utf8 c ++ after_bytes f.after) ++ r.first) (f.words ++ r.words) (item ∷ items)
+        (λ begins. other (begins_name c (after_bytes f.after) r.first begins))
         (clustered t switch c item f r items is_scalar holds right);
   },
-  not_plain ((encode_utf8 c ++ behind_bytes f.behind) ++ r.first) (name_some c (behind_bytes f.behind) r.first is_scalar),
+  not_plain ((encode_utf8 c ++ after_bytes f.after) ++ r.first) (name_some c (after_bytes f.after) r.first is_scalar),
 )
 
 abbrev Leads : Table → Bool → Place → Item → Added → Type 0
@@ -162,73 +162,73 @@ short_right t switch true d place c item (Err reason) a scalar_is dash_is holds 
 short_right t switch true d ended c item (Ok f) a scalar_is dash_is holds is = none_is _ a is
 short_right t switch true false open_line c item (Ok f) a scalar_is dash_is holds is = IfOk-at_ok (Leads t switch open_line item) is
     (λ r items right. (new_word t switch c item f r items scalar_is (λ same. true≢false (sym (eq-eqb c dash same) ∙ dash_is)) (holds f refl) right).0)
-short_right t switch true false behind_positional c item (Ok f) a scalar_is dash_is holds is = IfOk-at_ok (Leads t switch behind_positional item) is
+short_right t switch true false after_positional c item (Ok f) a scalar_is dash_is holds is = IfOk-at_ok (Leads t switch after_positional item) is
     (λ r items right. (new_word t switch c item f r items scalar_is (λ same. true≢false (sym (eq-eqb c dash same) ∙ dash_is)) (holds f refl) right).0)
 short_right t switch true false in_cluster c item (Ok f) a scalar_is dash_is holds is = IfOk-at_ok (Leads t switch in_cluster item) is
     (λ r items right. inl (new_word t switch c item f r items scalar_is (λ same. true≢false (sym (eq-eqb c dash same) ∙ dash_is)) (holds f refl) right).0)
-short_right t switch true false behind_values c item (Ok f) a scalar_is dash_is holds is = IfOk-at_ok (Leads t switch behind_values item) is
+short_right t switch true false after_values c item (Ok f) a scalar_is dash_is holds is = IfOk-at_ok (Leads t switch after_values item) is
     (λ r items right. new_word t switch c item f r items scalar_is (λ same. true≢false (sym (eq-eqb c dash same) ∙ dash_is)) (holds f refl) right)
 short_right t switch true true open_line c item (Ok f) a scalar_is dash_is holds is = none_is _ a is
-short_right t switch true true behind_values c item (Ok f) a scalar_is dash_is holds is = none_is _ a is
-short_right t switch true true behind_positional c item (Ok f) a scalar_is dash_is holds is = none_is _ a is
+short_right t switch true true after_values c item (Ok f) a scalar_is dash_is holds is = none_is _ a is
+short_right t switch true true after_positional c item (Ok f) a scalar_is dash_is holds is = none_is _ a is
 short_right t switch true true in_cluster c item (Ok f) a scalar_is dash_is holds is = IfOk-at_ok (Leads t switch in_cluster item) is
-    (λ r items right. inr (name_begins c (behind_bytes f.behind) r.first (eqb-true c dash dash_is), clustered t switch c item f r items scalar_is (holds f refl) right))
+    (λ r items right. inr (name_begins c (after_bytes f.after) r.first (eqb-true c dash dash_is), clustered t switch c item f r items scalar_is (holds f refl) right))
 
 -- ---- long options
 
 long_closed : (t : Table) (switch : Bool) (name : Name) (item : Item) (f : Form) (r : Rest) (items : List Item) → HoldsLong (kind t name) name item f
-    → Right t switch f.place r items → Closed t switch r items × (f.place ≡ behind_values → ¬ IsNormalIn false r.words)
-long_closed t switch name item f r items holds right = closed_behind t switch f.place r items
+    → Right t switch f.place r items → Closed t switch r items × (f.place ≡ after_values → ¬ IsNormalIn false r.words)
+long_closed t switch name item f r items holds right = closed_after t switch f.place r items
     (⊎_elim (λ at. inl at) (λ other. ⊎_elim (λ at. inr at) (λ flagged. inl (ap (λ (g : Form). g.place) flagged.2)) other) holds.holds.place) right
 
-is_long : (name : List ℕ) (behind : Behind) → (behind ≡ nothing → name ≢ []) → NotAttached behind → IsLong (name ++ behind_bytes behind) name behind
+is_long : (name : List ℕ) (after : After) → (after ≡ nothing → name ≢ []) → NotAttached after → IsLong (name ++ after_bytes after) name after
 is_long name nothing some free = name_alone (some refl) (append-nil name) refl
 is_long name (attached v) some free = absurd free
 is_long name (joined v) some free = name_and_value v refl refl
 
 long_word : (t : Table) (switch : Bool) (name : List ℕ) (item : Item) (f : Form) (r : Rest) (items : List Item) → IsUtf8 name → ¬ Contains name equals
-    → (f.behind ≡ nothing → name ≢ []) → HoldsLong (kind t (long name)) (long name) item f → Right t switch f.place r items
+    → (f.after ≡ nothing → name ≢ []) → HoldsLong (kind t (long name)) (long name) item f → Right t switch f.place r items
     → Closed t switch (glue (with_form false (dash ∷ dash ∷ name) f) r) (item ∷ items) × ¬ IsNormalIn false ((glue (with_form false (dash ∷ dash ∷ name) f) r).words)
 long_word t switch name item f r items text none some holds right =
     let closed = long_closed t switch (long name) item f r items holds right in
-    let behind = behind_bytes f.behind in (
+    let after = after_bytes f.after in (
       record {
         none = refl;
-        line = subst (λ (w : List ℕ). Line exact t switch ((dash ∷ dash ∷ w) ∷ (f.words ++ r.words)) (item ∷ items)) (sym (tail_nil name behind r.first closed.0.none))
-            (group ((dash ∷ dash ∷ (name ++ behind)) ∷ (f.words ++ r.words)) r.words (item ∷ []) items
-            (spelling.long_option (name ++ behind) name name f.behind item (f.words ++ r.words) refl (is_long name f.behind some holds.unattached) none (text, refl)
+        line = subst (λ (w : List ℕ). Line exact t switch ((dash ∷ dash ∷ w) ∷ (f.words ++ r.words)) (item ∷ items)) (sym (tail_nil name after r.first closed.0.none))
+            (group ((dash ∷ dash ∷ (name ++ after)) ∷ (f.words ++ r.words)) r.words (item ∷ []) items
+            (spelling.long_option (name ++ after) name name f.after item (f.words ++ r.words) refl (is_long name f.after some holds.unattached) none (text, refl)
             (holds.holds.completes r.words closed.1) refl)
             closed.0.line);
       },
-      not_plain (dash ∷ ((name ++ behind) ++ r.first)) (λ nil. let e : dash ∷ ((name ++ behind) ++ r.first) ≡ [] = nil in cc),
+      not_plain (dash ∷ ((name ++ after) ++ r.first)) (λ nil. let e : dash ∷ ((name ++ after) ++ r.first) ≡ [] = nil in cc),
     )
 
 -- the word, wherever it stands before the separator
 abbrev Anywhere : Table → Bool → Item → Added → Type 0
 Anywhere t switch item a = (r : Rest) (items : List Item) → Right t switch a.place r items → Closed t switch (glue a r) (item ∷ items) × ¬ IsNormalIn false ((glue a r).words)
 
-some_named : (name : List ℕ) (behind : Behind) → is_named name behind ≡ true → behind ≡ nothing → name ≢ []
+some_named : (name : List ℕ) (after : After) → is_named name after ≡ true → after ≡ nothing → name ≢ []
 some_named [] nothing named same nil = true≢false (sym named)
 some_named [] (attached v) named same nil = true≢false (sym named)
 some_named [] (joined v) named same nil = let e : joined v ≡ nothing = same in cc
-some_named (b ∷ bs) behind named same nil = let e : b ∷ bs ≡ [] = nil in cc
+some_named (b ∷ bs) after named same nil = let e : b ∷ bs ≡ [] = nil in cc
 
-anywhere : (t : Table) (switch : Bool) (name : List ℕ) (item : Item) (f : Form) → IsUtf8 name → ¬ Contains name equals → is_named name f.behind ≡ true
+anywhere : (t : Table) (switch : Bool) (name : List ℕ) (item : Item) (f : Form) → IsUtf8 name → ¬ Contains name equals → is_named name f.after ≡ true
     → HoldsLong (kind t (long name)) (long name) item f → Anywhere t switch item (with_form false (dash ∷ dash ∷ name) f)
 anywhere t switch name item f text none named holds = λ r items right.
-    long_word t switch name item f r items text none (some_named name f.behind named) holds right
+    long_word t switch name item f r items text none (some_named name f.after named) holds right
 
 placed_right : (t : Table) (switch n : Bool) (place : Place) (name : List ℕ) (item : Item) (f : Form) (a : Added) → IsUtf8 name → ¬ Contains name equals
-    → is_named name f.behind ≡ n → HoldsLong (kind t (long name)) (long name) item f → Adding (long_placed n place name f) a → Leads t switch place item a
+    → is_named name f.after ≡ n → HoldsLong (kind t (long name)) (long name) item f → Adding (long_placed n place name f) a → Leads t switch place item a
 placed_right t switch false place name item f a text none named holds is = none_is _ a is
 placed_right t switch true ended name item f a text none named holds is = none_is _ a is
 placed_right t switch true open_line name item f a text none named holds is = IfOk-at_ok (Leads t switch open_line item) is
     (λ r items right. (anywhere t switch name item f text none named holds r items right).0)
-placed_right t switch true behind_positional name item f a text none named holds is = IfOk-at_ok (Leads t switch behind_positional item) is
+placed_right t switch true after_positional name item f a text none named holds is = IfOk-at_ok (Leads t switch after_positional item) is
     (λ r items right. (anywhere t switch name item f text none named holds r items right).0)
 placed_right t switch true in_cluster name item f a text none named holds is = IfOk-at_ok (Leads t switch in_cluster item) is
     (λ r items right. inl (anywhere t switch name item f text none named holds r items right).0)
-placed_right t switch true behind_values name item f a text none named holds is = IfOk-at_ok (Leads t switch behind_values item) is
+placed_right t switch true after_values name item f a text none named holds is = IfOk-at_ok (Leads t switch after_values item) is
     (λ r items right. anywhere t switch name item f text none named holds r items right)
 
 long_right : (t : Table) (switch u e : Bool) (place : Place) (name : List ℕ) (item : Item) (form : Result Form Reason) (a : Added) → is_utf8 name ≡ u
@@ -238,7 +238,7 @@ long_right t switch false e place name item form a text none holds is = none_is 
 long_right t switch true true place name item form a text none holds is = none_is _ a is
 long_right t switch true false place name item (Err reason) a text none holds is = none_is _ a is
 long_right t switch true false place name item (Ok f) a text none holds is =
-    placed_right t switch (is_named name f.behind) place name item f a (IsUtf8-from_is_utf8 name text) (no_equals name none) refl (holds f refl) is
+    placed_right t switch (is_named name f.after) place name item f a (IsUtf8-from_is_utf8 name text) (no_equals name none) refl (holds f refl) is
 
 -- ---- positionals
 
@@ -260,22 +260,22 @@ plain_line t switch w r items plain closed =
 positional_right : (t : Table) (switch p : Bool) (place : Place) (w : List ℕ) → (p ≡ true → is_plain false w ≡ true) → Leads t switch place (positional w) (positional_added p place w)
 positional_right t switch p ended w plain r items right =
     (refl, ap (λ l. positional w ∷ l) right.1 ∙ ap (λ x. positional x ∷ map positional r.words) (sym (first_nil w r.first right.0)))
-positional_right t switch p behind_values w plain r items right = (
+positional_right t switch p after_values w plain r items right = (
   record { none = refl; line = separator_line t switch w r items right },
   not_plain (dash ∷ r.first) (λ nil. let e : dash ∷ r.first ≡ [] = nil in cc),
 )
 positional_right t switch false open_line w plain r items right = record { none = refl; line = separator_line t switch w r items right }
 positional_right t switch false in_cluster w plain r items right = inl (record { none = refl; line = separator_line t switch w r items right })
-positional_right t switch false behind_positional w plain r items right = record { none = refl; line = separator_line t switch w r items right }
+positional_right t switch false after_positional w plain r items right = record { none = refl; line = separator_line t switch w r items right }
 positional_right t switch true open_line w plain r items right = record { none = refl; line = plain_line t switch w r items (plain refl) right }
 positional_right t switch true in_cluster w plain r items right = inl (record { none = refl; line = plain_line t switch w r items (plain refl) right })
-positional_right t switch true behind_positional w plain r items right = record { none = refl; line = plain_line t switch w r items (plain refl) right }
+positional_right t switch true after_positional w plain r items right = record { none = refl; line = plain_line t switch w r items (plain refl) right }
 
 stands_plain : (p d : Bool) (place : Place) → stands p d place ≡ true → p ≡ true
 stands_plain p d open_line is = (and_parts p (not d) is).0
 stands_plain p d in_cluster is = (and_parts p (not d) is).0
-stands_plain p d behind_values is = is
-stands_plain p d behind_positional is = is
+stands_plain p d after_values is = is
+stands_plain p d after_positional is = is
 stands_plain p d ended is = is
 
 -- ---- all items
@@ -300,24 +300,24 @@ adds_right t switch joins due place (positional w) a is =
 nil_right : (t : Table) (switch : Bool) (place : Place) → Right t switch place (record { first = []; words = [] }) []
 nil_right t switch open_line = record { none = refl; line = no_words }
 nil_right t switch in_cluster = inl (record { none = refl; line = no_words })
-nil_right t switch behind_values = (record { none = refl; line = no_words }, λ h. h)
-nil_right t switch behind_positional = record { none = refl; line = no_words }
+nil_right t switch after_values = (record { none = refl; line = no_words }, λ h. h)
+nil_right t switch after_positional = record { none = refl; line = no_words }
 nil_right t switch ended = (refl, refl)
 
 abbrev From : Table → Bool → List Item → Type 0
 From t switch items = (place : Place) (r : Rest) → spelled_from t switch items place ≡ Ok r → Right t switch place r items
 
-behind_item : (t : Table) (switch joins due : Bool) (place : Place) (item : Item) (items : List Item) (r : Rest) (a : Added) (rest : Result Rest Fault) → From t switch items
+after_item : (t : Table) (switch joins due : Bool) (place : Place) (item : Item) (items : List Item) (r : Rest) (a : Added) (rest : Result Rest Fault) → From t switch items
     → adds t switch joins due place item ≡ Ok a → spelled_from t switch items a.place ≡ rest → Going (with_rest a rest) r → Right t switch place r (item ∷ items)
-behind_item t switch joins due place item items r a (Err fault) later added_is rest_is is = none_is _ r is
-behind_item t switch joins due place item items r a (Ok s) later added_is rest_is is = IfOk-at_ok (λ (x : Rest). Right t switch place x (item ∷ items)) is
+after_item t switch joins due place item items r a (Err fault) later added_is rest_is is = none_is _ r is
+after_item t switch joins due place item items r a (Ok s) later added_is rest_is is = IfOk-at_ok (λ (x : Rest). Right t switch place x (item ∷ items)) is
     (adds_right t switch joins due place item a added_is s items (later a.place s rest_is))
 
 first_item : (t : Table) (switch joins due : Bool) (place : Place) (item : Item) (items : List Item) (r : Rest) (o : Result Added Reason) → From t switch items
     → adds t switch joins due place item ≡ o → Going (with_rests o (spelled_from t switch items)) r → Right t switch place r (item ∷ items)
 first_item t switch joins due place item items r (Err reason) later added_is is = none_is _ r is
 first_item t switch joins due place item items r (Ok a) later added_is is =
-    behind_item t switch joins due place item items r a (spelled_from t switch items a.place) later added_is refl is
+    after_item t switch joins due place item items r a (spelled_from t switch items a.place) later added_is refl is
 
 spelled_right : (t : Table) (switch : Bool) (items : List Item) → From t switch items
 unfolding spelled_from

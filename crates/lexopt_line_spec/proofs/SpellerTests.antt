@@ -58,33 +58,33 @@ cut [] begins = absurd begins
 cut (b ∷ bs) begins = ap (λ x. x ∷ bs) begins
 
 -- a character whose bytes begin with a dash is a dash
-pub dash_first : (c : ℕ) (behind : List ℕ) → BeginsWith dash (encode_utf8 c ++ behind) → c ≡ dash
-dash_first c behind begins =
-    let bytes = encode_utf8 c ++ behind in
-    (encode_same c dash behind (others_of bytes) (cut bytes begins ∙ ap (λ l. l ++ others_of bytes) (sym (encode_ascii dash (omega arith))))).0
+pub dash_first : (c : ℕ) (after : List ℕ) → BeginsWith dash (encode_utf8 c ++ after) → c ≡ dash
+dash_first c after begins =
+    let bytes = encode_utf8 c ++ after in
+    (encode_same c dash after (others_of bytes) (cut bytes begins ∙ ap (λ l. l ++ others_of bytes) (sym (encode_ascii dash (omega arith))))).0
 
-pub dash_begins : (c : ℕ) (behind : List ℕ) → c ≡ dash → BeginsWith dash (encode_utf8 c ++ behind)
-dash_begins c behind is =
-    subst (λ (x : ℕ). BeginsWith dash (encode_utf8 x ++ behind)) (sym is)
-    (subst (λ (l : List ℕ). BeginsWith dash (l ++ behind)) (sym (encode_ascii dash (omega arith))) refl)
+pub dash_begins : (c : ℕ) (after : List ℕ) → c ≡ dash → BeginsWith dash (encode_utf8 c ++ after)
+dash_begins c after is =
+    subst (λ (x : ℕ). BeginsWith dash (encode_utf8 x ++ after)) (sym is)
+    (subst (λ (l : List ℕ). BeginsWith dash (l ++ after)) (sym (encode_ascii dash (omega arith))) refl)
 
-pub some_bytes : (c : ℕ) (behind : List ℕ) → IsScalar c → encode_utf8 c ++ behind ≢ []
-some_bytes c behind scalar none =
-    let read : (decoded []).char ≡ Some c = ap (λ l. (decoded l).char) (sym none) ∙ ap (λ (p : Decoded). p.char) (decoded-encode c behind scalar) in
+pub some_bytes : (c : ℕ) (after : List ℕ) → IsScalar c → encode_utf8 c ++ after ≢ []
+some_bytes c after scalar none =
+    let read : (decoded []).char ≡ Some c = ap (λ l. (decoded l).char) (sym none) ∙ ap (λ (p : Decoded). p.char) (decoded-encode c after scalar) in
     let e : None ≡ Some c = read in cc
 
 -- ---- what stands for a character, or for a name
 
 -- it is a character, and no dash unless the bytes begin with one
-pub letter_dash : (c : ℕ) (bytes behind : List ℕ) → damaged.character c bytes behind → c ≡ dash → BeginsWith dash (bytes ++ behind)
-letter_dash c bytes behind (inl is) same = subst (λ (l : List ℕ). BeginsWith dash (l ++ behind)) (sym is.1) (dash_begins c behind same)
-letter_dash c bytes behind (inr is) same = absurd (let e : replacement ≡ dash = sym is.0 ∙ same in omega arith)
+pub letter_dash : (c : ℕ) (bytes after : List ℕ) → damaged.character c bytes after → c ≡ dash → BeginsWith dash (bytes ++ after)
+letter_dash c bytes after (inl is) same = subst (λ (l : List ℕ). BeginsWith dash (l ++ after)) (sym is.1) (dash_begins c after same)
+letter_dash c bytes after (inr is) same = absurd (let e : replacement ≡ dash = sym is.0 ∙ same in omega arith)
 
 -- lossy text has no `=` of its own
-letter_none : (c : ℕ) (bytes behind : List ℕ) → damaged.character c bytes behind → has_equals bytes ≡ false → has_equals (encode_utf8 c) ≡ false
+letter_none : (c : ℕ) (bytes after : List ℕ) → damaged.character c bytes after → has_equals bytes ≡ false → has_equals (encode_utf8 c) ≡ false
 unfolding lib.Utf8.encode
-letter_none c bytes behind (inl is) none = ap has_equals (sym is.1) ∙ none
-letter_none c bytes behind (inr is) none = ap (λ x. has_equals (encode_utf8 x)) is.0
+letter_none c bytes after (inl is) none = ap has_equals (sym is.1) ∙ none
+letter_none c bytes after (inr is) none = ap (λ x. has_equals (encode_utf8 x)) is.0
 
 lossy_none : (n : ℕ) (bs : List ℕ) → length bs ≤ n → has_equals bs ≡ false → has_equals (lossy bs) ≡ false
 lossy_none n [] le none = ap (λ ps. has_equals (encode_utf8_all (map (λ p. shown p.char) ps))) pieces-nil

@@ -5,11 +5,11 @@ use Rattle.lexopt_spec.specs.Steps as steps
 use Rattle.lexopt_spec.specs.Steps.{Reply}
 use Rattle.lexopt_line_spec.specs.Table.{Name, short, long, Item, option, many, positional, Kind, flag, kind, Table}
 use Rattle.lexopt_line_spec.specs.Spelling as spelling
-use Rattle.lexopt_line_spec.specs.Spelling.{damaged, Behind, nothing, attached, Completes, BeginsWithMark, Cluster, Shows}
+use Rattle.lexopt_line_spec.specs.Spelling.{damaged, After, nothing, attached, Completes, BeginsWithMark, Cluster, Shows}
 
 -- ---- what an unread line shows
 
--- the bytes of a cluster, with the words behind it, show these items
+-- the bytes of a cluster, with the words after it, show these items
 pub record ClusterShows (t : Table) (switch : Bool) (bytes : List ℕ) (words : List (List ℕ)) (items : List Item) : Type 0 where
   pub left : List (List ℕ)
   pub front : List Item
@@ -28,18 +28,18 @@ PartsShow t switch (rest bytes) ended words items = (¬ BeginsWithMark switch by
 abbrev pub ShowsFrom : Table → UnreadLine → List Item → Type 0
 ShowsFrom t u items = PartsShow t u.short_equals u.tail u.ended u.words items
 
--- what is pending, as what stands behind an option in its word
-abbrev pub behind_of : Option (List ℕ × Bool) → Behind
-behind_of None = nothing
-behind_of (Some (value, true)) = spelling.joined value
-behind_of (Some (value, false)) = attached value
+-- what is pending, as what stands after an option in its word
+abbrev pub after_of : Option (List ℕ × Bool) → After
+after_of None = nothing
+after_of (Some (value, true)) = spelling.joined value
+after_of (Some (value, false)) = attached value
 
--- read from here on, behind an option of this name that has values, the line shows these items, the first of which is the option
-pub record ShowsBehind (t : Table) (name : Name) (u : UnreadLine) (items : List Item) : Type 0 where
+-- read from here on, after an option of this name that has values, the line shows these items, the first of which is the option
+pub record ShowsAfter (t : Table) (name : Name) (u : UnreadLine) (items : List Item) : Type 0 where
   pub left : List (List ℕ)
   pub item : Item
   pub others : List Item
-  pub completes : Completes (kind t name) name (behind_of (pending u)) u.words item left
+  pub completes : Completes (kind t name) name (after_of (pending u)) u.words item left
   pub line : PartsShow t u.short_equals no_tail u.ended left others
   pub items_are : items ≡ item ∷ others
 
@@ -52,7 +52,7 @@ pub record Leads (t : Table) (item : Item) (u : UnreadLine) (items : List Item) 
 -- `next` gave this option, of this kind, and left this line
 abbrev pub GoesOnShowing : Table → Kind → Name → UnreadLine → List Item → Type 0
 GoesOnShowing t flag name u items = Leads t (option name None) u items
-GoesOnShowing t k name u items = ShowsBehind t name u items
+GoesOnShowing t k name u items = ShowsAfter t name u items
 
 -- `next` gave this reply, and left this line: so the line before it shows these items
 abbrev pub NextShows : Table → Reply → UnreadLine → List Item → Type 0
@@ -62,7 +62,7 @@ NextShows t (steps.positional word) u items = Leads t (positional word) u items
 NextShows t steps.end u items = items ≡ []
 NextShows t reply u items = ⊥
 
--- the call for values gave this reply, behind an option of this name, and left this line
+-- the call for values gave this reply, after an option of this name, and left this line
 abbrev pub ValueShows : Table → Name → Reply → UnreadLine → List Item → Type 0
 ValueShows t name (steps.taken word) u items = Leads t (option name (Some word)) u items
 ValueShows t name (steps.maybe value) u items = Leads t (option name value) u items

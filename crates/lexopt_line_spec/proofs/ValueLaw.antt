@@ -1,28 +1,28 @@
--- What a line shows behind an option, and what it shows once `value` has answered.
+-- What a line shows after an option, and what it shows once `value` has answered.
 use Rattle.std.proofs.Common.{◌≡◌, ◌↔◌, ℕ, Bool, true, false, List, [], ◌∷◌, Option, Some, None, refl, sym, ap, subst, ◌∙◌}
 use Rattle.lexopt_spec.specs.UnreadLine.{Tail, no_tail, joined, rest, LastOption, UnreadLine, pending, spelling, IsLine, TailStands}
 use Rattle.lexopt_spec.specs.Steps.{Reply, taken, missing, ValueStep, pending_value, takes_word, nothing_to_take}
 use Rattle.lexopt_line_spec.specs.Table.{Name, Item, option, Kind, one, kind, Table}
 use Rattle.lexopt_line_spec.specs.Spelling as spelling
-use Rattle.lexopt_line_spec.specs.Spelling.{Behind, nothing, attached, Completes, OneValue, attached_value, joined_value, next_word}
+use Rattle.lexopt_line_spec.specs.Spelling.{After, nothing, attached, Completes, OneValue, attached_value, joined_value, next_word}
 use Rattle.lexopt_line_spec.proofs.Hands.{is_some_rest}
-use Rattle.lexopt_line_spec.proofs.Unread.{PartsShow, behind_of, ShowsBehind, ValueShows}
+use Rattle.lexopt_line_spec.proofs.Unread.{PartsShow, after_of, ShowsAfter, ValueShows}
 use Rattle.lexopt_line_spec.proofs.Exact.{value_same}
 
 -- a value in the option's own word is its value
-own_value : (name : Name) (behind : Behind) (words left : List (List ℕ)) (item : Item) (value : List ℕ) (by : Bool)
-    → behind ≡ behind_of (Some (value, by)) → OneValue name behind words item left → (item ≡ option name (Some value)) × (left ≡ words)
-own_value name behind words left item value true is (attached_value v b i l) = absurd (let e : spelling.joined value ≡ attached v = sym is ∙ b in cc)
-own_value name behind words left item value false is (attached_value v b i l) =
+own_value : (name : Name) (after : After) (words left : List (List ℕ)) (item : Item) (value : List ℕ) (by : Bool)
+    → after ≡ after_of (Some (value, by)) → OneValue name after words item left → (item ≡ option name (Some value)) × (left ≡ words)
+own_value name after words left item value true is (attached_value v b i l) = absurd (let e : spelling.joined value ≡ attached v = sym is ∙ b in cc)
+own_value name after words left item value false is (attached_value v b i l) =
     let e : attached value ≡ attached v = sym is ∙ b in let same : v ≡ value = cc in (i ∙ ap (λ x. option name (Some x)) same, l)
-own_value name behind words left item value true is (joined_value v b i l) =
+own_value name after words left item value true is (joined_value v b i l) =
     let e : spelling.joined value ≡ spelling.joined v = sym is ∙ b in let same : v ≡ value = cc in (i ∙ ap (λ x. option name (Some x)) same, l)
-own_value name behind words left item value false is (joined_value v b i l) = absurd (let e : attached value ≡ spelling.joined v = sym is ∙ b in cc)
-own_value name behind words left item value true is (next_word w b i l) = absurd (let e : spelling.joined value ≡ nothing = sym is ∙ b in cc)
-own_value name behind words left item value false is (next_word w b i l) = absurd (let e : attached value ≡ nothing = sym is ∙ b in cc)
+own_value name after words left item value false is (joined_value v b i l) = absurd (let e : attached value ≡ spelling.joined v = sym is ∙ b in cc)
+own_value name after words left item value true is (next_word w b i l) = absurd (let e : spelling.joined value ≡ nothing = sym is ∙ b in cc)
+own_value name after words left item value false is (next_word w b i l) = absurd (let e : attached value ≡ nothing = sym is ∙ b in cc)
 
 with_value : (name : Name) (words : List (List ℕ)) (value : List ℕ) (by : Bool)
-    → OneValue name (behind_of (Some (value, by))) words (option name (Some value)) words
+    → OneValue name (after_of (Some (value, by))) words (option name (Some value)) words
 with_value name words value true = joined_value value refl refl refl
 with_value name words value false = attached_value value refl refl refl
 
@@ -34,18 +34,18 @@ other_value name words left item (joined_value v b i l) = absurd (let e : nothin
 other_value name words left item (next_word w b i l) = (w, i, l)
 
 -- the option is of the kind that has one value
-is_one : (t : Table) (name : Name) (behind : Behind) (words : List (List ℕ)) (item : Item) (left : List (List ℕ)) → kind t name ≡ one
-    → Completes (kind t name) name behind words item left → OneValue name behind words item left
-is_one t name behind words item left k completes = subst (λ (x : Kind). Completes x name behind words item left) k completes
+is_one : (t : Table) (name : Name) (after : After) (words : List (List ℕ)) (item : Item) (left : List (List ℕ)) → kind t name ≡ one
+    → Completes (kind t name) name after words item left → OneValue name after words item left
+is_one t name after words item left k completes = subst (λ (x : Kind). Completes x name after words item left) k completes
 
-one_is : (t : Table) (name : Name) (behind : Behind) (words : List (List ℕ)) (item : Item) (left : List (List ℕ)) → kind t name ≡ one
-    → OneValue name behind words item left → Completes (kind t name) name behind words item left
-one_is t name behind words item left k completes = subst (λ (x : Kind). Completes x name behind words item left) (sym k) completes
+one_is : (t : Table) (name : Name) (after : After) (words : List (List ℕ)) (item : Item) (left : List (List ℕ)) → kind t name ≡ one
+    → OneValue name after words item left → Completes (kind t name) name after words item left
+one_is t name after words item left k completes = subst (λ (x : Kind). Completes x name after words item left) (sym k) completes
 
 -- ---- one answer, and what it says
 
 abbrev ValueLaw : Table → Name → UnreadLine → Reply → UnreadLine → Type 0
-ValueLaw t name u r v = (items : List Item) → ShowsBehind t name u items ↔ ValueShows t name r v items
+ValueLaw t name u r v = (items : List Item) → ShowsAfter t name u items ↔ ValueShows t name r v items
 
 abbrev Answer : Table → Name → UnreadLine → Type 0
 Answer t name u = (r : Reply) × (v : UnreadLine) × ValueStep u r v × ValueLaw t name u r v
@@ -54,7 +54,7 @@ own_law : (t : Table) (name : Name) (u : UnreadLine) (value : List ℕ) (by : Bo
     → ValueLaw t name u (taken value) (record u { tail = no_tail })
 own_law t name u value by k is items = (
   λ s.
-      let own = own_value name (behind_of (pending u)) u.words s.left s.item value by (ap behind_of is) (is_one t name (behind_of (pending u)) u.words s.item s.left k s.completes) in
+      let own = own_value name (after_of (pending u)) u.words s.left s.item value by (ap after_of is) (is_one t name (after_of (pending u)) u.words s.item s.left k s.completes) in
       record {
         others = s.others;
         shows = subst (λ (ws : List (List ℕ)). PartsShow t u.short_equals no_tail u.ended ws s.others) own.1 s.line;
@@ -64,8 +64,8 @@ own_law t name u value by k is items = (
     left = u.words;
     item = option name (Some value);
     others = l.others;
-    completes = one_is t name (behind_of (pending u)) u.words (option name (Some value)) u.words k
-        (subst (λ (p : Option (List ℕ × Bool)). OneValue name (behind_of p) u.words (option name (Some value)) u.words) (sym is) (with_value name u.words value by));
+    completes = one_is t name (after_of (pending u)) u.words (option name (Some value)) u.words k
+        (subst (λ (p : Option (List ℕ × Bool)). OneValue name (after_of p) u.words (option name (Some value)) u.words) (sym is) (with_value name u.words value by));
     line = l.shows;
     items_are = l.items_are;
   },
@@ -114,11 +114,11 @@ parts_answer t name None (rest (b ∷ bs)) words ended last switch bin k is stan
 
 -- ---- each answer
 
--- what the line shows behind an option that has one value is what `value` says of it
+-- what the line shows after an option that has one value is what `value` says of it
 pub value_law : (t : Table) (name : Name) (u v : UnreadLine) (r : Reply) (items : List Item) → kind t name ≡ one → IsLine u → ValueStep u r v
-    → ShowsBehind t name u items ↔ ValueShows t name r v items
+    → ShowsAfter t name u items ↔ ValueShows t name r v items
 value_law t name u v r items k line step =
     let a = parts_answer t name (pending u) u.tail u.words u.ended u.last u.short_equals u.bin_name k refl line in
     let same = value_same u a.0 r a.1 v a.2 step in
-    subst (λ (s : Reply). ShowsBehind t name u items ↔ ValueShows t name s v items) same.0
-    (subst (λ (w : UnreadLine). ShowsBehind t name u items ↔ ValueShows t name a.0 w items) same.1 (a.3 items))
+    subst (λ (s : Reply). ShowsAfter t name u items ↔ ValueShows t name s v items) same.0
+    (subst (λ (w : UnreadLine). ShowsAfter t name u items ↔ ValueShows t name a.0 w items) same.1 (a.3 items))

@@ -5,21 +5,21 @@ use Rattle.lexopt_spec.specs.Runs.{Call}
 use Rattle.lexopt_line_spec.specs.Table.{Table}
 use Rattle.lexopt_line_spec.specs.Script.{Command, call, whole_line, reply_text, line_of, WholeLineText, switched, Written}
 
--- the switch behind these commands
-abbrev pub switch_behind : Bool → List Command → Bool
-switch_behind on [] = on
-switch_behind on (call c ∷ commands) = switch_behind (switched on c) commands
-switch_behind on (whole_line ∷ commands) = switch_behind on commands
+-- the switch after these commands
+abbrev pub switch_after : Bool → List Command → Bool
+switch_after on [] = on
+switch_after on (call c ∷ commands) = switch_after (switched on c) commands
+switch_after on (whole_line ∷ commands) = switch_after on commands
 
-pub switch_behind-call : (on : Bool) (commands : List Command) (c : Call) → switch_behind on (commands ++ call c ∷ []) ≡ switched (switch_behind on commands) c
-switch_behind-call on [] c = refl
-switch_behind-call on (call d ∷ commands) c = switch_behind-call (switched on d) commands c
-switch_behind-call on (whole_line ∷ commands) c = switch_behind-call on commands c
+pub switch_after-call : (on : Bool) (commands : List Command) (c : Call) → switch_after on (commands ++ call c ∷ []) ≡ switched (switch_after on commands) c
+switch_after-call on [] c = refl
+switch_after-call on (call d ∷ commands) c = switch_after-call (switched on d) commands c
+switch_after-call on (whole_line ∷ commands) c = switch_after-call on commands c
 
-pub switch_behind-whole : (on : Bool) (commands : List Command) → switch_behind on (commands ++ whole_line ∷ []) ≡ switch_behind on commands
-switch_behind-whole on [] = refl
-switch_behind-whole on (call d ∷ commands) = switch_behind-whole (switched on d) commands
-switch_behind-whole on (whole_line ∷ commands) = switch_behind-whole on commands
+pub switch_after-whole : (on : Bool) (commands : List Command) → switch_after on (commands ++ whole_line ∷ []) ≡ switch_after on commands
+switch_after-whole on [] = refl
+switch_after-whole on (call d ∷ commands) = switch_after-whole (switched on d) commands
+switch_after-whole on (whole_line ∷ commands) = switch_after-whole on commands
 
 -- one call more
 pub Written-call : (t : Table) (words : List (List ℕ)) (on : Bool) (commands : List Command) (replies : List Reply) (text : List ℕ) (c : Call) (reply : Reply)
@@ -43,7 +43,7 @@ Written-call t words on (whole_line ∷ commands) replies text c reply is = (
 
 -- the whole line once more
 pub Written-whole : (t : Table) (words : List (List ℕ)) (on : Bool) (commands : List Command) (replies : List Reply) (text line : List ℕ)
-    → Written t words on commands replies text → WholeLineText t (switch_behind on commands) words line
+    → Written t words on commands replies text → WholeLineText t (switch_after on commands) words line
     → Written t words on (commands ++ whole_line ∷ []) replies (text ++ line_of line)
 Written-whole t words on [] [] text line is says = (line, [], says, refl, ap (λ l. l ++ line_of line) is ∙ sym (append-nil (line_of line)))
 Written-whole t words on [] (r ∷ replies) text line is says = absurd is

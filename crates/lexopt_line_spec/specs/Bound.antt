@@ -6,7 +6,7 @@ use Rattle.lexopt_spec.specs.UnreadLine.{Tail, no_tail, joined, rest, UnreadLine
 use Rattle.lexopt_spec.specs.Steps.{Reply, short, long}
 use Rattle.lexopt_spec.specs.Account.{handed_items}
 
--- a word gives an option for each byte behind its dash at most, and itself at least
+-- a word gives an option for each byte after its dash at most, and itself at least
 abbrev pub word_bound : List ℕ → ℕ
 word_bound word = max 1 (length word - 1)
 

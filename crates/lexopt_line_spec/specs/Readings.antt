@@ -12,7 +12,7 @@ use Rattle.lexopt_line_spec.specs.Table.{Name, short, long, Item, option, positi
 abbrev pub start : Bool → List (List ℕ) → UnreadLine
 start switch words = record (fresh words) { short_equals = switch }
 
--- the call that is made behind an option of this kind. Where no option was read last, it is that behind a flag
+-- the call that is made after an option of this kind. Where no option was read last, it is that after a flag
 abbrev pub IsDue : Kind → Call → Type 0
 IsDue flag call = call ≡ next
 IsDue one call = call ≡ value
@@ -31,7 +31,7 @@ abbrev pub IsFull : Call → Reply → Type 0
 IsFull (calls.values n) (steps.items words) = length words < n
 IsFull call reply = Unit {0}
 
--- the reading goes on behind this reply, as behind an option of this kind
+-- the reading goes on after this reply, as after an option of this kind
 abbrev pub GoesOn : Table → Reply → Kind → Type 0
 GoesOn t (steps.short c) k = k ≡ kind t (short c)
 GoesOn t (steps.long name) k = k ≡ kind t (long name)
@@ -41,29 +41,29 @@ GoesOn t (steps.maybe word) k = k ≡ flag
 GoesOn t (steps.items words) k = k ≡ flag
 GoesOn t reply k = ⊥
 
--- behind an option of this kind a reading makes these calls, where they get these replies, the last of which is this one
-pub data AskedBehind (t : Table) (final : Reply) : Kind → List Call → List Reply → Type 0 where
-  last : (k : Kind) (call : Call) → IsDue k call → IsLast final → AskedBehind t final k (call ∷ []) (final ∷ [])
+-- after an option of this kind a reading makes these calls, where they get these replies, the last of which is this one
+pub data AskedAfter (t : Table) (final : Reply) : Kind → List Call → List Reply → Type 0 where
+  last : (k : Kind) (call : Call) → IsDue k call → IsLast final → AskedAfter t final k (call ∷ []) (final ∷ [])
   more : (k l : Kind) (call : Call) (reply : Reply) (calls : List Call) (replies : List Reply) → IsDue k call → IsFull call reply
-      → GoesOn t reply l → AskedBehind t final l calls replies → AskedBehind t final k (call ∷ calls) (reply ∷ replies)
+      → GoesOn t reply l → AskedAfter t final l calls replies → AskedAfter t final k (call ∷ calls) (reply ∷ replies)
 
--- `next`, and behind each option of the table the call for its values, up to the end or the first error, and never short of memory
+-- `next`, and after each option of the table the call for its values, up to the end or the first error, and never short of memory
 abbrev pub Asked : Table → List Call → List Reply → Reply → Type 0
-Asked t calls replies final = AskedBehind t final flag calls replies
+Asked t calls replies final = AskedAfter t final flag calls replies
 
 -- an option, where these replies follow
-abbrev pub item_behind : Name → List Reply → Item
-item_behind name [] = option name None
-item_behind name (steps.taken word ∷ replies) = option name (Some word)
-item_behind name (steps.maybe word ∷ replies) = option name word
-item_behind name (steps.items words ∷ replies) = many name words
-item_behind name (reply ∷ replies) = option name None
+abbrev pub item_after : Name → List Reply → Item
+item_after name [] = option name None
+item_after name (steps.taken word ∷ replies) = option name (Some word)
+item_after name (steps.maybe word ∷ replies) = option name word
+item_after name (steps.items words ∷ replies) = many name words
+item_after name (reply ∷ replies) = option name None
 
 -- what the replies of a reading say
 abbrev pub items_said : List Reply → List Item
 items_said [] = []
-items_said (steps.short c ∷ replies) = item_behind (short c) replies ∷ items_said replies
-items_said (steps.long name ∷ replies) = item_behind (long name) replies ∷ items_said replies
+items_said (steps.short c ∷ replies) = item_after (short c) replies ∷ items_said replies
+items_said (steps.long name ∷ replies) = item_after (long name) replies ∷ items_said replies
 items_said (steps.positional word ∷ replies) = positional word ∷ items_said replies
 items_said (reply ∷ replies) = items_said replies
 

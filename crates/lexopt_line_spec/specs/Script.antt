@@ -25,7 +25,7 @@ backslash = 0x5C
 
 -- ---- a line
 
--- what stands before, between and behind the newlines. Behind the last newline an empty line is no line of the script,
+-- what stands before, between and after the newlines. After the last newline an empty line is no line of the script,
 -- and here it does no harm, since an empty line means nothing
 abbrev pub lines_of : List ℕ → List (List ℕ)
 lines_of script = slice_split (λ b. b == newline) script
@@ -52,20 +52,20 @@ abbrev mutual
   -- the bytes of a text: `\\` is a backslash, `\n` a newline, `\xHH` a byte, and each byte that is no backslash stands for itself
   pub unescaped : List ℕ → Option (List ℕ)
   unescaped [] = Some []
-  unescaped (b ∷ bs) = if b == backslash then behind_backslash bs else in_front b (unescaped bs)
+  unescaped (b ∷ bs) = if b == backslash then after_backslash bs else in_front b (unescaped bs)
 
-  pub behind_backslash : List ℕ → Option (List ℕ)
-  behind_backslash [] = None
-  behind_backslash (c ∷ bs) =
+  pub after_backslash : List ℕ → Option (List ℕ)
+  after_backslash [] = None
+  after_backslash (c ∷ bs) =
       if c == backslash then in_front backslash (unescaped bs)
       else (if c == 0x6E then in_front newline (unescaped bs)
-      else (if c == 0x78 then behind_x bs
+      else (if c == 0x78 then after_x bs
       else None))
 
-  pub behind_x : List ℕ → Option (List ℕ)
-  behind_x [] = None
-  behind_x (high ∷ []) = None
-  behind_x (high ∷ low ∷ bs) = byte_in_front (hexadecimal high) (hexadecimal low) (unescaped bs)
+  pub after_x : List ℕ → Option (List ℕ)
+  after_x [] = None
+  after_x (high ∷ []) = None
+  after_x (high ∷ low ∷ bs) = byte_in_front (hexadecimal high) (hexadecimal low) (unescaped bs)
 
 -- what is done on the words of a script
 pub data Command : Type 0 where
@@ -107,7 +107,7 @@ one_character bytes = if length (first_piece bytes).bytes == length bytes then (
 abbrev pub begins : List ℕ → List ℕ → Bool
 begins text line = pointwise ◌==◌ (take (length text) line) text
 
--- the option that a text names: `--` and a name in UTF-8, or `-` and one character. A dash behind the dash begins a name
+-- the option that a text names: `--` and a name in UTF-8, or `-` and one character. A dash after the dash begins a name
 abbrev pub option_named : List ℕ → Option Name
 option_named text =
     if begins (codes "--") text then (if is_utf8 (drop 2 text) then Some (long (drop 2 text)) else None)
@@ -172,7 +172,7 @@ is_reading (entry e) = false
 is_reading (command c) = reads_words c
 is_reading bad = false
 
--- a word or an option may not stand behind a command that reads the words
+-- a word or an option may not stand after a command that reads the words
 abbrev pub is_bad : Bool → Meaning → Bool
 is_bad called nothing = false
 is_bad called (word bytes) = called
@@ -282,7 +282,7 @@ pub data WholeLineText (t : Table) (on : Bool) (words : List (List ℕ)) (text :
       → WholeLineText t on words text
   memory_refused : text ≡ reply_text no_memory → WholeLineText t on words text
 
--- the switch behind a call
+-- the switch after a call
 abbrev pub switched : Bool → Call → Bool
 switched on (switch now) = now
 switched on c = on

@@ -6,9 +6,9 @@ use Rattle.std.specs.Str.{is_utf8}
 use lib.Utf8.{scalar}
 use Rattle.lexopt_spec.specs.UnreadLine.{dash, equals, is_plain}
 use Rattle.lexopt_line_spec.specs.Table.{short, long, Item, option, many, positional, Kind, flag, one, optional, several, kind, Table}
-use Rattle.lexopt_line_spec.specs.Spelling.{Behind, nothing, attached, joined, Spells}
+use Rattle.lexopt_line_spec.specs.Spelling.{After, nothing, attached, joined, Spells}
 
--- why an item cannot be spelled behind those before it
+-- why an item cannot be spelled after those before it
 pub data Reason : Type 0 where
   -- the option's name is no character, or no text: a `char` and a `String` always are
   no_name : Reason
@@ -22,14 +22,14 @@ pub data Reason : Type 0 where
   wants_many : Reason
   -- an option that does not have several values is given a list of them
   not_many : Reason
-  -- an empty value cannot stand right behind a character
+  -- an empty value cannot stand right after a character
   empty_value : Reason
   -- one of several values would be an option
   option_among_values : Reason
-  -- a long option has no name, and no value behind `=`
+  -- a long option has no name, and no value after `=`
   empty_name : Reason
   -- it is an option, and a positional before it needs the separator
-  behind_separator : Reason
+  past_separator : Reason
   -- `-` as an option of one character can only go on with the cluster of a flag, and there is none right before it
   dash_without_flag : Reason
 
@@ -40,29 +40,29 @@ pub data Place : Type 0 where
   -- a flag, which is the last of its cluster
   in_cluster : Place
   -- values of an option that has several, which go on in words
-  behind_values : Place
+  after_values : Place
   -- a positional that needs no separator
-  behind_positional : Place
+  after_positional : Place
   -- the separator, and perhaps positionals
   ended : Place
 
 -- ---- the values of an option
 
--- what stands behind an option's name in its word, the words behind that word, and what the next item follows then
+-- what stands after an option's name in its word, the words after that word, and what the next item follows then
 pub record Form : Type 0 where
-  pub behind : Behind
+  pub after : After
   pub words : List (List ℕ)
   pub place : Place
 
 -- nothing but the name
 abbrev pub name_only : Place → Form
-name_only place = record { behind = nothing; words = []; place = place }
+name_only place = record { after = nothing; words = []; place = place }
 
 -- all in one word
-abbrev pub in_word : Behind → Form
-in_word behind = record { behind = behind; words = []; place = open_line }
+abbrev pub in_word : After → Form
+in_word after = record { after = after; words = []; place = open_line }
 
--- a value right behind a character; behind `=` where it is empty or begins with a mark, if the switch is on
+-- a value right after a character; after `=` where it is empty or begins with a mark, if the switch is on
 abbrev pub attached_form : Bool → List ℕ → Result Form Reason
 attached_form true [] = Ok (in_word (joined []))
 attached_form false [] = Err empty_value
@@ -74,7 +74,7 @@ abbrev pub short_form : Bool → Kind → Option (List ℕ) → Result Form Reas
 short_form switch flag None = Ok (name_only in_cluster)
 short_form switch flag (Some v) = Err unexpected_value
 short_form switch one None = Err missing_value
-short_form switch one (Some v) = Ok (record { behind = nothing; words = v ∷ []; place = open_line })
+short_form switch one (Some v) = Ok (record { after = nothing; words = v ∷ []; place = open_line })
 short_form switch optional None = Ok (name_only open_line)
 short_form switch optional (Some v) = attached_form switch v
 short_form switch several value = Err wants_many
@@ -91,13 +91,13 @@ long_form several value = Err wants_many
 
 -- values in words of their own, which are all plain, or not
 abbrev pub words_form : Bool → List (List ℕ) → Result Form Reason
-words_form true values = Ok (record { behind = nothing; words = values; place = behind_values })
+words_form true values = Ok (record { after = nothing; words = values; place = after_values })
 words_form false values = Err option_among_values
 
--- the same behind a character: a first value that would be an option stands in its word. Whether the first is plain, and the others
+-- the same after a character: a first value that would be an option stands in its word. Whether the first is plain, and the others
 abbrev pub short_words_form : Bool → Bool → List ℕ → List (List ℕ) → Result Form Reason
 short_words_form true others v vs = words_form others (v ∷ vs)
-short_words_form false true v vs = Ok (record { behind = attached v; words = vs; place = behind_values })
+short_words_form false true v vs = Ok (record { after = attached v; words = vs; place = after_values })
 short_words_form false false v vs = Err option_among_values
 
 -- a short option with several values: one value may have to be joined by `=`
@@ -128,70 +128,70 @@ pub record Added : Type 0 where
   pub words : List (List ℕ)
   pub place : Place
 
-abbrev pub behind_bytes : Behind → List ℕ
-behind_bytes nothing = []
-behind_bytes (attached v) = v
-behind_bytes (joined v) = equals ∷ v
+abbrev pub after_bytes : After → List ℕ
+after_bytes nothing = []
+after_bytes (attached v) = v
+after_bytes (joined v) = equals ∷ v
 
 -- an option by its name, with its dashes if it does not go on
 abbrev pub with_form : Bool → List ℕ → Form → Added
-with_form goes_on name f = record { goes_on = goes_on; word = name ++ behind_bytes f.behind; words = f.words; place = f.place }
+with_form goes_on name f = record { goes_on = goes_on; word = name ++ after_bytes f.after; words = f.words; place = f.place }
 
 -- a short option: whether it is a character, and `-`
 abbrev pub short_added : Bool → Bool → Place → ℕ → Result Form Reason → Result Added Reason
 short_added false is_dash place c form = Err no_name
 short_added true is_dash place c (Err reason) = Err reason
-short_added true is_dash ended c (Ok f) = Err behind_separator
+short_added true is_dash ended c (Ok f) = Err past_separator
 short_added true false open_line c (Ok f) = Ok (with_form false (dash ∷ encode_utf8 c) f)
 short_added true false in_cluster c (Ok f) = Ok (with_form false (dash ∷ encode_utf8 c) f)
-short_added true false behind_values c (Ok f) = Ok (with_form false (dash ∷ encode_utf8 c) f)
-short_added true false behind_positional c (Ok f) = Ok (with_form false (dash ∷ encode_utf8 c) f)
+short_added true false after_values c (Ok f) = Ok (with_form false (dash ∷ encode_utf8 c) f)
+short_added true false after_positional c (Ok f) = Ok (with_form false (dash ∷ encode_utf8 c) f)
 short_added true true in_cluster c (Ok f) = Ok (with_form true (encode_utf8 c) f)
 short_added true true open_line c (Ok f) = Err dash_without_flag
-short_added true true behind_values c (Ok f) = Err dash_without_flag
-short_added true true behind_positional c (Ok f) = Err dash_without_flag
+short_added true true after_values c (Ok f) = Err dash_without_flag
+short_added true true after_positional c (Ok f) = Err dash_without_flag
 
--- a name has bytes, or a value behind `=`
-abbrev pub is_named : List ℕ → Behind → Bool
+-- a name has bytes, or a value after `=`
+abbrev pub is_named : List ℕ → After → Bool
 is_named [] nothing = false
 is_named [] (attached v) = false
 is_named [] (joined v) = true
-is_named (b ∷ bs) behind = true
+is_named (b ∷ bs) after = true
 
 -- a long option that is named, or not
 abbrev pub long_placed : Bool → Place → List ℕ → Form → Result Added Reason
 long_placed false place name f = Err empty_name
-long_placed true ended name f = Err behind_separator
+long_placed true ended name f = Err past_separator
 long_placed true open_line name f = Ok (with_form false (dash ∷ dash ∷ name) f)
 long_placed true in_cluster name f = Ok (with_form false (dash ∷ dash ∷ name) f)
-long_placed true behind_values name f = Ok (with_form false (dash ∷ dash ∷ name) f)
-long_placed true behind_positional name f = Ok (with_form false (dash ∷ dash ∷ name) f)
+long_placed true after_values name f = Ok (with_form false (dash ∷ dash ∷ name) f)
+long_placed true after_positional name f = Ok (with_form false (dash ∷ dash ∷ name) f)
 
 -- a long option: whether it is a text, and has an `=`
 abbrev pub long_added : Bool → Bool → Place → List ℕ → Result Form Reason → Result Added Reason
 long_added false has_equals place name form = Err no_name
 long_added true true place name form = Err equals_in_name
 long_added true false place name (Err reason) = Err reason
-long_added true false place name (Ok f) = long_placed (is_named name f.behind) place name f
+long_added true false place name (Ok f) = long_placed (is_named name f.after) place name f
 
 -- a positional stands by itself where it is plain, unless it begins a row before which the separator is to stand
 abbrev pub stands : Bool → Bool → Place → Bool
 stands plain due open_line = plain && not due
 stands plain due in_cluster = plain && not due
-stands plain due behind_values = plain
-stands plain due behind_positional = plain
+stands plain due after_values = plain
+stands plain due after_positional = plain
 stands plain due ended = plain
 
--- a positional: whether it stands by itself. Behind values the separator keeps it from being one more of them
+-- a positional: whether it stands by itself. After values the separator keeps it from being one more of them
 abbrev pub positional_added : Bool → Place → List ℕ → Added
 positional_added alone ended w = record { goes_on = false; word = w; words = []; place = ended }
-positional_added alone behind_values w = record { goes_on = false; word = dash ∷ dash ∷ []; words = w ∷ []; place = ended }
+positional_added alone after_values w = record { goes_on = false; word = dash ∷ dash ∷ []; words = w ∷ []; place = ended }
 positional_added false open_line w = record { goes_on = false; word = dash ∷ dash ∷ []; words = w ∷ []; place = ended }
 positional_added false in_cluster w = record { goes_on = false; word = dash ∷ dash ∷ []; words = w ∷ []; place = ended }
-positional_added false behind_positional w = record { goes_on = false; word = dash ∷ dash ∷ []; words = w ∷ []; place = ended }
-positional_added true open_line w = record { goes_on = false; word = w; words = []; place = behind_positional }
-positional_added true in_cluster w = record { goes_on = false; word = w; words = []; place = behind_positional }
-positional_added true behind_positional w = record { goes_on = false; word = w; words = []; place = behind_positional }
+positional_added false after_positional w = record { goes_on = false; word = dash ∷ dash ∷ []; words = w ∷ []; place = ended }
+positional_added true open_line w = record { goes_on = false; word = w; words = []; place = after_positional }
+positional_added true in_cluster w = record { goes_on = false; word = w; words = []; place = after_positional }
+positional_added true after_positional w = record { goes_on = false; word = w; words = []; place = after_positional }
 
 -- an item at this place; whether one of several values is to be joined, where it can be, and whether the separator is to stand
 -- before a row of positionals that begins here
@@ -211,7 +211,7 @@ is_positional (option name value) = false
 is_positional (many name values) = false
 is_positional (positional w) = true
 
--- these items are a positional and, behind it, an option among others. Behind a value in a word the separator would have to stand
+-- these items are a positional and, after it, an option among others. After a value in a word the separator would have to stand
 -- before that positional, and so before that option
 abbrev pub separator_comes_too_early : List Item → Bool
 separator_comes_too_early [] = false
@@ -258,7 +258,7 @@ abbrev pub words_of : Result Rest Fault → Result (List (List ℕ)) Fault
 words_of (Err fault) = Err fault
 words_of (Ok r) = Ok r.words
 
--- the words that spell the items, or the first item that no words can spell behind those before it
+-- the words that spell the items, or the first item that no words can spell after those before it
 abbrev pub spelled : Table → Bool → List Item → Result (List (List ℕ)) Fault
 spelled t switch items = words_of (spelled_from t switch items open_line)
 
@@ -283,5 +283,5 @@ is_of_the_place not_many = false
 is_of_the_place empty_value = false
 is_of_the_place option_among_values = false
 is_of_the_place empty_name = false
-is_of_the_place behind_separator = true
+is_of_the_place past_separator = true
 is_of_the_place dash_without_flag = true

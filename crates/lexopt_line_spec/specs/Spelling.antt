@@ -10,7 +10,7 @@ use Rattle.lexopt_line_spec.specs.Table.{Name, short, long, Item, option, positi
 -- ---- what may stand for an option's name
 
 pub record Letters : Type 1 where
-  -- these bytes, with those behind them in the word, stand for the character
+  -- these bytes, with those after them in the word, stand for the character
   pub character : ℕ → List ℕ → List ℕ → Type 0
   -- these bytes stand for the name
   pub name : List ℕ → List ℕ → Type 0
@@ -18,53 +18,53 @@ pub record Letters : Type 1 where
 -- the UTF-8 of a character, and the bytes of a name that is UTF-8, and nothing else
 abbrev pub exact : Letters
 exact = record {
-  character = λ c bytes behind. IsScalar c × (bytes ≡ encode_utf8 c);
+  character = λ c bytes after. IsScalar c × (bytes ≡ encode_utf8 c);
   name = λ name bytes. IsUtf8 name × (bytes ≡ name);
 }
 
 -- damage may stand for U+FFFD too
 abbrev pub damaged : Letters
 damaged = record {
-  character = λ c bytes behind. (IsScalar c × (bytes ≡ encode_utf8 c)) ⊎ ((c ≡ replacement) × IsDamage (bytes ++ behind) (length bytes));
+  character = λ c bytes after. (IsScalar c × (bytes ≡ encode_utf8 c)) ⊎ ((c ≡ replacement) × IsDamage (bytes ++ after) (length bytes));
   name = λ name bytes. lossy bytes ≡ name;
 }
 
 -- ---- an option's value
 
--- what stands behind an option's name in its word
-pub data Behind : Type 0 where
-  nothing : Behind
-  -- a value, right behind a character
-  attached : List ℕ → Behind
-  -- a value, behind `=`
-  joined : List ℕ → Behind
+-- what stands after an option's name in its word
+pub data After : Type 0 where
+  nothing : After
+  -- a value, right after a character
+  attached : List ℕ → After
+  -- a value, after `=`
+  joined : List ℕ → After
 
--- an option that has no value, with this behind it in its word, and these words behind that word, is this item, and the words are left
-pub data NoValue (name : Name) (behind : Behind) (words : List (List ℕ)) (item : Item) (left : List (List ℕ)) : Type 0 where
-  no_value : behind ≡ nothing → item ≡ option name None → left ≡ words → NoValue name behind words item left
+-- an option that has no value, with this after it in its word, and these words after that word, is this item, and the words are left
+pub data NoValue (name : Name) (after : After) (words : List (List ℕ)) (item : Item) (left : List (List ℕ)) : Type 0 where
+  no_value : after ≡ nothing → item ≡ option name None → left ≡ words → NoValue name after words item left
 
 -- and so for one that has a value
-pub data OneValue (name : Name) (behind : Behind) (words : List (List ℕ)) (item : Item) (left : List (List ℕ)) : Type 0 where
-  attached_value : (v : List ℕ) → behind ≡ attached v → item ≡ option name (Some v) → left ≡ words → OneValue name behind words item left
-  joined_value : (v : List ℕ) → behind ≡ joined v → item ≡ option name (Some v) → left ≡ words → OneValue name behind words item left
+pub data OneValue (name : Name) (after : After) (words : List (List ℕ)) (item : Item) (left : List (List ℕ)) : Type 0 where
+  attached_value : (v : List ℕ) → after ≡ attached v → item ≡ option name (Some v) → left ≡ words → OneValue name after words item left
+  joined_value : (v : List ℕ) → after ≡ joined v → item ≡ option name (Some v) → left ≡ words → OneValue name after words item left
   -- whatever it looks like
-  next_word : (w : List ℕ) → behind ≡ nothing → item ≡ option name (Some w) → w ∷ left ≡ words → OneValue name behind words item left
+  next_word : (w : List ℕ) → after ≡ nothing → item ≡ option name (Some w) → w ∷ left ≡ words → OneValue name after words item left
 
 -- for one that may have a value: the next word is never taken
-pub data OptionalValue (name : Name) (behind : Behind) (words : List (List ℕ)) (item : Item) (left : List (List ℕ)) : Type 0 where
-  no_optional : behind ≡ nothing → item ≡ option name None → left ≡ words → OptionalValue name behind words item left
-  attached_optional : (v : List ℕ) → behind ≡ attached v → item ≡ option name (Some v) → left ≡ words → OptionalValue name behind words item left
-  joined_optional : (v : List ℕ) → behind ≡ joined v → item ≡ option name (Some v) → left ≡ words → OptionalValue name behind words item left
+pub data OptionalValue (name : Name) (after : After) (words : List (List ℕ)) (item : Item) (left : List (List ℕ)) : Type 0 where
+  no_optional : after ≡ nothing → item ≡ option name None → left ≡ words → OptionalValue name after words item left
+  attached_optional : (v : List ℕ) → after ≡ attached v → item ≡ option name (Some v) → left ≡ words → OptionalValue name after words item left
+  joined_optional : (v : List ℕ) → after ≡ joined v → item ≡ option name (Some v) → left ≡ words → OptionalValue name after words item left
 
--- and for one that has several values, at least one: the words behind are taken up to the first that can be an option
-pub data SeveralValues (name : Name) (behind : Behind) (words : List (List ℕ)) (item : Item) (left : List (List ℕ)) : Type 0 where
-  joined_several : (v : List ℕ) → behind ≡ joined v → item ≡ many name (v ∷ []) → left ≡ words → SeveralValues name behind words item left
-  attached_several : (v : List ℕ) (front : List (List ℕ)) → behind ≡ attached v → IsPlainFront false words front left → item ≡ many name (v ∷ front)
-      → SeveralValues name behind words item left
-  several_words : (front : List (List ℕ)) → behind ≡ nothing → IsPlainFront false words front left → front ≢ [] → item ≡ many name front
-      → SeveralValues name behind words item left
+-- and for one that has several values, at least one: the words after are taken up to the first that can be an option
+pub data SeveralValues (name : Name) (after : After) (words : List (List ℕ)) (item : Item) (left : List (List ℕ)) : Type 0 where
+  joined_several : (v : List ℕ) → after ≡ joined v → item ≡ many name (v ∷ []) → left ≡ words → SeveralValues name after words item left
+  attached_several : (v : List ℕ) (front : List (List ℕ)) → after ≡ attached v → IsPlainFront false words front left → item ≡ many name (v ∷ front)
+      → SeveralValues name after words item left
+  several_words : (front : List (List ℕ)) → after ≡ nothing → IsPlainFront false words front left → front ≢ [] → item ≡ many name front
+      → SeveralValues name after words item left
 
-abbrev pub Completes : Kind → Name → Behind → List (List ℕ) → Item → List (List ℕ) → Type 0
+abbrev pub Completes : Kind → Name → After → List (List ℕ) → Item → List (List ℕ) → Type 0
 Completes flag = NoValue
 Completes one = OneValue
 Completes optional = OptionalValue
@@ -76,28 +76,28 @@ Completes several = SeveralValues
 abbrev pub BeginsWithMark : Bool → List ℕ → Type 0
 BeginsWithMark switch bytes = (switch ≡ true) × BeginsWith equals bytes
 
--- these bytes stand behind the last character of a cluster
-pub data IsBehindLast (switch : Bool) (bytes : List ℕ) (behind : Behind) : Type 0 where
-  nothing_more : bytes ≡ [] → behind ≡ nothing → IsBehindLast switch bytes behind
-  a_value : bytes ≢ [] → ¬ BeginsWithMark switch bytes → behind ≡ attached bytes → IsBehindLast switch bytes behind
-  marked_value : (v : List ℕ) → switch ≡ true → bytes ≡ equals ∷ v → behind ≡ joined v → IsBehindLast switch bytes behind
+-- these bytes stand after the last character of a cluster
+pub data IsAfterLast (switch : Bool) (bytes : List ℕ) (after : After) : Type 0 where
+  nothing_more : bytes ≡ [] → after ≡ nothing → IsAfterLast switch bytes after
+  a_value : bytes ≢ [] → ¬ BeginsWithMark switch bytes → after ≡ attached bytes → IsAfterLast switch bytes after
+  marked_value : (v : List ℕ) → switch ≡ true → bytes ≡ equals ∷ v → after ≡ joined v → IsAfterLast switch bytes after
 
--- these bytes of a cluster, with the words behind it, spell the items, and the words are left
+-- these bytes of a cluster, with the words after it, spell the items, and the words are left
 pub data Cluster (letters : Letters) (t : Table) (switch : Bool) (words left : List (List ℕ)) : List ℕ → List Item → Type 0 where
   -- a flag, and more characters, the first of which is no `=` that is a mark
   flag_first : (c : ℕ) (character others : List ℕ) (items : List Item) → letters.character c character others → kind t (short c) ≡ flag
       → ¬ BeginsWithMark switch others → Cluster letters t switch words left others items
       → Cluster letters t switch words left (character ++ others) (option (short c) None ∷ items)
-  last_option : (c : ℕ) (character others : List ℕ) (behind : Behind) (item : Item) → letters.character c character others
-      → IsBehindLast switch others behind → Completes (kind t (short c)) (short c) behind words item left
+  last_option : (c : ℕ) (character others : List ℕ) (after : After) (item : Item) → letters.character c character others
+      → IsAfterLast switch others after → Completes (kind t (short c)) (short c) after words item left
       → Cluster letters t switch words left (character ++ others) (item ∷ [])
 
 -- ---- long options, as `--name` and `--name=value`
 
--- behind its dashes the word has these bytes for a name, and this behind them
-pub data IsLong (text bytes : List ℕ) (behind : Behind) : Type 0 where
-  name_alone : bytes ≢ [] → text ≡ bytes → behind ≡ nothing → IsLong text bytes behind
-  name_and_value : (v : List ℕ) → text ≡ bytes ++ equals ∷ v → behind ≡ joined v → IsLong text bytes behind
+-- after its dashes the word has these bytes for a name, and this after them
+pub data IsLong (text bytes : List ℕ) (after : After) : Type 0 where
+  name_alone : bytes ≢ [] → text ≡ bytes → after ≡ nothing → IsLong text bytes after
+  name_and_value : (v : List ℕ) → text ≡ bytes ++ equals ∷ v → after ≡ joined v → IsLong text bytes after
 
 -- ---- a whole line
 
@@ -105,8 +105,8 @@ pub data IsLong (text bytes : List ℕ) (behind : Behind) : Type 0 where
 pub data Group (letters : Letters) (t : Table) (switch : Bool) (words : List (List ℕ)) (items : List Item) (left : List (List ℕ)) : Type 0 where
   cluster : (bytes : List ℕ) (others : List (List ℕ)) → words ≡ (dash ∷ bytes) ∷ others → ¬ BeginsWith dash bytes
       → Cluster letters t switch others left bytes items → Group letters t switch words items left
-  long_option : (text bytes name : List ℕ) (behind : Behind) (item : Item) (others : List (List ℕ)) → words ≡ (dash ∷ dash ∷ text) ∷ others
-      → IsLong text bytes behind → ¬ Contains bytes equals → letters.name name bytes → Completes (kind t (long name)) (long name) behind others item left
+  long_option : (text bytes name : List ℕ) (after : After) (item : Item) (others : List (List ℕ)) → words ≡ (dash ∷ dash ∷ text) ∷ others
+      → IsLong text bytes after → ¬ Contains bytes equals → letters.name name bytes → Completes (kind t (long name)) (long name) after others item left
       → items ≡ item ∷ [] → Group letters t switch words items left
 
 pub data Line (letters : Letters) (t : Table) (switch : Bool) : List (List ℕ) → List Item → Type 0 where
@@ -115,7 +115,7 @@ pub data Line (letters : Letters) (t : Table) (switch : Bool) : List (List ℕ) 
       → Line letters t switch (w ∷ words) (positional w ∷ items)
   group : (words left : List (List ℕ)) (front items : List Item) → Group letters t switch words front left → Line letters t switch left items
       → Line letters t switch words (front ++ items)
-  -- `--`: each word behind it is a positional
+  -- `--`: each word after it is a positional
   separator : (words : List (List ℕ)) → Line letters t switch ((dash ∷ dash ∷ []) ∷ words) (map positional words)
 
 -- the words legally spell the items

@@ -11,7 +11,7 @@ use Rattle.lexopt_line_spec.specs.Table as spec
 use Rattle.lexopt_line_spec.specs.Readings.{IsReading, start}
 use Rattle.lexopt_line_spec.specs.Script.{Command, call, whole_line, call_of, line_of, reply_text, switched, Written, WholeLineText, items_read, line_refused, memory_refused}
 use Rattle.lexopt_line_spec.proofs.RunLemmas.{Run-more}
-use Rattle.lexopt_line_spec.proofs.WrittenLines.{switch_behind, switch_behind-call, switch_behind-whole, Written-call, Written-whole}
+use Rattle.lexopt_line_spec.proofs.WrittenLines.{switch_after, switch_after-call, switch_after-whole, Written-call, Written-whole}
 use Rattle.lexopt_base.specs.Replies.{error_reply}
 use Rattle.lexopt_words.specs.Message.{message}
 use Rattle.lexopt_words.specs.declared.error.Error.{Error}
@@ -59,7 +59,7 @@ pub record Done (script : Script) (commands : List Command) (v : UnreadLine) (on
   pub replies : List Reply
   pub run : Run (fresh script.words.items) (filter_map call_of commands) replies v
   pub written : Written (table_view script.table) script.words.items true commands replies text
-  pub on_is : on ≡ switch_behind true commands
+  pub on_is : on ≡ switch_after true commands
 
 pub nothing_done : (script : Script) (u : UnreadLine) (text : List ℕ) → u ≡ fresh script.words.items → text ≡ [] → Done script [] u true text
 nothing_done script u text is none = record { replies = []; run = is; written = none; on_is = refl }
@@ -72,7 +72,7 @@ more_done script commands (call c) u v on now text new done performs = record {
       (Run-more _ u v (filter_map call_of commands) done.replies c performs.0 done.run performs.1);
   written = subst (Written (table_view script.table) script.words.items true (commands ++ call c ∷ []) (done.replies ++ performs.0 ∷ [])) (sym performs.3)
       (Written-call (table_view script.table) script.words.items true commands done.replies text c performs.0 done.written);
-  on_is = performs.2 ∙ ap (λ b. switched b c) done.on_is ∙ sym (switch_behind-call true commands c);
+  on_is = performs.2 ∙ ap (λ b. switched b c) done.on_is ∙ sym (switch_after-call true commands c);
 }
 more_done script commands whole_line u v on now text new done performs = record {
   replies = done.replies;
@@ -81,5 +81,5 @@ more_done script commands whole_line u v on now text new done performs = record 
   written = subst (Written (table_view script.table) script.words.items true (commands ++ whole_line ∷ []) done.replies) (sym performs.4)
       (Written-whole (table_view script.table) script.words.items true commands done.replies text performs.0 done.written
       (subst (λ (b : Bool). WholeLineText (table_view script.table) b script.words.items performs.0) done.on_is performs.1));
-  on_is = performs.3 ∙ done.on_is ∙ sym (switch_behind-whole true commands);
+  on_is = performs.3 ∙ done.on_is ∙ sym (switch_after-whole true commands);
 }

@@ -19,7 +19,7 @@ abbrev pub answer_text : Result (Vec Item Global) Error → List ℕ
 answer_text (Ok items) = bracketed item_text (map item_view items.items)
 answer_text (Err e) = codes "error: " ++ message e
 
--- a command is done on a parser of this line, under this switch and behind this text: the line, the switch and the text behind it
+-- a command is done on a parser of this line, under this switch and after this text: the line, the switch and the text after it
 abbrev pub Performs : Script → spec.Command → UnreadLine → Bool → List ℕ → UnreadLine → Bool → List ℕ → Type 0
 Performs script (spec.call c) u on text v now new =
     (reply : Reply) × Step c u reply v × (now ≡ switched on c) × (new ≡ text ++ line_of (reply_text reply))

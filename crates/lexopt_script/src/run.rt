@@ -69,7 +69,7 @@ fn write_whole_line(
     text.push_str("\n")
 }
 
-// The switch behind a call.
+// The switch after a call.
 fn switched(on: bool, call: &Call) -> bool
     ensures { result ≡ switched on (call_view call.now) }
 {
@@ -86,7 +86,7 @@ fn write_reply(reply: &Reply, text: &mut String) -> Result<(), AllocError>
     writeln!(text, "{reply}")
 }
 
-// Does what a command says, writes a line for it, and gives the switch behind it.
+// Does what a command says, writes a line for it, and gives the switch after it.
 fn perform(
     alloc: Global,
     script: &Script,

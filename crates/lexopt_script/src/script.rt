@@ -14,11 +14,11 @@
 //!   and there are no escapes in it.
 //! - `items`: all words are read by the table, under the switch as last set, and the parser is left alone.
 //!
-//! Every other line is bad, and so is a word or an option behind the first line that reads the words.
+//! Every other line is bad, and so is a word or an option after the first line that reads the words.
 ghost use Rattle.std.specs.Prelude.{◌≡◌, ◌⊎◌, ℕ, ◌+◌, ◌++◌, ◌<◌, ◌≤◌, List, None, Some, IfErr, IfOk, MatchOption, OnOk, drop, length, map};
 ghost use Rattle.std.specs.Option.{option_map};
 ghost use Rattle.std.specs.Io.KnownBytes.{Consumes};
-ghost use Rattle.lexopt_line_spec.specs.Script.{bad_line, behind_backslash, commands_of, hexadecimal, in_front, is_bad, joined_to, meaning, meaning_of_call_or_word, meaning_with_option, meaning_with_text, most_bytes, number, one_character, option_named, reads_words, table_of, unescaped, words_of};
+ghost use Rattle.lexopt_line_spec.specs.Script.{bad_line, after_backslash, commands_of, hexadecimal, in_front, is_bad, joined_to, meaning, meaning_of_call_or_word, meaning_with_option, meaning_with_text, most_bytes, number, one_character, option_named, reads_words, table_of, unescaped, words_of};
 ghost use Rattle.lexopt_items.specs.Items.{table_view};
 ghost use Rattle.lexopt_script.specs.Output.{ReadsWhole, read_room};
 ghost use Rattle.lexopt_script.specs.Meanings.{command_view, entry_view, meaning_view, name_view};
@@ -204,7 +204,7 @@ fn meaning_of_call_or_word(alloc: Global, line: &[u8]) -> Result<Meaning, AllocE
     }
 }
 
-// The meaning of a line that has a blank, and a text, a number or an option behind it.
+// The meaning of a line that has a blank, and a text, a number or an option after it.
 fn meaning_with_text(alloc: Global, line: &[u8]) -> Result<Meaning, AllocError>
     ensures { IfOk result (λ m. meaning_view m ≡ meaning_with_text line.now) }
 {
@@ -229,7 +229,7 @@ fn meaning_with_text(alloc: Global, line: &[u8]) -> Result<Meaning, AllocError>
     }
 }
 
-// The meaning of a line that has a blank, and an option of the table behind it.
+// The meaning of a line that has a blank, and an option of the table after it.
 fn meaning_with_option(alloc: Global, line: &[u8]) -> Result<Meaning, AllocError>
     ensures { IfOk result (λ m. meaning_view m ≡ meaning_with_option line.now) }
 {
@@ -290,32 +290,32 @@ fn unescaped(alloc: Global, text: &[u8]) -> Result<Option<OsString>, AllocError>
 {
     let mut bytes = Vec::new(alloc);
     let mut rest = text;
-    while let Some((first, behind)) = rest.split_first() {
-        let (byte, behind) = match *first {
-            b'\\' => match escaped(behind) {
+    while let Some((first, after)) = rest.split_first() {
+        let (byte, after) = match *first {
+            b'\\' => match escaped(after) {
                 Some(pair) => pair,
                 None => return Ok(None),
             },
-            byte => (byte, behind),
+            byte => (byte, after),
         };
         bytes.push(byte)?;
-        rest = behind;
+        rest = after;
     }
     Ok(Some(OsString::from_vec(bytes)))
 }
 
-// The byte that an escape stands for, of which the text behind its backslash is given, and what follows the escape.
+// The byte that an escape stands for, of which the text after its backslash is given, and what follows the escape.
 fn escaped(text: &[u8]) -> Option<(u8, &[u8])>
-    ensures { MatchOption result (behind_backslash text.now ≡ None)
-        (λ p. (behind_backslash text.now ≡ in_front p.0 (unescaped p.1.now)) × (length p.1.now < length text.now)) }
+    ensures { MatchOption result (after_backslash text.now ≡ None)
+        (λ p. (after_backslash text.now ≡ in_front p.0 (unescaped p.1.now)) × (length p.1.now < length text.now)) }
 {
     match text {
-        [b'\\', behind @ ..] => Some((b'\\', behind)),
-        [b'n', behind @ ..] => Some((b'\n', behind)),
-        [b'x', high, low, behind @ ..] => {
+        [b'\\', after @ ..] => Some((b'\\', after)),
+        [b'n', after @ ..] => Some((b'\n', after)),
+        [b'x', high, low, after @ ..] => {
             let high = hexadecimal(*high)?;
             let low = hexadecimal(*low)?;
-            Some((16 * high + low, behind))
+            Some((16 * high + low, after))
         }
         _ => None,
     }

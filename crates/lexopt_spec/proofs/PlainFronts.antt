@@ -46,12 +46,12 @@ front-none ended (w ∷ ws) other = front-less ended w ws other
 
 -- ---- the front is the longest of plain words
 
--- the words behind the front
+-- the words after the front
 front_parts : (ended : Bool) (words : List (List ℕ))
-    → (behind : List (List ℕ)) × (words ≡ plain_front ended words ++ behind) × All (IsPlain ended) (plain_front ended words) × ¬ IsNormalIn ended behind
+    → (after : List (List ℕ)) × (words ≡ plain_front ended words ++ after) × All (IsPlain ended) (plain_front ended words) × ¬ IsNormalIn ended after
 front_parts ended [] = ([], refl, All-nil (IsPlain ended), λ h. h)
 front_parts ended (w ∷ ws) = elim (is_plain ended w) as
-    (λ t. is_plain ended w ≡ t → (behind : List (List ℕ)) × (w ∷ ws ≡ plain_front ended (w ∷ ws) ++ behind) × All (IsPlain ended) (plain_front ended (w ∷ ws)) × ¬ IsNormalIn ended behind) [
+    (λ t. is_plain ended w ≡ t → (after : List (List ℕ)) × (w ∷ ws ≡ plain_front ended (w ∷ ws) ++ after) × All (IsPlain ended) (plain_front ended (w ∷ ws)) × ¬ IsNormalIn ended after) [
       | true ↦ λ is.
           let plain = plain_holds ended w is in
           let more = front_parts ended ws in
@@ -72,23 +72,23 @@ front_parts ended (w ∷ ws) = elim (is_plain ended w) as
     ] refl
 
 -- and no other front is
-front_is : (ended : Bool) (front behind : List (List ℕ)) → All (IsPlain ended) front → (IsNormalIn ended behind → ⊥) → plain_front ended (front ++ behind) ≡ front
-front_is ended [] behind plain other = front-none ended behind other
-front_is ended (w ∷ ws) behind plain other =
-    front-more ended w (ws ++ behind) (plain 0 [] (omega arith))
-    ∙ ap (λ l. w ∷ l) (front_is ended ws behind (λ k d below. plain (suc k) d (omega arith)) other)
+front_is : (ended : Bool) (front after : List (List ℕ)) → All (IsPlain ended) front → (IsNormalIn ended after → ⊥) → plain_front ended (front ++ after) ≡ front
+front_is ended [] after plain other = front-none ended after other
+front_is ended (w ∷ ws) after plain other =
+    front-more ended w (ws ++ after) (plain 0 [] (omega arith))
+    ∙ ap (λ l. w ∷ l) (front_is ended ws after (λ k d below. plain (suc k) d (omega arith)) other)
 
-pub front_cut : (ended : Bool) (words : List (List ℕ)) → (behind : List (List ℕ)) × IsPlainFront ended words (plain_front ended words) behind
+pub front_cut : (ended : Bool) (words : List (List ℕ)) → (after : List (List ℕ)) × IsPlainFront ended words (plain_front ended words) after
 front_cut ended words = let cut = front_parts ended words in (cut.0, record { words_are = cut.1; plain = cut.2; longest = cut.3 })
 
-pub front_only : (ended : Bool) (words front behind : List (List ℕ)) → IsPlainFront ended words front behind → plain_front ended words ≡ front
-front_only ended words front behind is = ap (plain_front ended) is.words_are ∙ front_is ended front behind is.plain is.longest
+pub front_only : (ended : Bool) (words front after : List (List ℕ)) → IsPlainFront ended words front after → plain_front ended words ≡ front
+front_only ended words front after is = ap (plain_front ended) is.words_are ∙ front_is ended front after is.plain is.longest
 
-pub left_behind_front : (ended : Bool) (words front behind : List (List ℕ)) → IsPlainFront ended words front behind → drop (length front) words ≡ behind
-left_behind_front ended words front behind is = ap (drop (length front)) is.words_are ∙ drop-append_seam front behind
+pub left_after_front : (ended : Bool) (words front after : List (List ℕ)) → IsPlainFront ended words front after → drop (length front) words ≡ after
+left_after_front ended words front after is = ap (drop (length front)) is.words_are ∙ drop-append_seam front after
 
-pub front_same : (ended : Bool) (words front behind other left : List (List ℕ)) → IsPlainFront ended words front behind → IsPlainFront ended words other left
-    → (front ≡ other) × (behind ≡ left)
-front_same ended words front behind other left one two =
-    let same = sym (front_only ended words front behind one) ∙ front_only ended words other left two in
-    (same, sym (left_behind_front ended words front behind one) ∙ ap (λ l. drop (length l) words) same ∙ left_behind_front ended words other left two)
+pub front_same : (ended : Bool) (words front after other left : List (List ℕ)) → IsPlainFront ended words front after → IsPlainFront ended words other left
+    → (front ≡ other) × (after ≡ left)
+front_same ended words front after other left one two =
+    let same = sym (front_only ended words front after one) ∙ front_only ended words other left two in
+    (same, sym (left_after_front ended words front after one) ∙ ap (λ l. drop (length l) words) same ∙ left_after_front ended words other left two)

@@ -4,7 +4,7 @@ use Rattle.std.proofs.Math.Seq.{take-nil, drop-nil}
 use Rattle.std.specs.List.{cons_option}
 use Rattle.lexopt_spec.specs.UnreadLine.{no_tail, UnreadLine, pending, IsNormalIn}
 use Rattle.lexopt_spec.specs.Steps.{items}
-use Rattle.lexopt_spec.specs.Views.{plain_front, available, available_with, without, ValuesStep, some_values, TakesWords, RawStep, lends_words, TryRawStep, try_lends_words, Stage, at_start, going_on, at_end, left_behind, values_left, ValueItem, gives_pending, gives_word, stops, stops_at_pending, stopped, WordItem, ValueItems, WordItems}
+use Rattle.lexopt_spec.specs.Views.{plain_front, available, available_with, without, ValuesStep, some_values, TakesWords, RawStep, lends_words, TryRawStep, try_lends_words, Stage, at_start, going_on, at_end, left_after, values_left, ValueItem, gives_pending, gives_word, stops, stops_at_pending, stopped, WordItem, ValueItems, WordItems}
 use Rattle.lexopt_spec.proofs.PlainFronts.{front-more, front-none}
 
 -- ---- one item of a view of values
@@ -12,8 +12,8 @@ use Rattle.lexopt_spec.proofs.PlainFronts.{front-more, front-none}
 at_available : (u : UnreadLine) (p : Option (List ℕ × Bool)) → pending u ≡ p → values_left at_start u ≡ available_with p (plain_front u.ended u.words)
 at_available u p is = ap (λ f. available_with f (plain_front u.ended u.words)) is
 
-behind_none : (u : UnreadLine) → pending u ≡ None → values_left going_on u ≡ plain_front u.ended u.words
-behind_none u p = ap (λ f. left_behind f (plain_front u.ended u.words)) p
+after_none : (u : UnreadLine) → pending u ≡ None → values_left going_on u ≡ plain_front u.ended u.words
+after_none u p = ap (λ f. left_after f (plain_front u.ended u.words)) p
 
 -- what comes is the first of what was left
 pub item_is_first : (stage : Stage) (u : UnreadLine) (item : Option (List ℕ)) (after : UnreadLine) (now : Stage)
@@ -24,16 +24,16 @@ item_is_first going_on u item after now (gives_pending x by_equals s p i a n) = 
 item_is_first at_end u item after now (gives_pending x by_equals s p i a n) = absurd (let e : at_end ≡ at_start = s in cc)
 item_is_first at_start u item after now (gives_word w ws s p is plain i a n) =
     rw (i, a, n) (at_available u None p ∙ ap (λ l. plain_front u.ended l) is ∙ front-more u.ended w ws plain
-    ∙ ap (λ l. w ∷ l) (sym (behind_none (record u { words = ws }) p)))
+    ∙ ap (λ l. w ∷ l) (sym (after_none (record u { words = ws }) p)))
 item_is_first going_on u item after now (gives_word w ws s p is plain i a n) =
-    rw (i, a, n) (behind_none u p ∙ ap (λ l. plain_front u.ended l) is ∙ front-more u.ended w ws plain
-    ∙ ap (λ l. w ∷ l) (sym (behind_none (record u { words = ws }) p)))
+    rw (i, a, n) (after_none u p ∙ ap (λ l. plain_front u.ended l) is ∙ front-more u.ended w ws plain
+    ∙ ap (λ l. w ∷ l) (sym (after_none (record u { words = ws }) p)))
 item_is_first at_end u item after now (gives_word w ws s p is plain i a n) = absurd (s refl)
 item_is_first at_start u item after now (stops s p other i a n) = rw (i, a, n) (at_available u None p ∙ front-none u.ended u.words other)
-item_is_first going_on u item after now (stops s p other i a n) = rw (i, a, n) (behind_none u p ∙ front-none u.ended u.words other)
+item_is_first going_on u item after now (stops s p other i a n) = rw (i, a, n) (after_none u p ∙ front-none u.ended u.words other)
 item_is_first at_end u item after now (stops s p other i a n) = absurd (s refl)
 item_is_first stage u item after now (stops_at_pending found s p i a n) =
-    rw (s, i, a, n) (ap (λ f. left_behind f (plain_front u.ended u.words)) p)
+    rw (s, i, a, n) (ap (λ f. left_after f (plain_front u.ended u.words)) p)
 item_is_first stage u item after now (stopped s i a n) = rw (s, i, a, n) refl
 
 -- once none came, none comes
@@ -55,16 +55,16 @@ none_ever u item after now (stopped s i a n) = (i, a, n)
 
 -- ---- n items of a view of values
 
--- the line behind the items, from the line behind the first one
-behind_first : (u : UnreadLine) (value : List ℕ) (by_equals : Bool) (n : ℕ) → pending u ≡ Some (value, by_equals)
+-- the line after the items, from the line after the first one
+after_first : (u : UnreadLine) (value : List ℕ) (by_equals : Bool) (n : ℕ) → pending u ≡ Some (value, by_equals)
     → without None n (record u { tail = no_tail }) ≡ without (pending u) (suc n) u
-behind_first u value by_equals zero p = rw p refl
-behind_first u value by_equals (suc n) p = rw p refl
+after_first u value by_equals zero p = rw p refl
+after_first u value by_equals (suc n) p = rw p refl
 
-behind_word : (u : UnreadLine) (w : List ℕ) (ws : List (List ℕ)) (n : ℕ) → pending u ≡ None → u.words ≡ w ∷ ws
+after_word : (u : UnreadLine) (w : List ℕ) (ws : List (List ℕ)) (n : ℕ) → pending u ≡ None → u.words ≡ w ∷ ws
     → without None n (record u { words = ws }) ≡ without (pending u) (suc n) u
-behind_word u w ws zero p is = rw (p, is) refl
-behind_word u w ws (suc n) p is = rw (p, is) refl
+after_word u w ws zero p is = rw (p, is) refl
+after_word u w ws (suc n) p is = rw (p, is) refl
 
 no_more : (n : ℕ) (u : UnreadLine) (item : Option (List ℕ)) (between : UnreadLine) (next : Stage) (others came : List (List ℕ)) (after : UnreadLine)
     → item ≡ None → between ≡ u → next ≡ at_end → others ≡ take n (values_left next between) → after ≡ without (pending between) (length others) between
@@ -73,24 +73,24 @@ no_more n u item between next others came after i a k so_far line all =
     let none : others ≡ [] = so_far ∙ ap (λ s. take n (values_left s between)) k ∙ take-nil n in
     (rw (all, i, k, none) refl, rw (all, i, none) (line ∙ ap (λ l. without (pending between) (length l) between) none ∙ a))
 
-items_behind : (n : ℕ) (stage : Stage) (u : UnreadLine) (item : Option (List ℕ)) (between : UnreadLine) (next : Stage)
+items_after : (n : ℕ) (stage : Stage) (u : UnreadLine) (item : Option (List ℕ)) (between : UnreadLine) (next : Stage)
     (others came : List (List ℕ)) (after : UnreadLine)
     → ValueItem stage u item between next → others ≡ take n (values_left next between) → after ≡ without (pending between) (length others) between
     → came ≡ cons_option item others → (came ≡ take (suc n) (cons_option item (values_left next between))) × (after ≡ without (pending u) (length came) u)
-items_behind n stage u item between next others came after (gives_pending value by_equals s p i a k) so_far line all = (
+items_after n stage u item between next others came after (gives_pending value by_equals s p i a k) so_far line all = (
   rw (all, i, so_far) refl,
-  rw (all, i) (line ∙ ap (λ (l : UnreadLine). without (pending l) (length others) l) a ∙ behind_first u value by_equals (length others) p),
+  rw (all, i) (line ∙ ap (λ (l : UnreadLine). without (pending l) (length others) l) a ∙ after_first u value by_equals (length others) p),
 )
-items_behind n stage u item between next others came after (gives_word w ws s p is plain i a k) so_far line all = (
+items_after n stage u item between next others came after (gives_word w ws s p is plain i a k) so_far line all = (
   rw (all, i, so_far) refl,
   rw (all, i) (line ∙ ap (λ (l : UnreadLine). without (pending l) (length others) l) a
-      ∙ ap (λ f. without f (length others) (record u { words = ws })) p ∙ behind_word u w ws (length others) p is),
+      ∙ ap (λ f. without f (length others) (record u { words = ws })) p ∙ after_word u w ws (length others) p is),
 )
-items_behind n stage u item between next others came after (stops s p other i a k) so_far line all =
+items_after n stage u item between next others came after (stops s p other i a k) so_far line all =
     no_more n u item between next others came after i a k so_far line all
-items_behind n stage u item between next others came after (stops_at_pending found s p i a k) so_far line all =
+items_after n stage u item between next others came after (stops_at_pending found s p i a k) so_far line all =
     no_more n u item between next others came after i a k so_far line all
-items_behind n stage u item between next others came after (stopped s i a k) so_far line all =
+items_after n stage u item between next others came after (stopped s i a k) so_far line all =
     no_more n u item between next others came after i a k so_far line all
 
 pub items_in_order : (n : ℕ) (stage : Stage) (u : UnreadLine) (came : List (List ℕ)) (after : UnreadLine) (now : Stage)
@@ -104,7 +104,7 @@ items_in_order (suc n) stage u came after now asked =
     let others = asked.3 in
     let step = asked.4 in
     let more = items_in_order n next between others after now asked.5 in
-    let both = items_behind n stage u item between next others came after step more.0 more.1 asked.6 in
+    let both = items_after n stage u item between next others came after step more.0 more.1 asked.6 in
     (both.0 ∙ ap (λ l. take (suc n) l) (sym (item_is_first stage u item between next step)), both.1)
 
 -- so n items asked one by one are the call
@@ -163,14 +163,14 @@ values_no_more n count stage u v w came then now below asked step =
 
 -- ---- n items of a view of words
 
-words_behind : (n : ℕ) (u : UnreadLine) (item : Option (List ℕ)) (between : UnreadLine) (others came : List (List ℕ)) (after : UnreadLine)
+words_following : (n : ℕ) (u : UnreadLine) (item : Option (List ℕ)) (between : UnreadLine) (others came : List (List ℕ)) (after : UnreadLine)
     → WordItem u item between → others ≡ take n between.words → after ≡ record between { words = drop n between.words }
     → came ≡ cons_option item others → (came ≡ take (suc n) u.words) × (after ≡ record u { words = drop (suc n) u.words })
-words_behind n u (Some w) between others came after step so_far line all = (
+words_following n u (Some w) between others came after step so_far line all = (
   all ∙ ap (λ l. w ∷ l) so_far ∙ ap (λ l. take (suc n) l) (sym step.0),
   line ∙ ap (λ (l : UnreadLine). record l { words = drop n between.words }) step.1 ∙ ap (λ (l : List (List ℕ)). record u { words = drop (suc n) l }) (sym step.0),
 )
-words_behind n u None between others came after step so_far line all =
+words_following n u None between others came after step so_far line all =
     let words : between.words ≡ [] = ap (λ (l : UnreadLine). l.words) step.1 ∙ step.0 in (
       all ∙ so_far ∙ ap (λ l. take n l) words ∙ take-nil n ∙ ap (λ l. take (suc n) l) (sym step.0),
       line ∙ ap (λ (l : UnreadLine). record l { words = drop n l.words }) step.1
@@ -184,7 +184,7 @@ pub words_in_order : (n : ℕ) (u : UnreadLine) (came : List (List ℕ)) (after 
 words_in_order zero u came after asked = asked
 words_in_order (suc n) u came after asked =
     let more = words_in_order n asked.1 asked.2 after asked.4 in
-    words_behind n u asked.0 asked.1 asked.2 came after asked.3 more.0 more.1 asked.5
+    words_following n u asked.0 asked.1 asked.2 came after asked.3 more.0 more.1 asked.5
 
 pub raw_by_items : (n : ℕ) (u after : UnreadLine) (came : List (List ℕ)) → pending u ≡ None
     → WordItems n u came after → RawStep (TakesWords n) u (items came) after

@@ -13,7 +13,7 @@ equals = 0x3D
 -- what is left of the word that is being read
 pub data Tail : Type 0 where
   no_tail : Tail
-  -- the value of a long option, behind its `=`
+  -- the value of a long option, after its `=`
   joined : List ℕ → Tail
   -- the characters of a cluster that are still unread: never empty
   rest : List ℕ → Tail
@@ -36,7 +36,7 @@ pub record UnreadLine : Type 0 where
   -- the binary name, if the line had one: no rule changes it
   pub bin_name : Option (List ℕ)
 
--- a tail stands only with a last option and never behind the separator, and the rest of a cluster is never empty
+-- a tail stands only with a last option and never after the separator, and the rest of a cluster is never empty
 abbrev pub TailStands : Tail → LastOption → Bool → Type 0
 TailStands no_tail last ended = Unit {0}
 TailStands (joined value) last ended = (last ≢ no_option) × (ended ≡ false)
@@ -80,7 +80,7 @@ abbrev pub BeginsWith : ℕ → List ℕ → Type 0
 BeginsWith b [] = ⊥
 BeginsWith b (c ∷ cs) = c ≡ b
 
--- the word is no option: it stands behind the separator, or is `-`, or does not begin with a dash
+-- the word is no option: it stands after the separator, or is `-`, or does not begin with a dash
 abbrev pub IsPlain : Bool → List ℕ → Type 0
 IsPlain ended word = (ended ≡ true) ⊎ ((word ≡ dash ∷ []) ⊎ ¬ BeginsWith dash word)
 

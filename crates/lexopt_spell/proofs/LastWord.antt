@@ -1,4 +1,4 @@
--- The last word, and words behind it.
+-- The last word, and words after it.
 use Rattle.std.proofs.Common.{◌≡◌, ℕ, Bool, true, false, List, [], ◌∷◌, ◌++◌, Option, Some, refl, sym, ap, ◌∙◌, append-nil, append_assoc}
 use Rattle.std.specs.Option.{option_to_list}
 use Rattle.lexopt_spell.specs.Words.{onto_last, pushed}
@@ -25,7 +25,7 @@ pub extended : (old left new : List (List ℕ)) (last : Option (List ℕ)) (w by
 extended old left new last w bytes was is now =
     now ∙ sym (onto_snoc left w bytes) ∙ ap (λ l. onto_last l bytes) (sym (was ∙ ap (λ (o : Option (List ℕ)). left ++ option_to_list o) is))
 
--- one more word behind
+-- one more word after
 pub pushed_more : (goes_on : Bool) (words : List (List ℕ)) (word : List ℕ) (more last : List (List ℕ)) → pushed goes_on words word more ++ last ≡ pushed goes_on words word (more ++ last)
 pushed_more true words word more last = append_assoc (onto_last words word) more last
 pushed_more false words word more last = append_assoc words (word ∷ more) last

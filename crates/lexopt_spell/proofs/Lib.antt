@@ -1,4 +1,4 @@
 mod Answered
-mod Behind
+mod After
 mod LastWord
 mod Resumed

@@ -1,4 +1,4 @@
--- What a loop over the items keeps: the words so far, with those that are spelled behind them.
+-- What a loop over the items keeps: the words so far, with those that are spelled after them.
 use Rattle.std.proofs.Common.{◌≡◌, ◌≢◌, ℕ, suc, ◌+◌, ◌==◌, ◌&&◌, Bool, true, false, List, [], ◌∷◌, ◌++◌, Result, Ok, Err, Option, Some, None, refl, sym, ap, ◌∙◌, arith, true≢false, cond, ◌<◌, ◌≤◌, length, map, drop, get_or, add-zero, zero-add, add-one, append-nil, append_assoc}
 use Rattle.std.proofs.lemmas.List.{drop_all}
 use Rattle.std.proofs.lemmas.Result.{IfOk-at_ok}
@@ -8,13 +8,13 @@ use lib.Utf8.{scalar}
 use Rattle.lexopt_spec.specs.UnreadLine.{dash, equals, is_plain}
 use Rattle.lexopt_line_spec.specs.Table.{short, long, Item, option, many, positional, Kind, flag, one, optional, several, kind, Table}
 use Rattle.lexopt_line_spec.specs.Spelling.{attached, joined}
-use Rattle.lexopt_line_spec.specs.Speller.{Reason, Place, open_line, in_cluster, behind_values, behind_positional, ended, Form, in_word, attached_form, short_form, long_form, words_form, short_words_form, short_many_form, long_many_form, Added, is_named, short_added, long_placed, long_added, stands, positional_added, adds, separator_comes_too_early, separator_is_due, Fault, Rest, glued, with_rest, with_rests, spelled_from, words_of, spelled}
+use Rattle.lexopt_line_spec.specs.Speller.{Reason, Place, open_line, in_cluster, after_values, after_positional, ended, Form, in_word, attached_form, short_form, long_form, words_form, short_words_form, short_many_form, long_many_form, Added, is_named, short_added, long_placed, long_added, stands, positional_added, adds, separator_comes_too_early, separator_is_due, Fault, Rest, glued, with_rest, with_rests, spelled_from, words_of, spelled}
 use Rattle.lexopt_line_spec.proofs.SpellerAnswers.{none_is}
 use Rattle.lexopt_spell.specs.Words.{onto_last, pushed}
-use Rattle.lexopt_spell.proofs.Behind.{from_on, from_on_is, at_item}
+use Rattle.lexopt_spell.proofs.After.{from_on, from_on_is, at_item}
 use Rattle.lexopt_spell.proofs.LastWord.{onto_snoc, onto_nil, onto_twice}
 
--- ---- only a flag is followed by bytes that go on, and it has no words behind its own
+-- ---- only a flag is followed by bytes that go on, and it has no words after its own
 
 abbrev given : Form → Result Form Reason
 given f = Ok f
@@ -31,8 +31,8 @@ off is = absurd (true≢false (sym is))
 open_calm : (ws : List (List ℕ)) → open_line ≡ in_cluster → ws ≡ []
 open_calm ws at = absurd (let e : open_line ≡ in_cluster = at in cc)
 
-values_calm : (ws : List (List ℕ)) → behind_values ≡ in_cluster → ws ≡ []
-values_calm ws at = absurd (let e : behind_values ≡ in_cluster = at in cc)
+values_calm : (ws : List (List ℕ)) → after_values ≡ in_cluster → ws ≡ []
+values_calm ws at = absurd (let e : after_values ≡ in_cluster = at in cc)
 
 marked_calm : (mark : Bool) (v : List ℕ) (f : Form) → cond mark (given (in_word (joined v))) (given (in_word (attached v))) ≡ Ok f → FormIsCalm f
 marked_calm true v f is = IfOk-at_ok FormIsCalm is (open_calm _)
@@ -95,11 +95,11 @@ short_calm true d place c (Err reason) a calm is = none_is _ a is
 short_calm true d ended c (Ok f) a calm is = none_is _ a is
 short_calm true false open_line c (Ok f) a calm is = IfOk-at_ok (IsCalm open_line) is (calm f refl, λ h. off h)
 short_calm true false in_cluster c (Ok f) a calm is = IfOk-at_ok (IsCalm in_cluster) is (calm f refl, λ h. refl)
-short_calm true false behind_values c (Ok f) a calm is = IfOk-at_ok (IsCalm behind_values) is (calm f refl, λ h. off h)
-short_calm true false behind_positional c (Ok f) a calm is = IfOk-at_ok (IsCalm behind_positional) is (calm f refl, λ h. off h)
-short_calm true true behind_positional c (Ok f) a calm is = none_is _ a is
+short_calm true false after_values c (Ok f) a calm is = IfOk-at_ok (IsCalm after_values) is (calm f refl, λ h. off h)
+short_calm true false after_positional c (Ok f) a calm is = IfOk-at_ok (IsCalm after_positional) is (calm f refl, λ h. off h)
+short_calm true true after_positional c (Ok f) a calm is = none_is _ a is
 short_calm true true open_line c (Ok f) a calm is = none_is _ a is
-short_calm true true behind_values c (Ok f) a calm is = none_is _ a is
+short_calm true true after_values c (Ok f) a calm is = none_is _ a is
 short_calm true true in_cluster c (Ok f) a calm is = IfOk-at_ok (IsCalm in_cluster) is (calm f refl, λ h. refl)
 
 placed_calm : (named : Bool) (place : Place) (name : List ℕ) (f : Form) (a : Added) → FormIsCalm f → long_placed named place name f ≡ Ok a → IsCalm place a
@@ -107,25 +107,25 @@ placed_calm false place name f a calm is = none_is _ a is
 placed_calm true ended name f a calm is = none_is _ a is
 placed_calm true open_line name f a calm is = IfOk-at_ok (IsCalm open_line) is (calm, λ h. off h)
 placed_calm true in_cluster name f a calm is = IfOk-at_ok (IsCalm in_cluster) is (calm, λ h. refl)
-placed_calm true behind_values name f a calm is = IfOk-at_ok (IsCalm behind_values) is (calm, λ h. off h)
-placed_calm true behind_positional name f a calm is = IfOk-at_ok (IsCalm behind_positional) is (calm, λ h. off h)
+placed_calm true after_values name f a calm is = IfOk-at_ok (IsCalm after_values) is (calm, λ h. off h)
+placed_calm true after_positional name f a calm is = IfOk-at_ok (IsCalm after_positional) is (calm, λ h. off h)
 
 long_calm : (u e : Bool) (place : Place) (name : List ℕ) (form : Result Form Reason) (a : Added) → ((f : Form) → form ≡ Ok f → FormIsCalm f)
     → long_added u e place name form ≡ Ok a → IsCalm place a
 long_calm false e place name form a calm is = none_is _ a is
 long_calm true true place name form a calm is = none_is _ a is
 long_calm true false place name (Err reason) a calm is = none_is _ a is
-long_calm true false place name (Ok f) a calm is = placed_calm (is_named name f.behind) place name f a (calm f refl) is
+long_calm true false place name (Ok f) a calm is = placed_calm (is_named name f.after) place name f a (calm f refl) is
 
 positional_calm : (p : Bool) (place : Place) (w : List ℕ) → IsCalm place (positional_added p place w)
 positional_calm p ended w = (λ h. refl, λ h. off h)
-positional_calm p behind_values w = (λ h. absurd (let e : ended ≡ in_cluster = h in cc), λ h. off h)
+positional_calm p after_values w = (λ h. absurd (let e : ended ≡ in_cluster = h in cc), λ h. off h)
 positional_calm false open_line w = (λ h. absurd (let e : ended ≡ in_cluster = h in cc), λ h. off h)
 positional_calm false in_cluster w = (λ h. absurd (let e : ended ≡ in_cluster = h in cc), λ h. off h)
-positional_calm false behind_positional w = (λ h. absurd (let e : ended ≡ in_cluster = h in cc), λ h. off h)
+positional_calm false after_positional w = (λ h. absurd (let e : ended ≡ in_cluster = h in cc), λ h. off h)
 positional_calm true open_line w = (λ h. refl, λ h. off h)
 positional_calm true in_cluster w = (λ h. refl, λ h. off h)
-positional_calm true behind_positional w = (λ h. refl, λ h. off h)
+positional_calm true after_positional w = (λ h. refl, λ h. off h)
 
 adds_calm : (t : Table) (switch joins due : Bool) (place : Place) (item : Item) (a : Added) → adds t switch joins due place item ≡ Ok a → IsCalm place a
 adds_calm t switch joins due place (option (short c) value) a is =
@@ -168,15 +168,15 @@ rest_first t switch (item ∷ items) place r is other =
 
 -- ---- words so far
 
--- these words, with those that are spelled behind them
+-- these words, with those that are spelled after them
 abbrev pub joined_on : Place → List (List ℕ) → Rest → List (List ℕ)
 joined_on in_cluster words r = onto_last words r.first ++ r.words
 joined_on open_line words r = words ++ r.words
-joined_on behind_values words r = words ++ r.words
-joined_on behind_positional words r = words ++ r.words
+joined_on after_values words r = words ++ r.words
+joined_on after_positional words r = words ++ r.words
 joined_on ended words r = words ++ r.words
 
--- these words spell so many items and lead to this place, and this is spelled behind them
+-- these words spell so many items and lead to this place, and this is spelled after them
 abbrev pub resumed : ℕ → Place → List (List ℕ) → Result Rest Fault → Result (List (List ℕ)) Fault
 resumed i place words (Err fault) = Err (record { index = i + fault.index; reason = fault.reason })
 resumed i place words (Ok r) = Ok (joined_on place words r)
@@ -184,25 +184,25 @@ resumed i place words (Ok r) = Ok (joined_on place words r)
 not_open : open_line ≡ in_cluster → ⊥
 not_open is = cc
 
-not_values : behind_values ≡ in_cluster → ⊥
+not_values : after_values ≡ in_cluster → ⊥
 not_values is = cc
 
-not_positional : behind_positional ≡ in_cluster → ⊥
+not_positional : after_positional ≡ in_cluster → ⊥
 not_positional is = cc
 
 not_ended : ended ≡ in_cluster → ⊥
 not_ended is = cc
 
--- a word that was begun, and what goes on behind it
+-- a word that was begun, and what goes on after it
 new_joined : (place : Place) (words : List (List ℕ)) (word : List ℕ) (more : List (List ℕ)) (r : Rest) → (place ≡ in_cluster → more ≡ []) → (place ≢ in_cluster → r.first ≡ [])
     → words ++ ((word ++ r.first) ∷ (more ++ r.words)) ≡ joined_on place (words ++ (word ∷ more)) r
 new_joined open_line words word more r calm none =
     ap (λ l. words ++ ((word ++ l) ∷ (more ++ r.words))) (none not_open)
     ∙ ap (λ l. words ++ (l ∷ (more ++ r.words))) (append-nil word) ∙ sym (append_assoc words (word ∷ more) r.words)
-new_joined behind_values words word more r calm none =
+new_joined after_values words word more r calm none =
     ap (λ l. words ++ ((word ++ l) ∷ (more ++ r.words))) (none not_values)
     ∙ ap (λ l. words ++ (l ∷ (more ++ r.words))) (append-nil word) ∙ sym (append_assoc words (word ∷ more) r.words)
-new_joined behind_positional words word more r calm none =
+new_joined after_positional words word more r calm none =
     ap (λ l. words ++ ((word ++ l) ∷ (more ++ r.words))) (none not_positional)
     ∙ ap (λ l. words ++ (l ∷ (more ++ r.words))) (append-nil word) ∙ sym (append_assoc words (word ∷ more) r.words)
 new_joined ended words word more r calm none =
@@ -220,10 +220,10 @@ last_joined : (place : Place) (words : List (List ℕ)) (word : List ℕ) (more 
 last_joined open_line words word more r calm none =
     ap (λ l. onto_last words (word ++ l) ++ (more ++ r.words)) (none not_open)
     ∙ ap (λ l. onto_last words l ++ (more ++ r.words)) (append-nil word) ∙ sym (append_assoc (onto_last words word) more r.words)
-last_joined behind_values words word more r calm none =
+last_joined after_values words word more r calm none =
     ap (λ l. onto_last words (word ++ l) ++ (more ++ r.words)) (none not_values)
     ∙ ap (λ l. onto_last words l ++ (more ++ r.words)) (append-nil word) ∙ sym (append_assoc (onto_last words word) more r.words)
-last_joined behind_positional words word more r calm none =
+last_joined after_positional words word more r calm none =
     ap (λ l. onto_last words (word ++ l) ++ (more ++ r.words)) (none not_positional)
     ∙ ap (λ l. onto_last words l ++ (more ++ r.words)) (append-nil word) ∙ sym (append_assoc (onto_last words word) more r.words)
 last_joined ended words word more r calm none =
@@ -244,13 +244,13 @@ glued_joined : (place : Place) (goes_on : Bool) (words : List (List ℕ)) (word 
     → joined_on place words (glued goes_on word more) ≡ pushed goes_on words word more
 glued_joined in_cluster true words word more at = refl
 glued_joined open_line true words word more at = absurd (not_open (at refl))
-glued_joined behind_values true words word more at = absurd (not_values (at refl))
-glued_joined behind_positional true words word more at = absurd (not_positional (at refl))
+glued_joined after_values true words word more at = absurd (not_values (at refl))
+glued_joined after_positional true words word more at = absurd (not_positional (at refl))
 glued_joined ended true words word more at = absurd (not_ended (at refl))
 glued_joined in_cluster false words word more at = ap (λ l. l ++ (word ∷ more)) (onto_nil words)
 glued_joined open_line false words word more at = refl
-glued_joined behind_values false words word more at = refl
-glued_joined behind_positional false words word more at = refl
+glued_joined after_values false words word more at = refl
+glued_joined after_positional false words word more at = refl
 glued_joined ended false words word more at = refl
 
 rest_joined : (t : Table) (switch : Bool) (i : ℕ) (place : Place) (words : List (List ℕ)) (a : Added) (items : List Item) (o : Result Rest Fault) → IsCalm place a
@@ -267,12 +267,12 @@ all_first : (o : Result Rest Fault) → words_of o ≡ resumed 0 open_line [] o
 all_first (Err fault) = ap (λ n. Err (record { index = n; reason = fault.reason })) (sym (zero-add fault.index))
 all_first (Ok r) = refl
 
-none_behind : (place : Place) (words : List (List ℕ)) → joined_on place words (record { first = []; words = [] }) ≡ words
-none_behind open_line words = append-nil words
-none_behind in_cluster words = ap (λ l. l ++ []) (onto_nil words) ∙ append-nil words
-none_behind behind_values words = append-nil words
-none_behind behind_positional words = append-nil words
-none_behind ended words = append-nil words
+none_after : (place : Place) (words : List (List ℕ)) → joined_on place words (record { first = []; words = [] }) ≡ words
+none_after open_line words = append-nil words
+none_after in_cluster words = ap (λ l. l ++ []) (onto_nil words) ∙ append-nil words
+none_after after_values words = append-nil words
+none_after after_positional words = append-nil words
+none_after ended words = append-nil words
 
 pub none_spelled : (t : Table) (switch : Bool) (l : List Item) → spelled t switch l ≡ resumed 0 open_line [] (spelled_from t switch l open_line)
 none_spelled t switch l = all_first (spelled_from t switch l open_line)
@@ -294,7 +294,7 @@ fault_found t switch i place words item items reason is =
 
 pub all_spelled : (t : Table) (switch : Bool) (i : ℕ) (place : Place) (words : List (List ℕ)) → resumed i place words (spelled_from t switch [] place) ≡ Ok words
 unfolding spelled_from
-all_spelled t switch i place words = ap (λ l. Ok l) (none_behind place words)
+all_spelled t switch i place words = ap (λ l. Ok l) (none_after place words)
 
 -- ---- the same of items as the code has them
 

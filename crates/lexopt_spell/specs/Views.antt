@@ -4,17 +4,17 @@ use Rattle.lexopt_spec.specs.UnreadLine.{dash}
 use Rattle.lexopt_line_spec.specs.Table.{Item, Table}
 use Rattle.lexopt_line_spec.specs.Spelling as how
 use Rattle.lexopt_line_spec.specs.Speller as spec
-use Rattle.lexopt_line_spec.specs.Speller.{behind_bytes}
+use Rattle.lexopt_line_spec.specs.Speller.{after_bytes}
 use Rattle.lexopt_spell.specs.declared.forms.Place.{Place}
-use Rattle.lexopt_spell.specs.declared.forms.Place.TheVariants.{Open, InCluster, BehindValues, BehindPositional, Ended}
-use Rattle.lexopt_spell.specs.declared.forms.Behind.{Behind}
-use Rattle.lexopt_spell.specs.declared.forms.Behind.TheVariants.{Nothing, Attached, Joined}
+use Rattle.lexopt_spell.specs.declared.forms.Place.TheVariants.{Open, InCluster, AfterValues, AfterPositional, Ended}
+use Rattle.lexopt_spell.specs.declared.forms.After.{After}
+use Rattle.lexopt_spell.specs.declared.forms.After.TheVariants.{Nothing, Attached, Joined}
 use Rattle.lexopt_spell.specs.declared.forms.Form.{Form}
 use Rattle.lexopt_spell.specs.declared.words.Word.{Word}
 use Rattle.lexopt_spell.specs.declared.words.Word.TheVariants.{Short, Dash, Long, Separator, Positional}
 use Rattle.lexopt_spell.specs.declared.added.Added.{Added}
 use Rattle.lexopt_spell.specs.declared.spell.Reason.{Reason}
-use Rattle.lexopt_spell.specs.declared.spell.Reason.TheVariants.{EqualsInName, UnexpectedValue, MissingValue, WantsMany, NotMany, EmptyValue, OptionAmongValues, EmptyName, BehindSeparator, DashWithoutFlag}
+use Rattle.lexopt_spell.specs.declared.spell.Reason.TheVariants.{EqualsInName, UnexpectedValue, MissingValue, WantsMany, NotMany, EmptyValue, OptionAmongValues, EmptyName, PastSeparator, DashWithoutFlag}
 use Rattle.lexopt_spell.specs.declared.spell.SpellError.{SpellError}
 use Rattle.lexopt_spell.specs.declared.spell.SpellError.TheVariants.{AtFault, OutOfMemory}
 
@@ -28,7 +28,7 @@ reason_view NotMany = spec.not_many
 reason_view EmptyValue = spec.empty_value
 reason_view OptionAmongValues = spec.option_among_values
 reason_view EmptyName = spec.empty_name
-reason_view BehindSeparator = spec.behind_separator
+reason_view PastSeparator = spec.past_separator
 reason_view DashWithoutFlag = spec.dash_without_flag
 
 -- the error says which item is at fault, and why. It says nothing where memory is refused
@@ -44,17 +44,17 @@ NamesItemAtFault t switch items OutOfMemory = Unit {0}
 abbrev pub place_view : Place → spec.Place
 place_view Open = spec.open_line
 place_view InCluster = spec.in_cluster
-place_view BehindValues = spec.behind_values
-place_view BehindPositional = spec.behind_positional
+place_view AfterValues = spec.after_values
+place_view AfterPositional = spec.after_positional
 place_view Ended = spec.ended
 
-abbrev pub behind_view : Behind → how.Behind
-behind_view Nothing = how.nothing
-behind_view (Attached value) = how.attached value.now
-behind_view (Joined value) = how.joined value.now
+abbrev pub after_view : After → how.After
+after_view Nothing = how.nothing
+after_view (Attached value) = how.attached value.now
+after_view (Joined value) = how.joined value.now
 
 abbrev pub form_view : Form → spec.Form
-form_view f = record { behind = behind_view f.behind; words = f.words.now; place = place_view f.place }
+form_view f = record { after = after_view f.after; words = f.words.now; place = place_view f.place }
 
 abbrev pub form_answer : Result Form Reason → Result spec.Form spec.Reason
 form_answer (Ok f) = Ok (form_view f)
@@ -62,17 +62,17 @@ form_answer (Err reason) = Err (reason_view reason)
 
 -- the bytes of a word, or those that go on with the word before
 abbrev pub word_bytes : Word → List ℕ
-word_bytes (Short c behind) = dash ∷ encode_utf8 c ++ behind_bytes (behind_view behind)
-word_bytes (Dash behind) = dash ∷ [] ++ behind_bytes (behind_view behind)
-word_bytes (Long name behind) = dash ∷ dash ∷ string_bytes name.now ++ behind_bytes (behind_view behind)
+word_bytes (Short c after) = dash ∷ encode_utf8 c ++ after_bytes (after_view after)
+word_bytes (Dash after) = dash ∷ [] ++ after_bytes (after_view after)
+word_bytes (Long name after) = dash ∷ dash ∷ string_bytes name.now ++ after_bytes (after_view after)
 word_bytes Separator = dash ∷ dash ∷ []
 word_bytes (Positional word) = word.now
 
 -- these bytes go on with the word before
 abbrev pub goes_on : Word → Bool
-goes_on (Short c behind) = false
-goes_on (Dash behind) = true
-goes_on (Long name behind) = false
+goes_on (Short c after) = false
+goes_on (Dash after) = true
+goes_on (Long name after) = false
 goes_on Separator = false
 goes_on (Positional word) = false
 

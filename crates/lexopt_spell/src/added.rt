@@ -4,10 +4,10 @@ ghost use Rattle.std.specs.List.{list_all, list_any};
 ghost use Rattle.lexopt_spec.specs.UnreadLine as line;
 ghost use Rattle.lexopt_line_spec.specs.Speller as spec;
 ghost use Rattle.lexopt_items.specs.Items.{item_view, table_view};
-ghost use Rattle.lexopt_spell.specs.Views.{added_answer, added_view, behind_view, form_answer, form_view, place_view};
+ghost use Rattle.lexopt_spell.specs.Views.{added_answer, added_view, after_view, form_answer, form_view, place_view};
 
 use crate::forms::{
-    Behind, Form, Place, is_plain, long_form, long_many_form, short_form, short_many_form,
+    After, Form, Place, is_plain, long_form, long_many_form, short_form, short_many_form,
 };
 use crate::spell::Reason;
 use crate::words::Word;
@@ -24,15 +24,15 @@ pub struct Added<'a> {
     pub place: Place,
 }
 
-// An option of one character, with this behind its name.
+// An option of one character, with this after its name.
 fn short_added(place: Place, option: char, form: Form<'_>) -> Result<Added<'_>, Reason>
     ensures { added_answer result ≡ spec.short_added true (option == line.dash) (place_view place) option (Ok (form_view form.entry)) }
 {
     let word = match place {
-        Place::Ended => return Err(Reason::BehindSeparator),
-        _ if option != '-' => Word::Short(option, form.behind),
-        Place::InCluster => Word::Dash(form.behind),
-        Place::Open | Place::BehindValues | Place::BehindPositional => {
+        Place::Ended => return Err(Reason::PastSeparator),
+        _ if option != '-' => Word::Short(option, form.after),
+        Place::InCluster => Word::Dash(form.after),
+        Place::Open | Place::AfterValues | Place::AfterPositional => {
             return Err(Reason::DashWithoutFlag);
         }
     };
@@ -43,18 +43,18 @@ fn short_added(place: Place, option: char, form: Form<'_>) -> Result<Added<'_>, 
     })
 }
 
-// An option whose name has no `=`, with this behind it.
+// An option whose name has no `=`, with this after it.
 fn long_placed<'a>(place: Place, name: &'a String, form: Form<'a>) -> Result<Added<'a>, Reason>
-    ensures { added_answer result ≡ spec.long_placed (spec.is_named (string_bytes name.now) (behind_view form.entry.behind)) (place_view place) (string_bytes name.now) (form_view form.entry) }
+    ensures { added_answer result ≡ spec.long_placed (spec.is_named (string_bytes name.now) (after_view form.entry.after)) (place_view place) (string_bytes name.now) (form_view form.entry) }
 {
-    if name.is_empty() && !matches!(form.behind, Behind::Joined(_)) {
+    if name.is_empty() && !matches!(form.after, After::Joined(_)) {
         return Err(Reason::EmptyName);
     }
     if let Place::Ended = place {
-        return Err(Reason::BehindSeparator);
+        return Err(Reason::PastSeparator);
     }
     Ok(Added {
-        word: Word::Long(name, form.behind),
+        word: Word::Long(name, form.after),
         words: form.words,
         place: form.place,
     })
@@ -91,7 +91,7 @@ fn are_no_options(items: &[Item]) -> bool
 
 // Whether the separator would stand before an option, if it stood before the first of these items.
 //
-// It reads on to the first option, and is asked behind options alone: it reads each item of a line once at most.
+// It reads on to the first option, and is asked after options alone: it reads each item of a line once at most.
 fn separator_comes_too_early(items: &[Item]) -> bool
     ensures { result ≡ spec.separator_comes_too_early (map item_view items.now) }
 {
@@ -127,16 +127,16 @@ fn separator_is_due(items: &[Item]) -> bool
     are_no_options(items) && !are_plain(items)
 }
 
-// A positional, with these items behind it. Behind values the separator keeps it from being one more of them.
-fn positional_added<'a>(place: Place, word: &'a OsString, behind: &[Item]) -> Added<'a>
+// A positional, with these items after it. After values the separator keeps it from being one more of them.
+fn positional_added<'a>(place: Place, word: &'a OsString, after: &[Item]) -> Added<'a>
     ensures { added_view result
-        ≡ spec.positional_added (spec.stands (line.is_plain false word.now) (spec.separator_is_due (map item_view behind.now)) (place_view place)) (place_view place) word.now }
+        ≡ spec.positional_added (spec.stands (line.is_plain false word.now) (spec.separator_is_due (map item_view after.now)) (place_view place)) (place_view place) word.now }
 {
     let stands = match place {
         Place::Ended => true,
-        Place::BehindValues => false,
-        Place::BehindPositional => is_plain(word),
-        Place::Open | Place::InCluster => is_plain(word) && !separator_is_due(behind),
+        Place::AfterValues => false,
+        Place::AfterPositional => is_plain(word),
+        Place::Open | Place::InCluster => is_plain(word) && !separator_is_due(after),
     };
     if !stands {
         return Added {
@@ -150,21 +150,21 @@ fn positional_added<'a>(place: Place, word: &'a OsString, behind: &[Item]) -> Ad
         words: &[],
         place: match place {
             Place::Ended => Place::Ended,
-            _ => Place::BehindPositional,
+            _ => Place::AfterPositional,
         },
     }
 }
 
-/// What an item adds at this place, where these items stand behind it.
+/// What an item adds at this place, where these items stand after it.
 pub fn adds<'a>(
     place: Place,
     item: &'a Item,
-    behind: &[Item],
+    after: &[Item],
     short_equals: bool,
     table: &Table,
 ) -> Result<Added<'a>, Reason>
     ensures { added_answer result
-        ≡ spec.adds (table_view table.now) short_equals (spec.separator_comes_too_early (map item_view behind.now)) (spec.separator_is_due (map item_view behind.now))
+        ≡ spec.adds (table_view table.now) short_equals (spec.separator_comes_too_early (map item_view after.now)) (spec.separator_is_due (map item_view after.now))
         (place_view place) (item_view item.now) }
 {
     match item {
@@ -174,7 +174,7 @@ pub fn adds<'a>(
         }
         Item::ShortMany(option, values) => {
             let kind = kind_of_short(table, *option);
-            let joins = short_equals && separator_comes_too_early(behind);
+            let joins = short_equals && separator_comes_too_early(after);
             short_added(place, *option, short_many_form(joins, kind, values)?)
         }
         Item::Long(name, value) => {
@@ -185,6 +185,6 @@ pub fn adds<'a>(
             let kind = kind_of_long(table, name);
             long_added(place, name, long_many_form(kind, values))
         }
-        Item::Positional(word) => Ok(positional_added(place, word, behind)),
+        Item::Positional(word) => Ok(positional_added(place, word, after)),
     }
 }

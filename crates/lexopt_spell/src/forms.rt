@@ -1,10 +1,10 @@
-//! Where the values of an option stand: behind its name in its word, or in words of their own.
+//! Where the values of an option stand: after its name in its word, or in words of their own.
 ghost use Rattle.std.specs.Prelude.{◌≡◌, false};
 ghost use Rattle.std.specs.List.{list_all};
 ghost use Rattle.lexopt_line_spec.specs.Speller as spec;
 ghost use Rattle.lexopt_spec.specs.UnreadLine as line;
 ghost use Rattle.lexopt_items.specs.Items.{kind_view};
-ghost use Rattle.lexopt_spell.specs.Views.{behind_view, form_answer, form_view, place_view};
+ghost use Rattle.lexopt_spell.specs.Views.{after_view, form_answer, form_view, place_view};
 
 use crate::spell::Reason;
 use lexopt_items::kinds::Kind;
@@ -20,27 +20,27 @@ pub enum Place {
     /// A flag, which is the last of its cluster.
     InCluster,
     /// Values of an option that has several, which go on in words.
-    BehindValues,
+    AfterValues,
     /// A positional that needs no separator.
-    BehindPositional,
+    AfterPositional,
     /// The separator, and perhaps positionals.
     Ended,
 }
 
-/// What stands behind an option's name in its word.
+/// What stands after an option's name in its word.
 #[derive(Clone, Copy)]
-pub enum Behind<'a> {
+pub enum After<'a> {
     Nothing,
-    /// A value, right behind a character.
+    /// A value, right after a character.
     Attached(&'a OsString),
-    /// A value, behind `=`.
+    /// A value, after `=`.
     Joined(&'a OsString),
 }
 
-/// What stands behind an option's name in its word, the words behind that word, and what the next item follows then.
+/// What stands after an option's name in its word, the words after that word, and what the next item follows then.
 #[derive(Clone, Copy)]
 pub struct Form<'a> {
-    pub behind: Behind<'a>,
+    pub after: After<'a>,
     pub words: &'a [OsString],
     pub place: Place,
 }
@@ -50,40 +50,40 @@ fn name_only<'a>(place: Place) -> Form<'a>
     ensures { form_view result ≡ spec.name_only (place_view place) }
 {
     Form {
-        behind: Behind::Nothing,
+        after: After::Nothing,
         words: &[],
         place,
     }
 }
 
 // All in one word.
-fn in_word(behind: Behind<'_>) -> Form<'_>
-    ensures { form_view result ≡ spec.in_word (behind_view behind.entry) }
+fn in_word(after: After<'_>) -> Form<'_>
+    ensures { form_view result ≡ spec.in_word (after_view after.entry) }
 {
     Form {
-        behind,
+        after,
         words: &[],
         place: Place::Open,
     }
 }
 
-// A value right behind a character. It stands behind `=` where it would be lost, or begins with `=`, if the switch is on.
+// A value right after a character. It stands after `=` where it would be lost, or begins with `=`, if the switch is on.
 fn attached_form(short_equals: bool, value: &OsString) -> Result<Form<'_>, Reason>
     ensures { form_answer result ≡ spec.attached_form short_equals value.now }
 {
     match value.as_bytes() {
         [] => {
             if short_equals {
-                Ok(in_word(Behind::Joined(value)))
+                Ok(in_word(After::Joined(value)))
             } else {
                 Err(Reason::EmptyValue)
             }
         }
         [first, ..] => {
             if short_equals && *first == b'=' {
-                Ok(in_word(Behind::Joined(value)))
+                Ok(in_word(After::Joined(value)))
             } else {
-                Ok(in_word(Behind::Attached(value)))
+                Ok(in_word(After::Attached(value)))
             }
         }
     }
@@ -102,7 +102,7 @@ pub fn short_form(
         (Kind::Flag, Some(_)) => Err(Reason::UnexpectedValue),
         (Kind::One, None) => Err(Reason::MissingValue),
         (Kind::One, Some(value)) => Ok(Form {
-            behind: Behind::Nothing,
+            after: After::Nothing,
             words: slice::from_ref(value),
             place: Place::Open,
         }),
@@ -120,9 +120,9 @@ pub fn long_form(kind: Kind, value: &Option<OsString>) -> Result<Form<'_>, Reaso
         (Kind::Flag, None) => Ok(name_only(Place::Open)),
         (Kind::Flag, Some(_)) => Err(Reason::UnexpectedValue),
         (Kind::One, None) => Err(Reason::MissingValue),
-        (Kind::One, Some(value)) => Ok(in_word(Behind::Joined(value))),
+        (Kind::One, Some(value)) => Ok(in_word(After::Joined(value))),
         (Kind::Optional, None) => Ok(name_only(Place::Open)),
-        (Kind::Optional, Some(value)) => Ok(in_word(Behind::Joined(value))),
+        (Kind::Optional, Some(value)) => Ok(in_word(After::Joined(value))),
         (Kind::Several, _) => Err(Reason::WantsMany),
     }
 }
@@ -149,13 +149,13 @@ fn words_form(values: &[OsString]) -> Result<Form<'_>, Reason>
         return Err(Reason::OptionAmongValues);
     }
     Ok(Form {
-        behind: Behind::Nothing,
+        after: After::Nothing,
         words: values,
-        place: Place::BehindValues,
+        place: Place::AfterValues,
     })
 }
 
-// A first value that would be an option, right behind a character, and the others in words of their own.
+// A first value that would be an option, right after a character, and the others in words of their own.
 fn attached_words_form<'a>(first: &'a OsString, others: &'a [OsString]) -> Result<Form<'a>, Reason>
     ensures { form_answer result ≡ spec.short_words_form false (list_all (line.is_plain false) others.now) first.now others.now }
 {
@@ -163,9 +163,9 @@ fn attached_words_form<'a>(first: &'a OsString, others: &'a [OsString]) -> Resul
         return Err(Reason::OptionAmongValues);
     }
     Ok(Form {
-        behind: Behind::Attached(first),
+        after: After::Attached(first),
         words: others,
-        place: Place::BehindValues,
+        place: Place::AfterValues,
     })
 }
 
@@ -178,7 +178,7 @@ pub fn short_many_form(joins: bool, kind: Kind, values: &[OsString]) -> Result<F
     };
     match values {
         [] => Err(Reason::MissingValue),
-        [value] if joins => Ok(in_word(Behind::Joined(value))),
+        [value] if joins => Ok(in_word(After::Joined(value))),
         [first, ..] if is_plain(first) => words_form(values),
         [first, others @ ..] => attached_words_form(first, others),
     }
@@ -193,7 +193,7 @@ pub fn long_many_form(kind: Kind, values: &[OsString]) -> Result<Form<'_>, Reaso
     };
     match values {
         [] => Err(Reason::MissingValue),
-        [value] => Ok(in_word(Behind::Joined(value))),
+        [value] => Ok(in_word(After::Joined(value))),
         _ => words_form(values),
     }
 }

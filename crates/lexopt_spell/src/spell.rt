@@ -12,7 +12,7 @@ use lexopt_words::os_string::OsString;
 use std::alloc::{AllocError, Global};
 use std::fmt;
 
-/// Why an item cannot be spelled behind those before it.
+/// Why an item cannot be spelled after those before it.
 #[derive(Debug, Clone, Copy, PartialEq, Eq)]
 pub enum Reason {
     /// A long option has `=` in its name: `--a=b` would be `a` with a value.
@@ -27,15 +27,15 @@ pub enum Reason {
     NotMany,
     /// A short option whose value may be left out is given an empty one, and the switch is off: with it on, `-c=` has one.
     EmptyValue,
-    /// One of several values would be an option: `-x` behind `1` in `--dim 1 -x`. A first one may stand right behind a
-    /// character, as in `-d-x 1`, and a lone one behind the `=` of a long option.
+    /// One of several values would be an option: `-x` after `1` in `--dim 1 -x`. A first one may stand right after a
+    /// character, as in `-d-x 1`, and a lone one after the `=` of a long option.
     OptionAmongValues,
-    /// A long option has an empty name, and not one value, which stands behind `=`: `--` alone is the separator.
+    /// A long option has an empty name, and not one value, which stands after `=`: `--` alone is the separator.
     EmptyName,
-    /// An option stands behind a positional that needs `--` before it, so that the option would be a positional too.
-    BehindSeparator,
+    /// An option stands after a positional that needs `--` before it, so that the option would be a positional too.
+    PastSeparator,
     /// `-` as an option of one character, with no flag of one character right before it: no word begins with it, since
-    /// `--` is the separator and `--name` a long option, but in `-v-` it stands behind `v`.
+    /// `--` is the separator and `--name` a long option, but in `-v-` it stands after `v`.
     DashWithoutFlag,
 }
 
@@ -53,15 +53,15 @@ impl fmt::Display for Reason {
             Reason::WantsMany => "by the table the option has several values: give them as a list",
             Reason::NotMany => "by the table the option does not have several values",
             Reason::EmptyValue => {
-                "an empty value cannot stand right behind a character, and the switch turns `=` off"
+                "an empty value cannot stand right after a character, and the switch turns `=` off"
             }
             Reason::OptionAmongValues => "one of several values would be read as an option",
-            Reason::EmptyName => "a long option with an empty name needs one value behind `=`",
-            Reason::BehindSeparator => {
-                "an option cannot stand behind a positional that needs `--` before it"
+            Reason::EmptyName => "a long option with an empty name needs one value after `=`",
+            Reason::PastSeparator => {
+                "an option cannot stand after a positional that needs `--` before it"
             }
             Reason::DashWithoutFlag =>
-                "the option `-` can only stand right behind a flag of one character",
+                "the option `-` can only stand right after a flag of one character",
         })
     }
 }
@@ -69,7 +69,7 @@ impl fmt::Display for Reason {
 /// Why no words are answered.
 #[derive(Debug, Clone, Copy, PartialEq, Eq)]
 pub enum SpellError {
-    /// An item cannot be spelled behind those before it, and those before it can.
+    /// An item cannot be spelled after those before it, and those before it can.
     AtFault {
         /// Which item it is, counted from 0.
         index: usize,
@@ -118,7 +118,7 @@ impl From<AllocError> for SpellError {
 /// of several is joined to it, as `-d=1`, if the switch is on.
 ///
 /// The switch says whether `=` in a cluster stands between an option and its value, and is to be the one that the words
-/// are read under. Items that no words spell, as an option behind a positional `-f`, are refused.
+/// are read under. Items that no words spell, as an option after a positional `-f`, are refused.
 pub fn spell(
     alloc: Global,
     items: &[Item],

@@ -1,10 +1,10 @@
 //! Words, as the items that they spell lend them, and the list that they are added to.
 ghost use Rattle.std.specs.Prelude.{◌≡◌, ◌++◌, [], IfOk, OnOk, string_bytes};
-ghost use Rattle.lexopt_line_spec.specs.Speller.{behind_bytes};
-ghost use Rattle.lexopt_spell.specs.Views.{behind_view, goes_on, word_bytes};
+ghost use Rattle.lexopt_line_spec.specs.Speller.{after_bytes};
+ghost use Rattle.lexopt_spell.specs.Views.{after_view, goes_on, word_bytes};
 ghost use Rattle.lexopt_spell.specs.Words.{onto_last, pushed};
 
-use crate::forms::Behind;
+use crate::forms::After;
 use lexopt_words::os_string::OsString;
 use std::alloc::{AllocError, Global};
 
@@ -12,26 +12,26 @@ use std::alloc::{AllocError, Global};
 #[derive(Clone, Copy)]
 pub enum Word<'a> {
     /// An option of one character.
-    Short(char, Behind<'a>),
+    Short(char, After<'a>),
     /// The option `-`, which goes on with the cluster of the flag before it.
-    Dash(Behind<'a>),
+    Dash(After<'a>),
     /// An option with a name.
-    Long(&'a String, Behind<'a>),
+    Long(&'a String, After<'a>),
     /// `--`
     Separator,
     /// A word that is no option.
     Positional(&'a OsString),
 }
 
-// Adds to the bytes of a name what stands behind it.
-fn with_behind(name: String, behind: Behind<'_>) -> Result<OsString, AllocError>
-    ensures { IfOk result (λ word. word ≡ string_bytes name ++ behind_bytes (behind_view behind.entry)) }
+// Adds to the bytes of a name what stands after it.
+fn with_after(name: String, after: After<'_>) -> Result<OsString, AllocError>
+    ensures { IfOk result (λ word. word ≡ string_bytes name ++ after_bytes (after_view after.entry)) }
 {
     let mut bytes = name.into_bytes();
-    match behind {
-        Behind::Nothing => {}
-        Behind::Attached(value) => bytes.extend_from_slice(value.as_bytes())?,
-        Behind::Joined(value) => {
+    match after {
+        After::Nothing => {}
+        After::Attached(value) => bytes.extend_from_slice(value.as_bytes())?,
+        After::Joined(value) => {
             bytes.push(b'=')?;
             bytes.extend_from_slice(value.as_bytes())?;
         }
@@ -44,9 +44,9 @@ fn to_os_string(alloc: Global, word: Word<'_>) -> Result<OsString, AllocError>
     ensures { IfOk result (λ bytes. bytes ≡ word_bytes word.entry) }
 {
     match word {
-        Word::Short(option, behind) => with_behind(format!(in alloc; "-{option}")?, behind),
-        Word::Dash(behind) => with_behind(String::from_str(alloc, "-")?, behind),
-        Word::Long(name, behind) => with_behind(format!(in alloc; "--{name}")?, behind),
+        Word::Short(option, after) => with_after(format!(in alloc; "-{option}")?, after),
+        Word::Dash(after) => with_after(String::from_str(alloc, "-")?, after),
+        Word::Long(name, after) => with_after(format!(in alloc; "--{name}")?, after),
         Word::Separator => OsString::from_text(alloc, "--"),
         Word::Positional(word) => OsString::from_bytes(alloc, word.as_bytes()),
     }

@@ -13,7 +13,7 @@ pub enum Arg<'a> {
     Short(char),
     /// An option with a name, which stands here without its dashes: `--out` reads as `Long("out")`.
     Long(&'a str),
-    /// A word that is no option, or that stands behind the separator.
+    /// A word that is no option, or that stands after the separator.
     Value(OsString),
 }
 
@@ -105,9 +105,7 @@ impl fmt::Display for Error {
 
     fn fmt<W: fmt::Write>(&self, f: &mut fmt::Formatter<W>) -> fmt::Result {
         match self {
-            Error::MissingValue { option } => {
-                write_missing_value(option.as_deref(), f)
-            }
+            Error::MissingValue { option } => { write_missing_value(option.as_deref(), f) }
             Error::UnexpectedOption(option) => write!(f, "invalid option '{option}'"),
             Error::UnexpectedArgument(value) => {
                 let value = Quoted::new(value.as_bytes());

@@ -197,7 +197,7 @@ impl Eq for OsString {
 }
 
 // Words have the order of their lists of bytes: the first byte that differs decides, and a front comes first. `-b` comes
-// behind `-ab`.
+// after `-ab`.
 impl PartialOrd for OsString {
     ghost use Rattle.std.proofs.Common.{rules};
     ghost use Rattle.std.specs.Cmp.{partial_order_from_own_ties};

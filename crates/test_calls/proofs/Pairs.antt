@@ -17,7 +17,7 @@ no_others u v a b (z ∷ w ∷ q ∷ front) x y run = absurd run.2.2
 pub two_replies : (u v : UnreadLine) (a b : Call) (front before replies : List Reply) (first last : Option Reply) (x y : Reply)
     → Run u (a ∷ b ∷ []) (map reply_view replies) v → replies ≡ before ++ option_to_list last → before ≡ front ++ option_to_list first
     → first ≡ Some x → last ≡ Some y → Run u (a ∷ b ∷ []) (reply_view x ∷ reply_view y ∷ []) v
-two_replies u v a b front before replies first last x y run behind at is_first is_last =
+two_replies u v a b front before replies first last x y run after at is_first is_last =
     no_others u v a b front x y
     (subst (λ (l : List Reply). Run u (a ∷ b ∷ []) (map reply_view l) v)
-    (behind ∙ ap (λ o. before ++ option_to_list o) is_last ∙ ap (λ l. l ++ y ∷ []) (at ∙ ap (λ o. front ++ option_to_list o) is_first)) run)
+    (after ∙ ap (λ o. before ++ option_to_list o) is_last ∙ ap (λ l. l ++ y ∷ []) (at ∙ ap (λ o. front ++ option_to_list o) is_first)) run)

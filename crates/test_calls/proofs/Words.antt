@@ -17,12 +17,12 @@ in_words : (u : UnreadLine) (w : List ℕ) (after : UnreadLine) → ReadsPositio
 in_words u w after (no_word_left none is left) = cc
 in_words u w after (word_left v ws words is left) = is_first u w v ws words is
 
-behind : (v w : List ℕ) (ws : List (List ℕ)) → Contains ws w → Contains (v ∷ ws) w
-behind v w ws has = (suc has.0, omega (arith, has.1), has.2)
+in_tail : (v w : List ℕ) (ws : List (List ℕ)) → Contains ws w → Contains (v ∷ ws) w
+in_tail v w ws has = (suc has.0, omega (arith, has.1), has.2)
 
 in_word : (u : UnreadLine) (w : List ℕ) (after : UnreadLine) → ReadsWord u (positional w) after → Contains u.words w
 in_word u w after (no_word none is left) = cc
-in_word u w after (reads_separator ws words reads) = rw words (behind _ w ws (in_words _ w after reads))
+in_word u w after (reads_separator ws words reads) = rw words (in_tail _ w ws (in_words _ w after reads))
 in_word u w after (reads_long text name tail ws words some cut is left) = cc
 in_word u w after (reads_cluster bytes ws words one reads) = let is : positional w ≡ short _ = reads.reply_is in cc
 in_word u w after (reads_positional v ws words plain is left) = is_first u w v ws words is

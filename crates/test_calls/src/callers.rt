@@ -44,7 +44,7 @@ pub fn next_file(parser: &mut Parser) -> Result<Option<OsString>, Error>
     }
 }
 
-/// Takes two values of the last option, or one where there is no other. The words behind them stay.
+/// Takes two values of the last option, or one where there is no other. The words after them stay.
 pub fn two_values(parser: &mut Parser) -> Result<(Option<OsString>, Option<OsString>), Error>
     ensures ok { IfOk result (λ found. Step (values 2) parser.old (items (cons_option found.0 (cons_option found.1 []))) parser.new) }
     ensures err { IfErr result (λ e. Gives (Step (values 2)) parser.old (error_reply e) parser.new) }
@@ -55,7 +55,7 @@ pub fn two_values(parser: &mut Parser) -> Result<(Option<OsString>, Option<OsStr
     Ok((first, second))
 }
 
-/// Takes the next word where it is a number behind one dash, as `-10`, which `next` would read as options.
+/// Takes the next word where it is a number after one dash, as `-10`, which `next` would read as options.
 pub fn negative_number(parser: &mut Parser) -> Result<Option<OsString>, Error>
     ensures ok { IfOk result (λ found. (pending parser.old ≡ None) × TakesNegative parser.old found parser.new) }
     ensures err { IfErr result (λ e. Gives (Step (raw 1)) parser.old (error_reply e) parser.new) }
@@ -68,7 +68,7 @@ pub fn negative_number(parser: &mut Parser) -> Result<Option<OsString>, Error>
     if is_wanted { Ok(view.next()) } else { Ok(None) }
 }
 
-// Whether a word is a dash and then a digit, and whatever stands behind it.
+// Whether a word is a dash and then a digit, and whatever stands after it.
 fn is_negative(word: &[u8]) -> bool
     ensures { IsTrue result ↔ IsNegative word.now }
 {

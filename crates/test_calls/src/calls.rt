@@ -5,7 +5,7 @@ use std::test::Fail;
 use test_helpers::calls::{gives, reads_short, reads_word, takes};
 use test_helpers::parsers::parser_of;
 
-// Whether what stands behind `-c` is its value with the switch off, and the next word is none.
+// Whether what stands after `-c` is its value with the switch off, and the next word is none.
 fn takes_with_equals(parser: &mut Parser) -> Result<bool, Error> {
     let is_read = reads_short(parser, 'c')?;
     parser.set_short_equals(false);
@@ -24,7 +24,7 @@ fn optional_values(rt: HostRuntime) -> Result<(), Fail> {
     Ok(())
 }
 
-// Whether a copy takes one value, and then the parser itself another. The switch of the parser itself is set behind the
+// Whether a copy takes one value, and then the parser itself another. The switch of the parser itself is set after the
 // copy.
 fn both_take(parser: &mut Parser, on: bool, of_copy: &[u8], own: &[u8]) -> Result<bool, Error> {
     let mut copy = parser.clone()?;

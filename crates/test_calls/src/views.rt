@@ -22,7 +22,7 @@ fn gives_both(view: &mut ValuesIter<'_>) -> bool {
         && view.next().is_none()
 }
 
-// Whether `-a` has the values `b` and `c`, and none behind them.
+// Whether `-a` has the values `b` and `c`, and none after them.
 fn has_both(parser: &mut Parser) -> Result<bool, Error> {
     Ok(reads_short(parser, 'a')? && gives_both(&mut parser.values()?))
 }
@@ -86,7 +86,7 @@ fn words_looked_at(rt: HostRuntime) -> Result<(), Fail> {
     Ok(())
 }
 
-// Whether a view gives `-a`, lends the two words behind it, and then gives `--`.
+// Whether a view gives `-a`, lends the two words after it, and then gives `--`.
 fn lends(view: &mut RawArgs<'_>) -> bool {
     gives(view.next(), b"-a")
         && are_words(view.as_slice(), &[b"--", b"b"])
@@ -136,15 +136,15 @@ fn reads_number(alloc: Global, parser: &mut Parser) -> Result<bool, Error> {
     }
 }
 
-// Whether `next_file` gives no option, and this word behind it.
-fn gives_behind_an_option(parser: &mut Parser, wanted: &[u8]) -> Result<bool, Error> {
+// Whether `next_file` gives no option, and this word after it.
+fn gives_after_an_option(parser: &mut Parser, wanted: &[u8]) -> Result<bool, Error> {
     Ok(next_file(parser)?.is_none() && gives(next_file(parser)?, wanted))
 }
 
 fn reads_by_callers(alloc: Global, parser: &mut Parser) -> Result<bool, Error> {
     Ok(
         reads_number(alloc, parser)?
-            && gives_behind_an_option(parser, b"a")?
+            && gives_after_an_option(parser, b"a")?
             && option_and_value(alloc, parser)?.is_none(),
     )
 }

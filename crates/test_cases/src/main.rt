@@ -1,7 +1,7 @@
 //! Replays cases: scripts of calls and whole lines, each with the text that it is to write.
 //!
 //! Standard input holds the cases; the head of the file `stdin` says how they are written. Each case that comes to something
-//! else is printed, and behind each section the number of its cases that agree and that differ.
+//! else is printed, and after each section the number of its cases that agree and that differ.
 #![tactic(auto)]
 
 use lexopt::replay::run;
@@ -69,13 +69,13 @@ impl Case {
 
     // Adds a line, if it is one of a case.
     fn add(&mut self, line: &str) -> Result<bool, AllocError> {
-        if let Some(text) = behind(line, ">") {
+        if let Some(text) = after(line, ">") {
             self.script.push_str(text)?;
             self.script.push('\n')?;
-        } else if let Some(text) = behind(line, "<") {
+        } else if let Some(text) = after(line, "<") {
             self.wanted.written.extend_from_slice(text.as_bytes())?;
             self.wanted.written.push(b'\n')?;
-        } else if let Some(text) = behind(line, "!") {
+        } else if let Some(text) = after(line, "!") {
             self.wanted.refusal.push_str(text)?;
             self.wanted.refusal.push('\n')?;
         } else {
@@ -129,8 +129,8 @@ impl Section {
     }
 }
 
-// What stands behind the mark of a line: nothing, or a text with a blank in front.
-fn behind<'a>(line: &'a str, mark: &str) -> Option<&'a str> {
+// What stands after the mark of a line: nothing, or a text with a blank in front.
+fn after<'a>(line: &'a str, mark: &str) -> Option<&'a str> {
     let rest = line.strip_prefix(mark)?;
     if rest.is_empty() {
         Some(rest)
@@ -161,12 +161,12 @@ fn main(rt: HostRuntime) -> io::Result<()> {
         // Each other line ends the case.
         section.replay(&rt, &case)?;
         case = Case::new(alloc);
-        if let Some(name) = behind(line, "#") {
+        if let Some(name) = after(line, "#") {
             section.print(&rt)?;
             section = Section::new(alloc, name)?;
-        } else if let Some(heading) = behind(line, "##") {
+        } else if let Some(heading) = after(line, "##") {
             section.heading = String::from_str(alloc, heading)?;
-        } else if !line.is_empty() && behind(line, "//").is_none() {
+        } else if !line.is_empty() && after(line, "//").is_none() {
             println!(rt; "line {number} has no mark: {line}")?;
         }
     }

@@ -1,7 +1,7 @@
 //! Answers calls, so that the answers can be compared. `bench/src/bin/compare` does the same with the Rust crate.
 //!
 //! Standard input has a case in each line: a constructor, words and calls, with a blank between them. For each case a line
-//! of answers is written: a blank stands behind the answer to each call, and then what is left, which is the pending value
+//! of answers is written: a blank stands after the answer to each call, and then what is left, which is the pending value
 //! and the words.
 //!
 //! - The constructor is `a` for `from_args`, or `i` for `from_iter`.

@@ -57,8 +57,8 @@ fn is_same_in_parts(
     );
     let mut parser = Parser::from_args(alloc, copies(alloc, words)?)?;
     let before = replay(alloc, &mut parser, first)?;
-    let behind = replay(alloc, &mut parser, second)?;
-    Ok(replies.starts_with(&before) && replies.ends_with(&behind))
+    let after = replay(alloc, &mut parser, second)?;
+    Ok(replies.starts_with(&before) && replies.ends_with(&after))
 }
 
 // What the words say by this table, if anything.

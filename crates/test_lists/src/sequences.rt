@@ -26,7 +26,7 @@ struct Tried {
     fault: Option<&'static str>,
 }
 
-// A parser behind some calls.
+// A parser after some calls.
 #[derive(Drop)]
 struct Place {
     parser: Parser,
@@ -40,7 +40,7 @@ impl Tried {
         }
     }
 
-    // Makes one call behind a place, in both ways. The place behind it, if a sequence goes on there.
+    // Makes one call after a place, in both ways. The place after it, if a sequence goes on there.
     fn step(&mut self, alloc: Global, place: &Place, step: Step) -> Result<Option<Place>, Error> {
         let mut parser = place.parser.clone()?;
         let mut copy = place.parser.clone()?;

@@ -50,7 +50,7 @@ fn reads_long_option(parser: &mut Parser) -> Result<Option<bool>, Error> {
 }
 
 // `next` asks for memory once, for the name: it is refused in one run, and in each other run that has a parser the option
-// and its value are read, also where the request behind the one for the name is refused.
+// and its value are read, also where the request after the one for the name is refused.
 #[test]
 fn long_option(rt: HostRuntime) -> Result<(), Fail> {
     let Ok(mut parser) = parser_of(rt.alloc(), &[b"--out=x"]) else {
@@ -59,7 +59,7 @@ fn long_option(rt: HostRuntime) -> Result<(), Fail> {
     ended(reads_long_option(&mut parser)?, "next")
 }
 
-// Whether the value of `-a` is unexpected, and reading goes on behind it.
+// Whether the value of `-a` is unexpected, and reading goes on after it.
 fn goes_on(parser: &mut Parser) -> Result<Option<bool>, Error> {
     let is_read = reads_short(parser, 'a')?;
     let first = is_unexpected(parser.next().err(), "-a", b"b");
@@ -170,7 +170,7 @@ fn pending_value(rt: HostRuntime) -> Result<(), Fail> {
     ended(refuses_pending(&mut parser)?, "raw_args")
 }
 
-// Whether a value and a word are given, and the option behind them is read.
+// Whether a value and a word are given, and the option after them is read.
 fn gives_items(parser: &mut Parser) -> Result<bool, Error> {
     Ok(
         reads_short(parser, 'a')?
@@ -348,7 +348,7 @@ fn every_call(alloc: Global) -> Result<[Call; 13], AllocError> {
     ])
 }
 
-// What stands before a place of a list and behind it, if it is one.
+// What stands before a place of a list and after it, if it is one.
 fn around<T>(list: &[T], place: usize) -> Option<(&[T], &[T])> {
     Some((list.get(..place)?, list.get(place..)?.get(1..)?))
 }
@@ -362,7 +362,7 @@ fn changed_nothing(
     place: usize,
 ) -> Result<bool, Error> {
     let mut parser = line(alloc)?;
-    let (Some((before, behind)), Some((said_before, said_behind))) = (
+    let (Some((before, after)), Some((said_before, said_after))) = (
         around(calls, place),
         around(replies, place),
     ) else {
@@ -370,7 +370,7 @@ fn changed_nothing(
     };
     Ok(
         replay(alloc, &mut parser, before)?.as_slice() == said_before
-            && replay(alloc, &mut parser, behind)?.as_slice() == said_behind,
+            && replay(alloc, &mut parser, after)?.as_slice() == said_after,
     )
 }
 
@@ -501,7 +501,7 @@ fn line_with_an_unexpected_value(rt: HostRuntime) -> Result<(), Fail> {
     )
 }
 
-// The line of a script that stands for the whole line is an error where its reading is refused memory; the calls behind it
+// The line of a script that stands for the whole line is an error where its reading is refused memory; the calls after it
 // want none.
 #[test]
 fn script_of_a_whole_line(rt: HostRuntime) -> Result<(), Fail> {
@@ -549,7 +549,7 @@ fn spells_so(alloc: Global, given: &[Given], wanted: Wanted) -> Result<(), Fail>
     }
 }
 
-// One item of each kind, with values in words of their own, behind a character and behind `=`.
+// One item of each kind, with values in words of their own, after a character and after `=`.
 #[test]
 fn spelled_items(rt: HostRuntime) -> Result<(), Fail> {
     spells_so(
@@ -587,7 +587,7 @@ fn spelled_cluster(rt: HostRuntime) -> Result<(), Fail> {
     )
 }
 
-// A first value behind its character, and a lone value that is joined.
+// A first value after its character, and a lone value that is joined.
 #[test]
 fn spelled_values(rt: HostRuntime) -> Result<(), Fail> {
     spells_so(
@@ -607,6 +607,6 @@ fn items_at_fault(rt: HostRuntime) -> Result<(), Fail> {
     spells_so(
         rt.alloc(),
         &[ShortValue('o', b"x"), Positional(b"-f"), Short('v')],
-        Wanted::Fault(2, Reason::BehindSeparator),
+        Wanted::Fault(2, Reason::PastSeparator),
     )
 }

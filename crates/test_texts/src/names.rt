@@ -52,8 +52,8 @@ fn names(rt: HostRuntime) -> Result<(), Fail> {
     Ok(())
 }
 
-// Whether the words behind a name are read, and the name stays.
-fn reads_behind_a_name(parser: &mut Parser) -> Result<bool, Error> {
+// Whether the words after a name are read, and the name stays.
+fn reads_after_a_name(parser: &mut Parser) -> Result<bool, Error> {
     Ok(reads_short(parser, 'x')? && is_at_end(parser)? && parser.bin_name() == Some("foo"))
 }
 
@@ -63,8 +63,8 @@ fn copies_have_names(alloc: Global) -> Result<bool, Error> {
     let mut copy = parser.clone()?;
     let nameless = parser_of(alloc, &[b"foo"])?;
     Ok(
-        reads_behind_a_name(&mut copy)?
-            && reads_behind_a_name(&mut parser)?
+        reads_after_a_name(&mut copy)?
+            && reads_after_a_name(&mut parser)?
             && nameless.bin_name().is_none()
             && nameless.clone()?.bin_name().is_none(),
     )

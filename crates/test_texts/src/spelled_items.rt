@@ -82,7 +82,7 @@ fn spelled_otherwise(
     Ok(None)
 }
 
-// Whether the items are refused so, the error prints that, and its reason what stands behind the first `: ` of it.
+// Whether the items are refused so, the error prints that, and its reason what stands after the first `: ` of it.
 fn is_refused_so(
     alloc: Global,
     fault: &Fault,
@@ -331,7 +331,7 @@ const SEVERAL: [Row; 8] = [
 ];
 
 // With the switch on, a lone value of a short option of several is joined where a positional comes next and an option stands
-// somewhere behind that.
+// somewhere after that.
 const JOINED: [Row; 3] = [
     Row {
         items: &[ShortMany('d', &[b"1"]), Positional(b"f"), Short('v')],
@@ -456,7 +456,7 @@ const DAMAGE: [Row; 7] = [
     },
 ];
 
-// One value of a long option of several that has no name stands behind `=`.
+// One value of a long option of several that has no name stands after `=`.
 const NAMELESS: [Row; 1] = [Row {
     items: &[LongMany("", &[b"a"])],
     words: &[b"--=a"],
@@ -652,7 +652,7 @@ const EMPTY_VALUE: [Fault; 1] = [Fault {
     items: &[Short('v'), ShortValue('c', b"")],
     index: 1,
     reason: Reason::EmptyValue,
-    printed: "items[1]: an empty value cannot stand right behind a character, and the switch turns `=` off",
+    printed: "items[1]: an empty value cannot stand right after a character, and the switch turns `=` off",
 }];
 
 const OPTION_AMONG_VALUES: [Fault; 4] = [
@@ -686,41 +686,41 @@ const EMPTY_NAME: [Fault; 1] = [Fault {
     items: &[Positional(b"f"), Long("")],
     index: 1,
     reason: Reason::EmptyName,
-    printed: "items[1]: a long option with an empty name needs one value behind `=`",
+    printed: "items[1]: a long option with an empty name needs one value after `=`",
 }];
 
-// Of several values of an option with no name none can stand behind `=`.
+// Of several values of an option with no name none can stand after `=`.
 const NAMELESS_OF_SEVERAL: [Fault; 1] = [Fault {
     items: &[Short('v'), LongMany("", &[b"a", b"b"])],
     index: 1,
     reason: Reason::EmptyName,
-    printed: "items[1]: a long option with an empty name needs one value behind `=`",
+    printed: "items[1]: a long option with an empty name needs one value after `=`",
 }];
 
-const BEHIND_SEPARATOR: [Fault; 5] = [
+const PAST_SEPARATOR: [Fault; 5] = [
     Fault {
         items: &[Positional(b"f"), Positional(b"-x"), Short('v')],
         index: 2,
-        reason: Reason::BehindSeparator,
-        printed: "items[2]: an option cannot stand behind a positional that needs `--` before it",
+        reason: Reason::PastSeparator,
+        printed: "items[2]: an option cannot stand after a positional that needs `--` before it",
     },
     Fault {
         items: &[Positional(b"-x"), Short('v')],
         index: 1,
-        reason: Reason::BehindSeparator,
-        printed: "items[1]: an option cannot stand behind a positional that needs `--` before it",
+        reason: Reason::PastSeparator,
+        printed: "items[1]: an option cannot stand after a positional that needs `--` before it",
     },
     Fault {
         items: &[Positional(b"--"), Positional(b"f"), LongValue("out", b"x")],
         index: 2,
-        reason: Reason::BehindSeparator,
-        printed: "items[2]: an option cannot stand behind a positional that needs `--` before it",
+        reason: Reason::PastSeparator,
+        printed: "items[2]: an option cannot stand after a positional that needs `--` before it",
     },
     Fault {
         items: &[ShortMany('d', &[b"1", b"2"]), Positional(b"f"), Short('v')],
         index: 2,
-        reason: Reason::BehindSeparator,
-        printed: "items[2]: an option cannot stand behind a positional that needs `--` before it",
+        reason: Reason::PastSeparator,
+        printed: "items[2]: an option cannot stand after a positional that needs `--` before it",
     },
     Fault {
         items: &[
@@ -729,8 +729,8 @@ const BEHIND_SEPARATOR: [Fault; 5] = [
             Long("name"),
         ],
         index: 2,
-        reason: Reason::BehindSeparator,
-        printed: "items[2]: an option cannot stand behind a positional that needs `--` before it",
+        reason: Reason::PastSeparator,
+        printed: "items[2]: an option cannot stand after a positional that needs `--` before it",
     },
 ];
 
@@ -738,8 +738,8 @@ const BEHIND_SEPARATOR: [Fault; 5] = [
 const LONE_VALUE: [Fault; 1] = [Fault {
     items: &[ShortMany('d', &[b"1"]), Positional(b"f"), Short('v')],
     index: 2,
-    reason: Reason::BehindSeparator,
-    printed: "items[2]: an option cannot stand behind a positional that needs `--` before it",
+    reason: Reason::PastSeparator,
+    printed: "items[2]: an option cannot stand after a positional that needs `--` before it",
 }];
 
 const DASH_WITHOUT_FLAG: [Fault; 6] = [
@@ -747,37 +747,37 @@ const DASH_WITHOUT_FLAG: [Fault; 6] = [
         items: &[Short('-')],
         index: 0,
         reason: Reason::DashWithoutFlag,
-        printed: "items[0]: the option `-` can only stand right behind a flag of one character",
+        printed: "items[0]: the option `-` can only stand right after a flag of one character",
     },
     Fault {
         items: &[ShortValue('o', b"v"), Short('-')],
         index: 1,
         reason: Reason::DashWithoutFlag,
-        printed: "items[1]: the option `-` can only stand right behind a flag of one character",
+        printed: "items[1]: the option `-` can only stand right after a flag of one character",
     },
     Fault {
         items: &[Short('v'), Short('c'), Short('-')],
         index: 2,
         reason: Reason::DashWithoutFlag,
-        printed: "items[2]: the option `-` can only stand right behind a flag of one character",
+        printed: "items[2]: the option `-` can only stand right after a flag of one character",
     },
     Fault {
         items: &[Long("name"), Short('-')],
         index: 1,
         reason: Reason::DashWithoutFlag,
-        printed: "items[1]: the option `-` can only stand right behind a flag of one character",
+        printed: "items[1]: the option `-` can only stand right after a flag of one character",
     },
     Fault {
         items: &[ShortMany('d', &[b"1"]), Short('-')],
         index: 1,
         reason: Reason::DashWithoutFlag,
-        printed: "items[1]: the option `-` can only stand right behind a flag of one character",
+        printed: "items[1]: the option `-` can only stand right after a flag of one character",
     },
     Fault {
         items: &[Short('v'), Positional(b"f"), Short('-')],
         index: 2,
         reason: Reason::DashWithoutFlag,
-        printed: "items[2]: the option `-` can only stand right behind a flag of one character",
+        printed: "items[2]: the option `-` can only stand right after a flag of one character",
     },
 ];
 
@@ -800,13 +800,13 @@ const TWO_REASONS: [Fault; 5] = [
         items: &[Positional(b"-x"), Long("")],
         index: 1,
         reason: Reason::EmptyName,
-        printed: "items[1]: a long option with an empty name needs one value behind `=`",
+        printed: "items[1]: a long option with an empty name needs one value after `=`",
     },
     Fault {
         items: &[Positional(b"-x"), Short('-')],
         index: 1,
-        reason: Reason::BehindSeparator,
-        printed: "items[1]: an option cannot stand behind a positional that needs `--` before it",
+        reason: Reason::PastSeparator,
+        printed: "items[1]: an option cannot stand after a positional that needs `--` before it",
     },
     Fault {
         items: &[Short('o'), Long("a=b")],
@@ -827,7 +827,7 @@ const FAULTS: [(&[Fault], More, &[bool]); 13] = [
     (&OPTION_AMONG_VALUES, More::Nothing, EITHER),
     (&EMPTY_NAME, More::Nothing, EITHER),
     (&NAMELESS_OF_SEVERAL, More::NamelessOfSeveral, EITHER),
-    (&BEHIND_SEPARATOR, More::Nothing, EITHER),
+    (&PAST_SEPARATOR, More::Nothing, EITHER),
     (&LONE_VALUE, More::Nothing, OFF),
     (&DASH_WITHOUT_FLAG, More::Nothing, EITHER),
     (&TWO_REASONS, More::Nothing, EITHER),

@@ -1,4 +1,4 @@
-//! Answers as they are compared: a letter, and behind it bytes in hexadecimal digits.
+//! Answers as they are compared: a letter, and after it bytes in hexadecimal digits.
 use lexopt::{Error, OsString};
 use std::alloc::Global;
 

@@ -6,7 +6,7 @@ use lexopt::replay::Reply;
 // What was handed out of the words, so far.
 #[derive(Clone, Copy)]
 struct Handed<'a> {
-    // The words behind the last one of which something was handed out.
+    // The words after the last one of which something was handed out.
     words: &'a [OsString],
     // How many options, values and words.
     count: usize,
@@ -26,7 +26,7 @@ impl<'a> Handed<'a> {
         self.count = self.count.saturating_add(1);
     }
 
-    // A value is a word, or the end of one, and comes behind those that were handed out before.
+    // A value is a word, or the end of one, and comes after those that were handed out before.
     fn value(&mut self, value: &OsString) {
         self.count = self.count.saturating_add(1);
         let found = self
@@ -62,7 +62,7 @@ impl<'a> Handed<'a> {
     }
 }
 
-// A word gives an option for each byte behind its dash at most, and itself at least.
+// A word gives an option for each byte after its dash at most, and itself at least.
 fn bound(words: &[OsString]) -> usize {
     let mut bound = 0usize;
     for word in words {

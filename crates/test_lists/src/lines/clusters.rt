@@ -56,7 +56,7 @@ impl Counts {
         Ok(())
     }
 
-    // Reads these bytes, and these with one or two behind them.
+    // Reads these bytes, and these with one or two after them.
     fn read_longer(&mut self, alloc: Global, first: u8, second: u8) -> Result<(), Error> {
         self.read(alloc, &[first, second])?;
         for third in BYTES {

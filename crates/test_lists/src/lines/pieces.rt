@@ -14,7 +14,7 @@ const ROWS: [&[(u8, u8)]; 9] = [
     &[(0xF4, 0xF4), (0x80, 0x8F), (0x80, 0xBF), (0x80, 0xBF)],
 ];
 
-/// What bytes begin with: the bytes of a character, or of a damaged piece, which has none; and what stands behind it.
+/// What bytes begin with: the bytes of a character, or of a damaged piece, which has none; and what stands after it.
 #[derive(Clone, Copy)]
 pub struct Piece<'a> {
     pub character: Option<char>,

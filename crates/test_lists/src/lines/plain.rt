@@ -42,11 +42,11 @@ enum Name {
     Long(String),
 }
 
-// What stands behind an option in its word.
+// What stands after an option in its word.
 #[derive(Clone, Copy)]
-enum Behind<'a> {
+enum After<'a> {
     Nothing,
-    // A value behind `=`.
+    // A value after `=`.
     Joined(&'a [u8]),
     // What is left of a cluster.
     Attached(&'a [u8]),
@@ -138,22 +138,22 @@ fn is_plain(word: &[u8]) -> bool {
     }
 }
 
-// What stands behind an option of a cluster.
-fn behind_short(rest: &[u8], short_equals: bool) -> Behind<'_> {
+// What stands after an option of a cluster.
+fn after_short(rest: &[u8], short_equals: bool) -> After<'_> {
     match rest {
-        [] => Behind::Nothing,
-        [b'=', value @ ..] if short_equals => Behind::Joined(value),
-        _ => Behind::Attached(rest),
+        [] => After::Nothing,
+        [b'=', value @ ..] if short_equals => After::Joined(value),
+        _ => After::Attached(rest),
     }
 }
 
-// The name of a long option, up to the first `=`, and what stands behind it.
-fn long_parts(word: &[u8]) -> (&[u8], Behind<'_>) {
+// The name of a long option, up to the first `=`, and what stands after it.
+fn long_parts(word: &[u8]) -> (&[u8], After<'_>) {
     let mut parts = word.splitn(2, |byte| *byte == b'=');
     let name = parts.next().unwrap_or(word);
     match parts.next() {
-        Some(value) => (name, Behind::Joined(value)),
-        None => (name, Behind::Nothing),
+        Some(value) => (name, After::Joined(value)),
+        None => (name, After::Nothing),
     }
 }
 
@@ -207,62 +207,62 @@ impl Reader<'_> {
         }
     }
 
-    // Reads an option and what stands behind it; false where that is more of a cluster.
-    fn read_option(&mut self, name: Name, behind: Behind<'_>) -> Result<bool, Refusal> {
+    // Reads an option and what stands after it; false where that is more of a cluster.
+    fn read_option(&mut self, name: Name, after: After<'_>) -> Result<bool, Refusal> {
         match name.kind(self.table) {
-            Kind::Flag => self.read_flag(name, behind),
-            Kind::One => self.read_one(name, behind),
-            Kind::Optional => self.read_optional(name, behind),
-            Kind::Several => self.read_several(name, behind),
+            Kind::Flag => self.read_flag(name, after),
+            Kind::One => self.read_one(name, after),
+            Kind::Optional => self.read_optional(name, after),
+            Kind::Several => self.read_several(name, after),
         }
     }
 
-    fn read_flag(&mut self, name: Name, behind: Behind<'_>) -> Result<bool, Refusal> {
-        match behind {
-            Behind::Joined(value) => Err(unexpected(self.alloc, &name, value)?),
-            Behind::Attached(_rest) => {
+    fn read_flag(&mut self, name: Name, after: After<'_>) -> Result<bool, Refusal> {
+        match after {
+            After::Joined(value) => Err(unexpected(self.alloc, &name, value)?),
+            After::Attached(_rest) => {
                 self.items.push(name.with_value(None))?;
                 Ok(false)
             }
-            Behind::Nothing => {
+            After::Nothing => {
                 self.items.push(name.with_value(None))?;
                 Ok(true)
             }
         }
     }
 
-    fn read_one(&mut self, name: Name, behind: Behind<'_>) -> Result<bool, Refusal> {
-        match behind {
-            Behind::Joined(value) | Behind::Attached(value) => {
+    fn read_one(&mut self, name: Name, after: After<'_>) -> Result<bool, Refusal> {
+        match after {
+            After::Joined(value) | After::Attached(value) => {
                 let value = self.word(value)?;
                 self.items.push(name.with_value(Some(value)))?;
             }
-            Behind::Nothing => self.open = Open::Value(name),
+            After::Nothing => self.open = Open::Value(name),
         }
         Ok(true)
     }
 
-    fn read_optional(&mut self, name: Name, behind: Behind<'_>) -> Result<bool, Refusal> {
-        let value = match behind {
-            Behind::Joined(value) | Behind::Attached(value) => Some(self.word(value)?),
-            Behind::Nothing => None,
+    fn read_optional(&mut self, name: Name, after: After<'_>) -> Result<bool, Refusal> {
+        let value = match after {
+            After::Joined(value) | After::Attached(value) => Some(self.word(value)?),
+            After::Nothing => None,
         };
         self.items.push(name.with_value(value))?;
         Ok(true)
     }
 
-    fn read_several(&mut self, name: Name, behind: Behind<'_>) -> Result<bool, Refusal> {
+    fn read_several(&mut self, name: Name, after: After<'_>) -> Result<bool, Refusal> {
         let mut values = Vec::new(self.alloc);
-        match behind {
-            Behind::Joined(value) => {
+        match after {
+            After::Joined(value) => {
                 values.push(self.word(value)?)?;
                 self.items.push(name.with_values(values))?;
             }
-            Behind::Attached(value) => {
+            After::Attached(value) => {
                 values.push(self.word(value)?)?;
                 self.open = Open::Values(name, values);
             }
-            Behind::Nothing => self.open = Open::Values(name, values),
+            After::Nothing => self.open = Open::Values(name, values),
         }
         Ok(true)
     }
@@ -273,8 +273,8 @@ impl Reader<'_> {
             let Some(piece) = first_piece(rest) else {
                 break;
             };
-            let behind = behind_short(piece.rest, self.short_equals);
-            if self.read_option(Name::Short(piece.shown()), behind)? {
+            let after = after_short(piece.rest, self.short_equals);
+            if self.read_option(Name::Short(piece.shown()), after)? {
                 break;
             }
             rest = piece.rest;
@@ -283,9 +283,9 @@ impl Reader<'_> {
     }
 
     fn read_long(&mut self, word: &[u8]) -> Result<(), Refusal> {
-        let (name, behind) = long_parts(word);
+        let (name, after) = long_parts(word);
         let name = Name::Long(lossy(self.alloc, name)?);
-        self.read_option(name, behind)?;
+        self.read_option(name, after)?;
         Ok(())
     }
 

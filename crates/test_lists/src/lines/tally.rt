@@ -37,7 +37,7 @@ impl Tally {
         self.differed = self.differed.saturating_add(other.differed);
     }
 
-    /// Prints the counts behind a name.
+    /// Prints the counts after a name.
     pub fn print(&self, rt: &impl Print, name: &str) -> io::Result<()> {
         let agreed = self.agreed;
         let differed = self.differed;

@@ -70,7 +70,7 @@ pub fn replayed(alloc: Global, parser: &mut Parser, step: Step) -> Result<Reply,
     }
 }
 
-/// Whether a sequence ends behind this reply.
+/// Whether a sequence ends after this reply.
 pub fn is_last(reply: &Reply) -> bool {
     matches!(reply, Reply::End | Reply::Missing(_) | Reply::Maybe(None))
 }

@@ -6,11 +6,11 @@ use Rattle.lexopt_laws.proofs.call_examples.calls_are_cut_short.Goals as goal
 pub returns-clause-at_once : goal.returns-clause-at_once
 returns-clause-at_once c = inl refl
 
-pub returns-clause-behind_an_item : goal.returns-clause-behind_an_item
-returns-clause-behind_an_item c = inr (inl (1, _, inl (gives_values 1 _ (codes "c" ∷ codes "d" ∷ codes "e" ∷ []) [] (plain_front_is _ [] refl refl) (some _ _))))
+pub returns-clause-after_an_item : goal.returns-clause-after_an_item
+returns-clause-after_an_item c = inr (inl (1, _, inl (gives_values 1 _ (codes "c" ∷ codes "d" ∷ codes "e" ∷ []) [] (plain_front_is _ [] refl refl) (some _ _))))
 
-pub returns-clause-behind_a_call : goal.returns-clause-behind_a_call
-returns-clause-behind_a_call c = inr (inr (
+pub returns-clause-after_a_call : goal.returns-clause-after_a_call
+returns-clause-after_a_call c = inr (inr (
   _,
   _,
   inl (gives_values 2 _ (codes "c" ∷ codes "d" ∷ codes "e" ∷ []) [] (plain_front_is _ [] refl refl) (some _ _)),

@@ -55,5 +55,5 @@ returns-clause-words c = (
   refl,
 )
 
-pub returns-clause-pending_behind_the_start : goal.returns-clause-pending_behind_the_start
-returns-clause-pending_behind_the_start c = stops_at_pending (codes "b", false) refl refl refl refl refl
+pub returns-clause-pending_after_the_start : goal.returns-clause-pending_after_the_start
+returns-clause-pending_after_the_start c = stops_at_pending (codes "b", false) refl refl refl refl refl

@@ -50,9 +50,9 @@ returns-clause-values_before_the_separator c = (
 )
 
 -- `-- -x --`
-pub returns-clause-values_behind_the_separator : goal.returns-clause-values_behind_the_separator
+pub returns-clause-values_after_the_separator : goal.returns-clause-values_after_the_separator
 unfolding computing
-returns-clause-values_behind_the_separator c = (
+returns-clause-values_after_the_separator c = (
   _,
   (
     _,

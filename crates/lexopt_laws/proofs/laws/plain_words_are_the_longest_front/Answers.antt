@@ -8,4 +8,4 @@ pub returns-clause-front : goal.returns-clause-front
 returns-clause-front c = λ ended words. front_cut ended words
 
 pub returns-clause-no_other : goal.returns-clause-no_other
-returns-clause-no_other c = λ ended words front behind is. front_only ended words front behind is
+returns-clause-no_other c = λ ended words front after is. front_only ended words front after is

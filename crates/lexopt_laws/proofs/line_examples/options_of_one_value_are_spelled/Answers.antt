@@ -2,7 +2,7 @@ use Rattle.std.proofs.Common.{[], ◌∷◌, codes, refl}
 use Rattle.lexopt_line_spec.specs.Table.{kind}
 use Rattle.lexopt_line_spec.specs.Spelling.{nothing, attached, joined, no_value, attached_value, joined_value, next_word, nothing_more, marked_value, no_words, separator}
 use Rattle.lexopt_laws.proofs.Computing.{computing}
-use Rattle.lexopt_laws.proofs.Worked.{flag_of, last_of, value_behind, cluster_line, name_line, joined_line, plain_line}
+use Rattle.lexopt_laws.proofs.Worked.{flag_of, last_of, value_after, cluster_line, name_line, joined_line, plain_line}
 use Rattle.lexopt_laws.proofs.line_examples.options_of_one_value_are_spelled.Goals as goal
 
 pub returns-clause-no_words : goal.returns-clause-no_words
@@ -35,9 +35,9 @@ unfolding kind computing
 returns-clause-separator_as_value c =
     cluster_line (codes "o") _ refl (last_of 0x6F [] nothing _ refl (nothing_more refl refl) (next_word (codes "--") refl refl refl)) no_words
 
-pub returns-clause-separator_behind_flag : goal.returns-clause-separator_behind_flag
+pub returns-clause-separator_after_flag : goal.returns-clause-separator_after_flag
 unfolding kind computing
-returns-clause-separator_behind_flag c =
+returns-clause-separator_after_flag c =
     cluster_line (codes "o") _ refl (last_of 0x6F [] nothing _ refl (nothing_more refl refl) (no_value refl refl refl)) (separator [])
 
 pub returns-clause-separator_as_positional : goal.returns-clause-separator_as_positional
@@ -52,7 +52,7 @@ returns-clause-equals_as_option c =
 pub returns-clause-equals_as_option_switched_off : goal.returns-clause-equals_as_option_switched_off
 unfolding kind computing
 returns-clause-equals_as_option_switched_off c =
-    cluster_line (codes "==v") _ refl (last_of 0x3D (codes "=v") (attached (codes "=v")) _ refl (value_behind 0x3D (codes "v") refl) (attached_value (codes "=v") refl refl refl)) no_words
+    cluster_line (codes "==v") _ refl (last_of 0x3D (codes "=v") (attached (codes "=v")) _ refl (value_after 0x3D (codes "v") refl) (attached_value (codes "=v") refl refl refl)) no_words
 
 -- `-o=`
 pub returns-clause-empty_value : goal.returns-clause-empty_value
@@ -63,7 +63,7 @@ returns-clause-empty_value c =
 pub returns-clause-empty_value_switched_off : goal.returns-clause-empty_value_switched_off
 unfolding kind computing
 returns-clause-empty_value_switched_off c =
-    cluster_line (codes "o=") _ refl (last_of 0x6F (codes "=") (attached (codes "=")) _ refl (value_behind 0x3D [] refl) (attached_value (codes "=") refl refl refl)) no_words
+    cluster_line (codes "o=") _ refl (last_of 0x6F (codes "=") (attached (codes "=")) _ refl (value_after 0x3D [] refl) (attached_value (codes "=") refl refl refl)) no_words
 
 -- `-a=b`
 pub returns-clause-flags_switched_off : goal.returns-clause-flags_switched_off
@@ -92,4 +92,4 @@ returns-clause-dash_in_cluster c =
 pub returns-clause-attached_value : goal.returns-clause-attached_value
 unfolding kind computing
 returns-clause-attached_value c =
-    cluster_line (codes "xo") _ refl (last_of 0x78 (codes "o") (attached (codes "o")) _ refl (value_behind 0x6F [] refl) (attached_value (codes "o") refl refl refl)) no_words
+    cluster_line (codes "xo") _ refl (last_of 0x78 (codes "o") (attached (codes "o")) _ refl (value_after 0x6F [] refl) (attached_value (codes "o") refl refl refl)) no_words

@@ -2,7 +2,7 @@ use Rattle.std.proofs.Common.{[], codes, refl}
 use Rattle.lexopt_line_spec.specs.Table.{kind}
 use Rattle.lexopt_line_spec.specs.Spelling.{nothing, attached, joined, attached_value, no_optional, attached_optional, joined_optional, nothing_more, marked_value, no_words, separator}
 use Rattle.lexopt_laws.proofs.Computing.{computing}
-use Rattle.lexopt_laws.proofs.Worked.{flag_of, last_of, value_behind, cluster_line, name_line, joined_line, plain_line}
+use Rattle.lexopt_laws.proofs.Worked.{flag_of, last_of, value_after, cluster_line, name_line, joined_line, plain_line}
 use Rattle.lexopt_laws.proofs.line_examples.options_of_optional_values_are_spelled.Goals as goal
 
 -- `-vi.bak f`
@@ -11,7 +11,7 @@ unfolding kind computing
 returns-clause-attached c =
     cluster_line (codes "vi.bak") _ refl
     (flag_of 0x76 (codes "i.bak") refl refl refl
-    (last_of 0x69 (codes ".bak") (attached (codes ".bak")) _ refl (value_behind 0x2E (codes "bak") refl) (attached_optional (codes ".bak") refl refl refl)))
+    (last_of 0x69 (codes ".bak") (attached (codes ".bak")) _ refl (value_after 0x2E (codes "bak") refl) (attached_optional (codes ".bak") refl refl refl)))
     (plain_line (codes "f") refl no_words)
 
 -- `-i .bak`
@@ -34,19 +34,19 @@ returns-clause-joined_empty c =
 pub returns-clause-switched_off : goal.returns-clause-switched_off
 unfolding kind computing
 returns-clause-switched_off c =
-    cluster_line (codes "i=x") _ refl (last_of 0x69 (codes "=x") (attached (codes "=x")) _ refl (value_behind 0x3D (codes "x") refl) (attached_optional (codes "=x") refl refl refl)) no_words
+    cluster_line (codes "i=x") _ refl (last_of 0x69 (codes "=x") (attached (codes "=x")) _ refl (value_after 0x3D (codes "x") refl) (attached_optional (codes "=x") refl refl refl)) no_words
 
 -- `-io x`, `-oi x`
 pub returns-clause-before_an_option : goal.returns-clause-before_an_option
 unfolding kind computing
 returns-clause-before_an_option c =
-    cluster_line (codes "io") _ refl (last_of 0x69 (codes "o") (attached (codes "o")) _ refl (value_behind 0x6F [] refl) (attached_optional (codes "o") refl refl refl))
+    cluster_line (codes "io") _ refl (last_of 0x69 (codes "o") (attached (codes "o")) _ refl (value_after 0x6F [] refl) (attached_optional (codes "o") refl refl refl))
     (plain_line (codes "x") refl no_words)
 
-pub returns-clause-behind_an_option : goal.returns-clause-behind_an_option
+pub returns-clause-after_an_option : goal.returns-clause-after_an_option
 unfolding kind computing
-returns-clause-behind_an_option c =
-    cluster_line (codes "oi") _ refl (last_of 0x6F (codes "i") (attached (codes "i")) _ refl (value_behind 0x69 [] refl) (attached_value (codes "i") refl refl refl))
+returns-clause-after_an_option c =
+    cluster_line (codes "oi") _ refl (last_of 0x6F (codes "i") (attached (codes "i")) _ refl (value_after 0x69 [] refl) (attached_value (codes "i") refl refl refl))
     (plain_line (codes "x") refl no_words)
 
 -- `--color --color=auto --color auto`

@@ -2,7 +2,7 @@ use Rattle.std.proofs.Common.{[], ◌∷◌, codes, refl}
 use Rattle.lexopt_line_spec.specs.Table.{kind}
 use Rattle.lexopt_line_spec.specs.Spelling.{nothing, attached, joined, no_value, joined_several, attached_several, several_words, nothing_more, marked_value, no_words, separator}
 use Rattle.lexopt_laws.proofs.Computing.{computing}
-use Rattle.lexopt_laws.proofs.Worked.{last_of, value_behind, cluster_line, name_line, joined_line, plain_line, plain_front_is, some}
+use Rattle.lexopt_laws.proofs.Worked.{last_of, value_after, cluster_line, name_line, joined_line, plain_line, plain_front_is, some}
 use Rattle.lexopt_laws.proofs.line_examples.options_of_several_values_are_spelled.Goals as goal
 
 -- `-d 1 2 -d1 2 -d=1 2 -d=`
@@ -13,7 +13,7 @@ returns-clause-every_form c =
     (last_of 0x64 [] nothing _ refl (nothing_more refl refl)
     (several_words (codes "1" ∷ codes "2" ∷ []) refl (plain_front_is _ (codes "-d1" ∷ codes "2" ∷ codes "-d=1" ∷ codes "2" ∷ codes "-d=" ∷ []) refl refl) (some _ _) refl))
     (cluster_line (codes "d1") _ refl
-    (last_of 0x64 (codes "1") (attached (codes "1")) _ refl (value_behind 0x31 [] refl)
+    (last_of 0x64 (codes "1") (attached (codes "1")) _ refl (value_after 0x31 [] refl)
     (attached_several (codes "1") (codes "2" ∷ []) refl (plain_front_is _ (codes "-d=1" ∷ codes "2" ∷ codes "-d=" ∷ []) refl refl) refl))
     (cluster_line (codes "d=1") _ refl
     (last_of 0x64 (codes "=1") (joined (codes "1")) _ refl (marked_value (codes "1") refl refl refl) (joined_several (codes "1") refl refl refl))
@@ -29,13 +29,13 @@ returns-clause-switched_off c =
     (last_of 0x64 [] nothing _ refl (nothing_more refl refl)
     (several_words (codes "1" ∷ codes "2" ∷ []) refl (plain_front_is _ (codes "-d1" ∷ codes "2" ∷ codes "-d=1" ∷ codes "2" ∷ codes "-d=" ∷ []) refl refl) (some _ _) refl))
     (cluster_line (codes "d1") _ refl
-    (last_of 0x64 (codes "1") (attached (codes "1")) _ refl (value_behind 0x31 [] refl)
+    (last_of 0x64 (codes "1") (attached (codes "1")) _ refl (value_after 0x31 [] refl)
     (attached_several (codes "1") (codes "2" ∷ []) refl (plain_front_is _ (codes "-d=1" ∷ codes "2" ∷ codes "-d=" ∷ []) refl refl) refl))
     (cluster_line (codes "d=1") _ refl
-    (last_of 0x64 (codes "=1") (attached (codes "=1")) _ refl (value_behind 0x3D (codes "1") refl)
+    (last_of 0x64 (codes "=1") (attached (codes "=1")) _ refl (value_after 0x3D (codes "1") refl)
     (attached_several (codes "=1") (codes "2" ∷ []) refl (plain_front_is _ (codes "-d=" ∷ []) refl refl) refl))
     (cluster_line (codes "d=") _ refl
-    (last_of 0x64 (codes "=") (attached (codes "=")) _ refl (value_behind 0x3D [] refl) (attached_several (codes "=") [] refl (plain_front_is _ [] refl refl) refl))
+    (last_of 0x64 (codes "=") (attached (codes "=")) _ refl (value_after 0x3D [] refl) (attached_several (codes "=") [] refl (plain_front_is _ [] refl refl) refl))
     no_words)))
 
 -- `--cmd a - -x`

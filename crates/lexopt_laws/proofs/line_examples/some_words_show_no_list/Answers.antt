@@ -9,27 +9,27 @@ use Rattle.lexopt_laws.proofs.Worked.{some, not_mark, reads_first, reads_name, r
 use Rattle.lexopt_laws.proofs.line_examples.some_words_show_no_list.Goals as goal
 
 -- `-v=1`
-pub returns-clause-value_behind_a_flag : goal.returns-clause-value_behind_a_flag
+pub returns-clause-value_after_a_flag : goal.returns-clause-value_after_a_flag
 unfolding kind computing
-returns-clause-value_behind_a_flag c = none_shown _ _ _ (next ∷ next ∷ [])
+returns-clause-value_after_a_flag c = none_shown _ _ _ (next ∷ next ∷ [])
     (steps.short 0x76 ∷ steps.unexpected (codes "-v") (codes "1") ∷ []) (steps.unexpected (codes "-v") (codes "1")) _
     (_, inl (reads_first _ 0x76 (codes "=1") [] refl refl refl refl), (_, inl (equals_value (codes "1") (codes "-v") refl refl refl refl refl), refl))
     (more flag flag next _ _ _ refl tt refl (last flag next refl tt))
     (λ is. let e : steps.unexpected (codes "-v") (codes "1") ≡ steps.end = is in cc)
 
 -- `-a=b`
-pub returns-clause-value_behind_a_first_flag : goal.returns-clause-value_behind_a_first_flag
+pub returns-clause-value_after_a_first_flag : goal.returns-clause-value_after_a_first_flag
 unfolding kind computing
-returns-clause-value_behind_a_first_flag c = none_shown _ _ _ (next ∷ next ∷ [])
+returns-clause-value_after_a_first_flag c = none_shown _ _ _ (next ∷ next ∷ [])
     (steps.short 0x61 ∷ steps.unexpected (codes "-a") (codes "b") ∷ []) (steps.unexpected (codes "-a") (codes "b")) _
     (_, inl (reads_first _ 0x61 (codes "=b") [] refl refl refl refl), (_, inl (equals_value (codes "b") (codes "-a") refl refl refl refl refl), refl))
     (more flag flag next _ _ _ refl tt refl (last flag next refl tt))
     (λ is. let e : steps.unexpected (codes "-a") (codes "b") ≡ steps.end = is in cc)
 
 -- `--=`
-pub returns-clause-value_behind_a_long_flag : goal.returns-clause-value_behind_a_long_flag
+pub returns-clause-value_after_a_long_flag : goal.returns-clause-value_after_a_long_flag
 unfolding kind computing
-returns-clause-value_behind_a_long_flag c = none_shown _ _ _ (next ∷ next ∷ [])
+returns-clause-value_after_a_long_flag c = none_shown _ _ _ (next ∷ next ∷ [])
     (steps.long [] ∷ steps.unexpected (codes "--") [] ∷ []) (steps.unexpected (codes "--") []) _ (
       _,
       inl (reads_joined _ [] [] [] refl refl refl refl),

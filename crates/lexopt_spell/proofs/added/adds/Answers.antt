@@ -15,8 +15,8 @@ returns-in-Long c =
     let name = string_bytes c.in-Long.name in
     let has = list_any (λ b. b == equals) name in
     let place = place_view c.args.place in
-    let joins = spec.separator_comes_too_early (map item_view c.args.behind.now) in
-    let due = spec.separator_is_due (map item_view c.args.behind.now) in
+    let joins = spec.separator_comes_too_early (map item_view c.args.after.now) in
+    let due = spec.separator_is_due (map item_view c.args.after.now) in
     c.long_added.ensures
     ∙ ap (λ (u : Bool). spec.long_added u has place name (form_answer c.long_form.result)) (sym (is_utf8-from_IsUtf8 name (IsUtf8-string_bytes c.in-Long.name)))
     ∙ ap (λ (f : Result Form Reason). spec.long_added (is_utf8 name) has place name f)
@@ -28,8 +28,8 @@ returns-in-LongMany c =
     let name = string_bytes c.in-LongMany.name in
     let has = list_any (λ b. b == equals) name in
     let place = place_view c.args.place in
-    let joins = spec.separator_comes_too_early (map item_view c.args.behind.now) in
-    let due = spec.separator_is_due (map item_view c.args.behind.now) in
+    let joins = spec.separator_comes_too_early (map item_view c.args.after.now) in
+    let due = spec.separator_is_due (map item_view c.args.after.now) in
     c.long_added-in-LongMany.ensures
     ∙ ap (λ (u : Bool). spec.long_added u has place name (form_answer c.long_many_form.result)) (sym (is_utf8-from_IsUtf8 name (IsUtf8-string_bytes c.in-LongMany.name)))
     ∙ ap (λ (f : Result Form Reason). spec.long_added (is_utf8 name) has place name f)

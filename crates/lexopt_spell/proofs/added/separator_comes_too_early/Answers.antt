@@ -1,6 +1,6 @@
 use Rattle.std.proofs.Common.{sym, ◌∙◌}
 use Rattle.lexopt_items.specs.Items.{item_view}
-use Rattle.lexopt_spell.proofs.Behind.{others_asked}
+use Rattle.lexopt_spell.proofs.After.{others_asked}
 use Rattle.lexopt_spell.proofs.added.separator_comes_too_early.Goals as goal
 
 pub returns-then-is_no_option : goal.returns-then-is_no_option

@@ -1,6 +1,6 @@
 use Rattle.std.proofs.Common.{sym, ◌∙◌}
 use Rattle.lexopt_items.specs.Items.{item_view}
-use Rattle.lexopt_spell.proofs.Behind.{row_asked, no_row}
+use Rattle.lexopt_spell.proofs.After.{row_asked, no_row}
 use Rattle.lexopt_spell.proofs.added.separator_is_due.Goals as goal
 
 pub returns-then-are_no_options : goal.returns-then-are_no_options

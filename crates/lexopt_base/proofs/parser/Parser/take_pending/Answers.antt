@@ -21,8 +21,8 @@ returns c =
           (ap ended_of w.in-PendingValue.is) left
       | in-Shorts+then-is_joined w ↦
           let at = w.in-Shorts.position in
-          let behind = ap (drop at) w.current.ensures in
-          let joins = subst (λ (l : List ℕ). IsJoined (pending_in p.short_equals (rest_of l))) behind (w.is_joined.ensures.0 w.if-is_joined.true) in
+          let after = ap (drop at) w.current.ensures in
+          let joins = subst (λ (l : List ℕ). IsJoined (pending_in p.short_equals (rest_of l))) after (w.is_joined.ensures.0 w.if-is_joined.true) in
           value_taken p c.args.self.now c.take_current.result true c.take_current.new.self c.self.view_is
           (ap (λ (s : State). pending_in p.short_equals (tail_of word s)) w.in-Shorts.is
           ∙ joined_rest p.short_equals (drop at word) joins
@@ -30,13 +30,13 @@ returns c =
           (ap ended_of w.in-Shorts.is) left
       | in-Shorts+else-is_joined w ↦
           let at = w.in-Shorts.position in
-          let behind = ap (drop at) w.current.ensures in
+          let after = ap (drop at) w.current.ensures in
           let below : at < length word = subst (λ (s : State). IsPlaced word s) w.in-Shorts.is c.self.invariant.placed in
           let some : 0 < length (drop at word) = omega (arith, length-drop at word) in
           value_taken p c.args.self.now c.take_current.result false c.take_current.new.self c.self.view_is
           (ap (λ (s : State). pending_in p.short_equals (tail_of word s)) w.in-Shorts.is
           ∙ unjoined_rest p.short_equals (drop at word) some
-          (λ joins. true≢false (sym (w.is_joined.ensures.1 (subst (λ (l : List ℕ). IsJoined (pending_in p.short_equals (rest_of l))) (sym behind) joins)) ∙ w.if-is_joined.false))
+          (λ joins. true≢false (sym (w.is_joined.ensures.1 (subst (λ (l : List ℕ). IsJoined (pending_in p.short_equals (rest_of l))) (sym after) joins)) ∙ w.if-is_joined.false))
           ∙ ap (λ (l : List ℕ). Some (l, false)) (ap (λ n. drop n word) (sym w.position-is) ∙ sym value))
           (ap ended_of w.in-Shorts.is) left
     ]

@@ -1,6 +1,6 @@
 use Rattle.std.proofs.Common.{◌≡◌, Bool, true, false, refl, sym, ap, subst, ◌∙◌, true≢false}
 use Rattle.lexopt_spec.specs.UnreadLine.{UnreadLine}
-use Rattle.lexopt_spec.specs.Views.{ValueItem, gives_pending, behind_pending}
+use Rattle.lexopt_spec.specs.Views.{ValueItem, gives_pending, after_pending}
 use Rattle.lexopt_base.specs.Helpers.{IsJoined}
 use Rattle.lexopt_base.specs.Stages.{stage_of}
 use Rattle.lexopt_base.proofs.values.ValuesIter.first.Goals.{then-is_last, else-is_last}
@@ -17,9 +17,9 @@ returns-in-Some-clause-item c =
     (elim c.if-is_last.branch [
       | then-is_last w ↦
           let joined : found.0 ≡ true = subst IsJoined found.1 (c.has_joined_value-is_last.ensures.0 w.if-is_last.true) in
-          ap stage_of w.self-is ∙ ap behind_pending (sym joined)
+          ap stage_of w.self-is ∙ ap after_pending (sym joined)
       | else-is_last w ↦
-          ap stage_of w.self-is ∙ ap behind_pending
+          ap stage_of w.self-is ∙ ap after_pending
           (sym (not_true found.0 (λ is. true≢false (sym (w.if-is_last.ensures.1 (subst IsJoined (sym found.1) is))))))
     ])
 
