@@ -5,7 +5,7 @@ use Rattle.std.proofs.lemmas.List.{drop-drop, get_or_default}
 use Rattle.lexopt_spec.specs.UnreadLine.{equals, joined, no_tail}
 use Rattle.lexopt_spec.specs.Steps.{IsLongOption}
 use Rattle.lexopt_spec.proofs.LineLemmas.{long_cut, long_uncut}
-use Rattle.lexopt_base.specs.View.{IsLongRead}
+use Rattle.lexopt_base.specs.Models.{IsLongRead}
 use Rattle.lexopt_base.specs.declared.parser.State.TheVariants.{Ready, PendingValue}
 
 -- the byte at this place is `=`

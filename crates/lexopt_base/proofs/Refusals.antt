@@ -4,7 +4,7 @@ use Rattle.lexopt_spec.specs.UnreadLine.{UnreadLine, no_tail, spelling, pending,
 use Rattle.lexopt_spec.specs.Views.{RawStep, refuses_pending}
 use Rattle.lexopt_spec.specs.Steps.{Reply, unexpected, no_memory, Answers, Next, NextStep, TakesMemory, ReadsPositional, no_word_left, word_left, ReadsWord, reads_positional}
 use Rattle.lexopt_spec.proofs.LineLemmas.{refuses_joined, answers_map}
-use Rattle.lexopt_base.specs.Replies.{Gives}
+use Rattle.lexopt_base.specs.Replies.{RepliesWith}
 use Rattle.lexopt_base.specs.Helpers.{IsJoined, RefusesPending}
 use Rattle.lexopt_base.specs.Found.{refusal_reply}
 use Rattle.lexopt_base.specs.declared.parser.Refusal.{Refusal}
@@ -12,7 +12,7 @@ use Rattle.lexopt_base.specs.declared.parser.Refusal.TheVariants.{UnexpectedValu
 
 -- a call that was refused memory changes nothing, where its step would have made a text
 pub refused : (Step : UnreadLine → Reply → UnreadLine → Type 0) (u : UnreadLine) (wanted : Reply) (there : UnreadLine) → Step u wanted there → TakesMemory wanted
-    → Gives (Answers Step) u (Some no_memory) u
+    → RepliesWith (Answers Step) u (Some no_memory) u
 refused Step u wanted there step takes = inr (record { reply_is = refl; after_is = refl; in_place_of = (wanted, there, step, takes) })
 
 -- what is there
@@ -29,7 +29,7 @@ flag_of None = []
 flag_of (Some value) = value.0
 
 -- `next` refuses a value that is joined by `=`
-pub refuses : (u v : UnreadLine) (refusal : Refusal) → IsJoined (pending u) → RefusesPending u refusal v → Gives Next u (Some (refusal_reply refusal)) v
+pub refuses : (u v : UnreadLine) (refusal : Refusal) → IsJoined (pending u) → RefusesPending u refusal v → RepliesWith Next u (Some (refusal_reply refusal)) v
 unfolding joined_of flag_of
 refuses u v (UnexpectedValue option value) is h =
     let found = joined_of (pending u) is in
@@ -44,13 +44,13 @@ refuses u v OutOfMemory is h =
 
 -- what a helper's relation gives, the call's relation gives
 pub gives_map : (S T : UnreadLine → Reply → UnreadLine → Type 0) (u : UnreadLine) → ((r : Reply) (v : UnreadLine) → S u r v → T u r v)
-    → (reply : Option Reply) (v : UnreadLine) → Gives (Answers S) u reply v → Gives (Answers T) u reply v
+    → (reply : Option Reply) (v : UnreadLine) → RepliesWith (Answers S) u reply v → RepliesWith (Answers T) u reply v
 gives_map S T u f None v h = absurd h
 gives_map S T u f (Some reply) v h = answers_map S T u f reply v h
 
 -- what a step gives, a call gives where it may be refused memory
 pub gives_step : (S T : UnreadLine → Reply → UnreadLine → Type 0) (s u : UnreadLine) → ((r : Reply) (v : UnreadLine) → S s r v → T u r v)
-    → (reply : Option Reply) (v : UnreadLine) → Gives S s reply v → Gives (Answers T) u reply v
+    → (reply : Option Reply) (v : UnreadLine) → RepliesWith S s reply v → RepliesWith (Answers T) u reply v
 gives_step S T s u f None v h = absurd h
 gives_step S T s u f (Some reply) v h = inl (f reply v h)
 
@@ -64,7 +64,7 @@ positional_read u word others r v some plain (word_left w ws is reply after) =
 
 -- `raw_args` refuses what is pending, whatever would have been asked of the words
 pub refuses_raw : (Taken : UnreadLine → Reply → UnreadLine → Type 0) (u v : UnreadLine) (refusal : Refusal) → RefusesPending u refusal v
-    → Gives (Answers (RawStep Taken)) u (Some (refusal_reply refusal)) v
+    → RepliesWith (Answers (RawStep Taken)) u (Some (refusal_reply refusal)) v
 refuses_raw Taken u v (UnexpectedValue option value) h = inl (refuses_pending value (string_bytes option) h.1.0 h.1.1 h.0 refl h.1.2)
 refuses_raw Taken u v OutOfMemory h =
     let option = some_of (spelling u.last) h.1 in

@@ -9,7 +9,7 @@ use Rattle.lexopt_spec.specs.Pieces.{shown}
 use Rattle.lexopt_spec.specs.Steps.{Reply, long, maybe, OptionalStep, optional_pending, optional_none}
 use Rattle.lexopt_spec.proofs.LineLemmas.{rest_of-some, same_parts}
 use Rattle.lexopt_base.specs.KeptWords.{Kept, word_before, TakesNext}
-use Rattle.lexopt_base.specs.View.{tail_of, ended_of, last_of, line_of, IsPlaced, IsShortRead}
+use Rattle.lexopt_base.specs.Models.{tail_of, ended_of, last_of, line_of, IsPlaced, IsShortRead}
 use Rattle.lexopt_base.specs.Found.{name_of}
 use Rattle.lexopt_spec.specs.Views.{WordItem}
 use Rattle.lexopt_base.specs.Helpers.{IsJoined, TakesPending}

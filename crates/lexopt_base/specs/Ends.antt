@@ -4,11 +4,11 @@ use Rattle.std.specs.Borrow.{Fml, MutBor}
 use Rattle.std.specs.Io.BufRead.{Rests}
 use Rattle.lexopt_spec.specs.UnreadLine.{UnreadLine}
 use Rattle.lexopt_spec.specs.Steps.{Next}
-use Rattle.lexopt_base.specs.Replies.{Gives, next_reply}
+use Rattle.lexopt_base.specs.Replies.{RepliesWith, next_reply}
 use Rattle.lexopt_words.specs.declared.error.Arg.{Arg}
 use Rattle.lexopt_words.specs.declared.error.Error.{Error}
 use Rattle.lexopt_base.specs.contracts.parser.Parser.{the_row}
 
 -- the line goes on as `next` does with this answer
 abbrev pub EndsAfter : MutBor UnreadLine → Result (Option Arg) Error → Fml
-EndsAfter parser result = Rests the_row parser (Gives Next parser.now (next_reply result))
+EndsAfter parser result = Rests the_row parser (RepliesWith Next parser.now (next_reply result))

@@ -1,5 +1,5 @@
 pub mod KeptWords
-pub mod View
+pub mod Models
 pub mod Replies
 pub mod Found
 pub mod Helpers

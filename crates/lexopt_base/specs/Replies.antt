@@ -36,10 +36,10 @@ value_reply (Ok word) = Some (taken word)
 value_reply (Err e) = error_reply e
 
 -- a call answers at the line u by this relation, with this reply, and leaves the line after
-abbrev pub Gives : (UnreadLine → Reply → UnreadLine → Type 0) → UnreadLine → Option Reply → UnreadLine → Type 0
-Gives Answers u None after = ⊥
-Gives Answers u (Some reply) after = Answers u reply after
+abbrev pub RepliesWith : (UnreadLine → Reply → UnreadLine → Type 0) → UnreadLine → Option Reply → UnreadLine → Type 0
+RepliesWith Answers u None after = ⊥
+RepliesWith Answers u (Some reply) after = Answers u reply after
 
 -- `next` can answer so at the line u
 abbrev pub CanReply : UnreadLine → Option Reply → Type 0
-CanReply u reply = (after : UnreadLine) × Gives Next u reply after
+CanReply u reply = (after : UnreadLine) × RepliesWith Next u reply after

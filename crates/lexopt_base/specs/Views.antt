@@ -5,7 +5,7 @@ use Rattle.lexopt_spec.specs.UnreadLine.{UnreadLine}
 use Rattle.lexopt_spec.specs.Runs.{Step, values, raw, raw_if}
 use Rattle.lexopt_spec.specs.Views.{ValueItem, WordItem}
 use Rattle.lexopt_base.specs.Stages.{stage_of}
-use Rattle.lexopt_base.specs.Replies.{Gives, error_reply}
+use Rattle.lexopt_base.specs.Replies.{RepliesWith, error_reply}
 use Rattle.lexopt_words.specs.declared.error.Error.{Error}
 use Rattle.lexopt_words.specs.declared.os_string.OsStr.{OsStr}
 use Rattle.lexopt_base.specs.declared.values.ValuesIter.{ValuesIter}
@@ -22,7 +22,7 @@ GivesValue view item after =
 
 -- this error is what `values` answers, however many items would have been asked
 abbrev pub RefusesValues : UnreadLine → Error → UnreadLine → Type 0
-RefusesValues u e after = (n : ℕ) → Gives (Step (values n)) u (error_reply e) after
+RefusesValues u e after = (n : ℕ) → RepliesWith (Step (values n)) u (error_reply e) after
 
 -- after an error the line is the one that goes with it, else the one that the view leaves
 abbrev pub RestsIfRefused : MutBor UnreadLine → Result ValuesIter Error → Fml
@@ -39,7 +39,7 @@ GivesWord view item after =
 -- this error is what `raw_args` answers, whatever would have been asked of the words
 abbrev pub RefusesRaw : UnreadLine → Error → UnreadLine → Type 0
 RefusesRaw u e after =
-    ((n : ℕ) → Gives (Step (raw n)) u (error_reply e) after) × ((word : List ℕ) → Gives (Step (raw_if word)) u (error_reply e) after)
+    ((n : ℕ) → RepliesWith (Step (raw n)) u (error_reply e) after) × ((word : List ℕ) → RepliesWith (Step (raw_if word)) u (error_reply e) after)
 
 abbrev pub RestsIfRawRefused : MutBor UnreadLine → Result RawArgs Error → Fml
 RestsIfRawRefused parser result =

@@ -109,7 +109,7 @@ impl KeptWords {
     }
 
     /// A copy of the word just before the cursor and of the words after it.
-    pub fn copied(&self) -> Result<KeptWords, AllocError>
+    pub fn copy(&self) -> Result<KeptWords, AllocError>
         ensures { IfOk result (λ kept. kept ≡ self.now) }
     {
         let first = self.count.saturating_sub(1);

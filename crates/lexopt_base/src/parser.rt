@@ -6,13 +6,13 @@ ghost use Rattle.std.specs.Iterator.Runs.{WholeRun};
 ghost use Rattle.lexopt_spec.specs.Pieces.{lossy};
 ghost use Rattle.lexopt_spec.specs.UnreadLine.{IsNormalIn, dash, fresh, invoked, no_tail, pending, pending_in, rest_of, spelling};
 ghost use Rattle.lexopt_spec.specs.Steps.{Answers, Next, OptionalStep, Reply, Value, ReadsPositional, ReadsWord, maybe};
-ghost use Rattle.lexopt_base.specs.Replies.{CanReply, Gives, next_reply, value_reply};
+ghost use Rattle.lexopt_base.specs.Replies.{CanReply, RepliesWith, next_reply, value_reply};
 ghost use Rattle.lexopt_base.specs.Found.{found_as, found_reply};
 ghost use Rattle.lexopt_words.specs.Message.{IsCustom};
 ghost use Rattle.lexopt_spec.specs.Views.{WordItem, available};
 ghost use Rattle.lexopt_base.specs.Helpers.{IsJoined, RefusesPending, TakesPending};
 ghost use Rattle.lexopt_base.specs.Views.{RefusesRaw, RefusesValues};
-ghost use Rattle.lexopt_base.specs.View.{IsLongRead, IsShortRead};
+ghost use Rattle.lexopt_base.specs.Models.{IsLongRead, IsShortRead};
 
 use crate::kept_words::KeptWords;
 use bstr::ByteSlice;
@@ -75,7 +75,7 @@ impl Model for Parser {
 
     ghost Value = { UnreadLine };
 
-    ghost use Rattle.lexopt_base.specs.View.{line_of, IsSound};
+    ghost use Rattle.lexopt_base.specs.Models.{line_of, IsSound};
 
     ghost view = { line_of };
 
@@ -100,7 +100,7 @@ impl Parser {
             × WholeRun I.IntoIter.next_gives items (λ run. parser ≡ fresh run.items)) }
         ensures err { IfErr result (λ e. e ≡ Error.OutOfMemory) }
     {
-        let words = collected(alloc, args)?;
+        let words = collect_words(alloc, args)?;
         Ok(Parser::unread(alloc, KeptWords::new(alloc, words), None))
     }
 
@@ -128,7 +128,7 @@ impl Parser {
             × WholeRun I.IntoIter.next_gives items (λ run. parser ≡ invoked run.items)) }
         ensures err { IfErr result (λ e. e ≡ Error.OutOfMemory) }
     {
-        let all = collected(alloc, args)?;
+        let all = collect_words(alloc, args)?;
         Ok(Parser::invoked(alloc, all)?)
     }
 
@@ -193,7 +193,7 @@ impl Parser {
     /// consumes anything.
     #[inline(always)]
     pub fn value(&mut self) -> Result<OsString, Error>
-        ensures { Gives Value self.old (value_reply result) self.new }
+        ensures { RepliesWith Value self.old (value_reply result) self.new }
     {
         if let Some(value) = self.take_pending() {
             return Ok(value);
@@ -245,7 +245,7 @@ impl Parser {
     // Reads the next option or positional argument. A long option is then the last option, whose name can be lent.
     #[inline(always)]
     fn advance(&mut self) -> Result<Found, Refusal>
-        ensures { Gives Next self.old (found_reply self.new.last result) self.new }
+        ensures { RepliesWith Next self.old (found_reply self.new.last result) self.new }
     {
         if self.has_joined_value() {
             return Err(self.refuse_pending());
@@ -268,7 +268,7 @@ impl Parser {
     fn read_word(&mut self) -> Result<Found, Refusal>
         requires tail { self.old.tail ≡ no_tail }
         requires ended { self.old.ended ≡ false }
-        ensures { Gives (Answers ReadsWord) self.old (found_reply self.new.last result) self.new }
+        ensures { RepliesWith (Answers ReadsWord) self.old (found_reply self.new.last result) self.new }
     {
         let Some(word) = self.words.first() else {
             return Ok(Found::End);
@@ -303,7 +303,7 @@ impl Parser {
     #[inline(always)]
     fn read_positional(&mut self) -> Found
         requires { self.old.tail ≡ no_tail }
-        ensures { Gives ReadsPositional self.old (found_as self.new.last result) self.new }
+        ensures { RepliesWith ReadsPositional self.old (found_as self.new.last result) self.new }
     {
         match self.take_word() {
             Some(word) => Found::Value(word),
@@ -496,7 +496,7 @@ impl Clone for Parser {
         };
         Ok(Parser {
             alloc: self.alloc,
-            words: self.words.copied()?,
+            words: self.words.copy()?,
             state: self.state,
             last_option: self.last_option,
             name: String::from_str(self.alloc, &self.name)?,
@@ -556,7 +556,7 @@ impl From<Refusal> for Error {
 }
 
 // All items of these.
-fn collected<I>(alloc: Global, args: I) -> Result<Vec<OsString>, AllocError>
+fn collect_words<I>(alloc: Global, args: I) -> Result<Vec<OsString>, AllocError>
 where
     I: IntoIterator<Item = OsString> + Drop,
     I::IntoIter: Drop,

@@ -1,7 +1,7 @@
 -- What `replay` tells of a list of calls: the relations of the grammar, over calls and replies of Rust.
 use Rattle.std.specs.Prelude.{◌≡◌, ◌+◌, ◌++◌, ◌≤◌, List, map}
 use Rattle.std.specs.List.{flat_map}
-use Rattle.lexopt_spec.specs.Account.{Segment, bytes_of, flat, handed, shown_of}
+use Rattle.lexopt_spec.specs.Account.{Segment, bytes_of, flat, bytes_handed_out, shown_of}
 use Rattle.lexopt_spec.specs.Runs as runs
 use Rattle.lexopt_spec.specs.UnreadLine.{UnreadLine}
 use Rattle.lexopt_line_spec.specs.Bound.{bound, replies_count}
@@ -23,7 +23,7 @@ abbrev pub AccountsForBytes : UnreadLine → List Call → List Reply → Unread
 AccountsForBytes u calls replies v = (segments : List Segment)
     × runs.AccountedRun u (map call_view calls) (map reply_view replies) segments v
     × (flat u ≡ bytes_of segments ++ flat v)
-    × (flat_map handed (map reply_view replies) ≡ shown_of segments)
+    × (flat_map bytes_handed_out (map reply_view replies) ≡ shown_of segments)
 
 -- a cluster that is read by `next` alone is its lossy characters
 abbrev pub ReplaysPieces : UnreadLine → List Call → List Reply → UnreadLine → Type 0

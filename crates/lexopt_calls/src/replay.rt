@@ -6,7 +6,7 @@ ghost use Rattle.lexopt_spec.specs.Steps.{Next, Value};
 ghost use Rattle.lexopt_spec.specs.Runs.{Step, values, raw, raw_if, try_raw, up_to};
 ghost use Rattle.lexopt_spec.specs.Views.{ValueItems, WordItems};
 ghost use Rattle.lexopt_base.specs.Stages.{stage_of};
-ghost use Rattle.lexopt_base.specs.Replies.{Gives, error_reply, next_reply};
+ghost use Rattle.lexopt_base.specs.Replies.{RepliesWith, error_reply, next_reply};
 ghost use Rattle.lexopt_calls.specs.Replies.{TakesThis, call_view, reply_view};
 ghost use Rattle.lexopt_calls.specs.Lists.{AccountsForBytes, KeepsBound, Replays, ReplaysPart, ReplaysPieces};
 
@@ -20,7 +20,10 @@ use std::alloc::{AllocError, Global};
 
 // Copies a reply of `next` out of the parser. It is none where no parser answers so.
 #[inline(always)]
-fn copied(alloc: Global, reply: Result<Option<Arg<'_>>, Error>) -> Result<Option<Reply>, AllocError>
+fn copy_reply(
+    alloc: Global,
+    reply: Result<Option<Arg<'_>>, Error>,
+) -> Result<Option<Reply>, AllocError>
     ensures { IfOk result (λ copy. option_map reply_view copy ≡ next_reply reply.entry) }
 {
     match reply {
@@ -52,16 +55,16 @@ fn refusal(error: Error) -> Option<Reply>
 /// One call of `next`. The reply is none where no parser answers so. The crate `lexopt` does not hand this on.
 #[inline(always)]
 pub fn call_next(alloc: Global, parser: &mut Parser) -> Result<Option<Reply>, AllocError>
-    ensures { (reply : Option steps.Reply) × Gives Next parser.old reply parser.new
+    ensures { (reply : Option steps.Reply) × RepliesWith Next parser.old reply parser.new
         × IfOk result (λ copy. option_map reply_view copy ≡ reply) }
 {
     let reply = parser.next();
-    copied(alloc, reply)
+    copy_reply(alloc, reply)
 }
 
 // One call of `value`.
 fn call_value(parser: &mut Parser) -> Option<Reply>
-    ensures { Gives Value parser.old (option_map reply_view result) parser.new }
+    ensures { RepliesWith Value parser.old (option_map reply_view result) parser.new }
 {
     match parser.value() {
         Ok(word) => Some(Reply::Taken(word)),
@@ -75,17 +78,17 @@ fn call_values(
     parser: &mut Parser,
     count: usize,
 ) -> Result<Option<Reply>, AllocError>
-    ensures { (m : ℕ) × (reply : Option steps.Reply) × (m ≤ count) × Gives (Step (values m)) parser.old reply parser.new
+    ensures { (m : ℕ) × (reply : Option steps.Reply) × (m ≤ count) × RepliesWith (Step (values m)) parser.old reply parser.new
         × IfOk result (λ copy. (m ≡ count) × (option_map reply_view copy ≡ reply)) }
 {
     match parser.values() {
-        Ok(mut view) => Ok(Some(Reply::Items(values_of(alloc, &mut view, count)?))),
+        Ok(mut view) => Ok(Some(Reply::Items(take_values(alloc, &mut view, count)?))),
         Err(error) => Ok(refusal(error)),
     }
 }
 
 /// So many items of a view of values, or fewer where it ends before. The crate `lexopt` does not hand this on.
-pub fn values_of(
+pub fn take_values(
     alloc: Global,
     view: &mut ValuesIter<'_>,
     count: usize,
@@ -107,11 +110,11 @@ pub fn values_of(
 
 // One call of `raw_args`, and so many words.
 fn call_raw(alloc: Global, parser: &mut Parser, count: usize) -> Result<Option<Reply>, AllocError>
-    ensures { (m : ℕ) × (reply : Option steps.Reply) × (m ≤ count) × Gives (Step (raw m)) parser.old reply parser.new
+    ensures { (m : ℕ) × (reply : Option steps.Reply) × (m ≤ count) × RepliesWith (Step (raw m)) parser.old reply parser.new
         × IfOk result (λ copy. (m ≡ count) × (option_map reply_view copy ≡ reply)) }
 {
     match parser.raw_args() {
-        Ok(mut view) => Ok(Some(Reply::Items(words_of(alloc, &mut view, count)?))),
+        Ok(mut view) => Ok(Some(Reply::Items(take_words(alloc, &mut view, count)?))),
         Err(error) => Ok(refusal(error)),
     }
 }
@@ -122,14 +125,14 @@ fn call_try_raw(alloc: Global, parser: &mut Parser, count: usize) -> Result<Repl
         × IfOk result (λ copy. (m ≡ count) × (reply_view copy ≡ reply)) }
 {
     match parser.try_raw_args() {
-        Some(mut view) => Ok(Reply::Items(words_of(alloc, &mut view, count)?)),
+        Some(mut view) => Ok(Reply::Items(take_words(alloc, &mut view, count)?)),
         None => Ok(Reply::Busy),
     }
 }
 
 // One call of `raw_args`, and its next word where it is this one.
 fn call_raw_if(parser: &mut Parser, wanted: &OsString) -> Option<Reply>
-    ensures { Gives (Step (raw_if wanted.now)) parser.old (option_map reply_view result) parser.new }
+    ensures { RepliesWith (Step (raw_if wanted.now)) parser.old (option_map reply_view result) parser.new }
 {
     match parser.raw_args() {
         Ok(mut view) => Some(Reply::Maybe(take_if(&mut view, wanted, |word| {
@@ -154,7 +157,7 @@ fn take_if<F: FnOnce(OsStr<'_>) -> bool + Drop>(
 }
 
 // So many words of a view of words, or fewer where it ends before.
-fn words_of(
+fn take_words(
     alloc: Global,
     view: &mut RawArgs<'_>,
     count: usize,

@@ -13,7 +13,7 @@ use Rattle.lexopt_line_spec.proofs.Bounds.{given_falls, step_bound}
 use Rattle.lexopt_line_spec.proofs.Rounds.{option_reply, says_flag, says_value, says_optional, says_several, says_positional, reads_last, reads_refused}
 use Rattle.lexopt_line_spec.specs.Spelling.{Shows}
 use Rattle.lexopt_line_spec.proofs.WholeLines.{shown_said}
-use Rattle.lexopt_base.specs.Replies.{Gives, error_reply}
+use Rattle.lexopt_base.specs.Replies.{RepliesWith, error_reply}
 use Rattle.lexopt_words.specs.declared.error.Error.{Error}
 use Rattle.lexopt_words.specs.declared.error.Error.TheVariants.{MissingValue, UnexpectedOption, UnexpectedArgument, UnexpectedValue, ParsingFailed, NonUnicodeValue, Custom, OutOfMemory}
 use Rattle.std.specs.Prelude.{Result, Ok, Err, IfErr, IfOk}
@@ -27,7 +27,7 @@ use Rattle.lexopt_items.specs.declared.items.Ending.TheVariants.{Missing, Unexpe
 use Rattle.lexopt_items.specs.declared.items.Values.{Values}
 use Rattle.lexopt_items.specs.declared.items.Values.TheVariants.{AtMostOne, All}
 use Rattle.lexopt_calls.specs.Replies.{reply_view}
-use Rattle.lexopt_items.specs.Items.{ReadsItem, ReadsValues, RefusesValues, EndsBy, IsErrorOf, IsRefused, ending_view, item_with, kind_view}
+use Rattle.lexopt_items.specs.Items.{ReadsItem, ReadsValues, ValuesEndBy, EndsBy, IsErrorOf, FailsWith, ending_view, item_with, kind_view}
 
 pub list_any-map : {X Y : Type 0} (f : X → Y) (p : Y → Bool) (xs : List X) → list_any p (map f xs) ≡ list_any (λ x. p (f x)) xs
 list_any-map f p [] = refl
@@ -95,8 +95,8 @@ option_read t u v w name k values is step reads = absurd reads
 
 -- an error of the call for the values of an option ends the reading
 pub value_refused : (k : copies.Kind) (u v : UnreadLine) (e : Error) (ending : Ending) (call : Call) → IsDue (kind_view k) call → error_reply e ≡ Some (ending_view ending)
-    → Gives (Step call) u (error_reply e) v → RefusesValues k u ending
-value_refused k u v e ending call due is gives = inr (call, v, due, subst (λ (o : Option Reply). Gives (Step call) u o v) is gives)
+    → RepliesWith (Step call) u (error_reply e) v → ValuesEndBy k u ending
+value_refused k u v e ending call due is gives = inr (call, v, due, subst (λ (o : Option Reply). RepliesWith (Step call) u o v) is gives)
 
 no_memory_ends : (ending : Ending) → Some steps.no_memory ≡ Some (ending_view ending) → ending ≡ NoMemory
 no_memory_ends (Missing o) is = let f : Some steps.no_memory ≡ Some (ending_view (Missing o)) = is in cc
@@ -105,12 +105,12 @@ no_memory_ends NoMemory is = refl
 
 -- or memory is refused
 pub values_refused : (k : copies.Kind) (u v : UnreadLine) (e : Error) (ending : Ending) (call : Call) → IsDue (kind_view k) call → error_reply e ≡ Some (ending_view ending)
-    → (e ≡ OutOfMemory) ⊎ Gives (Step call) u (error_reply e) v → RefusesValues k u ending
+    → (e ≡ OutOfMemory) ⊎ RepliesWith (Step call) u (error_reply e) v → ValuesEndBy k u ending
 values_refused k u v e ending call due is (inl none) = inl (no_memory_ends ending (ap error_reply (sym none) ∙ is))
 values_refused k u v e ending call due is (inr gives) = value_refused k u v e ending call due is gives
 
 -- the call for the values of an option ends the reading
-pub option_refused : (t : Table) (u v : UnreadLine) (name : Name) (k : copies.Kind) (ending : Ending) → kind_view k ≡ kind t name → Next u (option_reply name) v → RefusesValues k v ending
+pub option_refused : (t : Table) (u v : UnreadLine) (name : Name) (k : copies.Kind) (ending : Ending) → kind_view k ≡ kind t name → Next u (option_reply name) v → ValuesEndBy k v ending
     → EndsBy t u ending
 option_refused t u v name k ending is step (inl none) = inl none
 option_refused t u v name k (Missing o) is step (inr r) = inr (_, reads_refused t u v r.1 name (kind_view k) r.0 (ending_view (Missing o)) (sym is) r.2 tt step r.3)
@@ -127,7 +127,7 @@ refused_later t u v l ending says (inl is) = inl is
 refused_later t u v l ending says (inr reading) = inr (_, says (ending_view ending) reading.0 reading.1)
 
 -- the error of what ended it
-pub is_refused : (t : Table) (u : UnreadLine) (ending : Ending) (e : Error) → EndsBy t u ending → IsErrorOf ending e → IsRefused t u e
+pub is_refused : (t : Table) (u : UnreadLine) (ending : Ending) (e : Error) → EndsBy t u ending → IsErrorOf ending e → FailsWith t u e
 is_refused t u NoMemory e ends is = inl is
 is_refused t u (Missing o) e (inl none) is = let f : Missing o ≡ NoMemory = none in cc
 is_refused t u (Missing None) e (inr r) is = inr (_, r.0, r.1, ap error_reply is)
@@ -141,9 +141,9 @@ end_read t u v w l says step = subst (IsReading t u steps.end) (append-nil l) (s
 
 -- ---- what a step gave
 
-pub gave : (u v : UnreadLine) (copy : Option replies.Reply) (x : replies.Reply) → ((reply : Option Reply) × Gives Next u reply v × (option_map reply_view copy ≡ reply))
+pub gave : (u v : UnreadLine) (copy : Option replies.Reply) (x : replies.Reply) → ((reply : Option Reply) × RepliesWith Next u reply v × (option_map reply_view copy ≡ reply))
     → copy ≡ Some x → Next u (reply_view x) v
-gave u v copy x h is = subst (λ (r : Option Reply). Gives Next u r v) (sym h.2 ∙ ap (option_map reply_view) is) h.1
+gave u v copy x h is = subst (λ (r : Option Reply). RepliesWith Next u r v) (sym h.2 ∙ ap (option_map reply_view) is) h.1
 
 -- an error, of which more is known
 pub err_says : {X Y : Type 0} (r : Result X Y) (P Q : Y → Type 0) → IsErrAnd r P → ((y : Y) → P y → Q y) → IfErr r Q
@@ -172,12 +172,12 @@ no_error (Custom c) is = let f : None ≡ Some steps.end = is in cc
 no_error OutOfMemory is = let f : Some steps.no_memory ≡ Some steps.end = is in cc
 
 -- where a reading ends in an error, the words show nothing
-pub refused_shows_none : (t : Table) (switch : Bool) (words : List (List ℕ)) (e : Error) → IsRefused t (start switch words) e
+pub refused_shows_none : (t : Table) (switch : Bool) (words : List (List ℕ)) (e : Error) → FailsWith t (start switch words) e
     → (e ≡ OutOfMemory) ⊎ ((l : List Item) → Shows t switch words l → ⊥)
 refused_shows_none t switch words e (inl is) = inl is
 refused_shows_none t switch words e (inr reading) = inr (λ l shows.
     let final = (shown_said t switch words l reading.1 reading.0 shows reading.2).0 in no_error e (reading.3 ∙ ap Some final))
 
-pub refused_shows : (t : Table) (switch : Bool) (words : List (List ℕ)) (l : List Item) (e : Error) → Shows t switch words l → IsRefused t (start switch words) e → e ≡ OutOfMemory
+pub refused_shows : (t : Table) (switch : Bool) (words : List (List ℕ)) (l : List Item) (e : Error) → Shows t switch words l → FailsWith t (start switch words) e → e ≡ OutOfMemory
 refused_shows t switch words l e shows refused =
     ⊎_elim (λ is. is) (λ (none : (m : List Item) → Shows t switch words m → ⊥). absurd (none l shows)) (refused_shows_none t switch words e refused)

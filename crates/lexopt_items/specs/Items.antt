@@ -64,8 +64,8 @@ ending_view (Unexpected o word) = unexpected (string_bytes o) word
 ending_view NoMemory = no_memory
 
 -- memory is refused, or the call for the values of an option of this kind ends the reading so
-abbrev pub RefusesValues : Kind → UnreadLine → Ending → Type 0
-RefusesValues k u ending =
+abbrev pub ValuesEndBy : Kind → UnreadLine → Ending → Type 0
+ValuesEndBy k u ending =
     (ending ≡ NoMemory) ⊎ ((call : calls.Call) × (v : UnreadLine) × IsDue (kind_view k) call × Step call u (ending_view ending) v)
 
 -- the item that is read next, and none at the end
@@ -84,5 +84,5 @@ IsErrorOf (Unexpected o word) e = e ≡ UnexpectedValue o word
 IsErrorOf NoMemory e = e ≡ OutOfMemory
 
 -- memory is refused, or a reading of the line ends with this error
-abbrev pub IsRefused : spec.Table → UnreadLine → Error → Type 0
-IsRefused t u e = (e ≡ OutOfMemory) ⊎ ((final : Reply) × (l : List spec.Item) × IsReading t u final l × (error_reply e ≡ Some final))
+abbrev pub FailsWith : spec.Table → UnreadLine → Error → Type 0
+FailsWith t u e = (e ≡ OutOfMemory) ⊎ ((final : Reply) × (l : List spec.Item) × IsReading t u final l × (error_reply e ≡ Some final))

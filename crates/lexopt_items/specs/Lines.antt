@@ -8,7 +8,7 @@ use Rattle.lexopt_line_spec.specs.Spelling.{HaveWholeNames, Shows, Spells}
 use Rattle.lexopt_line_spec.specs.Table as spec
 use Rattle.lexopt_words.specs.declared.error.Error.{Error}
 use Rattle.lexopt_words.specs.declared.error.Error.TheVariants.{OutOfMemory}
-use Rattle.lexopt_items.specs.Items.{IsRefused, item_view, table_view}
+use Rattle.lexopt_items.specs.Items.{FailsWith, item_view, table_view}
 use Rattle.lexopt_items.specs.declared.items.Item.{Item}
 use Rattle.lexopt_items.specs.declared.items.Table.{Table}
 
@@ -37,7 +37,7 @@ LineReads table short_equals words items =
 
 -- memory is refused, or a reading of the words ends with this error
 abbrev pub LineFails : Table → Bool → List (List ℕ) → Error → Type 0
-LineFails table short_equals words e = IsRefused (table_view table) (start short_equals words) e
+LineFails table short_equals words e = FailsWith (table_view table) (start short_equals words) e
 
 -- no option has U+FFFD in its name
 abbrev pub NamesAreWhole : List Item → Type 0

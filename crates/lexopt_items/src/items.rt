@@ -9,13 +9,13 @@ ghost use Rattle.lexopt_line_spec.specs.Table as spec;
 ghost use Rattle.lexopt_line_spec.specs.Table.{one_value};
 ghost use Rattle.lexopt_line_spec.specs.Readings.{IsReading};
 ghost use Rattle.lexopt_spec.specs.Runs.{Step, values};
-ghost use Rattle.lexopt_base.specs.Replies.{Gives, error_reply};
-ghost use Rattle.lexopt_items.specs.Items.{EndsBy, IsErrorOf, IsRefused, ReadsItem, ReadsValues, RefusesValues, ending_view, item_view, item_with, table_view};
+ghost use Rattle.lexopt_base.specs.Replies.{RepliesWith, error_reply};
+ghost use Rattle.lexopt_items.specs.Items.{EndsBy, IsErrorOf, FailsWith, ReadsItem, ReadsValues, ValuesEndBy, ending_view, item_view, item_with, table_view};
 ghost use Rattle.lexopt_items.specs.Lines.{IsAnswered, IsSpellable, LineFails, LineReads, LineShows, LineSpells, NamesAreWhole, ShowsList, ShowsNothing, SpellsList};
 
 use crate::kinds::{Kind, kind_of_long, kind_of_short};
 use lexopt_base::parser::Parser;
-use lexopt_calls::replay::{call_next, values_of};
+use lexopt_calls::replay::{call_next, take_values};
 use lexopt_calls::reply::{
     Reply, write_list, write_long, write_positional, write_short, write_word,
 };
@@ -222,10 +222,10 @@ fn ending_of(error: Error) -> Ending
 #[inline(always)]
 fn all_values(alloc: Global, parser: &mut Parser) -> Result<Vec<OsString>, Error>
     ensures ok { IfOk result (λ values. ReadsValues Kind.Several parser.old (Values.All values) parser.new) }
-    ensures err { IfErr result (λ e. (e ≡ Error.OutOfMemory) ⊎ Gives (Step (values 1)) parser.old (error_reply e) parser.new) }
+    ensures err { IfErr result (λ e. (e ≡ Error.OutOfMemory) ⊎ RepliesWith (Step (values 1)) parser.old (error_reply e) parser.new) }
 {
     match parser.values() {
-        Ok(mut view) => Ok(values_of(alloc, &mut view, usize::MAX)?),
+        Ok(mut view) => Ok(take_values(alloc, &mut view, usize::MAX)?),
         Err(error) => Err(error),
     }
 }
@@ -234,7 +234,7 @@ fn all_values(alloc: Global, parser: &mut Parser) -> Result<Vec<OsString>, Error
 #[inline(never)]
 fn read_several(alloc: Global, parser: &mut Parser) -> Result<Vec<OsString>, Ending>
     ensures ok { IfOk result (λ values. ReadsValues Kind.Several parser.old (Values.All values) parser.new) }
-    ensures err { IfErr result (λ ending. RefusesValues Kind.Several parser.old ending) }
+    ensures err { IfErr result (λ ending. ValuesEndBy Kind.Several parser.old ending) }
 {
     match all_values(alloc, parser) {
         Ok(values) => Ok(values),
@@ -246,7 +246,7 @@ fn read_several(alloc: Global, parser: &mut Parser) -> Result<Vec<OsString>, End
 #[inline(always)]
 fn read_values(alloc: Global, parser: &mut Parser, kind: Kind) -> Result<Values, Ending>
     ensures ok { IfOk result (λ values. ReadsValues kind parser.old values parser.new) }
-    ensures err { IfErr result (λ ending. RefusesValues kind parser.old ending) }
+    ensures err { IfErr result (λ ending. ValuesEndBy kind parser.old ending) }
 {
     match kind {
         Kind::Flag => Ok(Values::AtMostOne(None)),
@@ -294,7 +294,7 @@ fn read_item(alloc: Global, parser: &mut Parser, table: &Table) -> Result<Option
 }
 
 // The items that are left of a line, up to what ends its reading, in a list with room for so many from the start.
-fn gathered(
+fn read_items_left(
     alloc: Global,
     parser: &mut Parser,
     table: &Table,
@@ -322,17 +322,17 @@ fn items_of(
     room: usize,
 ) -> Result<Vec<Item>, Error>
     ensures ok { IfOk result (λ items. IsReading (table_view table.now) parser.old end (map item_view items.items)) }
-    ensures err { IfErr result (λ e. IsRefused (table_view table.now) parser.old e) }
+    ensures err { IfErr result (λ e. FailsWith (table_view table.now) parser.old e) }
 {
-    match gathered(alloc, parser, table, room) {
+    match read_items_left(alloc, parser, table, room) {
         Ok(items) => Ok(items),
-        Err(ending) => refused(ending),
+        Err(ending) => error_of(ending),
     }
 }
 
 // No items, for what ended their reading.
 #[cold]
-fn refused(ending: Ending) -> Result<Vec<Item>, Error>
+fn error_of(ending: Ending) -> Result<Vec<Item>, Error>
     ensures { IsErrAnd result (IsErrorOf ending) }
 {
     Err(Error::from(ending))

@@ -3,7 +3,7 @@ use Rattle.std.proofs.Common.{◌≡◌, ◌≢◌, ◌⊎◌, ℕ, Bool, true, 
 use Rattle.lexopt_spec.specs.UnreadLine.{UnreadLine, pending}
 use Rattle.lexopt_spec.specs.Steps.{Reply, long, missing, unexpected, no_memory, TakesMemory, Answers, ReadsPositional, no_word_left, word_left, ReadsWord, no_word, reads_separator, reads_long, reads_cluster, reads_positional, NextStep, joined_value, equals_value, next_in_cluster, after_separator, next_word, ValueStep, pending_value, takes_word, nothing_to_take, OptionalStep, optional_pending, optional_none, SwitchStep}
 use Rattle.lexopt_spec.specs.Views.{available, ValuesStep, no_values, some_values, TakesWords, TakesWordIf, is_next, is_not_next, RawStep, refuses_pending, lends_words, TryRawStep, leaves_pending, try_lends_words}
-use Rattle.lexopt_spec.specs.Runs.{Call, next, value, optional, values, raw, try_raw, raw_if, switch, AmpleStep, Step}
+use Rattle.lexopt_spec.specs.Runs.{Call, next, value, optional, values, raw, try_raw, raw_if, switch, StepWithMemory, Step}
 use Rattle.lexopt_line_spec.proofs.Calls.{both_pending}
 
 -- the reply takes no memory, and is no want of memory
@@ -109,7 +109,7 @@ raw_known : (Taken : UnreadLine → Reply → UnreadLine → Type 0) (u : Unread
 raw_known Taken u r v lends (refuses_pending x option by_equals p spelled is after) = subst IsKnown (sym is) tt
 raw_known Taken u r v lends (lends_words p took) = lends took
 
-known : (call : Call) (u : UnreadLine) (r : Reply) (v : UnreadLine) → AmpleStep call u r v → IsKnown r
+known : (call : Call) (u : UnreadLine) (r : Reply) (v : UnreadLine) → StepWithMemory call u r v → IsKnown r
 known next u r v step = next_known u r v step
 known value u r v step = value_known u r v step
 known optional u r v step = modest_is_known r (optional_modest u r v step)
@@ -119,7 +119,7 @@ known (try_raw n) u r v step = modest_is_known r (try_raw_modest n u r v step)
 known (raw_if word) u r v step = raw_known (TakesWordIf word) u r v (λ t. modest_is_known r (word_if_modest word u r v t)) step
 known (switch on) u r v step = subst IsKnown (sym step.reply_is) tt
 
-pub ample_known : (call : Call) (u : UnreadLine) (r : Reply) (v : UnreadLine) → AmpleStep call u r v → r ≢ no_memory
+pub ample_known : (call : Call) (u : UnreadLine) (r : Reply) (v : UnreadLine) → StepWithMemory call u r v → r ≢ no_memory
 ample_known call u r v step = known_other r (known call u r v step)
 
 -- ---- where memory is wanted
@@ -135,7 +135,7 @@ holds_text (missing (Some option)) takes = inr (inl (option, refl))
 holds_text (unexpected option word) takes = inr (inr (option, word, refl))
 holds_text r takes = absurd takes
 
-pub refused_only : (call : Call) (u v : UnreadLine) → Step call u no_memory v → (v ≡ u) × ((r : Reply) × (w : UnreadLine) × AmpleStep call u r w × HoldsText r)
+pub refused_only : (call : Call) (u v : UnreadLine) → Step call u no_memory v → (v ≡ u) × ((r : Reply) × (w : UnreadLine) × StepWithMemory call u r w × HoldsText r)
 refused_only call u v (inl step) = absurd (ample_known call u no_memory v step refl)
 refused_only call u v (inr refused) =
     let wanted = refused.in_place_of in

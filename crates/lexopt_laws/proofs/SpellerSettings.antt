@@ -11,7 +11,7 @@ use Rattle.lexopt_spec.specs.UnreadLine.{dash, equals, BeginsWith, IsPlain, is_p
 use Rattle.lexopt_line_spec.specs.Table.{Name, short, long, Item, option, many, positional, Kind, flag, one, optional, several, kind, Table}
 use Rattle.lexopt_line_spec.specs.Spelling as spelling
 use Rattle.lexopt_line_spec.specs.Spelling.{exact, After, nothing, attached, joined, NoValue, no_value, OneValue, attached_value, joined_value, next_word, OptionalValue, no_optional, attached_optional, joined_optional, joined_several, attached_several, several_words, Completes, IsAfterLast, nothing_more, a_value, marked_value, Cluster, flag_first, last_option, IsLong, name_alone, name_and_value, Group, cluster, Line, no_words, plain_word, group, separator, Spells}
-use Rattle.lexopt_line_spec.specs.Speller.{Reason, Place, after_values, open_line, short_form, short_many_form, Added, short_added, adds, separator_comes_too_early, separator_is_due, with_rest, with_rests, spelled_from, words_of, spelled}
+use Rattle.lexopt_line_spec.specs.Speller.{Reason, Place, after_values, open_line, short_form, short_many_form, Added, short_added, adds, separator_comes_too_early, separator_is_due, with_rest, with_rests, spelled_from, words_or_fault, spelled}
 use Rattle.lexopt_line_spec.proofs.Names.{spelled_shows}
 use Rattle.lexopt_line_spec.proofs.SpellerTests.{has_equals, none_passes, some_bytes}
 use Rattle.lexopt_line_spec.proofs.SpellerPlaces.{Can, can_split, ended_positional, words_place, short_through}
@@ -379,5 +379,5 @@ line_same t words words_off items items_off (group ws left front more first line
 
 pub settings_same : (t : Table) (words : List (List ℕ)) (items : List Item) → Spells t true words items → Spells t false words items → spelled t true items ≡ spelled t false items
 settings_same t words items on off =
-    ap words_of (from_same t items open_line (line_same t words words items items on off refl refl)
+    ap words_or_fault (from_same t items open_line (line_same t words words items items on off refl refl)
     (shown_can t false words items (spelled_shows t false words items off)))

@@ -2,10 +2,10 @@
 ghost use Rattle.std.specs.Prelude.{◌≡◌, ◌≢◌, ◌⊎◌, ◌<◌, ◌≤◌, ◌+◌, ◌∷◌, ◌++◌, [], ℕ, Bool, true, false, List, Option, None, Some, Ok, Err, drop, length, map, take};
 ghost use Rattle.std.specs.Char.{IsScalar};
 ghost use Rattle.std.specs.List.{All, Contains, IsAmong, cons_option, flat_map};
-ghost use Rattle.lexopt_spec.specs.Account.{NamesOption, bytes_of, flat, given_of, handed, handed_items, shown_of};
+ghost use Rattle.lexopt_spec.specs.Account.{NamesOption, bytes_of, flat, given_of, bytes_handed_out, handed_items, shown_of};
 ghost use Rattle.lexopt_line_spec.specs.Bound.{bound, replies_count};
 ghost use Rattle.lexopt_spec.specs.Pieces.{IsFirstPiece, after_first_piece, first_piece, lossy_characters, pieces};
-ghost use Rattle.lexopt_spec.specs.Runs.{AmpleStep, Call, Part, account, ample_account, Run, Step, next, optional, raw, raw_if, segments, switch, try_raw, up_to, values};
+ghost use Rattle.lexopt_spec.specs.Runs.{StepWithMemory, Call, Part, account, ample_account, Run, Step, next, optional, raw, raw_if, segments, switch, try_raw, up_to, values};
 ghost use Rattle.lexopt_spec.specs.Steps.{Reply, busy, end, items, long, maybe, missing, no_memory, short, unexpected};
 ghost use Rattle.lexopt_spec.specs.UnreadLine.{IsLine, IsNormal, IsPlain, IsPlainFront, UnreadLine, dash, equals, fresh, is_plain, no_tail, pending};
 ghost use Rattle.lexopt_line_spec.specs.Table as table;
@@ -34,8 +34,8 @@ pub fn pieces_are_in_a_row(bytes: &[u8])
 /// Where memory is enough, each call has exactly one answer: some reply with a line after it, and no other. The rules
 /// forget no line and leave no choice.
 pub fn each_call_has_one_answer()
-    ensures some_answer { (call : Call) (u : UnreadLine) → IsLine u → (r : Reply) × (v : UnreadLine) × AmpleStep call u r v }
-    ensures no_other { (call : Call) (u v w : UnreadLine) (r s : Reply) → AmpleStep call u r v → AmpleStep call u s w → (r ≡ s) × (v ≡ w) }
+    ensures some_answer { (call : Call) (u : UnreadLine) → IsLine u → (r : Reply) × (v : UnreadLine) × StepWithMemory call u r v }
+    ensures no_other { (call : Call) (u v w : UnreadLine) (r s : Reply) → StepWithMemory call u r v → StepWithMemory call u s w → (r ≡ s) × (v ≡ w) }
     ensures some_run { (calls : List Call) (u : UnreadLine) → IsLine u → (replies : List Reply) × (v : UnreadLine) × Run u calls replies v
         × ¬ IsAmong replies no_memory }
     ensures no_other_run { (calls : List Call) (u v w : UnreadLine) (replies others : List Reply) → Run u calls replies v → Run u calls others w
@@ -45,7 +45,7 @@ pub fn each_call_has_one_answer()
 /// A call that is refused memory leaves the line as it was, and stands in place of a long option or of an error that names
 /// an option. So some calls are never refused.
 pub fn some_calls_are_never_refused()
-    ensures only { (call : Call) (u v : UnreadLine) → Step call u no_memory v → (v ≡ u) × ((r : Reply) × (w : UnreadLine) × AmpleStep call u r w
+    ensures only { (call : Call) (u v : UnreadLine) → Step call u no_memory v → (v ≡ u) × ((r : Reply) × (w : UnreadLine) × StepWithMemory call u r w
         × (((name : List ℕ) × (r ≡ long name)) ⊎ (((option : List ℕ) × (r ≡ missing (Some option)))
         ⊎ ((option : List ℕ) × (value : List ℕ) × (r ≡ unexpected option value))))) }
     ensures optional { (u v : UnreadLine) → Step optional u no_memory v → ⊥ }
@@ -79,24 +79,24 @@ pub fn items_make_the_call()
     ensures none { (stage now : Stage) (u v : UnreadLine) → ValueItem stage u None v now → (v ≡ u) × (now ≡ at_end) }
     ensures ever { (now : Stage) (u v : UnreadLine) (item : Option (List ℕ)) → ValueItem at_end u item v now → (item ≡ None) × (v ≡ u) × (now ≡ at_end) }
     ensures values { (n : ℕ) (u v : UnreadLine) (came : List (List ℕ)) (now : Stage) → available u ≢ []
-        → ValueItems n at_start u came v now → AmpleStep (values n) u (items came) v }
-    ensures all { (n : ℕ) (u v : UnreadLine) (came : List (List ℕ)) → AmpleStep (values n) u (items came) v → length came < n → came ≡ available u }
+        → ValueItems n at_start u came v now → StepWithMemory (values n) u (items came) v }
+    ensures all { (n : ℕ) (u v : UnreadLine) (came : List (List ℕ)) → StepWithMemory (values n) u (items came) v → length came < n → came ≡ available u }
     ensures raw { (n : ℕ) (u v : UnreadLine) (came : List (List ℕ)) → pending u ≡ None
-        → WordItems n u came v → AmpleStep (raw n) u (items came) v }
+        → WordItems n u came v → StepWithMemory (raw n) u (items came) v }
     ensures try_raw { (n : ℕ) (u v : UnreadLine) (came : List (List ℕ)) → pending u ≡ None
-        → WordItems n u came v → AmpleStep (try_raw n) u (items came) v }
+        → WordItems n u came v → StepWithMemory (try_raw n) u (items came) v }
 {}
 
 /// `try_raw_args` gives no view exactly where `optional_value` gives a value; after its refusal `raw_args` succeeds; a
 /// view that was not asked changes nothing; `values` succeeds exactly where a value is pending or the next word is
 /// normal, and its view then gives an item when first asked.
 pub fn views_agree()
-    ensures busy { (n : ℕ) (u v : UnreadLine) → AmpleStep (try_raw n) u busy v
-        → (value : List ℕ) × AmpleStep optional u (maybe (Some value)) (record u { tail = no_tail }) }
-    ensures found { (n : ℕ) (u v : UnreadLine) (value : List ℕ) → AmpleStep optional u (maybe (Some value)) v → AmpleStep (try_raw n) u busy u }
-    ensures refused_once { (n : ℕ) (u v : UnreadLine) (option value : List ℕ) → AmpleStep (raw n) u (unexpected option value) v → pending v ≡ None }
-    ensures values_untouched { (u v : UnreadLine) (r : Reply) → AmpleStep (values 0) u r v → v ≡ u }
-    ensures words_untouched { (u v : UnreadLine) (r : Reply) → AmpleStep (try_raw 0) u r v → v ≡ u }
+    ensures busy { (n : ℕ) (u v : UnreadLine) → StepWithMemory (try_raw n) u busy v
+        → (value : List ℕ) × StepWithMemory optional u (maybe (Some value)) (record u { tail = no_tail }) }
+    ensures found { (n : ℕ) (u v : UnreadLine) (value : List ℕ) → StepWithMemory optional u (maybe (Some value)) v → StepWithMemory (try_raw n) u busy u }
+    ensures refused_once { (n : ℕ) (u v : UnreadLine) (option value : List ℕ) → StepWithMemory (raw n) u (unexpected option value) v → pending v ≡ None }
+    ensures values_untouched { (u v : UnreadLine) (r : Reply) → StepWithMemory (values 0) u r v → v ≡ u }
+    ensures words_untouched { (u v : UnreadLine) (r : Reply) → StepWithMemory (try_raw 0) u r v → v ≡ u }
     ensures values_found { (u : UnreadLine) → IsLine u
         → (available u ≢ [] → (pending u ≢ None) ⊎ IsNormal u) × ((pending u ≢ None) ⊎ IsNormal u → available u ≢ []) }
     ensures first_item { (u v : UnreadLine) (now : Stage) → available u ≢ [] → ValueItem at_start u None v now → ⊥ }
@@ -108,10 +108,10 @@ pub fn no_byte_is_lost()
     ensures bytes { (u v : UnreadLine) (calls : List Call) (replies : List Reply) (run : Run u calls replies v)
         → flat u ≡ bytes_of (segments u calls replies v run) ++ flat v }
     ensures handed_out { (u v : UnreadLine) (calls : List Call) (replies : List Reply) (run : Run u calls replies v)
-        → flat_map handed replies ≡ shown_of (segments u calls replies v run) }
+        → flat_map bytes_handed_out replies ≡ shown_of (segments u calls replies v run) }
     ensures as_they_are { (call : Call) (u v : UnreadLine) (r : Reply) (step : Step call u r v) → ¬ NamesOption r
         → given_of (account call u r v step) ≡ handed_items r }
-    ensures one_account { (call : Call) (u v w : UnreadLine) (r s : Reply) (one : AmpleStep call u r v) (other : AmpleStep call u s w)
+    ensures one_account { (call : Call) (u v w : UnreadLine) (r s : Reply) (one : StepWithMemory call u r v) (other : StepWithMemory call u s w)
         → ample_account call u r v one ≡ ample_account call u s w other }
     ensures words { (u v : UnreadLine) (calls : List Call) (replies : List Reply) → Run u calls replies v
         → (gone : List (List ℕ)) × (u.words ≡ gone ++ v.words) }

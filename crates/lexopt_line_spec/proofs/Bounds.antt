@@ -10,7 +10,7 @@ use Rattle.lexopt_spec.specs.Steps.{Reply, taken, end, no_memory, Next, Value, I
 use Rattle.lexopt_spec.specs.Views.{TakesWords, TakesWordIf}
 use Rattle.lexopt_spec.specs.Account.{handed_items}
 use Rattle.lexopt_line_spec.specs.Bound.{word_bound, tail_bound, bound, reply_count, replies_count}
-use Rattle.lexopt_spec.specs.Runs.{Call, next, value, optional, values, raw, try_raw, raw_if, switch, AmpleStep, Step, Run}
+use Rattle.lexopt_spec.specs.Runs.{Call, next, value, optional, values, raw, try_raw, raw_if, switch, StepWithMemory, Step, Run}
 use Rattle.lexopt_line_spec.proofs.Hands.{Hands, hands_nothing, hands_words, hands_pending, value_hands, optional_hands, values_hands, raw_hands, words_hands, word_if_hands, try_raw_hands}
 use Rattle.lexopt_line_spec.proofs.NoOption.{NoOption, no_option_count, value_no_option, optional_no_option, values_no_option, words_no_option, word_if_no_option, raw_no_option, try_raw_no_option}
 
@@ -104,7 +104,7 @@ next_bound u r v (next_word is ended reads) = word_bounded u r v reads
 
 -- ---- lists of calls
 
-ample_bound : (call : Call) (u : UnreadLine) (r : Reply) (v : UnreadLine) → AmpleStep call u r v → Within u (reply_count r) v
+ample_bound : (call : Call) (u : UnreadLine) (r : Reply) (v : UnreadLine) → StepWithMemory call u r v → Within u (reply_count r) v
 ample_bound next u r v step = next_bound u r v step
 ample_bound value u r v step = items_bound u r v (value_no_option u r v step) (value_hands u r v step)
 ample_bound optional u r v step = items_bound u r v (optional_no_option u r v step) (optional_hands u r v step)

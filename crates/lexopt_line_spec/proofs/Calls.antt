@@ -4,7 +4,7 @@ use Rattle.std.proofs.lemmas.Bool.{cases_eq}
 use Rattle.lexopt_spec.specs.UnreadLine.{Tail, no_tail, joined, rest, LastOption, UnreadLine, spelling, pending, pending_in, TailStands, IsLine}
 use Rattle.lexopt_spec.specs.Steps.{Reply, maybe, unexpected, OptionalStep, optional_pending, optional_none}
 use Rattle.lexopt_spec.specs.Views.{available, ValuesStep, no_values, some_values, TakesWords, TakesWordIf, is_next, is_not_next, RawStep, refuses_pending, lends_words, TryRawStep, leaves_pending, try_lends_words}
-use Rattle.lexopt_spec.specs.Runs.{Call, next, value, optional, values, raw, try_raw, raw_if, switch, AmpleStep}
+use Rattle.lexopt_spec.specs.Runs.{Call, next, value, optional, values, raw, try_raw, raw_if, switch, StepWithMemory}
 use Rattle.lexopt_line_spec.proofs.Exact.{Same, next_same, value_same}
 use Rattle.lexopt_line_spec.proofs.Total.{Answer, next_answer, value_answer, spelled}
 
@@ -64,7 +64,7 @@ try_raw_same n u r s v w (try_lends_words a p) (leaves_pending y j b f g) = absu
 try_raw_same n u r s v w (try_lends_words a p) (try_lends_words b f) = words_same n u r s v w p f
 
 -- where memory is enough, a call has one answer at most
-pub call_same : (call : Call) (u : UnreadLine) (r s : Reply) (v w : UnreadLine) → AmpleStep call u r v → AmpleStep call u s w → Same r v s w
+pub call_same : (call : Call) (u : UnreadLine) (r s : Reply) (v w : UnreadLine) → StepWithMemory call u r v → StepWithMemory call u s w → Same r v s w
 call_same next u r s v w a b = next_same u r s v w a b
 call_same value u r s v w a b = value_same u r s v w a b
 call_same optional u r s v w a b = optional_same u r s v w a b
@@ -131,7 +131,7 @@ word_if_at word u (w ∷ ws) is = ⊎_elim
     (same_words w word)
 
 -- a line has an answer to each call
-pub call_answer : (call : Call) (u : UnreadLine) → IsLine u → Answer (AmpleStep call) u
+pub call_answer : (call : Call) (u : UnreadLine) → IsLine u → Answer (StepWithMemory call) u
 call_answer next u is = next_answer u is
 call_answer value u is = value_answer u
 call_answer optional u is = optional_at u (pending u) refl

@@ -4,7 +4,7 @@ use Rattle.std.specs.List.{concat}
 use Rattle.lexopt_spec.specs.UnreadLine.{UnreadLine}
 use Rattle.lexopt_spec.specs.Steps.{Reply, short, long, ValueStep, pending_value, takes_word, nothing_to_take, OptionalStep, optional_pending, optional_none}
 use Rattle.lexopt_spec.specs.Views.{ValuesStep, no_values, some_values, TakesWords, TakesWordIf, is_next, is_not_next, RawStep, refuses_pending, lends_words, TryRawStep, leaves_pending, try_lends_words}
-use Rattle.lexopt_spec.specs.Account.{handed_items, handed}
+use Rattle.lexopt_spec.specs.Account.{handed_items, bytes_handed_out}
 use Rattle.lexopt_line_spec.specs.Bound.{reply_count}
 
 -- the reply names no option
@@ -13,7 +13,7 @@ NoOption (short c) = ⊥
 NoOption (long name) = ⊥
 NoOption reply = Unit {0}
 
-pub no_option_handed : (r : Reply) → NoOption r → handed r ≡ concat (handed_items r)
+pub no_option_handed : (r : Reply) → NoOption r → bytes_handed_out r ≡ concat (handed_items r)
 no_option_handed (short c) other = absurd other
 no_option_handed (long name) other = absurd other
 no_option_handed r other = refl

@@ -4,8 +4,8 @@ use Rattle.std.proofs.lemmas.Grind.{flat_map-append}
 use Rattle.lexopt_spec.specs.UnreadLine.{UnreadLine, IsLine}
 use Rattle.lexopt_spec.specs.Steps.{Reply}
 use Rattle.lexopt_spec.specs.Views.{TakesWords, TakesWordIf}
-use Rattle.lexopt_spec.specs.Account.{bytes_of, flat, handing, handed_items, handed, segment_bytes, segment_shown, shown_of}
-use Rattle.lexopt_spec.specs.Runs.{Call, next, value, optional, values, raw, try_raw, raw_if, switch, AmpleStep, Step, Run, ample_account, account, segments}
+use Rattle.lexopt_spec.specs.Account.{bytes_of, flat, handing, handed_items, bytes_handed_out, segment_bytes, segment_shown, shown_of}
+use Rattle.lexopt_spec.specs.Runs.{Call, next, value, optional, values, raw, try_raw, raw_if, switch, StepWithMemory, Step, Run, ample_account, account, segments}
 use Rattle.lexopt_line_spec.proofs.Accounts.{next_keeps, next_shown, next_suffix, IsSuffix, words_after}
 use Rattle.lexopt_line_spec.proofs.Hands.{value_hands, optional_hands, values_hands, raw_hands, words_hands, word_if_hands, try_raw_hands, hands_keep, hands_suffix, hands_line, handing_shown}
 use Rattle.lexopt_line_spec.proofs.NoOption.{NoOption, no_option_handed, value_no_option, optional_no_option, values_no_option, words_no_option, word_if_no_option, raw_no_option, try_raw_no_option}
@@ -13,7 +13,7 @@ use Rattle.lexopt_line_spec.proofs.Lines.{next_line}
 
 -- ---- no byte is lost
 
-ample_keeps : (call : Call) (u : UnreadLine) (r : Reply) (v : UnreadLine) (step : AmpleStep call u r v)
+ample_keeps : (call : Call) (u : UnreadLine) (r : Reply) (v : UnreadLine) (step : StepWithMemory call u r v)
     → flat u ≡ bytes_of (ample_account call u r v step) ++ flat v
 ample_keeps next u r v step = next_keeps u r v step
 ample_keeps value u r v step = hands_keep u (handed_items r) v (value_hands u r v step)
@@ -45,11 +45,11 @@ run_keeps u (c ∷ cs) (r ∷ rs) v run =
 -- ---- what the replies hand out
 
 -- what is shown of items
-items_shown : (u : UnreadLine) (r : Reply) → NoOption r → handed r ≡ shown_of (handing u (handed_items r))
+items_shown : (u : UnreadLine) (r : Reply) → NoOption r → bytes_handed_out r ≡ shown_of (handing u (handed_items r))
 items_shown u r other = no_option_handed r other ∙ sym (handing_shown u (handed_items r))
 
-ample_shown : (call : Call) (u : UnreadLine) (r : Reply) (v : UnreadLine) (step : AmpleStep call u r v)
-    → handed r ≡ shown_of (ample_account call u r v step)
+ample_shown : (call : Call) (u : UnreadLine) (r : Reply) (v : UnreadLine) (step : StepWithMemory call u r v)
+    → bytes_handed_out r ≡ shown_of (ample_account call u r v step)
 ample_shown next u r v step = next_shown u r v step
 ample_shown value u r v step = items_shown u r (value_no_option u r v step)
 ample_shown optional u r v step = items_shown u r (optional_no_option u r v step)
@@ -57,26 +57,26 @@ ample_shown (values n) u r v step = items_shown u r (values_no_option n u r v st
 ample_shown (raw n) u r v step = items_shown u r (raw_no_option (TakesWords n) u r v (λ t. words_no_option n u r v t) step)
 ample_shown (try_raw n) u r v step = items_shown u r (try_raw_no_option n u r v step)
 ample_shown (raw_if word) u r v step = items_shown u r (raw_no_option (TakesWordIf word) u r v (λ t. word_if_no_option word u r v t) step)
-ample_shown (switch on) u r v step = ap handed step.reply_is
+ample_shown (switch on) u r v step = ap bytes_handed_out step.reply_is
 
 pub step_shown : (call : Call) (u : UnreadLine) (r : Reply) (v : UnreadLine) (step : Step call u r v)
-    → handed r ≡ shown_of (account call u r v step)
+    → bytes_handed_out r ≡ shown_of (account call u r v step)
 step_shown call u r v (inl step) = ample_shown call u r v step
-step_shown call u r v (inr refused) = ap handed refused.reply_is
+step_shown call u r v (inr refused) = ap bytes_handed_out refused.reply_is
 
 pub run_shown : (u : UnreadLine) (calls : List Call) (replies : List Reply) (v : UnreadLine) (run : Run u calls replies v)
-    → flat_map handed replies ≡ shown_of (segments u calls replies v run)
+    → flat_map bytes_handed_out replies ≡ shown_of (segments u calls replies v run)
 run_shown u [] [] v run = refl
 run_shown u [] (r ∷ rs) v run = absurd run
 run_shown u (c ∷ cs) [] v run = absurd run
 run_shown u (c ∷ cs) (r ∷ rs) v run =
-    ap (λ l. l ++ flat_map handed rs) (step_shown c u r run.0 run.1)
+    ap (λ l. l ++ flat_map bytes_handed_out rs) (step_shown c u r run.0 run.1)
     ∙ ap (λ l. shown_of (account c u r run.0 run.1) ++ l) (run_shown run.0 cs rs v run.2)
     ∙ sym (flat_map-append segment_shown (account c u r run.0 run.1) (segments run.0 cs rs v run.2))
 
 -- ---- the words left are a suffix
 
-ample_suffix : (call : Call) (u : UnreadLine) (r : Reply) (v : UnreadLine) → AmpleStep call u r v → IsSuffix u v
+ample_suffix : (call : Call) (u : UnreadLine) (r : Reply) (v : UnreadLine) → StepWithMemory call u r v → IsSuffix u v
 ample_suffix next u r v step = next_suffix u r v step
 ample_suffix value u r v step = hands_suffix u (handed_items r) v (value_hands u r v step)
 ample_suffix optional u r v step = hands_suffix u (handed_items r) v (optional_hands u r v step)
@@ -101,7 +101,7 @@ run_suffix u (c ∷ cs) (r ∷ rs) v run =
 
 -- ---- a line stays one
 
-ample_line : (call : Call) (u : UnreadLine) (r : Reply) (v : UnreadLine) → IsLine u → AmpleStep call u r v → IsLine v
+ample_line : (call : Call) (u : UnreadLine) (r : Reply) (v : UnreadLine) → IsLine u → StepWithMemory call u r v → IsLine v
 ample_line next u r v is step = next_line u v r is step
 ample_line value u r v is step = hands_line u (handed_items r) v is (value_hands u r v step)
 ample_line optional u r v is step = hands_line u (handed_items r) v is (optional_hands u r v step)

@@ -8,7 +8,7 @@ use Rattle.lexopt_spec.specs.Steps.{Reply, end}
 use Rattle.lexopt_line_spec.specs.Table.{Item, Table}
 use Rattle.lexopt_line_spec.specs.Readings.{IsReading, start}
 use Rattle.lexopt_line_spec.specs.Spelling.{Shows, Spells}
-use Rattle.lexopt_line_spec.specs.Speller.{Reason, Place, open_line, Added, adds, is_positional, separator_comes_too_early, separator_is_due, Fault, Rest, with_rest, with_rests, spelled_from, words_of, spelled, IsAtFault}
+use Rattle.lexopt_line_spec.specs.Speller.{Reason, Place, open_line, Added, adds, is_positional, separator_comes_too_early, separator_is_due, Fault, Rest, with_rest, with_rests, spelled_from, words_or_fault, spelled, IsAtFault}
 use Rattle.lexopt_line_spec.proofs.Names.{spelled_shows}
 use Rattle.lexopt_line_spec.proofs.WholeLines.{shown_said, shown_read}
 use Rattle.lexopt_line_spec.proofs.SpellerAnswers.{Adding, none_is}
@@ -37,7 +37,7 @@ abbrev pub SomeWords : Table → Bool → List Item → Type 0
 SomeWords t switch items = (words : List (List ℕ)) × (spelled t switch items ≡ Ok words)
 
 pub can_words : (t : Table) (switch : Bool) (items : List Item) → Can t switch items open_line → SomeWords t switch items
-can_words t switch items can = (can.0.words, ap words_of can.1)
+can_words t switch items can = (can.0.words, ap words_or_fault can.1)
 
 pub shown_words : (t : Table) (switch : Bool) (words : List (List ℕ)) (items : List Item) → Shows t switch words items → SomeWords t switch items
 shown_words t switch words items shows = can_words t switch items (shown_can t switch words items shows)
@@ -151,7 +151,7 @@ faults : (t : Table) (switch : Bool) (items : List Item) → Faults t switch ite
 faults t switch [] = λ place f is. no_both t switch [] place f is (nil_can t switch place)
 faults t switch (item ∷ items) = λ place f is. first_fault t switch place item items f (faults t switch items) (fails t switch place item items f is)
 
-pub from_words : (o : Result Rest Fault) (f : Fault) → Answering (words_of o) f → Failing o f
+pub from_words : (o : Result Rest Fault) (f : Fault) → Answering (words_or_fault o) f → Failing o f
 from_words (Err g) f is = let e : g ≡ f = cc in ap (λ (x : Fault). Err x) e
 from_words (Ok r) f is = none_is f r.words (sym is)
 

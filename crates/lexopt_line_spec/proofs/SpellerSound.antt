@@ -12,7 +12,7 @@ use Rattle.lexopt_spec.specs.UnreadLine.{dash, equals, BeginsWith, IsPlain, is_p
 use Rattle.lexopt_line_spec.specs.Table.{Name, short, long, Item, option, many, positional, flag, kind, Table}
 use Rattle.lexopt_line_spec.specs.Spelling as spelling
 use Rattle.lexopt_line_spec.specs.Spelling.{exact, After, nothing, attached, joined, Completes, BeginsWithMark, IsAfterLast, Cluster, flag_first, last_option, nothing_more, IsLong, name_alone, name_and_value, Group, cluster, Line, no_words, plain_word, group, separator, Spells}
-use Rattle.lexopt_line_spec.specs.Speller.{Reason, Place, open_line, in_cluster, after_values, after_positional, ended, Form, name_only, short_form, long_form, short_many_form, long_many_form, after_bytes, Added, with_form, short_added, is_named, long_placed, long_added, stands, positional_added, adds, separator_comes_too_early, separator_is_due, Fault, Rest, glued, with_rest, with_rests, spelled_from, words_of, spelled}
+use Rattle.lexopt_line_spec.specs.Speller.{Reason, Place, open_line, in_cluster, after_values, after_positional, ended, Form, name_only, short_form, long_form, short_many_form, long_many_form, after_bytes, Added, with_form, short_added, is_named, long_placed, long_added, stands, positional_added, adds, separator_comes_too_early, separator_is_due, Fault, Rest, put_in_front, with_rest, with_rests, spelled_from, words_or_fault, spelled}
 use Rattle.lexopt_spec.proofs.PlainFronts.{plain_holds}
 use Rattle.lexopt_line_spec.proofs.SpellerAnswers.{Adding, Going, none_is}
 use Rattle.lexopt_line_spec.proofs.SpellerTests.{has_equals, no_equals, dash_first, dash_begins, some_bytes}
@@ -49,7 +49,7 @@ not_plain bytes some (inr (inl e)) = some (let same : bytes ≡ [] = cc in same)
 not_plain bytes some (inr (inr other)) = other refl
 
 abbrev glue : Added → Rest → Rest
-glue a r = glued a.goes_on (a.word ++ r.first) (a.words ++ r.words)
+glue a r = put_in_front a.goes_on (a.word ++ r.first) (a.words ++ r.words)
 
 -- what follows an option that is no flag of a cluster
 closed_after : (t : Table) (switch : Bool) (place : Place) (r : Rest) (items : List Item) → (place ≡ open_line) ⊎ (place ≡ after_values) → Right t switch place r items
@@ -328,7 +328,7 @@ spelled_right t switch (item ∷ items) = λ place r is.
 pub spelled_spells : (t : Table) (switch : Bool) (items : List Item) (words : List (List ℕ)) → spelled t switch items ≡ Ok words → Spells t switch words items
 spelled_spells t switch items words is = go (spelled_from t switch items open_line) refl is
   where
-    go : (o : Result Rest Fault) → spelled_from t switch items open_line ≡ o → words_of o ≡ Ok words → Spells t switch words items
+    go : (o : Result Rest Fault) → spelled_from t switch items open_line ≡ o → words_or_fault o ≡ Ok words → Spells t switch words items
     go (Err fault) from with_is = none_is fault words with_is
     go (Ok r) from with_is =
         IfOk-at_ok (λ (l : List (List ℕ)). Spells t switch l items) with_is (spelled_right t switch items open_line r from).line

@@ -237,13 +237,13 @@ pub record Rest : Type 0 where
   pub first : List ℕ
   pub words : List (List ℕ)
 
-abbrev pub glued : Bool → List ℕ → List (List ℕ) → Rest
-glued true word words = record { first = word; words = words }
-glued false word words = record { first = []; words = word ∷ words }
+abbrev pub put_in_front : Bool → List ℕ → List (List ℕ) → Rest
+put_in_front true word words = record { first = word; words = words }
+put_in_front false word words = record { first = []; words = word ∷ words }
 
 abbrev pub with_rest : Added → Result Rest Fault → Result Rest Fault
 with_rest a (Err fault) = Err (record { index = suc fault.index; reason = fault.reason })
-with_rest a (Ok r) = Ok (glued a.goes_on (a.word ++ r.first) (a.words ++ r.words))
+with_rest a (Ok r) = Ok (put_in_front a.goes_on (a.word ++ r.first) (a.words ++ r.words))
 
 abbrev pub with_rests : Result Added Reason → (Place → Result Rest Fault) → Result Rest Fault
 with_rests (Err reason) rest = Err (record { index = 0; reason = reason })
@@ -254,13 +254,13 @@ spelled_from t switch [] place = Ok (record { first = []; words = [] })
 spelled_from t switch (item ∷ items) place =
     with_rests (adds t switch (separator_comes_too_early items) (separator_is_due items) place item) (spelled_from t switch items)
 
-abbrev pub words_of : Result Rest Fault → Result (List (List ℕ)) Fault
-words_of (Err fault) = Err fault
-words_of (Ok r) = Ok r.words
+abbrev pub words_or_fault : Result Rest Fault → Result (List (List ℕ)) Fault
+words_or_fault (Err fault) = Err fault
+words_or_fault (Ok r) = Ok r.words
 
 -- the words that spell the items, or the first item that no words can spell after those before it
 abbrev pub spelled : Table → Bool → List Item → Result (List (List ℕ)) Fault
-spelled t switch items = words_of (spelled_from t switch items open_line)
+spelled t switch items = words_or_fault (spelled_from t switch items open_line)
 
 -- ---- which item is at fault
 

@@ -17,7 +17,7 @@ use Rattle.lexopt_words.specs.Message.{message}
 use Rattle.lexopt_words.specs.declared.error.Error.{Error}
 use Rattle.lexopt_words.specs.declared.error.Error.TheVariants.{MissingValue, UnexpectedOption, UnexpectedArgument, UnexpectedValue, ParsingFailed, NonUnicodeValue, Custom, OutOfMemory}
 use Rattle.lexopt_items.specs.declared.items.Item.{Item}
-use Rattle.lexopt_items.specs.Items.{IsRefused, item_view, table_view}
+use Rattle.lexopt_items.specs.Items.{FailsWith, item_view, table_view}
 use Rattle.lexopt_script.specs.declared.script.Script.{Script}
 use Rattle.lexopt_script.specs.Performed.{answer_text, Performs}
 

@@ -122,7 +122,7 @@ fn parser_of(alloc: Global, words: &[OsString]) -> Result<Parser, RunError>
 }
 
 // Does what a script says, and gives what is written for it.
-fn performed(alloc: Global, script: &Script) -> Result<String, RunError>
+fn perform_all(alloc: Global, script: &Script) -> Result<String, RunError>
     ensures ok { IfOk result (λ text. IsWritten script.now (string_bytes text)) }
     ensures err { IfErr result (λ e. e ≡ RunError.NoMemory) }
 {
@@ -143,7 +143,7 @@ fn output(alloc: Global, script: &[u8]) -> Result<String, RunError>
         ⊎ ((n : ℕ) × (e ≡ RunError.BadLine n) × (bad_line script.now ≡ Some n))) }
 {
     let script = parse_script(alloc, script)?;
-    performed(alloc, &script)
+    perform_all(alloc, &script)
 }
 
 /// Reads a whole script, does what it says, and then writes a line for each reply of the parser and for each whole line.

@@ -99,10 +99,10 @@ handed_items (unexpected option value) = value ∷ []
 handed_items no_memory = []
 
 -- the bytes of a reply that come from the line: those of a name that is repeated in an error do not
-abbrev pub handed : Reply → List ℕ
-handed (short c) = encode_utf8 c
-handed (long name) = name
-handed reply = concat (handed_items reply)
+abbrev pub bytes_handed_out : Reply → List ℕ
+bytes_handed_out (short c) = encode_utf8 c
+bytes_handed_out (long name) = name
+bytes_handed_out reply = concat (handed_items reply)
 
 -- the reply names an option that was read
 abbrev pub NamesOption : Reply → Type 0

@@ -20,19 +20,19 @@ pub data Call : Type 0 where
   switch : Bool → Call
 
 -- with memory enough, a call answers so
-abbrev pub AmpleStep : Call → UnreadLine → Reply → UnreadLine → Type 0
-AmpleStep next = NextStep
-AmpleStep value = ValueStep
-AmpleStep optional = OptionalStep
-AmpleStep (values n) = ValuesStep n
-AmpleStep (raw n) = RawStep (TakesWords n)
-AmpleStep (try_raw n) = TryRawStep n
-AmpleStep (raw_if word) = RawStep (TakesWordIf word)
-AmpleStep (switch on) = SwitchStep on
+abbrev pub StepWithMemory : Call → UnreadLine → Reply → UnreadLine → Type 0
+StepWithMemory next = NextStep
+StepWithMemory value = ValueStep
+StepWithMemory optional = OptionalStep
+StepWithMemory (values n) = ValuesStep n
+StepWithMemory (raw n) = RawStep (TakesWords n)
+StepWithMemory (try_raw n) = TryRawStep n
+StepWithMemory (raw_if word) = RawStep (TakesWordIf word)
+StepWithMemory (switch on) = SwitchStep on
 
 -- what a call answers at the line u, and the line after it
 abbrev pub Step : Call → UnreadLine → Reply → UnreadLine → Type 0
-Step call u reply after = Answers (AmpleStep call) u reply after
+Step call u reply after = Answers (StepWithMemory call) u reply after
 
 -- one reply for each call, in order
 abbrev pub Run : UnreadLine → List Call → List Reply → UnreadLine → Type 0
@@ -44,7 +44,7 @@ Run u (call ∷ calls) (reply ∷ replies) after = (between : UnreadLine) × Ste
 -- ---- the account of bytes
 
 -- the segments of what a call reads: every call but `next` hands out items alone
-abbrev pub ample_account : (call : Call) (u : UnreadLine) (reply : Reply) (after : UnreadLine) → AmpleStep call u reply after → List Segment
+abbrev pub ample_account : (call : Call) (u : UnreadLine) (reply : Reply) (after : UnreadLine) → StepWithMemory call u reply after → List Segment
 ample_account next u reply after step = next_account u reply after step
 ample_account value u reply after step = handing u (handed_items reply)
 ample_account optional u reply after step = handing u (handed_items reply)

@@ -8,7 +8,7 @@ use lib.Utf8.{scalar}
 use Rattle.lexopt_spec.specs.UnreadLine.{dash, equals, is_plain}
 use Rattle.lexopt_line_spec.specs.Table.{short, long, Item, option, many, positional, Kind, flag, one, optional, several, kind, Table}
 use Rattle.lexopt_line_spec.specs.Spelling.{attached, joined}
-use Rattle.lexopt_line_spec.specs.Speller.{Reason, Place, open_line, in_cluster, after_values, after_positional, ended, Form, in_word, attached_form, short_form, long_form, words_form, short_words_form, short_many_form, long_many_form, Added, is_named, short_added, long_placed, long_added, stands, positional_added, adds, separator_comes_too_early, separator_is_due, Fault, Rest, glued, with_rest, with_rests, spelled_from, words_of, spelled}
+use Rattle.lexopt_line_spec.specs.Speller.{Reason, Place, open_line, in_cluster, after_values, after_positional, ended, Form, in_word, attached_form, short_form, long_form, words_form, short_words_form, short_many_form, long_many_form, Added, is_named, short_added, long_placed, long_added, stands, positional_added, adds, separator_comes_too_early, separator_is_due, Fault, Rest, put_in_front, with_rest, with_rests, spelled_from, words_or_fault, spelled}
 use Rattle.lexopt_line_spec.proofs.SpellerAnswers.{none_is}
 use Rattle.lexopt_spell.specs.Words.{onto_last, pushed}
 use Rattle.lexopt_spell.proofs.After.{from_on, from_on_is, at_item}
@@ -144,14 +144,14 @@ adds_calm t switch joins due place (positional w) a is =
 
 -- ---- where no cluster is open, no bytes go on
 
-glued_first : (goes_on : Bool) (word : List ℕ) (words : List (List ℕ)) → (goes_on ≡ true → ⊥) → (glued goes_on word words).first ≡ []
+glued_first : (goes_on : Bool) (word : List ℕ) (words : List (List ℕ)) → (goes_on ≡ true → ⊥) → (put_in_front goes_on word words).first ≡ []
 glued_first true word words alone = absurd (alone refl)
 glued_first false word words alone = refl
 
 with_first : (a : Added) (o : Result Rest Fault) (r : Rest) → (a.goes_on ≡ true → ⊥) → with_rest a o ≡ Ok r → r.first ≡ []
 with_first a (Err fault) r alone is = none_is _ r is
 with_first a (Ok q) r alone is =
-    let same : glued a.goes_on (a.word ++ q.first) (a.words ++ q.words) ≡ r = cc in
+    let same : put_in_front a.goes_on (a.word ++ q.first) (a.words ++ q.words) ≡ r = cc in
     ap (λ (x : Rest). x.first) (sym same) ∙ glued_first a.goes_on (a.word ++ q.first) (a.words ++ q.words) alone
 
 none_goes_on : (place : Place) (o : Result Added Reason) (rest : Place → Result Rest Fault) (r : Rest) → ((a : Added) → o ≡ Ok a → IsCalm place a) → place ≢ in_cluster
@@ -241,7 +241,7 @@ pushed_joined true place words word more r calm none = last_joined place words w
 pushed_joined false place words word more r calm none = new_joined place words word more r calm none
 
 glued_joined : (place : Place) (goes_on : Bool) (words : List (List ℕ)) (word : List ℕ) (more : List (List ℕ)) → (goes_on ≡ true → place ≡ in_cluster)
-    → joined_on place words (glued goes_on word more) ≡ pushed goes_on words word more
+    → joined_on place words (put_in_front goes_on word more) ≡ pushed goes_on words word more
 glued_joined in_cluster true words word more at = refl
 glued_joined open_line true words word more at = absurd (not_open (at refl))
 glued_joined after_values true words word more at = absurd (not_values (at refl))
@@ -263,7 +263,7 @@ rest_joined t switch i place words a items (Ok r) calm is =
 
 -- ---- the steps of the loop
 
-all_first : (o : Result Rest Fault) → words_of o ≡ resumed 0 open_line [] o
+all_first : (o : Result Rest Fault) → words_or_fault o ≡ resumed 0 open_line [] o
 all_first (Err fault) = ap (λ n. Err (record { index = n; reason = fault.reason })) (sym (zero-add fault.index))
 all_first (Ok r) = refl
 

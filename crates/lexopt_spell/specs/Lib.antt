@@ -1,4 +1,4 @@
 pub mod Messages
-pub mod Views
+pub mod Models
 pub mod Words
 pub mod Lines

@@ -10,7 +10,7 @@ use Rattle.lexopt_items.specs.Items.{item_view, table_view}
 use Rattle.lexopt_items.specs.Lines.{LineShows}
 use Rattle.lexopt_items.specs.declared.items.Item.{Item}
 use Rattle.lexopt_items.specs.declared.items.Table.{Table}
-use Rattle.lexopt_spell.specs.Views as views
+use Rattle.lexopt_spell.specs.Models as views
 use Rattle.lexopt_spell.specs.declared.spell.SpellError.{SpellError}
 
 -- of the words that spell the items, the rules choose these

@@ -4,7 +4,7 @@ ghost use Rattle.std.specs.List.{list_all, list_any};
 ghost use Rattle.lexopt_spec.specs.UnreadLine as line;
 ghost use Rattle.lexopt_line_spec.specs.Speller as spec;
 ghost use Rattle.lexopt_items.specs.Items.{item_view, table_view};
-ghost use Rattle.lexopt_spell.specs.Views.{added_answer, added_view, after_view, form_answer, form_view, place_view};
+ghost use Rattle.lexopt_spell.specs.Models.{added_answer, added_view, after_view, form_answer, form_view, place_view};
 
 use crate::forms::{
     After, Form, Place, is_plain, long_form, long_many_form, short_form, short_many_form,

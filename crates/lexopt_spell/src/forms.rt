@@ -4,7 +4,7 @@ ghost use Rattle.std.specs.List.{list_all};
 ghost use Rattle.lexopt_line_spec.specs.Speller as spec;
 ghost use Rattle.lexopt_spec.specs.UnreadLine as line;
 ghost use Rattle.lexopt_items.specs.Items.{kind_view};
-ghost use Rattle.lexopt_spell.specs.Views.{after_view, form_answer, form_view, place_view};
+ghost use Rattle.lexopt_spell.specs.Models.{after_view, form_answer, form_view, place_view};
 
 use crate::spell::Reason;
 use lexopt_items::kinds::Kind;

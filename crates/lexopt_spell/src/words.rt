@@ -1,7 +1,7 @@
 //! Words, as the items that they spell lend them, and the list that they are added to.
 ghost use Rattle.std.specs.Prelude.{◌≡◌, ◌++◌, [], IfOk, OnOk, string_bytes};
 ghost use Rattle.lexopt_line_spec.specs.Speller.{after_bytes};
-ghost use Rattle.lexopt_spell.specs.Views.{after_view, goes_on, word_bytes};
+ghost use Rattle.lexopt_spell.specs.Models.{after_view, goes_on, word_bytes};
 ghost use Rattle.lexopt_spell.specs.Words.{onto_last, pushed};
 
 use crate::forms::After;

@@ -5,7 +5,7 @@ ghost use Rattle.lexopt_spec.specs.Runs.{Run, Step, next, raw, value, values};
 ghost use Rattle.lexopt_spec.specs.Steps as steps;
 ghost use Rattle.lexopt_spec.specs.Steps.{items, positional, short, taken};
 ghost use Rattle.lexopt_spec.specs.UnreadLine.{pending};
-ghost use Rattle.lexopt_base.specs.Replies.{CanReply, Gives, error_reply};
+ghost use Rattle.lexopt_base.specs.Replies.{CanReply, RepliesWith, error_reply};
 ghost use Rattle.test_calls.specs.Callers.{IsNegative, TakesNegative};
 
 use lexopt::replay::{Call, Reply, replay};
@@ -47,7 +47,7 @@ pub fn next_file(parser: &mut Parser) -> Result<Option<OsString>, Error>
 /// Takes two values of the last option, or one where there is no other. The words after them stay.
 pub fn two_values(parser: &mut Parser) -> Result<(Option<OsString>, Option<OsString>), Error>
     ensures ok { IfOk result (λ found. Step (values 2) parser.old (items (cons_option found.0 (cons_option found.1 []))) parser.new) }
-    ensures err { IfErr result (λ e. Gives (Step (values 2)) parser.old (error_reply e) parser.new) }
+    ensures err { IfErr result (λ e. RepliesWith (Step (values 2)) parser.old (error_reply e) parser.new) }
 {
     let mut view = parser.values()?;
     let first = view.next();
@@ -58,7 +58,7 @@ pub fn two_values(parser: &mut Parser) -> Result<(Option<OsString>, Option<OsStr
 /// Takes the next word where it is a number after one dash, as `-10`, which `next` would read as options.
 pub fn negative_number(parser: &mut Parser) -> Result<Option<OsString>, Error>
     ensures ok { IfOk result (λ found. (pending parser.old ≡ None) × TakesNegative parser.old found parser.new) }
-    ensures err { IfErr result (λ e. Gives (Step (raw 1)) parser.old (error_reply e) parser.new) }
+    ensures err { IfErr result (λ e. RepliesWith (Step (raw 1)) parser.old (error_reply e) parser.new) }
 {
     let mut view = parser.raw_args()?;
     let is_wanted = match view.peek() {

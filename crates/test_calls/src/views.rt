@@ -34,8 +34,8 @@ fn several_values(rt: HostRuntime) -> Result<(), Fail> {
     Ok(())
 }
 
-// How many values of `-a` are collected.
-fn collected(alloc: Global, parser: &mut Parser) -> Result<usize, Error> {
+// How many values of `-a` are collect_words.
+fn collect_words(alloc: Global, parser: &mut Parser) -> Result<usize, Error> {
     if !reads_short(parser, 'a')? {
         return Ok(0);
     }
@@ -46,7 +46,7 @@ fn collected(alloc: Global, parser: &mut Parser) -> Result<usize, Error> {
 #[test]
 fn collected_values(rt: HostRuntime) -> Result<(), Fail> {
     let mut parser = parser_of(rt.alloc(), &[b"-ab", b"c", b"-d"])?;
-    assert!(rt; collected(rt.alloc(), &mut parser)? == 2 && reads_short(&mut parser, 'd')?);
+    assert!(rt; collect_words(rt.alloc(), &mut parser)? == 2 && reads_short(&mut parser, 'd')?);
     Ok(())
 }
 

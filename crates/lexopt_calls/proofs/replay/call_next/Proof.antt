@@ -42,7 +42,7 @@ use Rattle.lexopt_words.proofs.error.Arg.TheLaws as Arg-laws
 use Rattle.lexopt_words.proofs.error.Error.TheLaws as Error-laws
 use Rattle.lexopt_spec.specs.UnreadLine.{UnreadLine}
 use Rattle.lexopt_spec.specs.Steps.{Next}
-use Rattle.lexopt_base.specs.Replies.{CanReply, Gives, next_reply}
+use Rattle.lexopt_base.specs.Replies.{CanReply, RepliesWith, next_reply}
 use Rattle.lexopt_base.specs.Ends.{EndsAfter}
 use Rattle.lexopt_base.proofs.Ends.{ends_said}
 use Rattle.lexopt_base.specs.contracts.parser.Parser.next as next
@@ -120,7 +120,7 @@ call_next_spec 𝓤 𝓛 𝓜 𝓡 wired =
     peeks ! Tr (Is Tr) (shows 𝓛 Tr) t (v ∷ []) (λ is'.
     lands_as ! refl refl (((Tr-laws.lawful 𝓛).typed t (v ∷ []) is').0) $ move ! (3 ∷ []) $ pick ! (λ ws'. split ! $ drop ! $ heard ! _ (λ same.
     move ! (4 ∷ []) $ pick ! (λ ws. split ! $ drop ! $ split ! $
-    use1 𝓛 (some (λ (w : UnreadLine). raw (fact 𝓤 (Gives Next r.now (next_reply y) w)) ⊛ ‵ (fres δ (R.coded.code w)))) (ends_said 𝓛 lent y) $ pick ! (λ w. split ! $ heard ! _ (λ steps.
+    use1 𝓛 (some (λ (w : UnreadLine). raw (fact 𝓤 (RepliesWith Next r.now (next_reply y) w)) ⊛ ‵ (fres δ (R.coded.code w)))) (ends_said 𝓛 lent y) $ pick ! (λ w. split ! $ heard ! _ (λ steps.
     -- [the loan's last value; the other clause; the copy; α is over; nothing; nothing; what the lender keeps]
     move ! (3 ∷ 6 ∷ 0 ∷ []) $ use3 𝓛 (later (‵ (Ref κ (record r { now = w })) ⊛ ‵ (flft κ q)))
     (comes_back 𝓛 R (named 0) κ (α ∷ []) q γ b o δ r.now w) $ await ! tt $ split ! $

@@ -3,7 +3,7 @@ use Rattle.std.proofs.lemmas.Result.{IfOk-from_err}
 use Rattle.lexopt_spec.specs.UnreadLine.{UnreadLine}
 use Rattle.lexopt_spec.specs.Steps.{items}
 use Rattle.lexopt_spec.specs.Runs.{Step, raw}
-use Rattle.lexopt_base.specs.Replies.{Gives}
+use Rattle.lexopt_base.specs.Replies.{RepliesWith}
 use Rattle.lexopt_calls.proofs.Views.{raw_made}
 use Rattle.lexopt_calls.proofs.replay.call_raw.Goals as goal
 
@@ -14,7 +14,7 @@ returns-in_err-words_of-in-Ok c =
       h.0,
       Some (items h.1),
       h.2,
-      subst (λ (l : UnreadLine). Gives (Step (raw h.0)) c.args.parser.now (Some (items h.1)) l) (search rules) made,
+      subst (λ (l : UnreadLine). RepliesWith (Step (raw h.0)) c.args.parser.now (Some (items h.1)) l) (search rules) made,
       IfOk-from_err c.from_residual.result _ c.from_residual.ensures.0,
     )
 
@@ -25,6 +25,6 @@ returns-in_ok-words_of-in-Ok c =
       h.0,
       Some (items h.1),
       h.2,
-      subst (λ (l : UnreadLine). Gives (Step (raw h.0)) c.args.parser.now (Some (items h.1)) l) (search rules) made,
+      subst (λ (l : UnreadLine). RepliesWith (Step (raw h.0)) c.args.parser.now (Some (items h.1)) l) (search rules) made,
       (h.4.0, ap (λ l. Some (items l)) h.4.1),
     )

@@ -3,28 +3,28 @@ use Rattle.std.proofs.lemmas.Result.{IfOk-from_err}
 use Rattle.lexopt_spec.specs.UnreadLine.{UnreadLine}
 use Rattle.lexopt_spec.specs.Steps.{items}
 use Rattle.lexopt_spec.specs.Runs.{Step, values}
-use Rattle.lexopt_base.specs.Replies.{Gives}
+use Rattle.lexopt_base.specs.Replies.{RepliesWith}
 use Rattle.lexopt_calls.proofs.Views.{values_made}
 use Rattle.lexopt_calls.proofs.replay.call_values.Goals as goal
 
-pub returns-in_err-values_of-in-Ok : goal.returns-in_err-values_of-in-Ok
-returns-in_err-values_of-in-Ok c =
-    let h = c.in_err-values_of-in-Ok.ensures.items in
+pub returns-in_err-take_values-in-Ok : goal.returns-in_err-take_values-in-Ok
+returns-in_err-take_values-in-Ok c =
+    let h = c.in_err-take_values-in-Ok.ensures.items in
     let made = values_made h.0 c.args.parser.now c.in-Ok.view.parser.now _ _ _ h.1 c.in-Ok.ensures.found c.in-Ok.ensures.unchanged c.in-Ok.ensures.at_start h.3 in (
       h.0,
       Some (items h.1),
       h.2,
-      subst (λ (l : UnreadLine). Gives (Step (values h.0)) c.args.parser.now (Some (items h.1)) l) (search rules) made,
+      subst (λ (l : UnreadLine). RepliesWith (Step (values h.0)) c.args.parser.now (Some (items h.1)) l) (search rules) made,
       IfOk-from_err c.from_residual.result _ c.from_residual.ensures.0,
     )
 
-pub returns-in_ok-values_of-in-Ok : goal.returns-in_ok-values_of-in-Ok
-returns-in_ok-values_of-in-Ok c =
-    let h = c.in_ok-values_of-in-Ok.ensures.items in
+pub returns-in_ok-take_values-in-Ok : goal.returns-in_ok-take_values-in-Ok
+returns-in_ok-take_values-in-Ok c =
+    let h = c.in_ok-take_values-in-Ok.ensures.items in
     let made = values_made h.0 c.args.parser.now c.in-Ok.view.parser.now _ _ _ h.1 c.in-Ok.ensures.found c.in-Ok.ensures.unchanged c.in-Ok.ensures.at_start h.3 in (
       h.0,
       Some (items h.1),
       h.2,
-      subst (λ (l : UnreadLine). Gives (Step (values h.0)) c.args.parser.now (Some (items h.1)) l) (search rules) made,
+      subst (λ (l : UnreadLine). RepliesWith (Step (values h.0)) c.args.parser.now (Some (items h.1)) l) (search rules) made,
       (h.4.0, ap (λ l. Some (items l)) h.4.1),
     )

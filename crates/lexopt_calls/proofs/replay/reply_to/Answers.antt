@@ -7,7 +7,7 @@ use Rattle.lexopt_calls.specs.declared.reply.Reply.TheVariants.{Maybe, Done}
 use Rattle.lexopt_calls.proofs.StepReplies.{given}
 use Rattle.std.proofs.Common.{◌≡◌, refl, sym, ap, subst, ◌∙◌, inl, IfOk}
 use Rattle.std.specs.Option.{option_map}
-use Rattle.lexopt_base.specs.Replies.{Gives}
+use Rattle.lexopt_base.specs.Replies.{RepliesWith}
 use Rattle.lexopt_calls.specs.Replies.{call_view, reply_view}
 use Rattle.lexopt_calls.proofs.replay.reply_to.Goals.{in-Next+in_ok-reply-in-Next, in-Value, in-Optional, in-Values+in_ok-reply-in-Values, in-Raw+in_ok-reply-in-Raw, in-TryRaw+in_ok-call_try_raw-in-TryRaw, in-RawIf, in-Switch}
 use Rattle.lexopt_calls.proofs.replay.reply_to.Goals as goal
@@ -57,14 +57,14 @@ returns c = elim c.match-call.branch [
       let known = sym told ∙ ap (λ o. option_map reply_view o) (sym w.reply-is ∙ c.in-Some.is) in (
         0,
         reply_view c.in-Some.reply,
-        rw (w.in-Next.is, w.parser-is) (subst (λ o. Gives Next c.args.parser.now o w.call_next.new.parser) known w.call_next.ensures.1),
+        rw (w.in-Next.is, w.parser-is) (subst (λ o. RepliesWith Next c.args.parser.now o w.call_next.new.parser) known w.call_next.ensures.1),
         (rw w.in-Next.is refl, refl),
       )
   | in-Value w ↦
       let known = ap (λ o. option_map reply_view o) (sym w.reply-is ∙ c.in-Some.is) in (
         0,
         reply_view c.in-Some.reply,
-        rw (w.in-Value.is, w.parser-is) (subst (λ o. Gives Value c.args.parser.now o w.call_value-reply.new.parser) known w.call_value-reply.ensures),
+        rw (w.in-Value.is, w.parser-is) (subst (λ o. RepliesWith Value c.args.parser.now o w.call_value-reply.new.parser) known w.call_value-reply.ensures),
         (rw w.in-Value.is refl, refl),
       )
   | in-Optional w ↦
@@ -78,7 +78,7 @@ returns c = elim c.match-call.branch [
         reply_view c.in-Some.reply,
         rw w.parser-is
             (subst (λ (it : runs.Call). Step it c.args.parser.now (reply_view c.in-Some.reply) w.call_values.new.parser)
-            (sym (up_to_values h.0 w.in-Values.count h.2) ∙ ap (λ it. up_to h.0 (call_view it)) (sym w.in-Values.is)) (subst (λ o. Gives (Step (values h.0)) c.args.parser.now o w.call_values.new.parser) known h.3)),
+            (sym (up_to_values h.0 w.in-Values.count h.2) ∙ ap (λ it. up_to h.0 (call_view it)) (sym w.in-Values.is)) (subst (λ o. RepliesWith (Step (values h.0)) c.args.parser.now o w.call_values.new.parser) known h.3)),
         (ap (λ it. up_to h.0 (call_view it)) w.in-Values.is ∙ up_to_values h.0 w.in-Values.count h.2 ∙ ap values h.4.0 ∙ ap call_view (sym w.in-Values.is), refl),
       )
   | in-Raw+in_ok-reply-in-Raw w ↦
@@ -88,7 +88,7 @@ returns c = elim c.match-call.branch [
         reply_view c.in-Some.reply,
         rw w.parser-is
             (subst (λ (it : runs.Call). Step it c.args.parser.now (reply_view c.in-Some.reply) w.call_raw.new.parser)
-            (sym (up_to_raw h.0 w.in-Raw.count h.2) ∙ ap (λ it. up_to h.0 (call_view it)) (sym w.in-Raw.is)) (subst (λ o. Gives (Step (raw h.0)) c.args.parser.now o w.call_raw.new.parser) known h.3)),
+            (sym (up_to_raw h.0 w.in-Raw.count h.2) ∙ ap (λ it. up_to h.0 (call_view it)) (sym w.in-Raw.is)) (subst (λ o. RepliesWith (Step (raw h.0)) c.args.parser.now o w.call_raw.new.parser) known h.3)),
         (ap (λ it. up_to h.0 (call_view it)) w.in-Raw.is ∙ up_to_raw h.0 w.in-Raw.count h.2 ∙ ap raw h.4.0 ∙ ap call_view (sym w.in-Raw.is), refl),
       )
   | in-TryRaw+in_ok-call_try_raw-in-TryRaw w ↦
@@ -107,7 +107,7 @@ returns c = elim c.match-call.branch [
       let known = ap (λ o. option_map reply_view o) (sym w.reply-is ∙ c.in-Some.is) in (
         0,
         reply_view c.in-Some.reply,
-        rw (w.in-RawIf.is, w.parser-is) (subst (λ o. Gives (Step (raw_if w.in-RawIf.word)) c.args.parser.now o w.call_raw_if-reply.new.parser) known w.call_raw_if-reply.ensures),
+        rw (w.in-RawIf.is, w.parser-is) (subst (λ o. RepliesWith (Step (raw_if w.in-RawIf.word)) c.args.parser.now o w.call_raw_if-reply.new.parser) known w.call_raw_if-reply.ensures),
         (rw w.in-RawIf.is refl, refl),
       )
   | in-Switch w ↦

@@ -5,10 +5,10 @@ use Rattle.lexopt_spec.specs.Runs.{Step, values}
 use Rattle.lexopt_calls.proofs.Views.{values_made}
 use Rattle.lexopt_items.proofs.items.all_values.Goals as goal
 
-pub returns-in_ok-values_of-in-Ok-clause-ok : goal.returns-in_ok-values_of-in-Ok-clause-ok
-returns-in_ok-values_of-in-Ok-clause-ok c =
-    let h = c.in_ok-values_of-in-Ok.ensures.items in
-    let came = c.in_ok-values_of-in-Ok.field-0 in
+pub returns-in_ok-take_values-in-Ok-clause-ok : goal.returns-in_ok-take_values-in-Ok-clause-ok
+returns-in_ok-take_values-in-Ok-clause-ok c =
+    let h = c.in_ok-take_values-in-Ok.ensures.items in
+    let came = c.in_ok-take_values-in-Ok.field-0 in
     let made = values_made h.0 c.args.parser.now c.in-Ok.view.parser.now _ _ _ h.1 c.in-Ok.ensures.found c.in-Ok.ensures.unchanged c.in-Ok.ensures.at_start h.3 in
     let small = came.small in
     let within = came.ok in
@@ -16,5 +16,5 @@ returns-in_ok-values_of-in-Ok-clause-ok c =
       h.0,
       (let few : length came.items < h.0 = omega arith in few),
       subst (λ (l : UnreadLine). Step (values h.0) c.args.parser.now (items came.items) l) (search rules)
-          (subst (λ (l : List (List ℕ)). Step (values h.0) c.args.parser.now (items l) c.values_of.new.view.parser.now) (sym h.4.1) made),
+          (subst (λ (l : List (List ℕ)). Step (values h.0) c.args.parser.now (items l) c.take_values.new.view.parser.now) (sym h.4.1) made),
     )

@@ -1,11 +1,11 @@
-use Rattle.lexopt_items.specs.Items.{IsErrorOf, IsRefused, table_view}
+use Rattle.lexopt_items.specs.Items.{IsErrorOf, FailsWith, table_view}
 use Rattle.lexopt_items.proofs.ReadsItems.{err_alone, err_says, is_refused}
 use Rattle.lexopt_items.proofs.items.items_of.Goals as goal
 
 pub returns-in-Err-clause-ok : goal.returns-in-Err-clause-ok
-returns-in-Err-clause-ok c = err_alone c.refused.result (IsErrorOf c.in-Err.ending) _ c.refused.ensures
+returns-in-Err-clause-ok c = err_alone c.error_of.result (IsErrorOf c.in-Err.ending) _ c.error_of.ensures
 
 pub returns-in-Err-clause-err : goal.returns-in-Err-clause-err
 returns-in-Err-clause-err c =
-    err_says c.refused.result (IsErrorOf c.in-Err.ending) (IsRefused (table_view c.args.table.now) c.args.parser.now) c.refused.ensures
+    err_says c.error_of.result (IsErrorOf c.in-Err.ending) (FailsWith (table_view c.args.table.now) c.args.parser.now) c.error_of.ensures
     (λ e is. is_refused (table_view c.args.table.now) c.args.parser.now c.in-Err.ending e c.in-Err.ensures.err is)

@@ -7,7 +7,7 @@ use Rattle.lexopt_line_spec.specs.Table.{Kind, kind, long}
 use Rattle.lexopt_line_spec.specs.Speller as spec
 use Rattle.lexopt_line_spec.specs.Speller.{Form, Reason}
 use Rattle.lexopt_items.specs.Items.{item_view, table_view}
-use Rattle.lexopt_spell.specs.Views.{form_answer, place_view}
+use Rattle.lexopt_spell.specs.Models.{form_answer, place_view}
 use Rattle.lexopt_spell.proofs.added.adds.Goals as goal
 
 pub returns-in-Long : goal.returns-in-Long

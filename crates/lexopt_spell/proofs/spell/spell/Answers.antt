@@ -2,7 +2,7 @@ use Rattle.std.proofs.Common.{map, sym, ap, ◌∙◌, inr}
 use Rattle.lexopt_line_spec.proofs.SpellerSound.{spelled_spells}
 use Rattle.lexopt_line_spec.proofs.SpellerFaults.{named_at_fault, same_fault, words_read, words_said}
 use Rattle.lexopt_items.specs.Items.{item_view, table_view}
-use Rattle.lexopt_spell.specs.Views.{added_answer, added_view, place_view, reason_view}
+use Rattle.lexopt_spell.specs.Models.{added_answer, added_view, place_view, reason_view}
 use Rattle.lexopt_spell.proofs.Answered.{none_shown}
 use Rattle.lexopt_spell.proofs.Resumed.{item_at_fault, item_spelled, items_spelled}
 use Rattle.lexopt_spell.proofs.spell.spell.Goals as goal

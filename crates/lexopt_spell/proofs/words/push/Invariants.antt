@@ -1,5 +1,5 @@
 use Rattle.std.proofs.Common.{◌≡◌, take}
-use Rattle.lexopt_spell.specs.Views.{goes_on, word_bytes}
+use Rattle.lexopt_spell.specs.Models.{goes_on, word_bytes}
 use Rattle.lexopt_spell.specs.Words.{pushed}
 use Rattle.lexopt_spell.proofs.words.push.Given as goal
 

@@ -2,7 +2,7 @@ use Rattle.std.proofs.Common.{◌≡◌, ◌<◌, List, ℕ, drop, length, refl,
 use Rattle.lexopt_spec.specs.UnreadLine.{UnreadLine, short_option}
 use Rattle.lexopt_spec.specs.Steps.{short, NextStep, ReadsPositional, ReadsWord, next_in_cluster, after_separator, next_word}
 use Rattle.lexopt_spec.proofs.LineLemmas.{goes_on, rest_of-some, same_parts}
-use Rattle.lexopt_base.specs.View.{tail_of, ended_of, IsPlaced, IsShortRead}
+use Rattle.lexopt_base.specs.Models.{tail_of, ended_of, IsPlaced, IsShortRead}
 use Rattle.lexopt_base.specs.Helpers.{IsJoined}
 use Rattle.lexopt_base.specs.Found.{found_as, found_reply}
 use Rattle.lexopt_base.specs.declared.parser.State.{State}

@@ -1,6 +1,6 @@
 use Rattle.std.proofs.Common.{Result, Ok, sym, ap, ◌∙◌, string_bytes}
 use Rattle.lexopt_spec.specs.UnreadLine.{UnreadLine}
-use Rattle.lexopt_base.specs.View.{last_of}
+use Rattle.lexopt_base.specs.Models.{last_of}
 use Rattle.lexopt_base.specs.Found.{found_reply}
 use Rattle.lexopt_base.specs.declared.parser.Found.{Found}
 use Rattle.lexopt_base.specs.declared.parser.Refusal.{Refusal}

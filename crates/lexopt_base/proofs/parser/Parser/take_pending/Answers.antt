@@ -1,7 +1,7 @@
 use Rattle.std.proofs.Common.{◌<◌, true, false, List, ℕ, Some, drop, length, sym, ap, subst, ◌∙◌, arith, length-drop, true≢false}
 use Rattle.std.proofs.lemmas.List.{drop-drop}
 use Rattle.lexopt_spec.specs.UnreadLine.{pending_in, rest_of}
-use Rattle.lexopt_base.specs.View.{tail_of, ended_of, IsPlaced}
+use Rattle.lexopt_base.specs.Models.{tail_of, ended_of, IsPlaced}
 use Rattle.lexopt_base.specs.Helpers.{IsJoined}
 use Rattle.lexopt_base.specs.declared.parser.State.{State}
 use Rattle.lexopt_base.proofs.States.{joined_rest, unjoined_rest, value_taken}

@@ -4,7 +4,7 @@ use Rattle.lexopt_script.specs.declared.script.Command.{Command}
 use Rattle.lexopt_script.specs.Meanings.{command_view}
 use Rattle.lexopt_script.specs.Performed.{Performs}
 use Rattle.lexopt_script.proofs.Performing.{more_done}
-use Rattle.lexopt_script.proofs.run.performed.Goals as goal
+use Rattle.lexopt_script.proofs.run.perform_all.Goals as goal
 
 pub loop-command-preserved : goal.loop-command-preserved
 loop-command-preserved c =

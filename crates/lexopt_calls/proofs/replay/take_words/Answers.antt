@@ -1,22 +1,22 @@
 use Rattle.std.proofs.Common.{Some, [], ◌∷◌, ◌++◌, ◌+◌, refl, ◌∙◌, arith, add-one}
 use Rattle.std.proofs.lemmas.Result.{IfOk-from_err}
-use Rattle.lexopt_spec.proofs.ViewLemmas.{ValueItems-more, values_no_more}
-use Rattle.lexopt_calls.proofs.replay.values_of.Goals.{else-loop-asked-test, then-loop-asked-test+in-None}
-use Rattle.lexopt_calls.proofs.replay.values_of.Goals as goal
+use Rattle.lexopt_spec.proofs.ViewLemmas.{WordItems-more, words_no_more}
+use Rattle.lexopt_calls.proofs.replay.take_words.Goals.{else-loop-asked-test, then-loop-asked-test+in-None}
+use Rattle.lexopt_calls.proofs.replay.take_words.Goals as goal
 
 pub returns-in_err-push-in-Some-clause-items : goal.returns-in_err-push-in-Some-clause-items
 returns-in_err-push-in-Some-clause-items c = (
   c.loop-asked._asked + 1,
-  c.loop-asked.items.items ++ c.in-Some.value ∷ [],
+  c.loop-asked.items.items ++ c.in-Some.word ∷ [],
   omega arith,
-  rw add-one (ValueItems-more _ _ _ _ _ _ _ _ (Some c.in-Some.value) c.loop-asked.invariant.1 c.in-Some.ensures.steps.1),
+  rw add-one (WordItems-more _ _ _ _ _ (Some c.in-Some.word) c.loop-asked.invariant.1 c.in-Some.ensures.steps.1),
   IfOk-from_err c.from_residual.result _ c.from_residual.ensures.0,
 )
 
 pub loop-asked-preserved : goal.loop-asked-preserved
 loop-asked-preserved c = (
   c.in-Some.ensures.steps.0 ∙ c.loop-asked.invariant.0,
-  rw (add-one, c.in_ok-push-in-Some.ensures.items) (ValueItems-more _ _ _ _ _ _ _ _ (Some c.in-Some.value) c.loop-asked.invariant.1 c.in-Some.ensures.steps.1),
+  rw (add-one, c.in_ok-push-in-Some.ensures.items) (WordItems-more _ _ _ _ _ (Some c.in-Some.word) c.loop-asked.invariant.1 c.in-Some.ensures.steps.1),
 )
 
 pub returns-clause-items : goal.returns-clause-items
@@ -26,7 +26,7 @@ returns-clause-items c = elim c.loop-asked-test.branch [
     c.args.count,
     c.loop-asked.items.items,
     omega arith,
-    rw w.view-is (values_no_more _ _ _ _ _ _ _ _ _ (omega arith) c.loop-asked.invariant.1 w.in-None.ensures.steps.1),
+    rw w.view-is (words_no_more _ _ _ _ _ _ (omega arith) c.loop-asked.invariant.1 w.in-None.ensures.steps.1),
     (refl, refl),
   )
 ]

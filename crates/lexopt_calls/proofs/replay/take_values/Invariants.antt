@@ -1,7 +1,7 @@
 use Rattle.std.proofs.Common.{◌≡◌}
 use Rattle.lexopt_spec.specs.Views.{ValueItems}
 use Rattle.lexopt_base.specs.Stages.{stage_of}
-use Rattle.lexopt_calls.proofs.replay.values_of.Given as goal
+use Rattle.lexopt_calls.proofs.replay.take_values.Given as goal
 
 abbrev pub invariant-loop-asked : goal.invariant-loop-asked
 invariant-loop-asked l =

@@ -1,6 +1,6 @@
 use Rattle.std.proofs.Common.{drop, ap, ◌∙◌, arith, length-drop, take_all}
 use Rattle.lexopt_base.proofs.States.{same_kept, seen_from}
-use Rattle.lexopt_base.proofs.kept_words.KeptWords.copied.Goals as goal
+use Rattle.lexopt_base.proofs.kept_words.KeptWords.copy.Goals as goal
 
 pub returns : goal.returns
 returns c =

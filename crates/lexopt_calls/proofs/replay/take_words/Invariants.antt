@@ -1,6 +1,6 @@
 use Rattle.std.proofs.Common.{◌≡◌}
 use Rattle.lexopt_spec.specs.Views.{WordItems}
-use Rattle.lexopt_calls.proofs.replay.words_of.Given as goal
+use Rattle.lexopt_calls.proofs.replay.take_words.Given as goal
 
 abbrev pub invariant-loop-asked : goal.invariant-loop-asked
 invariant-loop-asked l =

@@ -3,7 +3,7 @@ use Rattle.std.specs.Option.{option_map}
 use Rattle.lexopt_items.specs.declared.items.Item.{Item}
 use Rattle.lexopt_items.specs.Items.{ReadsItem, item_view, table_view}
 use Rattle.lexopt_items.proofs.ReadsItems.{handed_on, refused_later, end_read}
-use Rattle.lexopt_items.proofs.items.gathered.Goals as goal
+use Rattle.lexopt_items.proofs.items.read_items_left.Goals as goal
 
 pub returns-in_err-item-clause-err : goal.returns-in_err-item-clause-err
 returns-in_err-item-clause-err c =

@@ -1,4 +1,4 @@
-use Rattle.lexopt_base.proofs.parser.collected.Goals as goal
+use Rattle.lexopt_base.proofs.parser.collect_words.Goals as goal
 
 pub returns : goal.returns
 returns g c =
