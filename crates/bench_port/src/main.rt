@@ -1,16 +1,19 @@
-//! Reads words many times, so that the cost of a read can be measured. `bench/src/main.rs` does the same with the Rust crate.
+//! Reads words many times, so that the cost of a read can be measured. `bench/src/main.rs` does the
+//! same with the Rust crate.
 //!
-//! The first argument is the work, and the second how many times it is done. Standard input has the words, each ended by a NUL.
-//! Each time the words are copied, and
+//! The first argument is the work, and the second how many times it is done. Standard input has the
+//! words, each ended by a NUL. Each time the words are copied, and
 //!
 //! - `copy` does no more;
-//! - `next` reads the copies as a command line, in which `-n` and `--name` take a value, by a parser that `from_vec` makes of them;
+//! - `next` reads the copies as a command line, in which `-n` and `--name` take a value, by a
+//!   parser that `from_vec` makes of them;
 //! - `collected` does so by a parser that `from_args` makes;
 //! - `fallible` does so up to the first error, and takes values by a function that can fail;
 //! - `values` reads a line in which `-n` takes several values;
 //! - `raw` takes the words unread;
 //! - `parse` parses each copy as a number, and reads no line;
-//! - `items` reads the line by a table of options, `spell` spells these items too, and `spelled` copies the words that spell them.
+//! - `items` reads the line by a table of options, `spell` spells these items too, and `spelled`
+//!   copies the words that spell them.
 //!
 //! Last it prints what was seen.
 #![tactic(auto)]
@@ -219,7 +222,8 @@ fn read_or_fail(words: Vec<OsString>, seen: &mut Seen) -> Result<(), Error> {
     Ok(())
 }
 
-// The table that `read_items` reads by: one option of one character and one with a name for each number of values.
+// The table that `read_items` reads by: one option of one character and one with a name for each
+// number of values.
 fn options(alloc: Global) -> Result<Table, AllocError> {
     Ok(Table {
         shorts: vec![in alloc; 'n']?,
@@ -231,7 +235,8 @@ fn options(alloc: Global) -> Result<Table, AllocError> {
     })
 }
 
-// Spells the items, and copies the words that spell them, if the work wants it. It is no part of what `items` costs.
+// Spells the items, and copies the words that spell them, if the work wants it. It is no part of
+// what `items` costs.
 #[cold]
 fn spell_items(
     alloc: Global,

@@ -1,4 +1,5 @@
-//! What the reads saw: counts, and a hash of the first read, since one of every read would cost more than what is measured.
+//! What the reads saw: counts, and a hash of the first read, since one of every read would cost
+//! more than what is measured.
 use lexopt::items::Item;
 use lexopt::{Error, OsString};
 use std::fmt;

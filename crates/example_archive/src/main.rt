@@ -1,10 +1,10 @@
-//! A whole line by a table of options:
-//! `example_archive [-v|--verbose] [-o|--output=FILE] [-b[SUFFIX]|--backup[=SUFFIX]] [-x|--exclude PATTERN..] [FILE]..`.
+//! A whole line by a table of options: `example_archive [-v|--verbose] [-o|--output=FILE]
+//! [-b[SUFFIX]|--backup[=SUFFIX]] [-x|--exclude PATTERN..] [FILE]..`.
 //!
 //! It packs nothing: it prints what it has read, quoted. A word may be of any bytes.
 //!
-//! The exit status is 0, or 2 where the command line, or memory to read it, was refused, or 1 where a line could not be
-//! printed; then standard error says why.
+//! The exit status is 0, or 2 where the command line, or memory to read it, was refused, or 1 where
+//! a line could not be printed; then standard error says why.
 #![tactic(auto)]
 
 use lexopt::items::{Item, Table, read_items};
@@ -33,7 +33,8 @@ struct Options {
     files: Vec<OsString>,
 }
 
-// Which options have one value, a value that may be left out, and several values. Any other option is read as one of none.
+// Which options have one value, a value that may be left out, and several values. Any other option
+// is read as one of none.
 fn table(alloc: Global) -> Result<Table, AllocError> {
     let mut table = Table::new(alloc);
     table.shorts.push('o')?;

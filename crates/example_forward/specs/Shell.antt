@@ -1,6 +1,7 @@
 -- Words as a POSIX shell reads them.
 -- The source is the Shell Command Language of POSIX, "Quoting".
-use Rattle.std.specs.Prelude.{◌≡◌, ◌≢◌, ℕ, Bool, true, false, ◌==◌, ◌||◌, List, [], ◌∷◌, ◌++◌, codes, if◌then◌else◌}
+use Rattle.std.specs.Prelude.{◌≡◌, ◌≢◌, ℕ, Bool, true, false, ◌==◌, ◌||◌, List, [], ◌∷◌, ◌++◌}
+use Rattle.std.specs.Prelude.{codes, if◌then◌else◌}
 use Rattle.std.specs.Char.{is_ascii_alphanumeric}
 use Rattle.std.specs.List.{flat_map, list_all, list_any}
 
@@ -26,10 +27,13 @@ is_plain b = is_ascii_alphanumeric b || list_any (λ mark. mark == b) (codes "%+
 -- from here on, inside single quotes or outside of them, these bytes are read as the rest of a word
 pub data Reads : Bool → List ℕ → List ℕ → Type 0 where
   at_end : Reads false [] []
-  plain : (b : ℕ) (bytes word : List ℕ) → is_plain b ≡ true → Reads false bytes word → Reads false (b ∷ bytes) (b ∷ word)
-  escaped : (b : ℕ) (bytes word : List ℕ) → b ≢ line_feed → b ≢ nul → Reads false bytes word → Reads false (backslash ∷ b ∷ bytes) (b ∷ word)
+  plain : (b : ℕ) (bytes word : List ℕ) → is_plain b ≡ true → Reads false bytes word
+      → Reads false (b ∷ bytes) (b ∷ word)
+  escaped : (b : ℕ) (bytes word : List ℕ) → b ≢ line_feed → b ≢ nul → Reads false bytes word
+      → Reads false (backslash ∷ b ∷ bytes) (b ∷ word)
   opening : (bytes word : List ℕ) → Reads true bytes word → Reads false (quote ∷ bytes) word
-  quoted_byte : (b : ℕ) (bytes word : List ℕ) → b ≢ quote → b ≢ nul → Reads true bytes word → Reads true (b ∷ bytes) (b ∷ word)
+  quoted_byte : (b : ℕ) (bytes word : List ℕ) → b ≢ quote → b ≢ nul → Reads true bytes word
+      → Reads true (b ∷ bytes) (b ∷ word)
   closing : (bytes word : List ℕ) → Reads false bytes word → Reads true (quote ∷ bytes) word
 
 -- these bytes are read as one word, which may be empty

@@ -1,12 +1,12 @@
-//! Passes its line on, with one option changed:
-//! `example_forward [-v|--verbose] [-j|--jobs=N] [--color[=WHEN]] [-x|--exclude PATTERN..] [FILE]..`.
+//! Passes its line on, with one option changed: `example_forward [-v|--verbose] [-j|--jobs=N]
+//! [--color[=WHEN]] [-x|--exclude PATTERN..] [FILE]..`.
 //!
-//! It prints the words that another program is to be called with, each quoted for a POSIX shell. They say what its own line
-//! said, but for `--color`, which says `always`: what the other program writes goes to a pipe. A word may be of any bytes but 00,
-//! which no argument of a program holds.
+//! It prints the words that another program is to be called with, each quoted for a POSIX shell.
+//! They say what its own line said, but for `--color`, which says `always`: what the other program
+//! writes goes to a pipe. A word may be of any bytes but 00, which no argument of a program holds.
 //!
-//! The exit status is 0, or 2 where the command line, or memory to read it, was refused, or 1 where the line could not be
-//! printed; then standard error says why.
+//! The exit status is 0, or 2 where the command line, or memory to read it, was refused, or 1 where
+//! the line could not be printed; then standard error says why.
 #![tactic(auto)]
 
 mod shell;
@@ -63,7 +63,8 @@ fn forwarded_long(alloc: Global, name: String, value: Option<OsString>) -> Resul
     Ok(Item::Long(name, value))
 }
 
-// What an item is to be for the other program. An option that it does not have is refused, and so is one with a damaged name.
+// What an item is to be for the other program. An option that it does not have is refused, and so
+// is one with a damaged name.
 fn forwarded(alloc: Global, item: Item) -> Result<Item, Error> {
     match item {
         Item::Short('v', value) => Ok(Item::Short('v', value)),

@@ -28,11 +28,13 @@ fn needs_none(word: &[u8]) -> bool
     }
 }
 
-/// The word for a shell: as it is, or where it needs it between single quotes. A quote in it stands after a backslash, between
-/// two quoted parts: `it's` is `'it'\''s'`. A shell reads it back as the word, if that holds no byte 00, which no shell reads.
+/// The word for a shell: as it is, or where it needs it between single quotes. A quote in it stands
+/// after a backslash, between two quoted parts: `it's` is `'it'\''s'`. A shell reads it back as the
+/// word, if that holds no byte 00, which no shell reads.
 pub fn quoted(alloc: Global, word: &[u8]) -> Result<Vec<u8>, AllocError>
     ensures form { IfOk result (λ bytes. bytes.items ≡ spec.quoted word.now) }
-    ensures read_back { IfOk result (λ bytes. ¬ Contains word.now spec.nul → spec.IsReadAs bytes.items word.now) }
+    ensures read_back { IfOk result (λ bytes. ¬ Contains word.now spec.nul
+        → spec.IsReadAs bytes.items word.now) }
 {
     let mut bytes = Vec::new(alloc);
     if needs_none(word) {

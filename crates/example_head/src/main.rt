@@ -1,9 +1,10 @@
 //! Prints the first lines of standard input: `example_head [-NUM] [-n|--lines=NUM] [--number]`.
 //!
-//! `-NUM` is a number after one dash, as in `head -10`, which `next` would read as the options `1` and `0`.
+//! `-NUM` is a number after one dash, as in `head -10`, which `next` would read as the options `1`
+//! and `0`.
 //!
-//! The exit status is 0, or 2 where the command line, or memory to read it, was refused, or 1 where a line could not be read
-//! or printed; then standard error says why.
+//! The exit status is 0, or 2 where the command line, or memory to read it, was refused, or 1 where
+//! a line could not be read or printed; then standard error says why.
 #![tactic(auto)]
 
 use lexopt_base::prelude::{Long, Short, ValueExt};
@@ -29,7 +30,8 @@ fn number_of(word: OsStr<'_>) -> Option<usize> {
     digits.parse().ok()
 }
 
-// Takes the next word, if it is a number after one dash. In the middle of a word, as after `-q` of `-q10`, there is none.
+// Takes the next word, if it is a number after one dash. In the middle of a word, as after `-q` of
+// `-q10`, there is none.
 fn take_dash_number(parser: &mut Parser) -> Option<usize> {
     let mut words = parser.try_raw_args()?;
     let number = number_of(words.peek()?)?;
@@ -37,8 +39,8 @@ fn take_dash_number(parser: &mut Parser) -> Option<usize> {
     Some(number)
 }
 
-// No positional argument is wanted. A program that wants some stops looking for `-NUM` at the first of them: it may stand
-// after `--`, where `-10` is a positional argument too.
+// No positional argument is wanted. A program that wants some stops looking for `-NUM` at the first
+// of them: it may stand after `--`, where `-10` is a positional argument too.
 fn read_options(alloc: Global, parser: &mut Parser) -> Result<Options, Error> {
     let mut options = Options {
         lines: 10,

@@ -1,7 +1,7 @@
 //! Greets a thing: `example_hello [-n|--number=NUM] [--shout] THING`.
 //!
-//! The exit status is 0, or 2 where the command line, or memory to read it, was refused, or 1 where a line could not be
-//! made or printed; then standard error says why.
+//! The exit status is 0, or 2 where the command line, or memory to read it, was refused, or 1 where
+//! a line could not be made or printed; then standard error says why.
 #![tactic(auto)]
 
 use lexopt_base::prelude::{Long, Short, Value, ValueExt};

@@ -1,9 +1,9 @@
 //! Checks a command line, and reads on after an error:
 //! `example_lint [-v|--verbose] [-j|--jobs=NUM] [-o|--output=FILE] [FILE]..`.
 //!
-//! It prints the message of each error on a line of its own. The exit status is 0 where there was none, 2 where there was
-//! one, and 1 where a line could not be printed, memory was refused, or a word is no UTF-8 (`example_timeout` takes words of any
-//! bytes); then standard error says why.
+//! It prints the message of each error on a line of its own. The exit status is 0 where there was
+//! none, 2 where there was one, and 1 where a line could not be printed, memory was refused, or a
+//! word is no UTF-8 (`example_timeout` takes words of any bytes); then standard error says why.
 #![tactic(auto)]
 
 use lexopt_base::prelude::{Long, Short, Value, ValueExt};
@@ -25,8 +25,8 @@ fn read_argument(alloc: Global, parser: &mut Parser) -> Result<bool, Error> {
         Some(Value(_file)) => {}
         Some(Long(name)) => {
             let error = Long(name).unexpected(alloc);
-            // A value that is joined to an unknown long option is no error of its own. What stands after a short one may be
-            // more options, and is read on.
+            // A value that is joined to an unknown long option is no error of its own. What stands
+            // after a short one may be more options, and is read on.
             let _value = parser.optional_value();
             return Err(error);
         }

@@ -1,10 +1,10 @@
 //! Two tools in one program, as busybox has many: `echo [-n] [WORD]..` and `basename NAME`.
 //!
-//! The name that the program is called by says which tool it is. Where that is none of them, the first argument does:
-//! `example_multicall echo a b`.
+//! The name that the program is called by says which tool it is. Where that is none of them, the
+//! first argument does: `example_multicall echo a b`.
 //!
-//! The exit status is 0, or 2 where the command line, or memory to read it, was refused, or 1 where a line could not be
-//! printed; then standard error says why.
+//! The exit status is 0, or 2 where the command line, or memory to read it, was refused, or 1 where
+//! a line could not be printed; then standard error says why.
 #![tactic(auto)]
 
 use lexopt_base::prelude::{Short, Value, ValueExt};

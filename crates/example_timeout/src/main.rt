@@ -1,11 +1,11 @@
-//! Reads its own options, and passes the rest of the line on unchanged:
-//! `example_timeout [-s|--signal=NAME] [-k|--kill-after=SECONDS] SECONDS COMMAND [ARG]..`, as of `timeout`.
+//! Reads its own options, and passes the rest of the line on unchanged: `example_timeout
+//! [-s|--signal=NAME] [-k|--kill-after=SECONDS] SECONDS COMMAND [ARG]..`, as of `timeout`.
 //!
-//! It starts no command: it prints what it has read, and then each word that the command would be started with, quoted. A
-//! word may be of any bytes.
+//! It starts no command: it prints what it has read, and then each word that the command would be
+//! started with, quoted. A word may be of any bytes.
 //!
-//! The exit status is 0, or 2 where the command line, or memory to read it, was refused, or 1 where a line could not be
-//! printed; then standard error says why.
+//! The exit status is 0, or 2 where the command line, or memory to read it, was refused, or 1 where
+//! a line could not be printed; then standard error says why.
 #![tactic(auto)]
 
 use lexopt_base::prelude::{Long, Short, Value, ValueExt};
@@ -54,7 +54,8 @@ fn read_limits(rt: &impl AllocGlobal, parser: &mut Parser) -> Result<Limits, Err
     Err(Error::from("missing argument SECONDS"))
 }
 
-// The words that the program was called with, of any bytes. The first is its name. `Parser::from_env` takes text alone.
+// The words that the program was called with, of any bytes. The first is its name.
+// `Parser::from_env` takes text alone.
 fn own_words(rt: &(impl Env + AllocGlobal)) -> Result<Vec<OsString>, Error> {
     let alloc = rt.alloc();
     let mut words = Vec::new(alloc);

@@ -3,8 +3,8 @@
 //!
 //! It prints what it has read. Words come as text here; `example_timeout` takes words of any bytes.
 //!
-//! The exit status is 0, or 2 where the command line, or memory to read it, was refused, or 1 where a line could not be
-//! printed; then standard error says why.
+//! The exit status is 0, or 2 where the command line, or memory to read it, was refused, or 1 where
+//! a line could not be printed; then standard error says why.
 #![tactic(auto)]
 
 use anyhow::bail;
@@ -55,7 +55,8 @@ impl Color {
     }
 }
 
-// `--color=auto` has a value, `--color` has none, and `--color auto` is the option and a positional argument.
+// `--color=auto` has a value, `--color` has none, and `--color auto` is the option and a positional
+// argument.
 fn read_color(parser: &mut Parser) -> Result<Color, Error> {
     match parser.optional_value() {
         Some(value) => value.parse_with(Color::of_name),

@@ -1,8 +1,9 @@
 //! A lexer for command lines of any bytes.
 //!
-//! `Parser::next` reads the next option or positional argument, and `Parser::value` takes a value for the option just
-//! read. No table of options is needed: a program asks, and decides. `items::read_items`
-//! reads a whole line by a table, and `spell::spell` gives words that spell what a line is to say.
+//! `Parser::next` reads the next option or positional argument, and `Parser::value` takes a value
+//! for the option just read. No table of options is needed: a program asks, and decides.
+//! `items::read_items` reads a whole line by a table, and `spell::spell` gives words that spell
+//! what a line is to say.
 #![tactic(auto)]
 
 pub use lexopt_base::{

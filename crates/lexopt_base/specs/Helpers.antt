@@ -12,7 +12,8 @@ IsJoined (Some value) = value.1 ≡ true
 -- the pending value is taken, if there is one
 abbrev pub TakesPending : UnreadLine → Option (List ℕ) → UnreadLine → Type 0
 TakesPending u None after = (u.tail ≡ no_tail) × (after ≡ u)
-TakesPending u (Some value) after = (by_equals : Bool) × (pending u ≡ Some (value, by_equals)) × (after ≡ record u { tail = no_tail })
+TakesPending u (Some value) after = (by_equals : Bool) × (pending u ≡ Some (value, by_equals))
+    × (after ≡ record u { tail = no_tail })
 
 -- the pending value is refused: it is taken, or there is no memory to say of what option it is
 abbrev pub RefusesPending : UnreadLine → Refusal → UnreadLine → Type 0

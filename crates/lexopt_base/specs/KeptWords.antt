@@ -1,5 +1,6 @@
 -- Words with a cursor: how they are seen, and what is taken of them.
-use Rattle.std.specs.Prelude.{◌≡◌, ◌≤◌, ℕ, zero, suc, List, [], ◌∷◌, drop, slice_index_or, vec_len, Option, Some, None}
+use Rattle.std.specs.Prelude.{◌≡◌, ◌≤◌, ℕ, zero, suc, List, [], ◌∷◌, drop, slice_index_or, vec_len}
+use Rattle.std.specs.Prelude.{Option, Some, None}
 use Rattle.lexopt_base.specs.declared.kept_words.KeptWords.TheInside.{Inside}
 
 -- the word just before the cursor, or no bytes where there is none, and the words after it
@@ -13,7 +14,10 @@ word_before zero words = []
 word_before (suc place) words = slice_index_or words place []
 
 abbrev pub kept_of : Inside → Kept
-kept_of w = record { current = word_before w.count w.words.items; left = drop w.count w.words.items }
+kept_of w = record {
+  current = word_before w.count w.words.items;
+  left = drop w.count w.words.items;
+}
 
 -- the cursor stands among the words
 abbrev pub IsWithin : Inside → Type 0

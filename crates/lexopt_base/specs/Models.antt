@@ -6,7 +6,8 @@ use Rattle.lexopt_spec.specs.UnreadLine as line
 use Rattle.lexopt_spec.specs.Pieces.{first_piece, after_first_piece, shown}
 use Rattle.lexopt_spec.specs.Steps.{IsLongOption}
 use Rattle.lexopt_base.specs.declared.parser.State.{State}
-use Rattle.lexopt_base.specs.declared.parser.State.TheVariants.{Ready, PendingValue, Shorts, FinishedOpts}
+use Rattle.lexopt_base.specs.declared.parser.State.TheVariants.{Ready, PendingValue, Shorts}
+use Rattle.lexopt_base.specs.declared.parser.State.TheVariants.{FinishedOpts}
 use Rattle.lexopt_base.specs.declared.parser.LastOption.{LastOption}
 use Rattle.lexopt_base.specs.declared.parser.LastOption.TheVariants.{Nothing, Short, Long}
 use Rattle.lexopt_base.specs.declared.parser.Parser.TheInside.{Inside}
@@ -30,7 +31,14 @@ last_of (Short c) name = line.short_option c
 last_of Long name = line.long_option name
 
 abbrev pub line_of : Inside → UnreadLine
-line_of p = record { tail = tail_of p.words.current p.state; words = p.words.left; ended = ended_of p.state; last = last_of p.last_option (string_bytes p.name); short_equals = p.short_equals; bin_name = option_map string_bytes p.bin_name }
+line_of p = record {
+  tail = tail_of p.words.current p.state;
+  words = p.words.left;
+  ended = ended_of p.state;
+  last = last_of p.last_option (string_bytes p.name);
+  short_equals = p.short_equals;
+  bin_name = option_map string_bytes p.bin_name;
+}
 
 -- the position lies in the word: after a byte, and in a cluster before one
 abbrev pub IsPlaced : List ℕ → State → Type 0

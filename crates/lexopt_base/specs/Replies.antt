@@ -1,11 +1,15 @@
 -- What the answers of a parser say, as replies.
 use Rattle.std.specs.Prelude.{Option, Some, None, Result, Ok, Err, List, ℕ, string_bytes}
 use Rattle.lexopt_spec.specs.UnreadLine.{UnreadLine}
-use Rattle.lexopt_spec.specs.Steps.{Reply, short, long, positional, end, taken, missing, unexpected, no_memory, Next}
+use Rattle.lexopt_spec.specs.Steps.{Reply, short, long, positional, end, taken, missing, unexpected}
+use Rattle.lexopt_spec.specs.Steps.{no_memory, Next}
 use Rattle.lexopt_words.specs.declared.error.Arg.{Arg}
 use Rattle.lexopt_words.specs.declared.error.Arg.TheVariants.{Short, Long, Value}
 use Rattle.lexopt_words.specs.declared.error.Error.{Error}
-use Rattle.lexopt_words.specs.declared.error.Error.TheVariants.{MissingValue, UnexpectedOption, UnexpectedArgument, UnexpectedValue, ParsingFailed, NonUnicodeValue, Custom, OutOfMemory}
+use Rattle.lexopt_words.specs.declared.error.Error.TheVariants.{MissingValue, UnexpectedOption}
+use Rattle.lexopt_words.specs.declared.error.Error.TheVariants.{UnexpectedArgument, UnexpectedValue}
+use Rattle.lexopt_words.specs.declared.error.Error.TheVariants.{ParsingFailed, NonUnicodeValue}
+use Rattle.lexopt_words.specs.declared.error.Error.TheVariants.{Custom, OutOfMemory}
 
 -- the reply of an error; none, where no call of a parser answers it
 abbrev pub error_reply : Error → Option Reply
@@ -36,7 +40,8 @@ value_reply (Ok word) = Some (taken word)
 value_reply (Err e) = error_reply e
 
 -- a call answers at the line u by this relation, with this reply, and leaves the line after
-abbrev pub RepliesWith : (UnreadLine → Reply → UnreadLine → Type 0) → UnreadLine → Option Reply → UnreadLine → Type 0
+abbrev pub RepliesWith : (UnreadLine → Reply → UnreadLine → Type 0) → UnreadLine → Option Reply
+    → UnreadLine → Type 0
 RepliesWith Answers u None after = ⊥
 RepliesWith Answers u (Some reply) after = Answers u reply after
 

@@ -1,5 +1,6 @@
 -- What a view gives, and what a parser ends as where none is lent.
-use Rattle.std.specs.Prelude.{◌≡◌, ℕ, Bool, true, false, ◌⊎◌, List, [], ◌∷◌, Option, Some, None, Result, IfErr}
+use Rattle.std.specs.Prelude.{◌≡◌, ℕ, Bool, true, false, ◌⊎◌, List, [], ◌∷◌, Option, Some, None}
+use Rattle.std.specs.Prelude.{Result, IfErr}
 use Rattle.std.specs.Borrow.{Fml, MutBor, RestsIfErr, RestsIfNone}
 use Rattle.lexopt_spec.specs.UnreadLine.{UnreadLine}
 use Rattle.lexopt_spec.specs.Runs.{Step, values, raw, raw_if}
@@ -27,31 +28,38 @@ RefusesValues u e after = (n : ℕ) → RepliesWith (Step (values n)) u (error_r
 -- after an error the line is the one that goes with it, else the one that the view leaves
 abbrev pub RestsIfRefused : MutBor UnreadLine → Result ValuesIter Error → Fml
 RestsIfRefused parser result =
-    RestsIfErr the_row parser (λ view. view.parser.ghost_name) result (λ after. IfErr result (λ e. RefusesValues parser.now e after))
+    RestsIfErr the_row parser (λ view. view.parser.ghost_name) result (λ after.
+    IfErr result (λ e. RefusesValues parser.now e after))
 
 -- ---- `raw_args` and `try_raw_args`
 
 -- one item asked of a view of words, which keeps its parser
 abbrev pub GivesWord : RawArgs → Option (List ℕ) → RawArgs → Type 0
 GivesWord view item after =
-    (after.parser.ghost_name ≡ view.parser.ghost_name) × WordItem view.parser.now item after.parser.now
+    (after.parser.ghost_name ≡ view.parser.ghost_name)
+    × WordItem view.parser.now item after.parser.now
 
 -- this error is what `raw_args` answers, whatever would have been asked of the words
 abbrev pub RefusesRaw : UnreadLine → Error → UnreadLine → Type 0
 RefusesRaw u e after =
-    ((n : ℕ) → RepliesWith (Step (raw n)) u (error_reply e) after) × ((word : List ℕ) → RepliesWith (Step (raw_if word)) u (error_reply e) after)
+    ((n : ℕ) → RepliesWith (Step (raw n)) u (error_reply e) after)
+    × ((word : List ℕ) → RepliesWith (Step (raw_if word)) u (error_reply e) after)
 
 abbrev pub RestsIfRawRefused : MutBor UnreadLine → Result RawArgs Error → Fml
 RestsIfRawRefused parser result =
-    RestsIfErr the_row parser (λ view. view.parser.ghost_name) result (λ after. IfErr result (λ e. RefusesRaw parser.now e after))
+    RestsIfErr the_row parser (λ view. view.parser.ghost_name) result (λ after.
+    IfErr result (λ e. RefusesRaw parser.now e after))
 
 -- with no view the line is as it was, else the one that the view leaves
 abbrev pub RestsIfBusy : MutBor UnreadLine → Option RawArgs → Fml
-RestsIfBusy parser result = RestsIfNone the_row parser (λ view. view.parser.ghost_name) result (λ after. after ≡ parser.now)
+RestsIfBusy parser result =
+    RestsIfNone the_row parser (λ view. view.parser.ghost_name) result (λ after. after ≡ parser.now)
 
 -- the next word is taken where the answer about it is true; with no word nothing is asked
 abbrev pub TakesIf : (OsStr → Bool → Type 0) → UnreadLine → Option (List ℕ) → UnreadLine → Type 0
 TakesIf answers u None after =
-    (after ≡ u) × ((u.words ≡ []) ⊎ ((word : OsStr) × (others : List (List ℕ)) × (u.words ≡ word.bytes.now ∷ others) × answers word false))
+    (after ≡ u) × ((u.words ≡ [])
+    ⊎ ((word : OsStr) × (others : List (List ℕ)) × (u.words ≡ word.bytes.now ∷ others)
+    × answers word false))
 TakesIf answers u (Some taken) after =
     WordItem u (Some taken) after × ((word : OsStr) × (word.bytes.now ≡ taken) × answers word true)

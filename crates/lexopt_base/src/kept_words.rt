@@ -1,8 +1,10 @@
 //! The words of a command line, in one vector that is kept.
 //!
-//! Reading moves a cursor over the words. A word that is handed out is taken out whole, and an empty one stays in its place,
-//! so handing it out takes no memory. No word moves but the one just before the cursor, where the word after it is taken first.
-ghost use Rattle.std.specs.Prelude.{◌≡◌, ◌≢◌, ◌≤◌, ◌∷◌, [], IfOk, Some, drop, length, vec_len, option_map};
+//! Reading moves a cursor over the words. A word that is handed out is taken out whole, and an
+//! empty one stays in its place, so handing it out takes no memory. No word moves but the one just
+//! before the cursor, where the word after it is taken first.
+ghost use Rattle.std.specs.Prelude.{◌≡◌, ◌≢◌, ◌≤◌, ◌∷◌, [], IfOk, Some, drop, length, vec_len};
+ghost use Rattle.std.specs.Prelude.{option_map};
 ghost use Rattle.lexopt_base.specs.KeptWords.{IsFirst, TakesNext};
 
 use lexopt_words::os_string::OsString;
@@ -11,8 +13,8 @@ use std::alloc::{AllocError, Global};
 use std::marker::Model;
 use std::mem;
 
-/// Words with a cursor. Contracts see the word just before the cursor, of which some may be unread, and the words after
-/// it, of which all are.
+/// Words with a cursor. Contracts see the word just before the cursor, of which some may be unread,
+/// and the words after it, of which all are.
 #[derive(Drop)]
 pub struct KeptWords {
     alloc: Global,

@@ -1,11 +1,15 @@
 //! The parser: a command line of which some is read.
-ghost use Rattle.std.specs.Prelude.{◌≡◌, ◌≢◌, ◌↔◌, ◌⊎◌, ◌<◌, ◌≤◌, ℕ, List, [], ◌∷◌, Some, None, false, IsTrue, IsSome, IfOk, IfErr, OnErr, OnOk, codes, drop, length, string_bytes};
+ghost use Rattle.std.specs.Prelude.{◌≡◌, ◌≢◌, ◌↔◌, ◌⊎◌, ◌<◌, ◌≤◌, ℕ, List, [], ◌∷◌, Some, None};
+ghost use Rattle.std.specs.Prelude.{false, IsTrue, IsSome, IfOk, IfErr, OnErr, OnOk, codes, drop};
+ghost use Rattle.std.specs.Prelude.{length, string_bytes};
 ghost use Rattle.std.specs.Option.{option_map};
 ghost use Rattle.std.specs.Iterator.{IsFiniteIterable};
 ghost use Rattle.std.specs.Iterator.Runs.{WholeRun};
 ghost use Rattle.lexopt_spec.specs.Pieces.{lossy};
-ghost use Rattle.lexopt_spec.specs.UnreadLine.{IsNormalIn, dash, fresh, invoked, no_tail, pending, pending_in, rest_of, spelling};
-ghost use Rattle.lexopt_spec.specs.Steps.{Answers, Next, OptionalStep, Reply, Value, ReadsPositional, ReadsWord, maybe};
+ghost use Rattle.lexopt_spec.specs.UnreadLine.{IsNormalIn, dash, fresh, invoked, no_tail, pending};
+ghost use Rattle.lexopt_spec.specs.UnreadLine.{pending_in, rest_of, spelling};
+ghost use Rattle.lexopt_spec.specs.Steps.{Answers, Next, OptionalStep, Reply, Value};
+ghost use Rattle.lexopt_spec.specs.Steps.{ReadsPositional, ReadsWord, maybe};
 ghost use Rattle.lexopt_base.specs.Replies.{CanReply, RepliesWith, next_reply, value_reply};
 ghost use Rattle.lexopt_base.specs.Found.{found_as, found_reply};
 ghost use Rattle.lexopt_words.specs.Message.{IsCustom};
@@ -26,8 +30,8 @@ use std::env::Env;
 use std::io::ErrorKind;
 use std::marker::Model;
 
-// What is left of the word just before the cursor. A position is a number of bytes of that word. What has nothing left stands
-// first, so that one comparison tells it.
+// What is left of the word just before the cursor. A position is a number of bytes of that word.
+// What has nothing left stands first, so that one comparison tells it.
 #[derive(Clone, Copy)]
 enum State {
     // Nothing.
@@ -88,8 +92,8 @@ impl Parser {
 
     /// A parser of these words, of which none is read. There is no binary name among them.
     ///
-    /// All items are taken at once, so the iterator has to end. The only error is `OutOfMemory`, after which the items are
-    /// gone.
+    /// All items are taken at once, so the iterator has to end. The only error is `OutOfMemory`,
+    /// after which the items are gone.
     #[inline(always)]
     pub fn from_args<I>(alloc: Global, args: I) -> Result<Parser, Error>
     where
@@ -104,9 +108,11 @@ impl Parser {
         Ok(Parser::unread(alloc, KeptWords::new(alloc, words), None))
     }
 
-    /// A parser of these words, of which none is read, in the memory that they have. There is no binary name among them.
+    /// A parser of these words, of which none is read, in the memory that they have. There is no
+    /// binary name among them.
     ///
-    /// It is the parser that `from_args` makes of them, which copies the list of words, since it takes any iterator.
+    /// It is the parser that `from_args` makes of them, which copies the list of words, since it
+    /// takes any iterator.
     #[inline(always)]
     pub fn from_vec(words: Vec<OsString>) -> Parser
         ensures { result ≡ fresh words.items }
@@ -115,10 +121,12 @@ impl Parser {
         Parser::unread(alloc, KeptWords::new(alloc, words), None)
     }
 
-    /// A parser of these words but the first, of which none is read. The first word, if there is one, is the binary name.
+    /// A parser of these words but the first, of which none is read. The first word, if there is
+    /// one, is the binary name.
     ///
-    /// Of the words `ls -l` the parser reads `-l`, and its `bin_name` is `ls`. All items are taken at once, so the iterator
-    /// has to end. The only error is `OutOfMemory`, after which the items are gone.
+    /// Of the words `ls -l` the parser reads `-l`, and its `bin_name` is `ls`. All items are taken
+    /// at once, so the iterator has to end. The only error is `OutOfMemory`, after which the items
+    /// are gone.
     pub fn from_iter<I>(alloc: Global, args: I) -> Result<Parser, Error>
     where
         I: IntoIterator<Item = OsString> + Drop,
@@ -132,14 +140,16 @@ impl Parser {
         Ok(Parser::invoked(alloc, all)?)
     }
 
-    /// A parser of the words that the program was called with, of which none is read. The first is the binary name.
+    /// A parser of the words that the program was called with, of which none is read. The first is
+    /// the binary name.
     ///
-    /// The words come as text, by `std::env::args`. A word that is no UTF-8 is a `Custom` error that says
-    /// `arguments unavailable`, and so is any other failure of that call but want of memory, which is `OutOfMemory`.
-    /// `from_iter` takes words of any bytes.
+    /// The words come as text, by `std::env::args`. A word that is no UTF-8 is a `Custom` error
+    /// that says `arguments unavailable`, and so is any other failure of that call but want of
+    /// memory, which is `OutOfMemory`. `from_iter` takes words of any bytes.
     pub fn from_env<R: Env + AllocGlobal>(rt: &R, alloc: Global) -> Result<Parser, Error>
         ensures ok { IfOk result (λ parser. (words : List (List ℕ)) × (parser ≡ invoked words)) }
-        ensures err { IfErr result (λ e. (e ≡ Error.OutOfMemory) ⊎ IsCustom (codes "arguments unavailable") e) }
+        ensures err { IfErr result (λ e. (e ≡ Error.OutOfMemory)
+            ⊎ IsCustom (codes "arguments unavailable") e) }
     {
         match env::args(rt) {
             Ok(words) => Parser::from_iter(alloc, words.map(OsString::from_string)),
@@ -148,16 +158,17 @@ impl Parser {
         }
     }
 
-    /// The binary name that `from_iter` and `from_env` keep: the first word as text, in which each damaged piece is one
-    /// U+FFFD. `None` where there was no word, and after `from_args`. No call changes it.
+    /// The binary name that `from_iter` and `from_env` keep: the first word as text, in which each
+    /// damaged piece is one U+FFFD. `None` where there was no word, and after `from_args`. No call
+    /// changes it.
     pub fn bin_name(&self) -> Option<&str>
         ensures { option_map (λ name. name.now) result ≡ self.now.bin_name }
     {
         self.bin_name.as_deref()
     }
 
-    /// Sets whether `=` stands between a short option and its value, as it does at the start. It counts from the next call
-    /// on, also within a cluster.
+    /// Sets whether `=` stands between a short option and its value, as it does at the start. It
+    /// counts from the next call on, also within a cluster.
     ///
     /// With the switch off, the word `-a=b` gives `Short('a')`, `Short('=')` and `Short('b')`.
     pub fn set_short_equals(&mut self, on: bool)
@@ -168,14 +179,15 @@ impl Parser {
 
     /// Reads the next option or positional argument; `Ok(None)` at the end of the line.
     ///
-    /// The words `-ab --name=x file` give `Short('a')`, `Short('b')`, `Long("name")`, then, if nobody asks for it by
-    /// `value`, an `UnexpectedValue` error with `x`, and then `Value` of `file`. After the separator `--` each word is a
-    /// `Value`. The syntax is that of POSIX and GNU, as lexopt documents it; a short option is one character of UTF-8, and
-    /// each damaged piece of an option is read as one U+FFFD.
+    /// The words `-ab --name=x file` give `Short('a')`, `Short('b')`, `Long("name")`, then, if
+    /// nobody asks for it by `value`, an `UnexpectedValue` error with `x`, and then `Value` of
+    /// `file`. After the separator `--` each word is a `Value`. The syntax is that of POSIX and
+    /// GNU, as lexopt documents it; a short option is one character of UTF-8, and each damaged
+    /// piece of an option is read as one U+FFFD.
     ///
-    /// Errors: `UnexpectedValue` where a value is joined by `=` to the last option and was not taken; it is consumed.
-    /// `OutOfMemory` only in place of a long option or of that error; nothing is consumed. Reading can go on after an
-    /// error.
+    /// Errors: `UnexpectedValue` where a value is joined by `=` to the last option and was not
+    /// taken; it is consumed. `OutOfMemory` only in place of a long option or of that error;
+    /// nothing is consumed. Reading can go on after an error.
     #[inline(always)]
     pub fn next(&mut self) -> Result<Option<Arg<'_>>, Error>
         ensures* after { sem 𝓛 (EndsAfter self.entry result) }
@@ -185,12 +197,14 @@ impl Parser {
         self.lend(found)
     }
 
-    /// Takes a value for the last option: what is left of its word, or else the next word, whatever it looks like.
+    /// Takes a value for the last option: what is left of its word, or else the next word, whatever
+    /// it looks like.
     ///
-    /// At `-n10`, `-n=10`, `-n 10`, `--number=10` and `--number 10` it gives `10`. The bytes are those of the word.
+    /// At `-n10`, `-n=10`, `-n 10`, `--number=10` and `--number 10` it gives `10`. The bytes are
+    /// those of the word.
     ///
-    /// Errors: `MissingValue` where no word is left; `OutOfMemory` only in its place, where it names an option. Neither
-    /// consumes anything.
+    /// Errors: `MissingValue` where no word is left; `OutOfMemory` only in its place, where it
+    /// names an option. Neither consumes anything.
     #[inline(always)]
     pub fn value(&mut self) -> Result<OsString, Error>
         ensures { RepliesWith Value self.old (value_reply result) self.new }
@@ -205,9 +219,11 @@ impl Parser {
         Err(Error::MissingValue { option })
     }
 
-    /// Takes a value that belongs to the last option, if one is left of its word. It never takes the next word.
+    /// Takes a value that belongs to the last option, if one is left of its word. It never takes
+    /// the next word.
     ///
-    /// At `-n10`, `-n=10` and `--number=10` it gives `10`; at `-n 10` and `--number 10` it gives `None`.
+    /// At `-n10`, `-n=10` and `--number=10` it gives `10`; at `-n 10` and `--number 10` it gives
+    /// `None`.
     pub fn optional_value(&mut self) -> Option<OsString>
         ensures { OptionalStep self.old (maybe result) self.new }
     {
@@ -229,7 +245,9 @@ impl Parser {
     // A parser of the words after the cursor.
     #[inline(always)]
     fn unread(alloc: Global, words: KeptWords, bin_name: Option<String>) -> Parser
-        ensures { result ≡ record (fresh words.left) { bin_name = option_map string_bytes bin_name } }
+        ensures { result ≡ record (fresh words.left) {
+          bin_name = option_map string_bytes bin_name;
+        } }
     {
         Parser {
             alloc,
@@ -242,7 +260,8 @@ impl Parser {
         }
     }
 
-    // Reads the next option or positional argument. A long option is then the last option, whose name can be lent.
+    // Reads the next option or positional argument. A long option is then the last option, whose
+    // name can be lent.
     #[inline(always)]
     fn advance(&mut self) -> Result<Found, Refusal>
         ensures { RepliesWith Next self.old (found_reply self.new.last result) self.new }
@@ -268,7 +287,8 @@ impl Parser {
     fn read_word(&mut self) -> Result<Found, Refusal>
         requires tail { self.old.tail ≡ no_tail }
         requires ended { self.old.ended ≡ false }
-        ensures { RepliesWith (Answers ReadsWord) self.old (found_reply self.new.last result) self.new }
+        ensures { RepliesWith (Answers ReadsWord) self.old (found_reply self.new.last result)
+            self.new }
     {
         let Some(word) = self.words.first() else {
             return Ok(Found::End);
@@ -314,10 +334,11 @@ impl Parser {
     // Lends what was found: the name of a long option is the last option's.
     #[inline(always)]
     fn lend(&self, found: Result<Found, Refusal>) -> Result<Option<Arg<'_>>, Error>
-        ensures { (reply : Reply) → found_reply self.now.last found ≡ Some reply → next_reply result ≡ Some reply }
+        ensures { (reply : Reply) → found_reply self.now.last found ≡ Some reply
+            → next_reply result ≡ Some reply }
     {
-        // Each answer is returned at once. Where they met at the end of the function, LLVM would not follow each of them into the
-        // caller's `match`.
+        // Each answer is returned at once. Where they met at the end of the function, LLVM would
+        // not follow each of them into the caller's `match`.
         match found {
             Ok(Found::Short(option)) => return Ok(Some(Arg::Short(option))),
             Ok(Found::Long) => return Ok(Some(Arg::Long(&self.name))),
@@ -401,7 +422,8 @@ impl Parser {
     // Whether no word is half read, and the next one can be one of several values.
     #[inline(always)]
     pub(crate) fn is_normal(&self) -> bool
-        ensures { IsTrue result ↔ ((pending self.now ≡ None) × IsNormalIn self.now.ended self.now.words) }
+        ensures { IsTrue result ↔ ((pending self.now ≡ None)
+            × IsNormalIn self.now.ended self.now.words) }
     {
         !self.has_pending() && self.has_plain_word()
     }
@@ -420,10 +442,11 @@ impl Parser {
 
     // Refuses the pending value, which is then consumed.
     //
-    // It is inlined, and `spelling` is not: an `Error` has room for a cause, which is zeroed for each answer of `next` unless LLVM
-    // sees that nothing of it is used. It does where the value comes into the error in the caller's own function, and the text out
-    // of a call that hands it over by its parts. Where this function is a call, or `spelling` is inlined, each answer costs some 70
-    // instructions more; `bench/run --check` tells.
+    // It is inlined, and `spelling` is not: an `Error` has room for a cause, which is zeroed for
+    // each answer of `next` unless LLVM sees that nothing of it is used. It does where the value
+    // comes into the error in the caller's own function, and the text out of a call that hands it
+    // over by its parts. Where this function is a call, or `spelling` is inlined, each answer costs
+    // some 70 instructions more; `bench/run --check` tells.
     #[inline(always)]
     fn refuse_pending(&mut self) -> Refusal
         requires value { IsSome (pending self.old) }
@@ -465,7 +488,8 @@ impl Parser {
         Err(Error::MissingValue { option })
     }
 
-    // How the last option is spelled, with its dashes. It stands apart for the sake of `refuse_pending`.
+    // How the last option is spelled, with its dashes. It stands apart for the sake of
+    // `refuse_pending`.
     #[cold]
     #[inline(never)]
     fn spelling(&self) -> Result<Option<String>, AllocError>
@@ -506,7 +530,8 @@ impl Clone for Parser {
     }
 }
 
-// Written out: a caller's proof then passes each drop in one step, where a derived one shows it every field.
+// Written out: a caller's proof then passes each drop in one step, where a derived one shows it
+// every field.
 impl Drop for Parser {
     #[inline(always)]
     fn drop(self) {
@@ -568,7 +593,8 @@ where
     Ok(items)
 }
 
-// Whether what is left of a cluster from this position of its word on is a value that `=` joins to the option before it.
+// Whether what is left of a cluster from this position of its word on is a value that `=` joins to
+// the option before it.
 #[inline(always)]
 fn is_joined(word: &[u8], position: usize, short_equals: bool) -> bool
     requires { position < length word.now }
@@ -606,8 +632,8 @@ fn read_long(word: &[u8]) -> (&[u8], State)
     }
 }
 
-// Keeps the name of a long option, of which each damaged piece is shown as U+FFFD, in place of the one that was kept.
-// Where memory is refused, that one stays.
+// Keeps the name of a long option, of which each damaged piece is shown as U+FFFD, in place of the
+// one that was kept. Where memory is refused, that one stays.
 fn keep_name(alloc: Global, kept: &mut String, name: &[u8]) -> Result<(), AllocError>
     ensures ok { OnOk result (string_bytes kept.new ≡ lossy name.now) }
     ensures err { OnErr result (string_bytes kept.new ≡ string_bytes kept.old) }

@@ -1,5 +1,6 @@
 //! The words that are left, unread.
-ghost use Rattle.std.specs.Prelude.{◌≡◌, ◌↔◌, Some, None, IsSome, IfOk, IfSome, option_map, slice_get};
+ghost use Rattle.std.specs.Prelude.{◌≡◌, ◌↔◌, Some, None, IsSome, IfOk, IfSome, option_map};
+ghost use Rattle.std.specs.Prelude.{slice_get};
 ghost use Rattle.std.specs.Borrow.{sem};
 ghost use Rattle.lexopt_spec.specs.UnreadLine.{pending};
 ghost use Rattle.lexopt_base.specs.KeptWords.{IsFirst};
@@ -9,20 +10,22 @@ use crate::parser::Parser;
 use lexopt_words::error::Error;
 use lexopt_words::os_string::{OsStr, OsString};
 
-/// The words that are left, each of which is taken when it is asked for, whatever it looks like. What is not asked for
-/// stays with the parser.
+/// The words that are left, each of which is taken when it is asked for, whatever it looks like.
+/// What is not asked for stays with the parser.
 #[derive(Drop)]
 pub struct RawArgs<'a> {
     parser: &'a mut Parser,
 }
 
 impl Parser {
-    /// The words that are left, unread. The separator is a word like any other here, and ends no options.
+    /// The words that are left, unread. The separator is a word like any other here, and ends no
+    /// options.
     ///
     /// After `-a` of `-a -b --` it gives `-b` and `--`.
     ///
-    /// Errors: `UnexpectedValue` where a value of the last option was not taken, as `b` of `-ab`; it is consumed, so a
-    /// second call succeeds. `OutOfMemory` only in its place; nothing is consumed.
+    /// Errors: `UnexpectedValue` where a value of the last option was not taken, as `b` of `-ab`;
+    /// it is consumed, so a second call succeeds. `OutOfMemory` only in its place; nothing is
+    /// consumed.
     pub fn raw_args(&mut self) -> Result<RawArgs<'_>, Error>
         ensures* refused { sem 𝓛 (RestsIfRawRefused self.entry result) }
         ensures nothing_pending { IfOk result (λ _. pending self.old ≡ None) }
@@ -33,12 +36,14 @@ impl Parser {
         Ok(RawArgs { parser: self })
     }
 
-    /// The words that are left, unread, unless a value of the last option was not taken. It stays then.
+    /// The words that are left, unread, unless a value of the last option was not taken. It stays
+    /// then.
     pub fn try_raw_args(&mut self) -> Option<RawArgs<'_>>
         ensures* busy { sem 𝓛 (RestsIfBusy self.entry result) }
         ensures nothing_pending { IsSome result ↔ (pending self.old ≡ None) }
         ensures unchanged { IfSome result (λ view. view.parser.now ≡ self.old) }
-        ensures same_parser { IfSome result (λ view. view.parser.ghost_name ≡ self.entry.ghost_name) }
+        ensures same_parser { IfSome result (λ view.
+            view.parser.ghost_name ≡ self.entry.ghost_name) }
     {
         if self.has_pending() {
             return None;
@@ -72,11 +77,14 @@ impl RawArgs<'_> {
         Some(word.as_os_str())
     }
 
-    /// Asks `func` once about the next word, if there is one, and takes that word where the answer is true.
+    /// Asks `func` once about the next word, if there is one, and takes that word where the answer
+    /// is true.
     ///
-    /// `next_if(|word| word.as_bytes().starts_with(b"-"))` takes the next word if it begins with a dash.
+    /// `next_if(|word| word.as_bytes().starts_with(b"-"))` takes the next word if it begins with a
+    /// dash.
     pub fn next_if<F: FnOnce(OsStr<'_>) -> bool + Drop>(&mut self, func: F) -> Option<OsString>
-        requires { (word : _) → slice_get self.old.parser.now.words 0 ≡ Some word.bytes.now → F.pre func word }
+        requires { (word : _) → slice_get self.old.parser.now.words 0 ≡ Some word.bytes.now
+            → F.pre func word }
         ensures same_parser { self.new.parser.ghost_name ≡ self.old.parser.ghost_name }
         ensures asked { TakesIf (F.post func) self.old.parser.now result self.new.parser.now }
     {

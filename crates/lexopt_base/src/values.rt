@@ -18,7 +18,8 @@ enum Stage {
     End,
 }
 
-/// The values of one option, each of which is taken when it is asked for. What is not asked for stays with the parser.
+/// The values of one option, each of which is taken when it is asked for. What is not asked for
+/// stays with the parser.
 #[derive(Drop)]
 pub struct ValuesIter<'a> {
     parser: &'a mut Parser,
@@ -26,14 +27,16 @@ pub struct ValuesIter<'a> {
 }
 
 impl Parser {
-    /// Several values for the last option, of which there is one at least: what is left of its word, and then the next
-    /// words up to the first that looks like an option. A value that is joined by `=` stands alone.
+    /// Several values for the last option, of which there is one at least: what is left of its
+    /// word, and then the next words up to the first that looks like an option. A value that is
+    /// joined by `=` stands alone.
     ///
-    /// At `-a b c -d` it gives `b` and `c`, at `-ab c` too, and at `-a=b c` it gives `b`. After the separator every word
-    /// is a value. Nothing is taken before it is asked for: with `-a b c`, a view that is asked once leaves `c`.
+    /// At `-a b c -d` it gives `b` and `c`, at `-ab c` too, and at `-a=b c` it gives `b`. After the
+    /// separator every word is a value. Nothing is taken before it is asked for: with `-a b c`, a
+    /// view that is asked once leaves `c`.
     ///
-    /// Errors: `MissingValue` where there is no value; `OutOfMemory` only in its place, where it names an option. Neither
-    /// consumes anything.
+    /// Errors: `MissingValue` where there is no value; `OutOfMemory` only in its place, where it
+    /// names an option. Neither consumes anything.
     #[inline(always)]
     pub fn values(&mut self) -> Result<ValuesIter<'_>, Error>
         ensures* refused { sem 𝓛 (RestsIfRefused self.entry result) }
@@ -79,7 +82,8 @@ impl ValuesIter<'_> {
     fn first(&mut self) -> Option<OsString>
         requires { self.old.stage ≡ Stage.Start }
         ensures same_parser { self.new.parser.ghost_name ≡ self.old.parser.ghost_name }
-        ensures item { ValueItem (stage_of self.old.stage) self.old.parser.now result self.new.parser.now (stage_of self.new.stage) }
+        ensures item { ValueItem (stage_of self.old.stage) self.old.parser.now result
+            self.new.parser.now (stage_of self.new.stage) }
     {
         let is_last = self.parser.has_joined_value();
         if let Some(value) = self.parser.take_pending() {
@@ -95,7 +99,8 @@ impl ValuesIter<'_> {
         requires on { self.old.stage ≢ Stage.End }
         requires first { self.old.stage ≡ Stage.Start → pending self.old.parser.now ≡ None }
         ensures same_parser { self.new.parser.ghost_name ≡ self.old.parser.ghost_name }
-        ensures item { ValueItem (stage_of self.old.stage) self.old.parser.now result self.new.parser.now (stage_of self.new.stage) }
+        ensures item { ValueItem (stage_of self.old.stage) self.old.parser.now result
+            self.new.parser.now (stage_of self.new.stage) }
     {
         if self.parser.is_normal() {
             self.stage = Stage::GoingOn;

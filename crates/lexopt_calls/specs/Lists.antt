@@ -1,4 +1,5 @@
--- What `replay` tells of a list of calls: the relations of the grammar, over calls and replies of Rust.
+-- What `replay` tells of a list of calls: the relations of the grammar, over calls and replies of
+-- Rust.
 use Rattle.std.specs.Prelude.{◌≡◌, ◌+◌, ◌++◌, ◌≤◌, List, map}
 use Rattle.std.specs.List.{flat_map}
 use Rattle.lexopt_spec.specs.Account.{Segment, bytes_of, flat, bytes_handed_out, shown_of}
@@ -17,8 +18,8 @@ Replays u calls replies v = runs.Run u (map call_view calls) (map reply_view rep
 abbrev pub ReplaysPart : UnreadLine → List Call → UnreadLine → Type 0
 ReplaysPart u calls v = runs.Part u (map call_view calls) v
 
--- Each byte of the line is in one segment of what the calls read, or still unread, in order. What the
--- replies hand out is what the segments show.
+-- Each byte of the line is in one segment of what the calls read, or still unread, in order. What
+-- the replies hand out is what the segments show.
 abbrev pub AccountsForBytes : UnreadLine → List Call → List Reply → UnreadLine → Type 0
 AccountsForBytes u calls replies v = (segments : List Segment)
     × runs.AccountedRun u (map call_view calls) (map reply_view replies) segments v
@@ -30,7 +31,7 @@ abbrev pub ReplaysPieces : UnreadLine → List Call → List Reply → UnreadLin
 ReplaysPieces u calls replies v =
     ReadsPieces u (map call_view calls) (map reply_view replies) v
 
--- The options, values and words that are handed out number at most what the line can give at the start,
--- less what it can still give at the end.
+-- The options, values and words that are handed out number at most what the line can give at the
+-- start, less what it can still give at the end.
 abbrev pub KeepsBound : UnreadLine → List Reply → UnreadLine → Type 0
 KeepsBound u replies v = replies_count (map reply_view replies) + bound v ≤ bound u

@@ -1,5 +1,7 @@
--- Calls and replies as contracts see them, the word that `RawIf` takes, and what `next` makes of a cluster.
-use Rattle.std.specs.Prelude.{◌≡◌, ◌≢◌, ◌⊎◌, ℕ, false, List, ◌∷◌, map, Option, Some, None, option_map, string_bytes}
+-- Calls and replies as contracts see them, the word that `RawIf` takes, and what `next` makes of a
+-- cluster.
+use Rattle.std.specs.Prelude.{◌≡◌, ◌≢◌, ◌⊎◌, ℕ, false, List, ◌∷◌, map, Option, Some, None}
+use Rattle.std.specs.Prelude.{option_map, string_bytes}
 use Rattle.std.specs.List.{Contains}
 use Rattle.lexopt_spec.specs.Pieces.{lossy_characters, pieces}
 use Rattle.lexopt_spec.specs.UnreadLine.{UnreadLine, dash, equals, no_tail}
@@ -7,9 +9,12 @@ use Rattle.lexopt_spec.specs.Views.{WordItem}
 use Rattle.lexopt_spec.specs.Runs as runs
 use Rattle.lexopt_spec.specs.Steps as steps
 use Rattle.lexopt_calls.specs.declared.reply.Call.{Call}
-use Rattle.lexopt_calls.specs.declared.reply.Call.TheVariants.{Next, Value, Optional, Values, Raw, TryRaw, RawIf, Switch}
+use Rattle.lexopt_calls.specs.declared.reply.Call.TheVariants.{Next, Value, Optional, Values, Raw}
+use Rattle.lexopt_calls.specs.declared.reply.Call.TheVariants.{TryRaw, RawIf, Switch}
 use Rattle.lexopt_calls.specs.declared.reply.Reply.{Reply}
-use Rattle.lexopt_calls.specs.declared.reply.Reply.TheVariants.{Short, LongName, Positional, End, Taken, Maybe, Items, Busy, Done, Missing, Unexpected, NoMemory}
+use Rattle.lexopt_calls.specs.declared.reply.Reply.TheVariants.{Short, LongName, Positional, End}
+use Rattle.lexopt_calls.specs.declared.reply.Reply.TheVariants.{Taken, Maybe, Items, Busy, Done}
+use Rattle.lexopt_calls.specs.declared.reply.Reply.TheVariants.{Missing, Unexpected, NoMemory}
 
 abbrev pub call_view : Call → runs.Call
 call_view Next = runs.next
@@ -37,13 +42,18 @@ reply_view NoMemory = steps.no_memory
 
 -- the next word is taken where it is this one
 abbrev pub TakesThis : List ℕ → UnreadLine → Option (List ℕ) → UnreadLine → Type 0
-TakesThis wanted u None after = (after ≡ u) × ((others : List (List ℕ)) → u.words ≡ wanted ∷ others → ⊥)
+TakesThis wanted u None after = (after ≡ u)
+    × ((others : List (List ℕ)) → u.words ≡ wanted ∷ others → ⊥)
 TakesThis wanted u (Some word) after = (word ≡ wanted) × WordItem u (Some word) after
 
--- Where the line begins with a cluster that has no `=` after its first byte, or the switch is off, and the calls are `next`, once for each
--- of its pieces: the replies are its lossy characters, so none wants memory, and the word is gone.
+-- Where the line begins with a cluster that has no `=` after its first byte, or the switch is off,
+-- and the calls are `next`, once for each of its pieces: the replies are its lossy characters, so
+-- none wants memory, and the word is gone.
 abbrev pub ReadsPieces : UnreadLine → List runs.Call → List steps.Reply → UnreadLine → Type 0
 ReadsPieces u calls replies v =
-    (b : ℕ) (bs : List ℕ) (words : List (List ℕ)) → u.tail ≡ no_tail → u.ended ≡ false → u.words ≡ (dash ∷ b ∷ bs) ∷ words → b ≢ dash
-    → (u.short_equals ≡ false) ⊎ ¬ Contains bs equals → calls ≡ map (λ piece. runs.next) (pieces (b ∷ bs))
-    → (replies ≡ map steps.short (lossy_characters (b ∷ bs))) × (v.tail ≡ no_tail) × (v.words ≡ words)
+    (b : ℕ) (bs : List ℕ) (words : List (List ℕ)) → u.tail ≡ no_tail → u.ended ≡ false
+    → u.words ≡ (dash ∷ b ∷ bs) ∷ words → b ≢ dash
+    → (u.short_equals ≡ false) ⊎ ¬ Contains bs equals
+    → calls ≡ map (λ piece. runs.next) (pieces (b ∷ bs))
+    → (replies ≡ map steps.short (lossy_characters (b ∷ bs))) × (v.tail ≡ no_tail)
+    × (v.words ≡ words)

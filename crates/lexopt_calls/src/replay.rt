@@ -1,5 +1,6 @@
 //! Lists of calls on a parser: `replay` makes them, and gives a reply for each.
-ghost use Rattle.std.specs.Prelude.{◌≡◌, ◌++◌, ◌≤◌, ◌↔◌, ℕ, List, Option, IsTrue, IfOk, IfErr, OnErr};
+ghost use Rattle.std.specs.Prelude.{◌≡◌, ◌++◌, ◌≤◌, ◌↔◌, ℕ, List, Option, IsTrue, IfOk, IfErr};
+ghost use Rattle.std.specs.Prelude.{OnErr};
 ghost use Rattle.std.specs.Option.{option_map};
 ghost use Rattle.lexopt_spec.specs.Steps as steps;
 ghost use Rattle.lexopt_spec.specs.Steps.{Next, Value};
@@ -8,7 +9,8 @@ ghost use Rattle.lexopt_spec.specs.Views.{ValueItems, WordItems};
 ghost use Rattle.lexopt_base.specs.Stages.{stage_of};
 ghost use Rattle.lexopt_base.specs.Replies.{RepliesWith, error_reply, next_reply};
 ghost use Rattle.lexopt_calls.specs.Replies.{TakesThis, call_view, reply_view};
-ghost use Rattle.lexopt_calls.specs.Lists.{AccountsForBytes, KeepsBound, Replays, ReplaysPart, ReplaysPieces};
+ghost use Rattle.lexopt_calls.specs.Lists.{AccountsForBytes, KeepsBound, Replays, ReplaysPart};
+ghost use Rattle.lexopt_calls.specs.Lists.{ReplaysPieces};
 
 use crate::reply::{Call, Reply};
 use lexopt_base::parser::Parser;
@@ -52,7 +54,8 @@ fn refusal(error: Error) -> Option<Reply>
     }
 }
 
-/// One call of `next`. The reply is none where no parser answers so. The crate `lexopt` does not hand this on.
+/// One call of `next`. The reply is none where no parser answers so. The crate `lexopt` does not
+/// hand this on.
 #[inline(always)]
 pub fn call_next(alloc: Global, parser: &mut Parser) -> Result<Option<Reply>, AllocError>
     ensures { (reply : Option steps.Reply) × RepliesWith Next parser.old reply parser.new
@@ -72,13 +75,15 @@ fn call_value(parser: &mut Parser) -> Option<Reply>
     }
 }
 
-// One call of `values`, and so many items of its view. Where the list of them finds no memory, some were taken.
+// One call of `values`, and so many items of its view. Where the list of them finds no memory, some
+// were taken.
 fn call_values(
     alloc: Global,
     parser: &mut Parser,
     count: usize,
 ) -> Result<Option<Reply>, AllocError>
-    ensures { (m : ℕ) × (reply : Option steps.Reply) × (m ≤ count) × RepliesWith (Step (values m)) parser.old reply parser.new
+    ensures { (m : ℕ) × (reply : Option steps.Reply) × (m ≤ count)
+        × RepliesWith (Step (values m)) parser.old reply parser.new
         × IfOk result (λ copy. (m ≡ count) × (option_map reply_view copy ≡ reply)) }
 {
     match parser.values() {
@@ -87,7 +92,8 @@ fn call_values(
     }
 }
 
-/// So many items of a view of values, or fewer where it ends before. The crate `lexopt` does not hand this on.
+/// So many items of a view of values, or fewer where it ends before. The crate `lexopt` does not
+/// hand this on.
 pub fn take_values(
     alloc: Global,
     view: &mut ValuesIter<'_>,
@@ -95,7 +101,8 @@ pub fn take_values(
 ) -> Result<Vec<OsString>, AllocError>
     ensures same_parser { view.new.parser.ghost_name ≡ view.old.parser.ghost_name }
     ensures items { (m : ℕ) × (came : List (List ℕ)) × (m ≤ count)
-        × ValueItems m (stage_of view.old.stage) view.old.parser.now came view.new.parser.now (stage_of view.new.stage)
+        × ValueItems m (stage_of view.old.stage) view.old.parser.now came view.new.parser.now
+        (stage_of view.new.stage)
         × IfOk result (λ items. (m ≡ count) × (items.items ≡ came)) }
 {
     let mut items = Vec::new(alloc);
@@ -110,7 +117,8 @@ pub fn take_values(
 
 // One call of `raw_args`, and so many words.
 fn call_raw(alloc: Global, parser: &mut Parser, count: usize) -> Result<Option<Reply>, AllocError>
-    ensures { (m : ℕ) × (reply : Option steps.Reply) × (m ≤ count) × RepliesWith (Step (raw m)) parser.old reply parser.new
+    ensures { (m : ℕ) × (reply : Option steps.Reply) × (m ≤ count)
+        × RepliesWith (Step (raw m)) parser.old reply parser.new
         × IfOk result (λ copy. (m ≡ count) × (option_map reply_view copy ≡ reply)) }
 {
     match parser.raw_args() {
@@ -121,7 +129,8 @@ fn call_raw(alloc: Global, parser: &mut Parser, count: usize) -> Result<Option<R
 
 // One call of `try_raw_args`, and so many words.
 fn call_try_raw(alloc: Global, parser: &mut Parser, count: usize) -> Result<Reply, AllocError>
-    ensures { (m : ℕ) × (reply : steps.Reply) × (m ≤ count) × Step (try_raw m) parser.old reply parser.new
+    ensures { (m : ℕ) × (reply : steps.Reply) × (m ≤ count)
+        × Step (try_raw m) parser.old reply parser.new
         × IfOk result (λ copy. (m ≡ count) × (reply_view copy ≡ reply)) }
 {
     match parser.try_raw_args() {
@@ -132,7 +141,8 @@ fn call_try_raw(alloc: Global, parser: &mut Parser, count: usize) -> Result<Repl
 
 // One call of `raw_args`, and its next word where it is this one.
 fn call_raw_if(parser: &mut Parser, wanted: &OsString) -> Option<Reply>
-    ensures { RepliesWith (Step (raw_if wanted.now)) parser.old (option_map reply_view result) parser.new }
+    ensures { RepliesWith (Step (raw_if wanted.now)) parser.old (option_map reply_view result)
+        parser.new }
 {
     match parser.raw_args() {
         Ok(mut view) => Some(Reply::Maybe(take_if(&mut view, wanted, |word| {
@@ -149,7 +159,8 @@ fn take_if<F: FnOnce(OsStr<'_>) -> bool + Drop>(
     is_wanted: F,
 ) -> Option<OsString>
     requires callable { F.IsAlwaysCallable is_wanted }
-    requires exact { (word : _) (answer : _) → F.post is_wanted word answer → (IsTrue answer ↔ (word.bytes.now ≡ wanted.now)) }
+    requires exact { (word : _) (answer : _) → F.post is_wanted word answer
+        → (IsTrue answer ↔ (word.bytes.now ≡ wanted.now)) }
     ensures same_parser { view.new.parser.ghost_name ≡ view.old.parser.ghost_name }
     ensures taken { TakesThis wanted.now view.old.parser.now result view.new.parser.now }
 {
@@ -179,8 +190,10 @@ fn take_words(
 
 /// Makes one call, and gives its reply. Where a list of items finds no memory, some were taken.
 pub fn reply_to(alloc: Global, parser: &mut Parser, call: &Call) -> Result<Reply, AllocError>
-    ensures { (m : ℕ) × (reply : steps.Reply) × Step (up_to m (call_view call.now)) parser.old reply parser.new
-        × IfOk result (λ copy. (up_to m (call_view call.now) ≡ call_view call.now) × (reply_view copy ≡ reply)) }
+    ensures { (m : ℕ) × (reply : steps.Reply)
+        × Step (up_to m (call_view call.now)) parser.old reply parser.new
+        × IfOk result (λ copy. (up_to m (call_view call.now) ≡ call_view call.now)
+        × (reply_view copy ≡ reply)) }
 {
     let reply = match call {
         Call::Next => call_next(alloc, parser)?,
@@ -203,23 +216,28 @@ pub fn reply_to(alloc: Global, parser: &mut Parser, call: &Call) -> Result<Reply
 
 /// Makes these calls on a parser, in order, and gives a reply for each.
 ///
-/// On the words `-a=b --n=x` the calls `Next`, `Value`, `Next`, `Next` are answered `Short('a')`, `Taken` of `b`,
-/// `LongName` of `n`, and `Unexpected` of `--n` and `x`. An error of the parser is a reply like any other, `NoMemory` among
-/// them, and the calls after it are made.
+/// On the words `-a=b --n=x` the calls `Next`, `Value`, `Next`, `Next` are answered `Short('a')`,
+/// `Taken` of `b`, `LongName` of `n`, and `Unexpected` of `--n` and `x`. An error of the parser is
+/// a reply like any other, `NoMemory` among them, and the calls after it are made.
 ///
-/// The only error is `OutOfMemory`, where the list of the replies or what is copied into it found no memory. Some front of
-/// the calls was made then, and perhaps the next one, of whose items some may have been given; the replies are gone.
+/// The only error is `OutOfMemory`, where the list of the replies or what is copied into it found
+/// no memory. Some front of the calls was made then, and perhaps the next one, of whose items some
+/// may have been given; the replies are gone.
 pub fn replay(alloc: Global, parser: &mut Parser, calls: &[Call]) -> Result<Vec<Reply>, Error>
     // The replies and the line that is left are those of the grammar.
     ensures run { IfOk result (λ replies. Replays parser.old calls.now replies.items parser.new) }
 
-    // Each byte of the line is in one segment of what the calls read, or still unread, in order. What the
-    // replies hand out is what the segments show. The words left are a suffix of those at the start.
-    ensures account { IfOk result (λ replies. AccountsForBytes parser.old calls.now replies.items parser.new) }
+    // Each byte of the line is in one segment of what the calls read, or still unread, in order.
+    // What the replies hand out is what the segments show. The words left are a suffix of those at
+    // the start.
+    ensures account { IfOk result (λ replies.
+        AccountsForBytes parser.old calls.now replies.items parser.new) }
     ensures words_left { (gone : List (List ℕ)) × (parser.old.words ≡ gone ++ parser.new.words) }
 
-    // A cluster that is read by `next` alone is its lossy characters. And no more is handed out than the line can give.
-    ensures pieces { IfOk result (λ replies. ReplaysPieces parser.old calls.now replies.items parser.new) }
+    // A cluster that is read by `next` alone is its lossy characters. And no more is handed out
+    // than the line can give.
+    ensures pieces { IfOk result (λ replies.
+        ReplaysPieces parser.old calls.now replies.items parser.new) }
     ensures bounded { IfOk result (λ replies. KeepsBound parser.old replies.items parser.new) }
 
     // What an error leaves.

@@ -11,7 +11,8 @@ use lexopt_words::message::{write_missing_value, write_no_memory, write_unexpect
 use lexopt_words::os_string::{OsString, Quoted};
 use std::fmt;
 
-/// A call on a command line. A view that it asks for is dropped after the items that are asked of it.
+/// A call on a command line. A view that it asks for is dropped after the items that are asked of
+/// it.
 #[derive(Debug, PartialEq, Eq, Drop)]
 pub enum Call {
     /// `next`: asks for the next option or positional argument.
@@ -24,7 +25,8 @@ pub enum Call {
     Values(usize),
     /// `raw_args`: asks for the words that are left, and for so many items of the view.
     Raw(usize),
-    /// `try_raw_args`: asks for the words that are left where no value is pending, and for so many items of the view.
+    /// `try_raw_args`: asks for the words that are left where no value is pending, and for so many
+    /// items of the view.
     TryRaw(usize),
     /// `raw_args` and then `next_if`: asks for the next word where it is this one.
     RawIf(OsString),
@@ -54,7 +56,8 @@ pub enum Reply {
     End,
     /// `value` took this word.
     Taken(OsString),
-    /// `optional_value` took this value, or found none; or the next word was the one that was asked for, or was not.
+    /// `optional_value` took this value, or found none; or the next word was the one that was asked
+    /// for, or was not.
     Maybe(Option<OsString>),
     /// A view gave these values or words, of those that it was asked for.
     Items(Vec<OsString>),
@@ -114,7 +117,8 @@ pub fn write_short<W: fmt::Write>(option: char, f: &mut fmt::Formatter<W>) -> fm
 
 /// Writes an option with a name.
 pub fn write_long<W: fmt::Write>(name: &String, f: &mut fmt::Formatter<W>) -> fmt::Result
-    ensures { WritesOnOk W.write_str_gives f.old result (name_text (long (string_bytes name.now))) f.new }
+    ensures { WritesOnOk W.write_str_gives f.old result (name_text (long (string_bytes name.now)))
+        f.new }
 {
     let name = Quoted::new(name.as_bytes());
     write!(f, "Long {name}")
@@ -139,7 +143,8 @@ pub fn write_list<W: fmt::Write>(words: &[OsString], f: &mut fmt::Formatter<W>) 
 
 // Writes the quoted forms of these words, with a comma and a blank between them.
 fn write_words<W: fmt::Write>(words: &[OsString], f: &mut fmt::Formatter<W>) -> fmt::Result
-    ensures { WritesOnOk W.write_str_gives f.old result (join_by quoted (codes ", ") words.now) f.new }
+    ensures { WritesOnOk W.write_str_gives f.old result (join_by quoted (codes ", ") words.now)
+        f.new }
 {
     let Some((first, others)) = words.split_first() else {
         return Ok(());

@@ -1,7 +1,9 @@
 -- Tables, items and errors as contracts see them, and what one turn of `read_items` reads.
-use Rattle.std.specs.Prelude.{◌≡◌, ◌<◌, ◌⊎◌, ℕ, List, [], ◌∷◌, length, map, Option, Some, None, option_map, string_bytes}
+use Rattle.std.specs.Prelude.{◌≡◌, ◌<◌, ◌⊎◌, ℕ, List, [], ◌∷◌, length, map, Option, Some, None}
+use Rattle.std.specs.Prelude.{option_map, string_bytes}
 use Rattle.lexopt_spec.specs.UnreadLine.{UnreadLine}
-use Rattle.lexopt_spec.specs.Steps.{Reply, Next, Value, end, taken, maybe, items, missing, unexpected, no_memory}
+use Rattle.lexopt_spec.specs.Steps.{Reply, Next, Value, end, taken, maybe, items, missing}
+use Rattle.lexopt_spec.specs.Steps.{unexpected, no_memory}
 use Rattle.lexopt_spec.specs.Runs as calls
 use Rattle.lexopt_spec.specs.Runs.{Step}
 use Rattle.lexopt_line_spec.specs.Table as spec
@@ -10,9 +12,11 @@ use Rattle.lexopt_line_spec.specs.Readings.{IsDue, IsReading, SaysUpTo}
 use Rattle.lexopt_line_spec.specs.Bound.{bound}
 use Rattle.lexopt_base.specs.Replies.{error_reply}
 use Rattle.lexopt_words.specs.declared.error.Error.{Error}
-use Rattle.lexopt_words.specs.declared.error.Error.TheVariants.{MissingValue, UnexpectedValue, OutOfMemory}
+use Rattle.lexopt_words.specs.declared.error.Error.TheVariants.{MissingValue, UnexpectedValue}
+use Rattle.lexopt_words.specs.declared.error.Error.TheVariants.{OutOfMemory}
 use Rattle.lexopt_items.specs.declared.items.Item.{Item}
-use Rattle.lexopt_items.specs.declared.items.Item.TheVariants.{Short, Long, ShortMany, LongMany, Positional}
+use Rattle.lexopt_items.specs.declared.items.Item.TheVariants.{Short, Long, ShortMany, LongMany}
+use Rattle.lexopt_items.specs.declared.items.Item.TheVariants.{Positional}
 use Rattle.lexopt_items.specs.declared.items.Table.{Table}
 use Rattle.lexopt_items.specs.declared.kinds.Kind.{Kind}
 use Rattle.lexopt_items.specs.declared.kinds.Kind.TheVariants.{Flag, One, Optional, Several}
@@ -54,7 +58,8 @@ abbrev pub ReadsValues : Kind → UnreadLine → Values → UnreadLine → Type 
 ReadsValues Flag u (AtMostOne None) v = v ≡ u
 ReadsValues One u (AtMostOne (Some word)) v = Value u (taken word) v
 ReadsValues Optional u (AtMostOne value) v = Step calls.optional u (maybe value) v
-ReadsValues Several u (All values) v = (n : ℕ) × (length values.items < n) × Step (calls.values n) u (items values.items) v
+ReadsValues Several u (All values) v = (n : ℕ) × (length values.items < n)
+    × Step (calls.values n) u (items values.items) v
 ReadsValues k u values v = ⊥
 
 -- what ends a reading, as a reply
@@ -66,7 +71,8 @@ ending_view NoMemory = no_memory
 -- memory is refused, or the call for the values of an option of this kind ends the reading so
 abbrev pub ValuesEndBy : Kind → UnreadLine → Ending → Type 0
 ValuesEndBy k u ending =
-    (ending ≡ NoMemory) ⊎ ((call : calls.Call) × (v : UnreadLine) × IsDue (kind_view k) call × Step call u (ending_view ending) v)
+    (ending ≡ NoMemory) ⊎ ((call : calls.Call) × (v : UnreadLine) × IsDue (kind_view k) call
+    × Step call u (ending_view ending) v)
 
 -- the item that is read next, and none at the end
 abbrev pub ReadsItem : spec.Table → UnreadLine → Option spec.Item → UnreadLine → Type 0
@@ -75,7 +81,8 @@ ReadsItem t u (Some item) v = SaysUpTo t u (item ∷ []) v × (bound v < bound u
 
 -- memory is refused, or a reading of the line ends so
 abbrev pub EndsBy : spec.Table → UnreadLine → Ending → Type 0
-EndsBy t u ending = (ending ≡ NoMemory) ⊎ ((l : List spec.Item) × IsReading t u (ending_view ending) l)
+EndsBy t u ending = (ending ≡ NoMemory)
+    ⊎ ((l : List spec.Item) × IsReading t u (ending_view ending) l)
 
 -- the error that says what ended a reading
 abbrev pub IsErrorOf : Ending → Error → Type 0
@@ -85,4 +92,6 @@ IsErrorOf NoMemory e = e ≡ OutOfMemory
 
 -- memory is refused, or a reading of the line ends with this error
 abbrev pub FailsWith : spec.Table → UnreadLine → Error → Type 0
-FailsWith t u e = (e ≡ OutOfMemory) ⊎ ((final : Reply) × (l : List spec.Item) × IsReading t u final l × (error_reply e ≡ Some final))
+FailsWith t u e = (e ≡ OutOfMemory)
+    ⊎ ((final : Reply) × (l : List spec.Item) × IsReading t u final l
+    × (error_reply e ≡ Some final))

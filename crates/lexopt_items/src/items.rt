@@ -1,5 +1,6 @@
 //! Whole lines, read by a table of options.
-ghost use Rattle.std.specs.Prelude.{◌≡◌, ◌⊎◌, ℕ, [], List, Some, IsSome, IfErr, IfOk, map, string_bytes};
+ghost use Rattle.std.specs.Prelude.{◌≡◌, ◌⊎◌, ℕ, [], List, Some, IsSome, IfErr, IfOk, map};
+ghost use Rattle.std.specs.Prelude.{string_bytes};
 ghost use Rattle.std.specs.Option.{option_map};
 ghost use Rattle.std.specs.Result.{IsErrAnd};
 ghost use Rattle.std.specs.Fmt.{WritesOnOk};
@@ -10,8 +11,12 @@ ghost use Rattle.lexopt_line_spec.specs.Table.{one_value};
 ghost use Rattle.lexopt_line_spec.specs.Readings.{IsReading};
 ghost use Rattle.lexopt_spec.specs.Runs.{Step, values};
 ghost use Rattle.lexopt_base.specs.Replies.{RepliesWith, error_reply};
-ghost use Rattle.lexopt_items.specs.Items.{EndsBy, IsErrorOf, FailsWith, ReadsItem, ReadsValues, ValuesEndBy, ending_view, item_view, item_with, table_view};
-ghost use Rattle.lexopt_items.specs.Lines.{IsAnswered, IsSpellable, LineFails, LineReads, LineShows, LineSpells, NamesAreWhole, ShowsList, ShowsNothing, SpellsList};
+ghost use Rattle.lexopt_items.specs.Items.{EndsBy, IsErrorOf, FailsWith, ReadsItem, ReadsValues};
+ghost use Rattle.lexopt_items.specs.Items.{ValuesEndBy, ending_view, item_view, item_with};
+ghost use Rattle.lexopt_items.specs.Items.{table_view};
+ghost use Rattle.lexopt_items.specs.Lines.{IsAnswered, IsSpellable, LineFails, LineReads};
+ghost use Rattle.lexopt_items.specs.Lines.{LineShows, LineSpells, NamesAreWhole, ShowsList};
+ghost use Rattle.lexopt_items.specs.Lines.{ShowsNothing, SpellsList};
 
 use crate::kinds::{Kind, kind_of_long, kind_of_short};
 use lexopt_base::parser::Parser;
@@ -24,10 +29,12 @@ use lexopt_words::os_string::OsString;
 use std::alloc::{AllocError, Global};
 use std::fmt;
 
-/// The options that have values, by how many they have; any other option has none. Names stand without their dashes.
+/// The options that have values, by how many they have; any other option has none. Names stand
+/// without their dashes.
 ///
-/// Membership alone counts: a name that stands twice, or that holds an `=` and so can be no option's, does no harm. Where
-/// lists of several kinds hold an option, the kind that stands first here holds.
+/// Membership alone counts: a name that stands twice, or that holds an `=` and so can be no
+/// option's, does no harm. Where lists of several kinds hold an option, the kind that stands first
+/// here holds.
 ///
 /// ```rust
 /// let mut table = Table::new(alloc);
@@ -42,7 +49,8 @@ pub struct Table {
     pub shorts: Vec<char>,
     /// Options with a name and one value, always: `out` for `--out`.
     pub longs: Vec<String>,
-    /// Options of one character with a value that may be left out: it stands in their word, never in the next.
+    /// Options of one character with a value that may be left out: it stands in their word, never
+    /// in the next.
     pub optional_shorts: Vec<char>,
     /// Options with a name and a value that may be left out: it stands after `=`.
     pub optional_longs: Vec<String>,
@@ -168,7 +176,8 @@ impl Values {
 // For how many items of a longer line there is room before its list grows.
 const FIRST_ROOM: usize = 16;
 
-// What ends a reading before the end of the line. An `Error` has room for a cause, so it is made where it is handed out.
+// What ends a reading before the end of the line. An `Error` has room for a cause, so it is made
+// where it is handed out.
 #[derive(Drop)]
 enum Ending {
     Missing(Option<String>),
@@ -221,8 +230,10 @@ fn ending_of(error: Error) -> Ending
 // All values of the last option.
 #[inline(always)]
 fn all_values(alloc: Global, parser: &mut Parser) -> Result<Vec<OsString>, Error>
-    ensures ok { IfOk result (λ values. ReadsValues Kind.Several parser.old (Values.All values) parser.new) }
-    ensures err { IfErr result (λ e. (e ≡ Error.OutOfMemory) ⊎ RepliesWith (Step (values 1)) parser.old (error_reply e) parser.new) }
+    ensures ok { IfOk result (λ values.
+        ReadsValues Kind.Several parser.old (Values.All values) parser.new) }
+    ensures err { IfErr result (λ e. (e ≡ Error.OutOfMemory)
+        ⊎ RepliesWith (Step (values 1)) parser.old (error_reply e) parser.new) }
 {
     match parser.values() {
         Ok(mut view) => Ok(take_values(alloc, &mut view, usize::MAX)?),
@@ -230,10 +241,12 @@ fn all_values(alloc: Global, parser: &mut Parser) -> Result<Vec<OsString>, Error
     }
 }
 
-// All values of the last option, which has several. It stands apart, so that what is inlined for other options stays short.
+// All values of the last option, which has several. It stands apart, so that what is inlined for
+// other options stays short.
 #[inline(never)]
 fn read_several(alloc: Global, parser: &mut Parser) -> Result<Vec<OsString>, Ending>
-    ensures ok { IfOk result (λ values. ReadsValues Kind.Several parser.old (Values.All values) parser.new) }
+    ensures ok { IfOk result (λ values.
+        ReadsValues Kind.Several parser.old (Values.All values) parser.new) }
     ensures err { IfErr result (λ ending. ValuesEndBy Kind.Several parser.old ending) }
 {
     match all_values(alloc, parser) {
@@ -265,7 +278,8 @@ fn read_values(alloc: Global, parser: &mut Parser, kind: Kind) -> Result<Values,
 // The next item of a line, and none at its end.
 #[inline(always)]
 fn read_item(alloc: Global, parser: &mut Parser, table: &Table) -> Result<Option<Item>, Ending>
-    ensures ok { IfOk result (λ item. ReadsItem (table_view table.now) parser.old (option_map item_view item) parser.new) }
+    ensures ok { IfOk result (λ item.
+        ReadsItem (table_view table.now) parser.old (option_map item_view item) parser.new) }
     ensures err { IfErr result (λ ending. EndsBy (table_view table.now) parser.old ending) }
 {
     match call_next(alloc, parser)? {
@@ -293,14 +307,16 @@ fn read_item(alloc: Global, parser: &mut Parser, table: &Table) -> Result<Option
     }
 }
 
-// The items that are left of a line, up to what ends its reading, in a list with room for so many from the start.
+// The items that are left of a line, up to what ends its reading, in a list with room for so many
+// from the start.
 fn read_items_left(
     alloc: Global,
     parser: &mut Parser,
     table: &Table,
     room: usize,
 ) -> Result<Vec<Item>, Ending>
-    ensures ok { IfOk result (λ items. IsReading (table_view table.now) parser.old end (map item_view items.items)) }
+    ensures ok { IfOk result (λ items.
+        IsReading (table_view table.now) parser.old end (map item_view items.items)) }
     ensures err { IfErr result (λ ending. EndsBy (table_view table.now) parser.old ending) }
 {
     let Ok(mut items) = Vec::with_capacity(alloc, room) else {
@@ -321,7 +337,8 @@ fn items_of(
     table: &Table,
     room: usize,
 ) -> Result<Vec<Item>, Error>
-    ensures ok { IfOk result (λ items. IsReading (table_view table.now) parser.old end (map item_view items.items)) }
+    ensures ok { IfOk result (λ items.
+        IsReading (table_view table.now) parser.old end (map item_view items.items)) }
     ensures err { IfErr result (λ e. FailsWith (table_view table.now) parser.old e) }
 {
     match read_items_left(alloc, parser, table, room) {
@@ -338,17 +355,19 @@ fn error_of(ending: Ending) -> Result<Vec<Item>, Error>
     Err(Error::from(ending))
 }
 
-/// Reads a whole line by a table: after each option of the table its values are read, and any other option has none.
+/// Reads a whole line by a table: after each option of the table its values are read, and any other
+/// option has none.
 ///
-/// Under a table with `o` and `out` of one value, `color` of a value that may be left out, and `d` of several, the words
-/// `-vo=x --out y --color=z -d 1 2 -- file` give `Short('v', None)`, `Short('o', Some(x))`, `Long("out", Some(y))`,
-/// `Long("color", Some(z))`, `ShortMany('d', [1, 2])` and `Positional(file)`. The switch says whether `=` in a cluster
-/// stands between an option and its value. The forms are those that lexopt documents;
-/// `docs/behaviour.md` has them all. A damaged piece of an option's name is read, and looked up, as U+FFFD.
+/// Under a table with `o` and `out` of one value, `color` of a value that may be left out, and `d`
+/// of several, the words `-vo=x --out y --color=z -d 1 2 -- file` give `Short('v', None)`,
+/// `Short('o', Some(x))`, `Long("out", Some(y))`, `Long("color", Some(z))`, `ShortMany('d', [1,
+/// 2])` and `Positional(file)`. The switch says whether `=` in a cluster stands between an option
+/// and its value. The forms are those that lexopt documents; `docs/behaviour.md` has them all. A
+/// damaged piece of an option's name is read, and looked up, as U+FFFD.
 ///
-/// Errors, each of which ends the reading: `MissingValue` where an option of one value has none and no word is left, or one
-/// of several values has none; `UnexpectedValue` where an option that the table does not have has a value joined to it by
-/// `=`; `OutOfMemory`. The words are spent.
+/// Errors, each of which ends the reading: `MissingValue` where an option of one value has none and
+/// no word is left, or one of several values has none; `UnexpectedValue` where an option that the
+/// table does not have has a value joined to it by `=`; `OutOfMemory`. The words are spent.
 pub fn read_items(
     alloc: Global,
     words: Vec<OsString>,
@@ -356,23 +375,27 @@ pub fn read_items(
     table: &Table,
 ) -> Result<Vec<Item>, Error>
     // A reading of the line says the items, or ends with the error.
-    ensures reading { IfOk result (λ items. LineReads table.now short_equals words.items items.items) }
+    ensures reading { IfOk result (λ items.
+        LineReads table.now short_equals words.items items.items) }
     ensures refused { IfErr result (λ e. LineFails table.now short_equals words.items e) }
 
     // The words show what is answered, and spell it where no option has U+FFFD in its name.
-    ensures shown { IfOk result (λ items. LineShows table.now short_equals words.items items.items) }
+    ensures shown { IfOk result (λ items.
+        LineShows table.now short_equals words.items items.items) }
     ensures spelled { IfOk result (λ items. NamesAreWhole items.items
         → LineSpells table.now short_equals words.items items.items) }
 
     // Some words legally spell what is answered, also where these words do not.
     ensures spellable { IfOk result (λ items. IsSpellable table.now short_equals items.items) }
 
-    // Words show at most one list. What they show, and so what they spell, is answered, or memory is refused.
+    // Words show at most one list. What they show, and so what they spell, is answered, or memory
+    // is refused.
     ensures one_list { (l m : List spec.Item) → ShowsList table.now short_equals words.items l
         → ShowsList table.now short_equals words.items m → l ≡ m }
     ensures answered { (l : List spec.Item) → ShowsList table.now short_equals words.items l
         → IsAnswered l result }
-    ensures answered_spelled { (l : List spec.Item) → SpellsList table.now short_equals words.items l
+    ensures answered_spelled { (l : List spec.Item)
+        → SpellsList table.now short_equals words.items l
         → IsAnswered l result }
 
     // Another error comes only where the words show no list.

@@ -54,7 +54,8 @@ pub fn kind_of_long(table: &Table, name: &String) -> Kind
 // Whether this name is among these.
 #[inline(always)]
 fn holds(names: &Vec<String>, name: &String) -> bool
-    ensures { result ≡ holds_in [] (map string_bytes names.now.items) (spec.long (string_bytes name.now)) }
+    ensures { result
+        ≡ holds_in [] (map string_bytes names.now.items) (spec.long (string_bytes name.now)) }
 {
     names.contains(name)
 }

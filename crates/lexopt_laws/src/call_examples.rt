@@ -1,11 +1,16 @@
-//! Worked examples of calls: what they answer, what becomes of each byte, and what is left where they are cut short.
+//! Worked examples of calls: what they answer, what becomes of each byte, and what is left where
+//! they are cut short.
 ghost use Rattle.std.specs.Prelude.{◌≡◌, [], ◌∷◌, true, false, Some, None, codes};
 ghost use Rattle.lexopt_spec.specs.Account.{damage, given, mark};
 ghost use Rattle.lexopt_line_spec.specs.Bound.{bound, replies_count};
-ghost use Rattle.lexopt_spec.specs.Runs.{AccountedRun, Part, Run, next, optional, raw, raw_if, switch, try_raw, value, values};
-ghost use Rattle.lexopt_spec.specs.Steps.{busy, done, end, items, long, maybe, missing, no_memory, positional, short, taken, unexpected};
-ghost use Rattle.lexopt_spec.specs.UnreadLine.{UnreadLine, fresh, joined, long_option, no_tail, rest, short_option};
-ghost use Rattle.lexopt_spec.specs.Views.{ValueItem, ValueItems, WordItems, at_end, at_start, going_on};
+ghost use Rattle.lexopt_spec.specs.Runs.{AccountedRun, Part, Run, next, optional, raw, raw_if};
+ghost use Rattle.lexopt_spec.specs.Runs.{switch, try_raw, value, values};
+ghost use Rattle.lexopt_spec.specs.Steps.{busy, done, end, items, long, maybe, missing, no_memory};
+ghost use Rattle.lexopt_spec.specs.Steps.{positional, short, taken, unexpected};
+ghost use Rattle.lexopt_spec.specs.UnreadLine.{UnreadLine, fresh, joined, long_option, no_tail};
+ghost use Rattle.lexopt_spec.specs.UnreadLine.{rest, short_option};
+ghost use Rattle.lexopt_spec.specs.Views.{ValueItem, ValueItems, WordItems, at_end, at_start};
+ghost use Rattle.lexopt_spec.specs.Views.{going_on};
 
 #[test]
 fn calls_answer_the_worked_examples() {
@@ -18,69 +23,132 @@ fn calls_answer_the_worked_examples() {
 }
 
 fn calls_have_these_replies()
-    ensures options_and_words { (v : UnreadLine) × Run (fresh (codes "--out=x" ∷ codes "file" ∷ codes "--" ∷ codes "-y" ∷ [])) (next ∷ value ∷ next ∷ next ∷ next ∷ [])
-        (long (codes "out") ∷ taken (codes "x") ∷ positional (codes "file") ∷ positional (codes "-y") ∷ end ∷ []) v }
-    ensures memory_refused { (v : UnreadLine) × Run (fresh (codes "--out=x" ∷ codes "file" ∷ codes "--" ∷ codes "-y" ∷ [])) (next ∷ value ∷ next ∷ next ∷ next ∷ [])
-        (no_memory ∷ taken (codes "--out=x") ∷ positional (codes "file") ∷ positional (codes "-y") ∷ end ∷ []) v }
-    ensures memory_refused_twice { (v : UnreadLine) × Run (fresh (codes "-a=b" ∷ [])) (next ∷ next ∷ next ∷ value ∷ value ∷ [])
-        (short 0x61 ∷ no_memory ∷ unexpected (codes "-a") (codes "b") ∷ no_memory ∷ missing (Some (codes "-a")) ∷ []) v }
-    ensures damaged_name { (v : UnreadLine) × Run (fresh ((0x2D ∷ 0x2D ∷ 0xF0 ∷ 0x9D ∷ 0x84 ∷ []) ∷ [])) (next ∷ value ∷ [])
-        (long (0xEF ∷ 0xBF ∷ 0xBD ∷ []) ∷ missing (Some (0x2D ∷ 0x2D ∷ 0xEF ∷ 0xBF ∷ 0xBD ∷ [])) ∷ []) v }
-    ensures separator_as_value { (v : UnreadLine) × Run (fresh (codes "-x" ∷ codes "--" ∷ codes "-y" ∷ [])) (next ∷ value ∷ next ∷ next ∷ [])
+    ensures options_and_words { (v : UnreadLine)
+        × Run (fresh (codes "--out=x" ∷ codes "file" ∷ codes "--" ∷ codes "-y" ∷ []))
+        (next ∷ value ∷ next ∷ next ∷ next ∷ [])
+        (long (codes "out") ∷ taken (codes "x") ∷ positional (codes "file") ∷ positional
+        (codes "-y") ∷ end ∷ []) v }
+    ensures memory_refused { (v : UnreadLine)
+        × Run (fresh (codes "--out=x" ∷ codes "file" ∷ codes "--" ∷ codes "-y" ∷ []))
+        (next ∷ value ∷ next ∷ next ∷ next ∷ [])
+        (no_memory ∷ taken (codes "--out=x") ∷ positional (codes "file") ∷ positional (codes "-y") ∷
+        end ∷ []) v }
+    ensures memory_refused_twice { (v : UnreadLine)
+        × Run (fresh (codes "-a=b" ∷ [])) (next ∷ next ∷ next ∷ value ∷ value ∷ [])
+        (short 0x61 ∷ no_memory ∷ unexpected (codes "-a") (codes "b") ∷ no_memory ∷ missing
+        (Some (codes "-a")) ∷ []) v }
+    ensures damaged_name { (v : UnreadLine)
+        × Run (fresh ((0x2D ∷ 0x2D ∷ 0xF0 ∷ 0x9D ∷ 0x84 ∷ []) ∷ [])) (next ∷ value ∷ [])
+        (long (0xEF ∷ 0xBF ∷ 0xBD ∷ []) ∷ missing (Some (0x2D ∷ 0x2D ∷ 0xEF ∷ 0xBF ∷ 0xBD ∷ [])) ∷
+        []) v }
+    ensures separator_as_value { (v : UnreadLine)
+        × Run (fresh (codes "-x" ∷ codes "--" ∷ codes "-y" ∷ [])) (next ∷ value ∷ next ∷ next ∷ [])
         (short 0x78 ∷ taken (codes "--") ∷ short 0x79 ∷ end ∷ []) v }
-    ensures no_value { (v : UnreadLine) × Run (fresh (codes "-o" ∷ [])) (next ∷ value ∷ []) (short 0x6F ∷ missing (Some (codes "-o")) ∷ []) v }
-    ensures no_words { (v : UnreadLine) × Run (fresh []) (value ∷ next ∷ []) (missing None ∷ end ∷ []) v }
-    ensures value_in_a_cluster { (v : UnreadLine) × Run (fresh (codes "-a=" ∷ [])) (next ∷ next ∷ next ∷ []) (short 0x61 ∷ unexpected (codes "-a") [] ∷ end ∷ []) v }
-    ensures switch { (v : UnreadLine) × Run (fresh (codes "-a=b" ∷ [])) (next ∷ switch false ∷ next ∷ switch true ∷ next ∷ next ∷ [])
+    ensures no_value { (v : UnreadLine)
+        × Run (fresh (codes "-o" ∷ [])) (next ∷ value ∷ [])
+        (short 0x6F ∷ missing (Some (codes "-o")) ∷ []) v }
+    ensures no_words { (v : UnreadLine)
+        × Run (fresh []) (value ∷ next ∷ []) (missing None ∷ end ∷ []) v }
+    ensures value_in_a_cluster { (v : UnreadLine)
+        × Run (fresh (codes "-a=" ∷ [])) (next ∷ next ∷ next ∷ [])
+        (short 0x61 ∷ unexpected (codes "-a") [] ∷ end ∷ []) v }
+    ensures switch { (v : UnreadLine)
+        × Run (fresh (codes "-a=b" ∷ []))
+        (next ∷ switch false ∷ next ∷ switch true ∷ next ∷ next ∷ [])
         (short 0x61 ∷ done ∷ short 0x3D ∷ done ∷ short 0x62 ∷ end ∷ []) v }
-    ensures optional { (v : UnreadLine) × Run (fresh (codes "-d" ∷ codes "v" ∷ [])) (next ∷ optional ∷ next ∷ []) (short 0x64 ∷ maybe None ∷ positional (codes "v") ∷ []) v }
+    ensures optional { (v : UnreadLine)
+        × Run (fresh (codes "-d" ∷ codes "v" ∷ [])) (next ∷ optional ∷ next ∷ [])
+        (short 0x64 ∷ maybe None ∷ positional (codes "v") ∷ []) v }
 {}
 
 fn views_have_these_replies()
-    ensures values_in_turn { (v : UnreadLine) × Run (fresh (codes "-ab" ∷ codes "c" ∷ [])) (next ∷ values 1 ∷ values 1 ∷ values 1 ∷ [])
-        (short 0x61 ∷ items (codes "b" ∷ []) ∷ items (codes "c" ∷ []) ∷ missing (Some (codes "-a")) ∷ []) v }
-    ensures joined_value { (v : UnreadLine) × Run (fresh (codes "-a=b" ∷ codes "c" ∷ [])) (next ∷ values 9 ∷ next ∷ [])
+    ensures values_in_turn { (v : UnreadLine)
+        × Run (fresh (codes "-ab" ∷ codes "c" ∷ [])) (next ∷ values 1 ∷ values 1 ∷ values 1 ∷ [])
+        (short 0x61 ∷ items (codes "b" ∷ []) ∷ items (codes "c" ∷ []) ∷ missing (Some (codes "-a"))
+        ∷ []) v }
+    ensures joined_value { (v : UnreadLine)
+        × Run (fresh (codes "-a=b" ∷ codes "c" ∷ [])) (next ∷ values 9 ∷ next ∷ [])
         (short 0x61 ∷ items (codes "b" ∷ []) ∷ positional (codes "c") ∷ []) v }
-    ensures values_before_the_separator { (v : UnreadLine) × Run (fresh (codes "-a" ∷ codes "--" ∷ codes "b" ∷ [])) (next ∷ values 9 ∷ next ∷ [])
+    ensures values_before_the_separator { (v : UnreadLine)
+        × Run (fresh (codes "-a" ∷ codes "--" ∷ codes "b" ∷ [])) (next ∷ values 9 ∷ next ∷ [])
         (short 0x61 ∷ missing (Some (codes "-a")) ∷ positional (codes "b") ∷ []) v }
-    ensures values_after_the_separator { (v : UnreadLine) × Run (fresh (codes "--" ∷ codes "-x" ∷ codes "--" ∷ [])) (next ∷ values 9 ∷ next ∷ [])
+    ensures values_after_the_separator { (v : UnreadLine)
+        × Run (fresh (codes "--" ∷ codes "-x" ∷ codes "--" ∷ [])) (next ∷ values 9 ∷ next ∷ [])
         (positional (codes "-x") ∷ items (codes "--" ∷ []) ∷ end ∷ []) v }
-    ensures pending_is_refused { (v : UnreadLine) × Run (fresh (codes "-ab" ∷ codes "c" ∷ codes "d" ∷ [])) (next ∷ try_raw 9 ∷ raw 9 ∷ try_raw 9 ∷ next ∷ [])
-        (short 0x61 ∷ busy ∷ unexpected (codes "-a") (codes "b") ∷ items (codes "c" ∷ codes "d" ∷ []) ∷ end ∷ []) v }
-    ensures raw_separator { (v : UnreadLine) × Run (fresh (codes "--" ∷ codes "-x" ∷ [])) (raw 1 ∷ next ∷ []) (items (codes "--" ∷ []) ∷ short 0x78 ∷ []) v }
+    ensures pending_is_refused { (v : UnreadLine)
+        × Run (fresh (codes "-ab" ∷ codes "c" ∷ codes "d" ∷ []))
+        (next ∷ try_raw 9 ∷ raw 9 ∷ try_raw 9 ∷ next ∷ [])
+        (short 0x61 ∷ busy ∷ unexpected (codes "-a") (codes "b") ∷ items
+        (codes "c" ∷ codes "d" ∷ []) ∷ end ∷ []) v }
+    ensures raw_separator { (v : UnreadLine)
+        × Run (fresh (codes "--" ∷ codes "-x" ∷ [])) (raw 1 ∷ next ∷ [])
+        (items (codes "--" ∷ []) ∷ short 0x78 ∷ []) v }
 {}
 
 // After `next` on the words `-ab c -d` and `-a=b c`; the fourth line is one that no parser can be.
 fn items_come_one_by_one()
-    ensures values { ValueItems 4 at_start (record (fresh (codes "c" ∷ codes "-d" ∷ [])) { tail = rest (codes "b"); last = short_option 0x61 })
-        (codes "b" ∷ codes "c" ∷ []) (record (fresh (codes "-d" ∷ [])) { last = short_option 0x61 }) at_end }
-    ensures joined_value { ValueItems 2 at_start (record (fresh (codes "c" ∷ [])) { tail = rest (codes "=b"); last = short_option 0x61 })
+    ensures values { ValueItems 4 at_start (record (fresh (codes "c" ∷ codes "-d" ∷ [])) {
+      tail = rest (codes "b");
+      last = short_option 0x61;
+    })
+        (codes "b" ∷ codes "c" ∷ []) (record (fresh (codes "-d" ∷ [])) {
+          last = short_option 0x61;
+        }) at_end }
+    ensures joined_value { ValueItems 2 at_start (record (fresh (codes "c" ∷ [])) {
+      tail = rest (codes "=b");
+      last = short_option 0x61;
+    })
         (codes "b" ∷ []) (record (fresh (codes "c" ∷ [])) { last = short_option 0x61 }) at_end }
-    ensures words { WordItems 3 (fresh (codes "a" ∷ codes "--" ∷ [])) (codes "a" ∷ codes "--" ∷ []) (fresh []) }
-    ensures pending_after_the_start { let u : UnreadLine = record (fresh []) { tail = rest (codes "b"); last = short_option 0x61 } in ValueItem going_on u None u at_end }
+    ensures words { WordItems 3 (fresh (codes "a" ∷ codes "--" ∷ [])) (codes "a" ∷ codes "--" ∷ [])
+        (fresh []) }
+    ensures pending_after_the_start { let u : UnreadLine = record (fresh []) {
+      tail = rest (codes "b");
+      last = short_option 0x61;
+    } in ValueItem going_on u None u at_end }
 {}
 
 // A run with these replies has these segments.
 fn bytes_are_accounted_for()
-    ensures words { (v : UnreadLine) × AccountedRun (fresh (codes "a" ∷ codes "--" ∷ codes "-b" ∷ []))
+    ensures words { (v : UnreadLine)
+        × AccountedRun (fresh (codes "a" ∷ codes "--" ∷ codes "-b" ∷ []))
         (raw_if (codes "x") ∷ raw_if (codes "a") ∷ raw 0 ∷ next ∷ raw_if (codes "-b") ∷ next ∷ [])
-        (maybe None ∷ maybe (Some (codes "a")) ∷ items [] ∷ positional (codes "-b") ∷ maybe None ∷ end ∷ [])
+        (maybe None ∷ maybe (Some (codes "a")) ∷ items [] ∷ positional (codes "-b") ∷ maybe None ∷
+        end ∷ [])
         (given (codes "a") ∷ mark (codes "--") ∷ given (codes "-b") ∷ []) v }
-    ensures options { (v : UnreadLine) × AccountedRun (fresh (codes "-a=b" ∷ codes "--n=x" ∷ [])) (next ∷ value ∷ next ∷ next ∷ [])
-        (short 0x61 ∷ taken (codes "b") ∷ long (codes "n") ∷ unexpected (codes "--n") (codes "x") ∷ [])
+    ensures options { (v : UnreadLine)
+        × AccountedRun (fresh (codes "-a=b" ∷ codes "--n=x" ∷ [])) (next ∷ value ∷ next ∷ next ∷ [])
+        (short 0x61 ∷ taken (codes "b") ∷ long (codes "n") ∷ unexpected (codes "--n") (codes "x") ∷
+        [])
         (mark (codes "-") ∷ given (codes "a") ∷ mark (codes "=") ∷ given (codes "b")
         ∷ mark (codes "--") ∷ given (codes "n") ∷ mark (codes "=") ∷ given (codes "x") ∷ []) v }
-    ensures damaged { (v : UnreadLine) × AccountedRun (fresh ((0x2D ∷ 0xF0 ∷ 0x9D ∷ 0x61 ∷ []) ∷ [])) (next ∷ optional ∷ [])
-        (short 0xFFFD ∷ maybe (Some (codes "a")) ∷ []) (mark (codes "-") ∷ damage (0xF0 ∷ 0x9D ∷ []) ∷ given (codes "a") ∷ []) v }
+    ensures damaged { (v : UnreadLine)
+        × AccountedRun (fresh ((0x2D ∷ 0xF0 ∷ 0x9D ∷ 0x61 ∷ []) ∷ [])) (next ∷ optional ∷ [])
+        (short 0xFFFD ∷ maybe (Some (codes "a")) ∷ [])
+        (mark (codes "-") ∷ damage (0xF0 ∷ 0x9D ∷ []) ∷ given (codes "a") ∷ []) v }
 {}
 
 // After `next` on the words `-ab c d e`.
 fn calls_are_cut_short()
-    ensures at_once { let u : UnreadLine = record (fresh (codes "c" ∷ codes "d" ∷ codes "e" ∷ [])) { tail = rest (codes "b"); last = short_option 0x61 } in
+    ensures at_once { let u : UnreadLine =
+        record (fresh (codes "c" ∷ codes "d" ∷ codes "e" ∷ [])) {
+          tail = rest
+              (codes "b");
+          last = short_option 0x61;
+        } in
         Part u (values 3 ∷ raw 9 ∷ []) u }
-    ensures after_an_item { let u : UnreadLine = record (fresh (codes "c" ∷ codes "d" ∷ codes "e" ∷ [])) { tail = rest (codes "b"); last = short_option 0x61 } in
+    ensures after_an_item { let u : UnreadLine =
+        record (fresh (codes "c" ∷ codes "d" ∷ codes "e" ∷ [])) {
+          tail = rest
+              (codes "b");
+          last = short_option 0x61;
+        } in
         Part u (values 3 ∷ raw 9 ∷ []) (record u { tail = no_tail }) }
-    ensures after_a_call { let u : UnreadLine = record (fresh (codes "c" ∷ codes "d" ∷ codes "e" ∷ [])) { tail = rest (codes "b"); last = short_option 0x61 } in
+    ensures after_a_call { let u : UnreadLine =
+        record (fresh (codes "c" ∷ codes "d" ∷ codes "e" ∷ [])) {
+          tail = rest
+              (codes "b");
+          last = short_option 0x61;
+        } in
         Part u (values 2 ∷ raw 9 ∷ []) (record u { tail = no_tail; words = codes "e" ∷ [] }) }
 {}
 
@@ -90,9 +158,17 @@ fn replies_are_counted()
     ensures cluster { bound (fresh (codes "-abc" ∷ [])) ≡ 3 }
     ensures cluster_replies { replies_count (short 0x61 ∷ short 0x62 ∷ short 0x63 ∷ end ∷ []) ≡ 3 }
     ensures joined_name { bound (fresh (codes "--=" ∷ [])) ≡ 2 }
-    ensures joined_name_replies { replies_count (long [] ∷ unexpected (codes "--") [] ∷ end ∷ []) ≡ 2 }
-    ensures joined_name_read { bound (record (fresh []) { tail = joined []; last = long_option [] }) ≡ 1 }
-    ensures all_kinds_of_words { bound (fresh ([] ∷ codes "--=" ∷ codes "--=3" ∷ codes "-" ∷ codes "-x" ∷ codes "--" ∷ codes "-" ∷ codes "-x" ∷ codes "--" ∷ [] ∷ codes "-" ∷ codes "-x" ∷ [])) ≡ 15 }
-    ensures views { replies_count (items (codes "b" ∷ codes "c" ∷ []) ∷ items [] ∷ maybe None ∷ maybe (Some []) ∷ taken [] ∷ positional [] ∷ []) ≡ 5 }
+    ensures joined_name_replies { replies_count (long [] ∷ unexpected (codes "--") [] ∷ end ∷ [])
+        ≡ 2 }
+    ensures joined_name_read { bound (record (fresh []) {
+      tail = joined [];
+      last = long_option [];
+    }) ≡ 1 }
+    ensures all_kinds_of_words { bound
+        (fresh ([] ∷ codes "--=" ∷ codes "--=3" ∷ codes "-" ∷ codes "-x" ∷ codes "--" ∷ codes "-" ∷
+        codes "-x" ∷ codes "--" ∷ [] ∷ codes "-" ∷ codes "-x" ∷ [])) ≡ 15 }
+    ensures views { replies_count
+        (items (codes "b" ∷ codes "c" ∷ []) ∷ items [] ∷ maybe None ∷ maybe (Some []) ∷ taken [] ∷
+        positional [] ∷ []) ≡ 5 }
     ensures nothing_given { replies_count (end ∷ busy ∷ done ∷ missing None ∷ no_memory ∷ []) ≡ 0 }
 {}

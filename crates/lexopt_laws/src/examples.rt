@@ -2,12 +2,20 @@
 ghost use Rattle.std.specs.Prelude.{◌≡◌, ◌++◌, [], ◌∷◌, true, false, Some, None, codes};
 ghost use Rattle.std.specs.List.{flat_map};
 ghost use Rattle.lexopt_spec.specs.Pieces.{first_piece, lossy, lossy_characters};
-ghost use Rattle.lexopt_spec.specs.UnreadLine.{fresh, invoked, joined, long_option, no_option, no_tail, pending, pending_in, rest, rest_of, short_option, spelling};
-ghost use Rattle.lexopt_spec.specs.Steps.{busy, done, end, items, long, maybe, missing, no_memory, positional, short, taken, unexpected};
+ghost use Rattle.lexopt_spec.specs.UnreadLine.{fresh, invoked, joined, long_option, no_option};
+ghost use Rattle.lexopt_spec.specs.UnreadLine.{no_tail, pending, pending_in, rest, rest_of};
+ghost use Rattle.lexopt_spec.specs.UnreadLine.{short_option, spelling};
+ghost use Rattle.lexopt_spec.specs.Steps.{busy, done, end, items, long, maybe, missing, no_memory};
+ghost use Rattle.lexopt_spec.specs.Steps.{positional, short, taken, unexpected};
 ghost use Rattle.lexopt_spec.specs.Runs.{next, optional, switch, value};
-ghost use Rattle.lexopt_spec.specs.Text.{missing_message, non_unicode_message, parsing_failed_message, quoted, unexpected_argument_message, unexpected_option_message, unexpected_value_message};
+ghost use Rattle.lexopt_spec.specs.Text.{missing_message, non_unicode_message};
+ghost use Rattle.lexopt_spec.specs.Text.{parsing_failed_message, quoted};
+ghost use Rattle.lexopt_spec.specs.Text.{unexpected_argument_message, unexpected_option_message};
+ghost use Rattle.lexopt_spec.specs.Text.{unexpected_value_message};
 ghost use Rattle.lexopt_line_spec.specs.Table as table;
-ghost use Rattle.lexopt_line_spec.specs.Script.{bad_line, bracketed, call, calls_of, commands_of, item_text, line_of, reply_text, table_of, unescaped, whole_line, words_of};
+ghost use Rattle.lexopt_line_spec.specs.Script.{bad_line, bracketed, call, calls_of, commands_of};
+ghost use Rattle.lexopt_line_spec.specs.Script.{item_text, line_of, reply_text, table_of};
+ghost use Rattle.lexopt_line_spec.specs.Script.{unescaped, whole_line, words_of};
 
 use crate::laws::{
     calls_cut_short_are_a_part, clusters_are_read_by_pieces, each_call_has_one_answer,
@@ -66,7 +74,8 @@ fn lossy_text_of_damaged_bytes()
     ensures two_of_four { lossy_characters (0xF0 ∷ 0x9D ∷ []) ≡ 0xFFFD ∷ [] }
     ensures three_of_four { lossy_characters (0xF0 ∷ 0x9D ∷ 0x84 ∷ []) ≡ 0xFFFD ∷ [] }
     ensures two_of_four_first { lossy_characters (0xF0 ∷ 0x9D ∷ 0x61 ∷ []) ≡ 0xFFFD ∷ 0x61 ∷ [] }
-    ensures three_of_four_first { lossy_characters (0xF0 ∷ 0x9D ∷ 0x84 ∷ 0x61 ∷ []) ≡ 0xFFFD ∷ 0x61 ∷ [] }
+    ensures three_of_four_first { lossy_characters (0xF0 ∷ 0x9D ∷ 0x84 ∷ 0x61 ∷ [])
+        ≡ 0xFFFD ∷ 0x61 ∷ [] }
     ensures four_bytes { lossy_characters (0xF0 ∷ 0x9D ∷ 0x84 ∷ 0x9E ∷ []) ≡ 0x1D11E ∷ [] }
     ensures surrogate { lossy_characters (0xED ∷ 0xA0 ∷ 0x80 ∷ []) ≡ 0xFFFD ∷ 0xFFFD ∷ 0xFFFD ∷ [] }
     ensures replacement_itself { lossy_characters (0xEF ∷ 0xBF ∷ 0xBD ∷ []) ≡ 0xFFFD ∷ [] }
@@ -74,9 +83,18 @@ fn lossy_text_of_damaged_bytes()
 {}
 
 fn first_pieces_of_damaged_bytes()
-    ensures damaged { first_piece (0xF0 ∷ 0x9D ∷ 0x61 ∷ []) ≡ record { bytes = 0xF0 ∷ 0x9D ∷ []; char = None } }
-    ensures surrogate { first_piece (0xED ∷ 0xA0 ∷ 0x80 ∷ []) ≡ record { bytes = 0xED ∷ []; char = None } }
-    ensures not_damaged { first_piece (0xEF ∷ 0xBF ∷ 0xBD ∷ []) ≡ record { bytes = 0xEF ∷ 0xBF ∷ 0xBD ∷ []; char = Some 0xFFFD } }
+    ensures damaged { first_piece (0xF0 ∷ 0x9D ∷ 0x61 ∷ []) ≡ record {
+      bytes = 0xF0 ∷ 0x9D ∷ [];
+      char = None;
+    } }
+    ensures surrogate { first_piece (0xED ∷ 0xA0 ∷ 0x80 ∷ []) ≡ record {
+      bytes = 0xED ∷ [];
+      char = None;
+    } }
+    ensures not_damaged { first_piece (0xEF ∷ 0xBF ∷ 0xBD ∷ []) ≡ record {
+      bytes = 0xEF ∷ 0xBF ∷ 0xBD ∷ [];
+      char = Some 0xFFFD;
+    } }
 {}
 
 #[tactic(auto, unfolding(crate::proofs::Computing::computing))]
@@ -88,7 +106,8 @@ fn options_are_spelled()
 
 #[tactic(auto, unfolding(crate::proofs::Computing::computing))]
 fn lines_have_binary_names()
-    ensures damaged { invoked ((0x61 ∷ 0xFF ∷ []) ∷ codes "-x" ∷ []) ≡ record (fresh (codes "-x" ∷ [])) { bin_name = Some (0x61 ∷ 0xEF ∷ 0xBF ∷ 0xBD ∷ []) } }
+    ensures damaged { invoked ((0x61 ∷ 0xFF ∷ []) ∷ codes "-x" ∷ [])
+        ≡ record (fresh (codes "-x" ∷ [])) { bin_name = Some (0x61 ∷ 0xEF ∷ 0xBF ∷ 0xBD ∷ []) } }
     ensures empty { invoked ([] ∷ []) ≡ record (fresh []) { bin_name = Some [] } }
     ensures none { invoked [] ≡ fresh [] }
 {}
@@ -110,20 +129,27 @@ fn quoted_forms()
     ensures low_control { quoted (0x01 ∷ []) ≡ codes "\"\\u{1}\"" }
     ensures damage { quoted (0xF0 ∷ 0x9D ∷ []) ≡ codes "\"\\xF0\\x9D\"" }
     ensures apostrophe { quoted (0x27 ∷ []) ≡ codes "\"'\"" }
-    ensures escapes { quoted (0x00 ∷ 0x0D ∷ 0x1F ∷ 0x0A ∷ 0x09 ∷ 0x7F ∷ 0x5C ∷ 0x22 ∷ []) ≡ codes "\"\\0\\r\\u{1f}\\n\\t\\u{7f}\\\\\\\"\"" }
+    ensures escapes { quoted (0x00 ∷ 0x0D ∷ 0x1F ∷ 0x0A ∷ 0x09 ∷ 0x7F ∷ 0x5C ∷ 0x22 ∷ [])
+        ≡ codes "\"\\0\\r\\u{1f}\\n\\t\\u{7f}\\\\\\\"\"" }
     ensures past_ascii { quoted (0xC2 ∷ 0xB5 ∷ []) ≡ 0x22 ∷ 0xC2 ∷ 0xB5 ∷ 0x22 ∷ [] }
 {}
 
 #[tactic(auto, unfolding(crate::proofs::Computing::computing))]
 fn messages()
     ensures missing { missing_message None ≡ codes "missing argument" }
-    ensures missing_of { missing_message (Some (codes "-o")) ≡ codes "missing argument for option '-o'" }
+    ensures missing_of { missing_message (Some (codes "-o"))
+        ≡ codes "missing argument for option '-o'" }
     ensures short_option { unexpected_option_message (codes "-o") ≡ codes "invalid option '-o'" }
-    ensures long_option { unexpected_option_message (codes "--opt") ≡ codes "invalid option '--opt'" }
-    ensures argument { unexpected_argument_message (codes "foo") ≡ codes "unexpected argument \"foo\"" }
-    ensures value { unexpected_value_message (codes "--foobar") (codes "qux=baz") ≡ codes "unexpected argument for option '--foobar': \"qux=baz\"" }
-    ensures parse { parsing_failed_message (codes "foo") (codes "no number") ≡ codes "cannot parse argument \"foo\": no number" }
-    ensures no_text { non_unicode_message (codes "foo" ++ 0xFF ∷ []) ≡ codes "argument is invalid unicode: \"foo\\xFF\"" }
+    ensures long_option { unexpected_option_message (codes "--opt")
+        ≡ codes "invalid option '--opt'" }
+    ensures argument { unexpected_argument_message (codes "foo")
+        ≡ codes "unexpected argument \"foo\"" }
+    ensures value { unexpected_value_message (codes "--foobar") (codes "qux=baz")
+        ≡ codes "unexpected argument for option '--foobar': \"qux=baz\"" }
+    ensures parse { parsing_failed_message (codes "foo") (codes "no number")
+        ≡ codes "cannot parse argument \"foo\": no number" }
+    ensures no_text { non_unicode_message (codes "foo" ++ 0xFF ∷ [])
+        ≡ codes "argument is invalid unicode: \"foo\\xFF\"" }
 {}
 
 fn texts_are_unescaped()
@@ -149,9 +175,12 @@ fn scripts_have_bad_lines()
 {}
 
 fn a_script_has_words_and_calls()
-    ensures words { words_of (codes "w --out=x\nw\nw \n\nw \\x2D\nnext\nvalue") ≡ codes "--out=x" ∷ [] ∷ [] ∷ codes "-" ∷ [] }
-    ensures calls { calls_of (codes "w --out=x\nw\nw \n\nw \\x2D\nnext\nvalue") ≡ next ∷ value ∷ [] }
-    ensures switches { calls_of (codes "off\nw -a=b\nnext\non\noptional") ≡ switch false ∷ next ∷ switch true ∷ optional ∷ [] }
+    ensures words { words_of (codes "w --out=x\nw\nw \n\nw \\x2D\nnext\nvalue")
+        ≡ codes "--out=x" ∷ [] ∷ [] ∷ codes "-" ∷ [] }
+    ensures calls { calls_of (codes "w --out=x\nw\nw \n\nw \\x2D\nnext\nvalue")
+        ≡ next ∷ value ∷ [] }
+    ensures switches { calls_of (codes "off\nw -a=b\nnext\non\noptional")
+        ≡ switch false ∷ next ∷ switch true ∷ optional ∷ [] }
 {}
 
 #[tactic(auto, unfolding(crate::proofs::Computing::computing))]
@@ -172,7 +201,8 @@ fn lines_name_options()
 
 #[tactic(auto, unfolding(crate::proofs::Computing::computing))]
 fn a_script_has_a_table_and_commands()
-    ensures table { table_of (codes "t -o\ntopt --color\nt -v\ntmany -d\nt --\ntopt -i\ntmany --cmd\nitems")
+    ensures table { table_of (codes
+        "t -o\ntopt --color\nt -v\ntmany -d\nt --\ntopt -i\ntmany --cmd\nitems")
         ≡ record {
           shorts = 0x6F ∷ 0x76 ∷ [];
           longs = [] ∷ [];
@@ -181,31 +211,41 @@ fn a_script_has_a_table_and_commands()
           several_shorts = 0x64 ∷ [];
           several_longs = codes "cmd" ∷ [];
         } }
-    ensures commands { commands_of (codes "w a\nitems\noff\nitems\nnext") ≡ whole_line ∷ call (switch false) ∷ whole_line ∷ call next ∷ [] }
+    ensures commands { commands_of (codes "w a\nitems\noff\nitems\nnext")
+        ≡ whole_line ∷ call (switch false) ∷ whole_line ∷ call next ∷ [] }
     ensures calls { calls_of (codes "w a\nitems\noff\nitems\nnext") ≡ switch false ∷ next ∷ [] }
 {}
 
 #[tactic(auto, unfolding(crate::proofs::Computing::computing))]
 fn items_are_written()
     ensures none { bracketed item_text [] ≡ codes "[]" }
-    ensures values { bracketed item_text (table.option (table.short 0x76) None ∷ table.option (table.short 0x6F) (Some (codes "x"))
+    ensures values { bracketed item_text
+        (table.option (table.short 0x76) None ∷ table.option (table.short 0x6F) (Some (codes "x"))
         ∷ table.option (table.long (codes "out")) (Some (codes "y")) ∷ table.positional (codes "-z") ∷ [])
         ≡ codes "[Short \"v\", Short \"o\" = \"x\", Long \"out\" = \"y\", Value \"-z\"]" }
-    ensures several { bracketed item_text (table.many (table.short 0x64) (codes "1" ∷ codes "2" ∷ []) ∷ table.many (table.long (codes "cmd")) (codes "a" ∷ []) ∷ [])
+    ensures several { bracketed item_text
+        (table.many (table.short 0x64) (codes "1" ∷ codes "2" ∷ []) ∷ table.many
+        (table.long (codes "cmd")) (codes "a" ∷ []) ∷ [])
         ≡ codes "[Short \"d\" = [\"1\", \"2\"], Long \"cmd\" = [\"a\"]]" }
 {}
 
 #[tactic(auto, unfolding(crate::proofs::Computing::computing))]
 fn replies_are_written()
-    ensures first_script { flat_map (λ r. line_of (reply_text r)) (long (codes "out") ∷ taken (codes "x") ∷ positional (codes "file") ∷ positional (codes "-y") ∷ end ∷ [])
+    ensures first_script { flat_map (λ r. line_of (reply_text r))
+        (long (codes "out") ∷ taken (codes "x") ∷ positional (codes "file") ∷ positional
+        (codes "-y") ∷ end ∷ [])
         ≡ codes "Long \"out\"\n\"x\"\nValue \"file\"\nValue \"-y\"\nNone\n" }
-    ensures errors { flat_map (λ r. line_of (reply_text r)) (missing None ∷ unexpected (codes "-a") (codes "b") ∷ no_memory ∷ [])
+    ensures errors { flat_map (λ r. line_of (reply_text r))
+        (missing None ∷ unexpected (codes "-a") (codes "b") ∷ no_memory ∷ [])
         ≡ codes "error: missing argument\nerror: unexpected argument for option '-a': \"b\"\nerror: out of memory\n" }
-    ensures short { flat_map (λ r. line_of (reply_text r)) (short 0x61 ∷ []) ≡ codes "Short \"a\"\n" }
+    ensures short { flat_map (λ r. line_of (reply_text r)) (short 0x61 ∷ [])
+        ≡ codes "Short \"a\"\n" }
 {}
 
 #[tactic(auto, unfolding(crate::proofs::Computing::computing))]
 fn more_replies_are_written()
-    ensures views { flat_map (λ r. line_of (reply_text r)) (items [] ∷ items (codes "a" ∷ codes "b c" ∷ []) ∷ maybe None ∷ maybe (Some (codes "x")) ∷ busy ∷ done ∷ [])
+    ensures views { flat_map (λ r. line_of (reply_text r))
+        (items [] ∷ items (codes "a" ∷ codes "b c" ∷ []) ∷ maybe None ∷ maybe (Some (codes "x")) ∷
+        busy ∷ done ∷ [])
         ≡ codes "[]\n[\"a\", \"b c\"]\nNone\n\"x\"\nNone\nok\n" }
 {}

@@ -1,211 +1,290 @@
 //! Laws of the definitions.
-ghost use Rattle.std.specs.Prelude.{◌≡◌, ◌≢◌, ◌⊎◌, ◌<◌, ◌≤◌, ◌+◌, ◌∷◌, ◌++◌, [], ℕ, Bool, true, false, List, Option, None, Some, Ok, Err, drop, length, map, take};
+ghost use Rattle.std.specs.Prelude.{◌≡◌, ◌≢◌, ◌⊎◌, ◌<◌, ◌≤◌, ◌+◌, ◌∷◌, ◌++◌, [], ℕ, Bool, true};
+ghost use Rattle.std.specs.Prelude.{false, List, Option, None, Some, Ok, Err, drop, length, map};
+ghost use Rattle.std.specs.Prelude.{take};
 ghost use Rattle.std.specs.Char.{IsScalar};
 ghost use Rattle.std.specs.List.{All, Contains, IsAmong, cons_option, flat_map};
-ghost use Rattle.lexopt_spec.specs.Account.{NamesOption, bytes_of, flat, given_of, bytes_handed_out, handed_items, shown_of};
+ghost use Rattle.lexopt_spec.specs.Account.{NamesOption, bytes_of, flat, given_of};
+ghost use Rattle.lexopt_spec.specs.Account.{bytes_handed_out, handed_items, shown_of};
 ghost use Rattle.lexopt_line_spec.specs.Bound.{bound, replies_count};
-ghost use Rattle.lexopt_spec.specs.Pieces.{IsFirstPiece, after_first_piece, first_piece, lossy_characters, pieces};
-ghost use Rattle.lexopt_spec.specs.Runs.{StepWithMemory, Call, Part, account, ample_account, Run, Step, next, optional, raw, raw_if, segments, switch, try_raw, up_to, values};
-ghost use Rattle.lexopt_spec.specs.Steps.{Reply, busy, end, items, long, maybe, missing, no_memory, short, unexpected};
-ghost use Rattle.lexopt_spec.specs.UnreadLine.{IsLine, IsNormal, IsPlain, IsPlainFront, UnreadLine, dash, equals, fresh, is_plain, no_tail, pending};
+ghost use Rattle.lexopt_spec.specs.Pieces.{IsFirstPiece, after_first_piece, first_piece};
+ghost use Rattle.lexopt_spec.specs.Pieces.{lossy_characters, pieces};
+ghost use Rattle.lexopt_spec.specs.Runs.{StepWithMemory, Call, Part, account, ample_account, Run};
+ghost use Rattle.lexopt_spec.specs.Runs.{Step, next, optional, raw, raw_if, segments, switch};
+ghost use Rattle.lexopt_spec.specs.Runs.{try_raw, up_to, values};
+ghost use Rattle.lexopt_spec.specs.Steps.{Reply, busy, end, items, long, maybe, missing, no_memory};
+ghost use Rattle.lexopt_spec.specs.Steps.{short, unexpected};
+ghost use Rattle.lexopt_spec.specs.UnreadLine.{IsLine, IsNormal, IsPlain, IsPlainFront, UnreadLine};
+ghost use Rattle.lexopt_spec.specs.UnreadLine.{dash, equals, fresh, is_plain, no_tail, pending};
 ghost use Rattle.lexopt_line_spec.specs.Table as table;
 ghost use Rattle.lexopt_line_spec.specs.Table.{Item, Table, flag, kind};
 ghost use Rattle.lexopt_line_spec.specs.Readings.{IsReading, start};
 ghost use Rattle.lexopt_line_spec.specs.Spelling.{HaveWholeNames, Shows, Spells};
-ghost use Rattle.lexopt_line_spec.specs.Speller.{Fault, IsAtFault, past_separator, is_of_the_place, is_positional, spelled};
-ghost use Rattle.lexopt_laws.specs.OneValueSpelling.{OneValueShows, OneValueSpells, OneValueTable, widened};
-ghost use Rattle.lexopt_spec.specs.Views.{Stage, ValueItem, ValueItems, WordItems, at_end, at_start, available, plain_front, values_left};
+ghost use Rattle.lexopt_line_spec.specs.Speller.{Fault, IsAtFault, past_separator, is_of_the_place};
+ghost use Rattle.lexopt_line_spec.specs.Speller.{is_positional, spelled};
+ghost use Rattle.lexopt_laws.specs.OneValueSpelling.{OneValueShows, OneValueSpells, OneValueTable};
+ghost use Rattle.lexopt_laws.specs.OneValueSpelling.{widened};
+ghost use Rattle.lexopt_spec.specs.Views.{Stage, ValueItem, ValueItems, WordItems, at_end};
+ghost use Rattle.lexopt_spec.specs.Views.{at_start, available, plain_front, values_left};
 
-/// The first piece that the definitions compute is the one that table 3-7 of the Unicode Standard, read over all fronts
-/// of the bytes, allows: that piece and no other.
+/// The first piece that the definitions compute is the one that table 3-7 of the Unicode Standard,
+/// read over all fronts of the bytes, allows: that piece and no other.
 pub fn first_piece_is_by_the_table(bytes: &[u8])
     ensures by_the_table { 0 < length bytes.now
         → IsFirstPiece bytes.now (length (first_piece bytes.now).bytes) (first_piece bytes.now).char }
     ensures only_one { (size : ℕ) (char : Option ℕ) → IsFirstPiece bytes.now size char
-        → (take size bytes.now ≡ (first_piece bytes.now).bytes) × (char ≡ (first_piece bytes.now).char) }
+        → (take size bytes.now ≡ (first_piece bytes.now).bytes)
+        × (char ≡ (first_piece bytes.now).char) }
 {}
 
 /// The pieces of some bytes are the first piece, and then the pieces of what follows it.
 pub fn pieces_are_in_a_row(bytes: &[u8])
     ensures none { bytes.now ≡ [] → pieces bytes.now ≡ [] }
-    ensures more { 0 < length bytes.now → pieces bytes.now ≡ first_piece bytes.now ∷ pieces (after_first_piece bytes.now) }
+    ensures more { 0 < length bytes.now
+        → pieces bytes.now ≡ first_piece bytes.now ∷ pieces (after_first_piece bytes.now) }
 {}
 
-/// Where memory is enough, each call has exactly one answer: some reply with a line after it, and no other. The rules
-/// forget no line and leave no choice.
+/// Where memory is enough, each call has exactly one answer: some reply with a line after it, and
+/// no other. The rules forget no line and leave no choice.
 pub fn each_call_has_one_answer()
-    ensures some_answer { (call : Call) (u : UnreadLine) → IsLine u → (r : Reply) × (v : UnreadLine) × StepWithMemory call u r v }
-    ensures no_other { (call : Call) (u v w : UnreadLine) (r s : Reply) → StepWithMemory call u r v → StepWithMemory call u s w → (r ≡ s) × (v ≡ w) }
-    ensures some_run { (calls : List Call) (u : UnreadLine) → IsLine u → (replies : List Reply) × (v : UnreadLine) × Run u calls replies v
+    ensures some_answer { (call : Call) (u : UnreadLine) → IsLine u → (r : Reply) × (v : UnreadLine)
+        × StepWithMemory call u r v }
+    ensures no_other { (call : Call) (u v w : UnreadLine) (r s : Reply) → StepWithMemory call u r v
+        → StepWithMemory call u s w → (r ≡ s) × (v ≡ w) }
+    ensures some_run { (calls : List Call) (u : UnreadLine) → IsLine u → (replies : List Reply)
+        × (v : UnreadLine) × Run u calls replies v
         × ¬ IsAmong replies no_memory }
-    ensures no_other_run { (calls : List Call) (u v w : UnreadLine) (replies others : List Reply) → Run u calls replies v → Run u calls others w
+    ensures no_other_run { (calls : List Call) (u v w : UnreadLine) (replies others : List Reply)
+        → Run u calls replies v → Run u calls others w
         → ¬ IsAmong replies no_memory → ¬ IsAmong others no_memory → (replies ≡ others) × (v ≡ w) }
 {}
 
-/// A call that is refused memory leaves the line as it was, and stands in place of a long option or of an error that names
-/// an option. So some calls are never refused.
+/// A call that is refused memory leaves the line as it was, and stands in place of a long option or
+/// of an error that names an option. So some calls are never refused.
 pub fn some_calls_are_never_refused()
-    ensures only { (call : Call) (u v : UnreadLine) → Step call u no_memory v → (v ≡ u) × ((r : Reply) × (w : UnreadLine) × StepWithMemory call u r w
+    ensures only { (call : Call) (u v : UnreadLine) → Step call u no_memory v → (v ≡ u)
+        × ((r : Reply) × (w : UnreadLine) × StepWithMemory call u r w
         × (((name : List ℕ) × (r ≡ long name)) ⊎ (((option : List ℕ) × (r ≡ missing (Some option)))
         ⊎ ((option : List ℕ) × (value : List ℕ) × (r ≡ unexpected option value))))) }
     ensures optional { (u v : UnreadLine) → Step optional u no_memory v → ⊥ }
     ensures try_raw { (n : ℕ) (u v : UnreadLine) → Step (try_raw n) u no_memory v → ⊥ }
     ensures switch { (on : Bool) (u v : UnreadLine) → Step (switch on) u no_memory v → ⊥ }
     ensures raw { (n : ℕ) (u v : UnreadLine) → pending u ≡ None → Step (raw n) u no_memory v → ⊥ }
-    ensures raw_if { (w : List ℕ) (u v : UnreadLine) → pending u ≡ None → Step (raw_if w) u no_memory v → ⊥ }
-    ensures values { (n : ℕ) (u v : UnreadLine) → available u ≢ [] → Step (values n) u no_memory v → ⊥ }
+    ensures raw_if { (w : List ℕ) (u v : UnreadLine) → pending u ≡ None
+        → Step (raw_if w) u no_memory v → ⊥ }
+    ensures values { (n : ℕ) (u v : UnreadLine) → available u ≢ [] → Step (values n) u no_memory v
+        → ⊥ }
 {}
 
-/// A tail stands only with a last option and never after the separator: so it is at the start, and so it stays, whatever
-/// is called, and also where memory is wanted.
+/// A tail stands only with a last option and never after the separator: so it is at the start, and
+/// so it stays, whatever is called, and also where memory is wanted.
 pub fn lines_stay_lines()
     ensures start { (words : List (List ℕ)) → IsLine (fresh words) }
-    ensures step { (call : Call) (u v : UnreadLine) (r : Reply) → IsLine u → Step call u r v → IsLine v }
-    ensures run { (u v : UnreadLine) (calls : List Call) (replies : List Reply) → IsLine u → Run u calls replies v → IsLine v }
+    ensures step { (call : Call) (u v : UnreadLine) (r : Reply) → IsLine u → Step call u r v
+        → IsLine v }
+    ensures run { (u v : UnreadLine) (calls : List Call) (replies : List Reply) → IsLine u
+        → Run u calls replies v → IsLine v }
 {}
 
 /// The words that can be values are the longest front of plain words, and no other front is.
 pub fn plain_words_are_the_longest_front()
-    ensures test { (ended : Bool) (w : List ℕ) → (is_plain ended w ≡ true → IsPlain ended w) × (IsPlain ended w → is_plain ended w ≡ true) }
-    ensures front { (ended : Bool) (words : List (List ℕ)) → (after : List (List ℕ)) × IsPlainFront ended words (plain_front ended words) after }
-    ensures no_other { (ended : Bool) (words front after : List (List ℕ)) → IsPlainFront ended words front after → plain_front ended words ≡ front }
+    ensures test { (ended : Bool) (w : List ℕ) → (is_plain ended w ≡ true → IsPlain ended w)
+        × (IsPlain ended w → is_plain ended w ≡ true) }
+    ensures front { (ended : Bool) (words : List (List ℕ)) → (after : List (List ℕ))
+        × IsPlainFront ended words (plain_front ended words) after }
+    ensures no_other { (ended : Bool) (words front after : List (List ℕ))
+        → IsPlainFront ended words front after → plain_front ended words ≡ front }
 {}
 
-/// Items that are asked of a view one by one are what the call answers that asks so many; where fewer came, all came; what
-/// comes is the first of what is left; and once none came, none comes and nothing changes.
+/// Items that are asked of a view one by one are what the call answers that asks so many; where
+/// fewer came, all came; what comes is the first of what is left; and once none came, none comes
+/// and nothing changes.
 pub fn items_make_the_call()
-    ensures first { (stage now : Stage) (u v : UnreadLine) (item : Option (List ℕ)) → ValueItem stage u item v now
+    ensures first { (stage now : Stage) (u v : UnreadLine) (item : Option (List ℕ))
+        → ValueItem stage u item v now
         → values_left stage u ≡ cons_option item (values_left now v) }
-    ensures none { (stage now : Stage) (u v : UnreadLine) → ValueItem stage u None v now → (v ≡ u) × (now ≡ at_end) }
-    ensures ever { (now : Stage) (u v : UnreadLine) (item : Option (List ℕ)) → ValueItem at_end u item v now → (item ≡ None) × (v ≡ u) × (now ≡ at_end) }
-    ensures values { (n : ℕ) (u v : UnreadLine) (came : List (List ℕ)) (now : Stage) → available u ≢ []
+    ensures none { (stage now : Stage) (u v : UnreadLine) → ValueItem stage u None v now → (v ≡ u)
+        × (now ≡ at_end) }
+    ensures ever { (now : Stage) (u v : UnreadLine) (item : Option (List ℕ))
+        → ValueItem at_end u item v now → (item ≡ None) × (v ≡ u) × (now ≡ at_end) }
+    ensures values { (n : ℕ) (u v : UnreadLine) (came : List (List ℕ)) (now : Stage)
+        → available u ≢ []
         → ValueItems n at_start u came v now → StepWithMemory (values n) u (items came) v }
-    ensures all { (n : ℕ) (u v : UnreadLine) (came : List (List ℕ)) → StepWithMemory (values n) u (items came) v → length came < n → came ≡ available u }
+    ensures all { (n : ℕ) (u v : UnreadLine) (came : List (List ℕ))
+        → StepWithMemory (values n) u (items came) v → length came < n → came ≡ available u }
     ensures raw { (n : ℕ) (u v : UnreadLine) (came : List (List ℕ)) → pending u ≡ None
         → WordItems n u came v → StepWithMemory (raw n) u (items came) v }
     ensures try_raw { (n : ℕ) (u v : UnreadLine) (came : List (List ℕ)) → pending u ≡ None
         → WordItems n u came v → StepWithMemory (try_raw n) u (items came) v }
 {}
 
-/// `try_raw_args` gives no view exactly where `optional_value` gives a value; after its refusal `raw_args` succeeds; a
-/// view that was not asked changes nothing; `values` succeeds exactly where a value is pending or the next word is
-/// normal, and its view then gives an item when first asked.
+/// `try_raw_args` gives no view exactly where `optional_value` gives a value; after its refusal
+/// `raw_args` succeeds; a view that was not asked changes nothing; `values` succeeds exactly where
+/// a value is pending or the next word is normal, and its view then gives an item when first asked.
 pub fn views_agree()
     ensures busy { (n : ℕ) (u v : UnreadLine) → StepWithMemory (try_raw n) u busy v
-        → (value : List ℕ) × StepWithMemory optional u (maybe (Some value)) (record u { tail = no_tail }) }
-    ensures found { (n : ℕ) (u v : UnreadLine) (value : List ℕ) → StepWithMemory optional u (maybe (Some value)) v → StepWithMemory (try_raw n) u busy u }
-    ensures refused_once { (n : ℕ) (u v : UnreadLine) (option value : List ℕ) → StepWithMemory (raw n) u (unexpected option value) v → pending v ≡ None }
-    ensures values_untouched { (u v : UnreadLine) (r : Reply) → StepWithMemory (values 0) u r v → v ≡ u }
-    ensures words_untouched { (u v : UnreadLine) (r : Reply) → StepWithMemory (try_raw 0) u r v → v ≡ u }
+        → (value : List ℕ)
+        × StepWithMemory optional u (maybe (Some value)) (record u { tail = no_tail }) }
+    ensures found { (n : ℕ) (u v : UnreadLine) (value : List ℕ)
+        → StepWithMemory optional u (maybe (Some value)) v → StepWithMemory (try_raw n) u busy u }
+    ensures refused_once { (n : ℕ) (u v : UnreadLine) (option value : List ℕ)
+        → StepWithMemory (raw n) u (unexpected option value) v → pending v ≡ None }
+    ensures values_untouched { (u v : UnreadLine) (r : Reply) → StepWithMemory (values 0) u r v
+        → v ≡ u }
+    ensures words_untouched { (u v : UnreadLine) (r : Reply) → StepWithMemory (try_raw 0) u r v
+        → v ≡ u }
     ensures values_found { (u : UnreadLine) → IsLine u
-        → (available u ≢ [] → (pending u ≢ None) ⊎ IsNormal u) × ((pending u ≢ None) ⊎ IsNormal u → available u ≢ []) }
-    ensures first_item { (u v : UnreadLine) (now : Stage) → available u ≢ [] → ValueItem at_start u None v now → ⊥ }
+        → (available u ≢ [] → (pending u ≢ None) ⊎ IsNormal u)
+        × ((pending u ≢ None) ⊎ IsNormal u → available u ≢ []) }
+    ensures first_item { (u v : UnreadLine) (now : Stage) → available u ≢ []
+        → ValueItem at_start u None v now → ⊥ }
 {}
 
-/// Whatever is called, at either switch, and also where memory is wanted: each byte is in one segment or still unread,
-/// in order; what the replies hand out is what the segments show; the words left are a suffix.
+/// Whatever is called, at either switch, and also where memory is wanted: each byte is in one
+/// segment or still unread, in order; what the replies hand out is what the segments show; the
+/// words left are a suffix.
 pub fn no_byte_is_lost()
-    ensures bytes { (u v : UnreadLine) (calls : List Call) (replies : List Reply) (run : Run u calls replies v)
+    ensures bytes { (u v : UnreadLine) (calls : List Call) (replies : List Reply)
+        (run : Run u calls replies v)
         → flat u ≡ bytes_of (segments u calls replies v run) ++ flat v }
-    ensures handed_out { (u v : UnreadLine) (calls : List Call) (replies : List Reply) (run : Run u calls replies v)
+    ensures handed_out { (u v : UnreadLine) (calls : List Call) (replies : List Reply)
+        (run : Run u calls replies v)
         → flat_map bytes_handed_out replies ≡ shown_of (segments u calls replies v run) }
-    ensures as_they_are { (call : Call) (u v : UnreadLine) (r : Reply) (step : Step call u r v) → ¬ NamesOption r
+    ensures as_they_are { (call : Call) (u v : UnreadLine) (r : Reply) (step : Step call u r v)
+        → ¬ NamesOption r
         → given_of (account call u r v step) ≡ handed_items r }
-    ensures one_account { (call : Call) (u v w : UnreadLine) (r s : Reply) (one : StepWithMemory call u r v) (other : StepWithMemory call u s w)
+    ensures one_account { (call : Call) (u v w : UnreadLine) (r s : Reply)
+        (one : StepWithMemory call u r v) (other : StepWithMemory call u s w)
         → ample_account call u r v one ≡ ample_account call u s w other }
-    ensures words { (u v : UnreadLine) (calls : List Call) (replies : List Reply) → Run u calls replies v
+    ensures words { (u v : UnreadLine) (calls : List Call) (replies : List Reply)
+        → Run u calls replies v
         → (gone : List (List ℕ)) × (u.words ≡ gone ++ v.words) }
 {}
 
-/// Some front of a list of calls is a part of it, also with some items of the next call; and the words that a part leaves
-/// are a suffix.
+/// Some front of a list of calls is a part of it, also with some items of the next call; and the
+/// words that a part leaves are a suffix.
 pub fn calls_cut_short_are_a_part()
-    ensures front { (u v : UnreadLine) (calls more : List Call) (replies : List Reply) → Run u calls replies v → Part u (calls ++ more) v }
-    ensures cut { (u v w : UnreadLine) (calls more : List Call) (replies : List Reply) (call : Call) (m : ℕ) (reply : Reply)
+    ensures front { (u v : UnreadLine) (calls more : List Call) (replies : List Reply)
+        → Run u calls replies v → Part u (calls ++ more) v }
+    ensures cut { (u v w : UnreadLine) (calls more : List Call) (replies : List Reply) (call : Call)
+        (m : ℕ) (reply : Reply)
         → Run u calls replies v → Step (up_to m call) v reply w → Part u (calls ++ call ∷ more) w }
-    ensures fewer { (m n : ℕ) → m ≤ n → (up_to m (values n) ≡ values m) × (up_to m (raw n) ≡ raw m) × (up_to m (try_raw n) ≡ try_raw m) }
+    ensures fewer { (m n : ℕ) → m ≤ n → (up_to m (values n) ≡ values m) × (up_to m (raw n) ≡ raw m)
+        × (up_to m (try_raw n) ≡ try_raw m) }
     ensures nothing_else { (u v : UnreadLine) (calls : List Call) → Part u calls v
-        → (front : List Call) × (more : List Call) × (replies : List Reply) × (w : UnreadLine) × Run u front replies w × (calls ≡ front ++ more)
-        × ((v ≡ w) ⊎ ((call : Call) × (others : List Call) × (m : ℕ) × (reply : Reply) × (more ≡ call ∷ others) × Step (up_to m call) w reply v)) }
-    ensures words { (u v : UnreadLine) (calls : List Call) → Part u calls v → (gone : List (List ℕ)) × (u.words ≡ gone ++ v.words) }
+        → (front : List Call) × (more : List Call) × (replies : List Reply) × (w : UnreadLine)
+        × Run u front replies w × (calls ≡ front ++ more)
+        × ((v ≡ w) ⊎ ((call : Call) × (others : List Call) × (m : ℕ) × (reply : Reply)
+        × (more ≡ call ∷ others) × Step (up_to m call) w reply v)) }
+    ensures words { (u v : UnreadLine) (calls : List Call) → Part u calls v → (gone : List (List ℕ))
+        × (u.words ≡ gone ++ v.words) }
 {}
 
 /// What a run answers is bounded by the words: so `next` comes to the end, unless memory is wanted.
 pub fn replies_are_bounded()
-    ensures bounded { (u v : UnreadLine) (calls : List Call) (replies : List Reply) → Run u calls replies v
+    ensures bounded { (u v : UnreadLine) (calls : List Call) (replies : List Reply)
+        → Run u calls replies v
         → replies_count replies + bound v ≤ bound u }
-    ensures ends { (u v : UnreadLine) (calls : List Call) (replies : List Reply) → Run u calls replies v → All (λ call. call ≡ next) calls
+    ensures ends { (u v : UnreadLine) (calls : List Call) (replies : List Reply)
+        → Run u calls replies v → All (λ call. call ≡ next) calls
         → bound u < length calls → IsAmong replies no_memory ⊎ IsAmong replies end }
 {}
 
-/// A cluster with no `=` between an option and its value, read to its end by one call of `next` for each of its pieces:
-/// each is answered with its lossy character, and memory is never wanted.
+/// A cluster with no `=` between an option and its value, read to its end by one call of `next` for
+/// each of its pieces: each is answered with its lossy character, and memory is never wanted.
 pub fn clusters_are_read_by_pieces()
-    ensures run { (u v : UnreadLine) (b : ℕ) (bs : List ℕ) (words : List (List ℕ)) (replies : List Reply)
+    ensures run { (u v : UnreadLine) (b : ℕ) (bs : List ℕ) (words : List (List ℕ))
+        (replies : List Reply)
         → u.tail ≡ no_tail → u.ended ≡ false → u.words ≡ (dash ∷ b ∷ bs) ∷ words → b ≢ dash
         → (u.short_equals ≡ false) ⊎ ¬ Contains bs equals
         → Run u (map (λ piece. next) (pieces (b ∷ bs))) replies v
-        → (replies ≡ map short (lossy_characters (b ∷ bs))) × (v.tail ≡ no_tail) × (v.words ≡ words) }
+        → (replies ≡ map short (lossy_characters (b ∷ bs))) × (v.tail ≡ no_tail)
+        × (v.words ≡ words) }
     ensures as_many { (bytes : List ℕ) → length (lossy_characters bytes) ≡ length (pieces bytes) }
 {}
 
-/// A whole line read by a table. A reading that comes to the end says what the words show. Where words show something,
-/// there is a reading that says it, and every reading comes to the end and says it: so none ends in an error.
+/// A whole line read by a table. A reading that comes to the end says what the words show. Where
+/// words show something, there is a reading that says it, and every reading comes to the end and
+/// says it: so none ends in an error.
 pub fn readings_say_what_words_show()
     ensures said { (t : Table) (switch : Bool) (words : List (List ℕ)) (l : List Item)
         → IsReading t (start switch words) end l → Shows t switch words l }
-    ensures shown { (t : Table) (switch : Bool) (words : List (List ℕ)) (l m : List Item) (final : Reply)
-        → Shows t switch words l → IsReading t (start switch words) final m → (final ≡ end) × (l ≡ m) }
+    ensures shown { (t : Table) (switch : Bool) (words : List (List ℕ)) (l m : List Item)
+        (final : Reply)
+        → Shows t switch words l → IsReading t (start switch words) final m → (final ≡ end)
+        × (l ≡ m) }
     ensures read { (t : Table) (switch : Bool) (words : List (List ℕ)) (l : List Item)
         → Shows t switch words l → IsReading t (start switch words) end l }
 {}
 
 /// Words show at most one list of items.
 pub fn words_show_one_list()
-    ensures { (t : Table) (switch : Bool) (words : List (List ℕ)) (l m : List Item) → Shows t switch words l → Shows t switch words m → l ≡ m }
+    ensures { (t : Table) (switch : Bool) (words : List (List ℕ)) (l m : List Item)
+        → Shows t switch words l → Shows t switch words m → l ≡ m }
 {}
 
-/// What words spell they show; and what they show they spell, where no option has U+FFFD in its name.
+/// What words spell they show; and what they show they spell, where no option has U+FFFD in its
+/// name.
 pub fn whole_names_are_spelled()
-    ensures shows { (t : Table) (switch : Bool) (words : List (List ℕ)) (l : List Item) → Spells t switch words l → Shows t switch words l }
-    ensures spells { (t : Table) (switch : Bool) (words : List (List ℕ)) (l : List Item) → Shows t switch words l → HaveWholeNames l → Spells t switch words l }
+    ensures shows { (t : Table) (switch : Bool) (words : List (List ℕ)) (l : List Item)
+        → Spells t switch words l → Shows t switch words l }
+    ensures spells { (t : Table) (switch : Bool) (words : List (List ℕ)) (l : List Item)
+        → Shows t switch words l → HaveWholeNames l → Spells t switch words l }
 {}
 
-/// Under a table with no options of optional or several values, the rules for such tables alone say the same.
+/// Under a table with no options of optional or several values, the rules for such tables alone say
+/// the same.
 pub fn one_value_tables_agree()
     ensures spelled { (t : OneValueTable) (switch : Bool) (words : List (List ℕ)) (l : List Item)
-        → (OneValueSpells t switch words l → Spells (widened t) switch words l) × (Spells (widened t) switch words l → OneValueSpells t switch words l) }
+        → (OneValueSpells t switch words l → Spells (widened t) switch words l)
+        × (Spells (widened t) switch words l → OneValueSpells t switch words l) }
     ensures shown { (t : OneValueTable) (switch : Bool) (words : List (List ℕ)) (l : List Item)
-        → (OneValueShows t switch words l → Shows (widened t) switch words l) × (Shows (widened t) switch words l → OneValueShows t switch words l) }
+        → (OneValueShows t switch words l → Shows (widened t) switch words l)
+        × (Shows (widened t) switch words l → OneValueShows t switch words l) }
 {}
 
-/// Items are spelled, where some words spell them; else one item is at fault, and no other: those before it can be
-/// spelled, and with it they cannot. What some words show, damage let in, can be spelled.
+/// Items are spelled, where some words spell them; else one item is at fault, and no other: those
+/// before it can be spelled, and with it they cannot. What some words show, damage let in, can be
+/// spelled.
 pub fn items_are_spelled_or_one_is_at_fault()
-    ensures spells { (t : Table) (switch : Bool) (words : List (List ℕ)) (l : List Item) → spelled t switch l ≡ Ok words → Spells t switch words l }
-    ensures shown { (t : Table) (switch : Bool) (words : List (List ℕ)) (l : List Item) → Shows t switch words l
+    ensures spells { (t : Table) (switch : Bool) (words : List (List ℕ)) (l : List Item)
+        → spelled t switch l ≡ Ok words → Spells t switch words l }
+    ensures shown { (t : Table) (switch : Bool) (words : List (List ℕ)) (l : List Item)
+        → Shows t switch words l
         → (others : List (List ℕ)) × (spelled t switch l ≡ Ok others) × Spells t switch others l }
-    ensures fault { (t : Table) (switch : Bool) (l : List Item) (f : Fault) → spelled t switch l ≡ Err f → IsAtFault t switch l f.index }
-    ensures one_fault { (t : Table) (switch : Bool) (l : List Item) (i j : ℕ) → IsAtFault t switch l i → IsAtFault t switch l j → i ≡ j }
-    ensures none { (t : Table) (switch : Bool) (words : List (List ℕ)) (l : List Item) (i : ℕ) → IsAtFault t switch l i → Spells t switch words l → ⊥ }
+    ensures fault { (t : Table) (switch : Bool) (l : List Item) (f : Fault)
+        → spelled t switch l ≡ Err f → IsAtFault t switch l f.index }
+    ensures one_fault { (t : Table) (switch : Bool) (l : List Item) (i j : ℕ)
+        → IsAtFault t switch l i → IsAtFault t switch l j → i ≡ j }
+    ensures none { (t : Table) (switch : Bool) (words : List (List ℕ)) (l : List Item) (i : ℕ)
+        → IsAtFault t switch l i → Spells t switch words l → ⊥ }
 {}
 
-/// Where the same words spell the items under either setting of the switch, the answer is the same under either.
+/// Where the same words spell the items under either setting of the switch, the answer is the same
+/// under either.
 pub fn both_settings_have_one_form()
-    ensures { (t : Table) (words : List (List ℕ)) (l : List Item) → Spells t true words l → Spells t false words l → spelled t true l ≡ spelled t false l }
+    ensures { (t : Table) (words : List (List ℕ)) (l : List Item) → Spells t true words l
+        → Spells t false words l → spelled t true l ≡ spelled t false l }
 {}
 
-/// What the reason says of an item at fault: it is of the item, and then no line has that item; or of its place, and then a
-/// line of two can be spelled, any flag of one character but `-` and right after it that item. Where the reason is the
-/// separator, no option at all can be spelled in its place.
+/// What the reason says of an item at fault: it is of the item, and then no line has that item; or
+/// of its place, and then a line of two can be spelled, any flag of one character but `-` and right
+/// after it that item. Where the reason is the separator, no option at all can be spelled in its
+/// place.
 pub fn reasons_are_of_the_item_or_of_its_place()
-    ensures item { (t : Table) (switch : Bool) (l : List Item) (f : Fault) (it : Item) (others : List Item) → spelled t switch l ≡ Err f
+    ensures item { (t : Table) (switch : Bool) (l : List Item) (f : Fault) (it : Item)
+        (others : List Item) → spelled t switch l ≡ Err f
         → is_of_the_place f.reason ≡ false → drop f.index l ≡ it ∷ others
-        → (words : List (List ℕ)) (before after : List Item) → Spells t switch words (before ++ it ∷ after) → ⊥ }
-    ensures place { (t : Table) (switch : Bool) (l : List Item) (f : Fault) (it : Item) (others : List Item) → spelled t switch l ≡ Err f
+        → (words : List (List ℕ)) (before after : List Item)
+        → Spells t switch words (before ++ it ∷ after) → ⊥ }
+    ensures place { (t : Table) (switch : Bool) (l : List Item) (f : Fault) (it : Item)
+        (others : List Item) → spelled t switch l ≡ Err f
         → is_of_the_place f.reason ≡ true → drop f.index l ≡ it ∷ others
         → (c : ℕ) → IsScalar c → c ≢ dash → kind t (table.short c) ≡ flag
-        → (words : List (List ℕ)) × Spells t switch words (table.option (table.short c) None ∷ it ∷ []) }
-    ensures past_separator { (t : Table) (switch : Bool) (l : List Item) (f : Fault) → spelled t switch l ≡ Err f → f.reason ≡ past_separator
-        → (it : Item) → is_positional it ≡ false → (words : List (List ℕ)) → Spells t switch words (take f.index l ++ it ∷ []) → ⊥ }
+        → (words : List (List ℕ))
+        × Spells t switch words (table.option (table.short c) None ∷ it ∷ []) }
+    ensures past_separator { (t : Table) (switch : Bool) (l : List Item) (f : Fault)
+        → spelled t switch l ≡ Err f → f.reason ≡ past_separator
+        → (it : Item) → is_positional it ≡ false → (words : List (List ℕ))
+        → Spells t switch words (take f.index l ++ it ∷ []) → ⊥ }
 {}

@@ -1,7 +1,8 @@
-//! Laws of the definitions that the contracts of lexopt cite, and worked examples, computed by the definitions themselves.
+//! Laws of the definitions that the contracts of lexopt cite, and worked examples, computed by the
+//! definitions themselves.
 //!
-//! A definition that computes is tied here to the rule that it computes, by a function with no body whose contract is
-//! the law.
+//! A definition that computes is tied here to the rule that it computes, by a function with no body
+//! whose contract is the law.
 #![tactic(auto)]
 
 #[cfg(test)]

@@ -6,13 +6,15 @@ use Rattle.lexopt_spec.specs.Steps as steps
 use Rattle.lexopt_spec.specs.Steps.{Reply}
 use Rattle.lexopt_spec.specs.Runs as calls
 use Rattle.lexopt_spec.specs.Runs.{Call, next, value, Run}
-use Rattle.lexopt_line_spec.specs.Table.{Name, short, long, Item, option, positional, Kind, flag, one, optional, several, many, kind, Table}
+use Rattle.lexopt_line_spec.specs.Table.{Name, short, long, Item, option, positional, Kind, flag}
+use Rattle.lexopt_line_spec.specs.Table.{one, optional, several, many, kind, Table}
 
 -- the line of these words, of which none was read, under this switch
 abbrev pub start : Bool → List (List ℕ) → UnreadLine
 start switch words = record (fresh words) { short_equals = switch }
 
--- the call that is made after an option of this kind. Where no option was read last, it is that after a flag
+-- the call that is made after an option of this kind. Where no option was read last, it is that
+-- after a flag
 abbrev pub IsDue : Kind → Call → Type 0
 IsDue flag call = call ≡ next
 IsDue one call = call ≡ value
@@ -41,13 +43,18 @@ GoesOn t (steps.maybe word) k = k ≡ flag
 GoesOn t (steps.items words) k = k ≡ flag
 GoesOn t reply k = ⊥
 
--- after an option of this kind a reading makes these calls, where they get these replies, the last of which is this one
+-- after an option of this kind a reading makes these calls, where they get these replies, the last
+-- of which is this one
 pub data AskedAfter (t : Table) (final : Reply) : Kind → List Call → List Reply → Type 0 where
-  last : (k : Kind) (call : Call) → IsDue k call → IsLast final → AskedAfter t final k (call ∷ []) (final ∷ [])
-  more : (k l : Kind) (call : Call) (reply : Reply) (calls : List Call) (replies : List Reply) → IsDue k call → IsFull call reply
-      → GoesOn t reply l → AskedAfter t final l calls replies → AskedAfter t final k (call ∷ calls) (reply ∷ replies)
+  last : (k : Kind) (call : Call) → IsDue k call → IsLast final
+      → AskedAfter t final k (call ∷ []) (final ∷ [])
+  more : (k l : Kind) (call : Call) (reply : Reply) (calls : List Call) (replies : List Reply)
+      → IsDue k call → IsFull call reply
+      → GoesOn t reply l → AskedAfter t final l calls replies
+      → AskedAfter t final k (call ∷ calls) (reply ∷ replies)
 
--- `next`, and after each option of the table the call for its values, up to the end or the first error, and never short of memory
+-- `next`, and after each option of the table the call for its values, up to the end or the first
+-- error, and never short of memory
 abbrev pub Asked : Table → List Call → List Reply → Reply → Type 0
 Asked t calls replies final = AskedAfter t final flag calls replies
 
@@ -76,6 +83,8 @@ pub record IsReading (t : Table) (u : UnreadLine) (final : Reply) (l : List Item
   pub asked : Asked t calls replies final
   pub items_are : l ≡ items_said replies
 
--- what is read between the two lines says these items: every reading of the second line is the end of one of the first
+-- what is read between the two lines says these items: every reading of the second line is the end
+-- of one of the first
 abbrev pub SaysUpTo : Table → UnreadLine → List Item → UnreadLine → Type 0
-SaysUpTo t u l v = (final : Reply) (m : List Item) → IsReading t v final m → IsReading t u final (l ++ m)
+SaysUpTo t u l v = (final : Reply) (m : List Item) → IsReading t v final m
+    → IsReading t u final (l ++ m)

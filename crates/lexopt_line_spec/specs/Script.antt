@@ -1,6 +1,8 @@
 -- Scripts: what they mean, and what is written for them.
 -- The source is `docs/formats.md`. A script is a list of bytes.
-use Rattle.std.specs.Prelude.{◌≡◌, ◌≢◌, ℕ, ◌+◌, ◌*◌, ◌-◌, Bool, true, false, nat_le, ◌==◌, ◌&&◌, ◌||◌, List, [], ◌∷◌, ◌++◌, length, take, drop, Option, Some, None, option_map, codes, encode_utf8, if◌then◌else◌}
+use Rattle.std.specs.Prelude.{◌≡◌, ◌≢◌, ℕ, ◌+◌, ◌*◌, ◌-◌, Bool, true, false, nat_le, ◌==◌, ◌&&◌}
+use Rattle.std.specs.Prelude.{◌||◌, List, [], ◌∷◌, ◌++◌, length, take, drop, Option, Some, None}
+use Rattle.std.specs.Prelude.{option_map, codes, encode_utf8, if◌then◌else◌}
 use Rattle.std.specs.List.{filter_map, join_by, slice_split}
 use Rattle.std.specs.Cmp.Lexicographic.{pointwise}
 use Rattle.std.specs.Str.{all_ascii_digits, is_utf8}
@@ -9,10 +11,13 @@ use Rattle.lexopt_spec.specs.Pieces.{first_piece}
 use Rattle.lexopt_spec.specs.Runs as calls
 use Rattle.lexopt_spec.specs.Runs.{Call, next, value, values, raw, try_raw, switch}
 use Rattle.lexopt_spec.specs.Steps as steps
-use Rattle.lexopt_spec.specs.Steps.{Reply, end, taken, maybe, items, busy, done, missing, unexpected, no_memory}
-use Rattle.lexopt_line_spec.specs.Table.{Name, short, long, Item, option, many, positional, Kind, flag, one, optional, several, Table, one_value}
+use Rattle.lexopt_spec.specs.Steps.{Reply, end, taken, maybe, items, busy, done, missing}
+use Rattle.lexopt_spec.specs.Steps.{unexpected, no_memory}
+use Rattle.lexopt_line_spec.specs.Table.{Name, short, long, Item, option, many, positional, Kind}
+use Rattle.lexopt_line_spec.specs.Table.{flag, one, optional, several, Table, one_value}
 use Rattle.lexopt_line_spec.specs.Readings.{IsReading, start}
-use Rattle.lexopt_spec.specs.Text.{quoted, missing_message, unexpected_value_message, no_memory_message}
+use Rattle.lexopt_spec.specs.Text.{quoted, missing_message, unexpected_value_message}
+use Rattle.lexopt_spec.specs.Text.{no_memory_message}
 
 abbrev pub newline : ℕ
 newline = 0x0A
@@ -25,8 +30,8 @@ backslash = 0x5C
 
 -- ---- a line
 
--- what stands before, between and after the newlines. After the last newline an empty line is no line of the script,
--- and here it does no harm, since an empty line means nothing
+-- what stands before, between and after the newlines. After the last newline an empty line is no
+-- line of the script, and here it does no harm, since an empty line means nothing
 abbrev pub lines_of : List ℕ → List (List ℕ)
 lines_of script = slice_split (λ b. b == newline) script
 
@@ -49,7 +54,8 @@ byte_in_front (Some high) None bytes = None
 byte_in_front (Some high) (Some low) bytes = in_front (16 * high + low) bytes
 
 abbrev mutual
-  -- the bytes of a text: `\\` is a backslash, `\n` a newline, `\xHH` a byte, and each byte that is no backslash stands for itself
+  -- the bytes of a text: `\\` is a backslash, `\n` a newline, `\xHH` a byte, and each byte that is
+  -- no backslash stands for itself
   pub unescaped : List ℕ → Option (List ℕ)
   unescaped [] = Some []
   unescaped (b ∷ bs) = if b == backslash then after_backslash bs else in_front b (unescaped bs)
@@ -93,7 +99,8 @@ word_or_bad (Some bytes) = word bytes
 
 -- the number that one to nine decimal digits write
 abbrev pub number : List ℕ → Option ℕ
-number text = if nat_le 1 (length text) && (nat_le (length text) 9 && all_ascii_digits text) then Some (digits_value 10 text) else None
+number text = if nat_le 1 (length text) && (nat_le (length text) 9 && all_ascii_digits text)
+    then Some (digits_value 10 text) else None
 
 abbrev pub counted : (ℕ → Call) → Option ℕ → Meaning
 counted c None = bad
@@ -101,16 +108,19 @@ counted c (Some n) = command (call (c n))
 
 -- the character that these bytes encode, if they are one and no more
 abbrev pub one_character : List ℕ → Option ℕ
-one_character bytes = if length (first_piece bytes).bytes == length bytes then (first_piece bytes).char else None
+one_character bytes = if length (first_piece bytes).bytes == length bytes
+    then (first_piece bytes).char else None
 
 -- the line begins with this text
 abbrev pub begins : List ℕ → List ℕ → Bool
 begins text line = pointwise ◌==◌ (take (length text) line) text
 
--- the option that a text names: `--` and a name in UTF-8, or `-` and one character. A dash after the dash begins a name
+-- the option that a text names: `--` and a name in UTF-8, or `-` and one character. A dash after
+-- the dash begins a name
 abbrev pub option_named : List ℕ → Option Name
 option_named text =
-    if begins (codes "--") text then (if is_utf8 (drop 2 text) then Some (long (drop 2 text)) else None)
+    if begins (codes "--") text then (if is_utf8 (drop 2 text) then Some (long (drop 2 text))
+    else None)
     else (if begins (codes "-") text then option_map short (one_character (drop 1 text))
     else None)
 
@@ -147,7 +157,8 @@ meaning_of_call_or_word line =
     else meaning_with_text line))))))
 
 abbrev pub meaning : List ℕ → Meaning
-meaning line = if pointwise ◌==◌ line (codes "items") then command whole_line else meaning_of_call_or_word line
+meaning line = if pointwise ◌==◌ line (codes "items") then command whole_line
+    else meaning_of_call_or_word line
 
 -- ---- a script
 
@@ -180,7 +191,8 @@ is_bad called (entry e) = called
 is_bad called (command c) = false
 is_bad called bad = true
 
--- the number of the first bad line among these, the first of which has the number n; such a command stands before them where called is true
+-- the number of the first bad line among these, the first of which has the number n; such a command
+-- stands before them where called is true
 abbrev pub first_bad : ℕ → Bool → List (List ℕ) → Option ℕ
 first_bad n called [] = None
 first_bad n called (line ∷ lines) =
@@ -233,7 +245,8 @@ table_with t (e ∷ entries) = table_with (joined_to t e.kind e.name) entries
 
 -- the table of a script
 abbrev pub table_of : List ℕ → Table
-table_of script = table_with (one_value [] []) (filter_map (λ line. entry_of (meaning line)) (lines_of script))
+table_of script =
+    table_with (one_value [] []) (filter_map (λ line. entry_of (meaning line)) (lines_of script))
 
 -- ---- what is written
 
@@ -276,9 +289,12 @@ abbrev pub line_of : List ℕ → List ℕ
 line_of text = text ++ newline ∷ []
 
 -- what may be written for the whole line of these words, read by the table: its items, or its error
-pub data WholeLineText (t : Table) (on : Bool) (words : List (List ℕ)) (text : List ℕ) : Type 0 where
-  items_read : (l : List Item) → IsReading t (start on words) end l → text ≡ bracketed item_text l → WholeLineText t on words text
-  line_refused : (final : Reply) (l : List Item) → IsReading t (start on words) final l → final ≢ end → text ≡ reply_text final
+pub data WholeLineText (t : Table) (on : Bool) (words : List (List ℕ)) (text : List ℕ)
+    : Type 0 where
+  items_read : (l : List Item) → IsReading t (start on words) end l → text ≡ bracketed item_text l
+      → WholeLineText t on words text
+  line_refused : (final : Reply) (l : List Item) → IsReading t (start on words) final l
+      → final ≢ end → text ≡ reply_text final
       → WholeLineText t on words text
   memory_refused : text ≡ reply_text no_memory → WholeLineText t on words text
 
@@ -287,12 +303,15 @@ abbrev pub switched : Bool → Call → Bool
 switched on (switch now) = now
 switched on c = on
 
--- a line for each command, in order: that of the reply to a call, or that of the whole line under the switch as last set
+-- a line for each command, in order: that of the reply to a call, or that of the whole line under
+-- the switch as last set
 abbrev pub Written : Table → List (List ℕ) → Bool → List Command → List Reply → List ℕ → Type 0
 Written t words on [] [] text = text ≡ []
 Written t words on [] (reply ∷ replies) text = ⊥
 Written t words on (call c ∷ commands) [] text = ⊥
 Written t words on (call c ∷ commands) (reply ∷ replies) text =
-    (more : List ℕ) × Written t words (switched on c) commands replies more × (text ≡ line_of (reply_text reply) ++ more)
+    (more : List ℕ) × Written t words (switched on c) commands replies more
+    × (text ≡ line_of (reply_text reply) ++ more)
 Written t words on (whole_line ∷ commands) replies text =
-    (line : List ℕ) × (more : List ℕ) × WholeLineText t on words line × Written t words on commands replies more × (text ≡ line_of line ++ more)
+    (line : List ℕ) × (more : List ℕ) × WholeLineText t on words line
+    × Written t words on commands replies more × (text ≡ line_of line ++ more)

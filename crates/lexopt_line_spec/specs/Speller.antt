@@ -1,11 +1,15 @@
--- Words that spell what a line is to say, where some do: from items to words.
--- The source is `docs/behaviour.md`, "From items back to words", after the POSIX Utility Syntax Guidelines and GNU's long options.
-use Rattle.std.specs.Prelude.{ℕ, suc, Bool, true, false, ◌==◌, ◌&&◌, ◌<◌, not, List, [], ◌∷◌, ◌++◌, length, take, Option, Some, None, Result, Ok, Err, encode_utf8, if◌then◌else◌}
+-- Words that spell what a line is to say, where some do: from items to words. The source is
+-- `docs/behaviour.md`, "From items back to words", after the POSIX Utility Syntax Guidelines and
+-- GNU's long options.
+use Rattle.std.specs.Prelude.{ℕ, suc, Bool, true, false, ◌==◌, ◌&&◌, ◌<◌, not, List, [], ◌∷◌, ◌++◌}
+use Rattle.std.specs.Prelude.{length, take, Option, Some, None, Result, Ok, Err, encode_utf8}
+use Rattle.std.specs.Prelude.{if◌then◌else◌}
 use Rattle.std.specs.List.{list_any, list_all}
 use Rattle.std.specs.Str.{is_utf8}
 use lib.Utf8.{scalar}
 use Rattle.lexopt_spec.specs.UnreadLine.{dash, equals, is_plain}
-use Rattle.lexopt_line_spec.specs.Table.{short, long, Item, option, many, positional, Kind, flag, one, optional, several, kind, Table}
+use Rattle.lexopt_line_spec.specs.Table.{short, long, Item, option, many, positional, Kind, flag}
+use Rattle.lexopt_line_spec.specs.Table.{one, optional, several, kind, Table}
 use Rattle.lexopt_line_spec.specs.Spelling.{After, nothing, attached, joined, Spells}
 
 -- why an item cannot be spelled after those before it
@@ -30,7 +34,8 @@ pub data Reason : Type 0 where
   empty_name : Reason
   -- it is an option, and a positional before it needs the separator
   past_separator : Reason
-  -- `-` as an option of one character can only go on with the cluster of a flag, and there is none right before it
+  -- `-` as an option of one character can only go on with the cluster of a flag, and there is none
+  -- right before it
   dash_without_flag : Reason
 
 -- what the next item follows
@@ -48,7 +53,8 @@ pub data Place : Type 0 where
 
 -- ---- the values of an option
 
--- what stands after an option's name in its word, the words after that word, and what the next item follows then
+-- what stands after an option's name in its word, the words after that word, and what the next item
+-- follows then
 pub record Form : Type 0 where
   pub after : After
   pub words : List (List ℕ)
@@ -62,11 +68,13 @@ name_only place = record { after = nothing; words = []; place = place }
 abbrev pub in_word : After → Form
 in_word after = record { after = after; words = []; place = open_line }
 
--- a value right after a character; after `=` where it is empty or begins with a mark, if the switch is on
+-- a value right after a character; after `=` where it is empty or begins with a mark, if the switch
+-- is on
 abbrev pub attached_form : Bool → List ℕ → Result Form Reason
 attached_form true [] = Ok (in_word (joined []))
 attached_form false [] = Err empty_value
-attached_form true (b ∷ bs) = if b == equals then Ok (in_word (joined (b ∷ bs))) else Ok (in_word (attached (b ∷ bs)))
+attached_form true (b ∷ bs) = if b == equals then Ok (in_word (joined (b ∷ bs)))
+    else Ok (in_word (attached (b ∷ bs)))
 attached_form false (b ∷ bs) = Ok (in_word (attached (b ∷ bs)))
 
 -- a short option with one value or none
@@ -94,10 +102,12 @@ abbrev pub words_form : Bool → List (List ℕ) → Result Form Reason
 words_form true values = Ok (record { after = nothing; words = values; place = after_values })
 words_form false values = Err option_among_values
 
--- the same after a character: a first value that would be an option stands in its word. Whether the first is plain, and the others
+-- the same after a character: a first value that would be an option stands in its word. Whether the
+-- first is plain, and the others
 abbrev pub short_words_form : Bool → Bool → List ℕ → List (List ℕ) → Result Form Reason
 short_words_form true others v vs = words_form others (v ∷ vs)
-short_words_form false true v vs = Ok (record { after = attached v; words = vs; place = after_values })
+short_words_form false true v vs =
+    Ok (record { after = attached v; words = vs; place = after_values })
 short_words_form false false v vs = Err option_among_values
 
 -- a short option with several values: one value may have to be joined by `=`
@@ -105,7 +115,8 @@ abbrev pub short_many_form : Bool → Kind → List (List ℕ) → Result Form R
 short_many_form joins several [] = Err missing_value
 short_many_form true several (v ∷ []) = Ok (in_word (joined v))
 short_many_form false several (v ∷ []) = short_words_form (is_plain false v) true v []
-short_many_form joins several (v ∷ w ∷ vs) = short_words_form (is_plain false v) (list_all (is_plain false) (w ∷ vs)) v (w ∷ vs)
+short_many_form joins several (v ∷ w ∷ vs) =
+    short_words_form (is_plain false v) (list_all (is_plain false) (w ∷ vs)) v (w ∷ vs)
 short_many_form joins flag values = Err not_many
 short_many_form joins one values = Err not_many
 short_many_form joins optional values = Err not_many
@@ -114,14 +125,16 @@ short_many_form joins optional values = Err not_many
 abbrev pub long_many_form : Kind → List (List ℕ) → Result Form Reason
 long_many_form several [] = Err missing_value
 long_many_form several (v ∷ []) = Ok (in_word (joined v))
-long_many_form several (v ∷ w ∷ vs) = words_form (list_all (is_plain false) (v ∷ w ∷ vs)) (v ∷ w ∷ vs)
+long_many_form several (v ∷ w ∷ vs) =
+    words_form (list_all (is_plain false) (v ∷ w ∷ vs)) (v ∷ w ∷ vs)
 long_many_form flag values = Err not_many
 long_many_form one values = Err not_many
 long_many_form optional values = Err not_many
 
 -- ---- one item
 
--- what an item adds: a word, which may go on with the word before it, and more words; and what the next item follows then
+-- what an item adds: a word, which may go on with the word before it, and more words; and what the
+-- next item follows then
 pub record Added : Type 0 where
   pub goes_on : Bool
   pub word : List ℕ
@@ -135,7 +148,12 @@ after_bytes (joined v) = equals ∷ v
 
 -- an option by its name, with its dashes if it does not go on
 abbrev pub with_form : Bool → List ℕ → Form → Added
-with_form goes_on name f = record { goes_on = goes_on; word = name ++ after_bytes f.after; words = f.words; place = f.place }
+with_form goes_on name f = record {
+  goes_on = goes_on;
+  word = name ++ after_bytes f.after;
+  words = f.words;
+  place = f.place;
+}
 
 -- a short option: whether it is a character, and `-`
 abbrev pub short_added : Bool → Bool → Place → ℕ → Result Form Reason → Result Added Reason
@@ -174,7 +192,8 @@ long_added true true place name form = Err equals_in_name
 long_added true false place name (Err reason) = Err reason
 long_added true false place name (Ok f) = long_placed (is_named name f.after) place name f
 
--- a positional stands by itself where it is plain, unless it begins a row before which the separator is to stand
+-- a positional stands by itself where it is plain, unless it begins a row before which the
+-- separator is to stand
 abbrev pub stands : Bool → Bool → Place → Bool
 stands plain due open_line = plain && not due
 stands plain due in_cluster = plain && not due
@@ -182,27 +201,41 @@ stands plain due after_values = plain
 stands plain due after_positional = plain
 stands plain due ended = plain
 
--- a positional: whether it stands by itself. After values the separator keeps it from being one more of them
+-- a positional: whether it stands by itself. After values the separator keeps it from being one
+-- more of them
 abbrev pub positional_added : Bool → Place → List ℕ → Added
 positional_added alone ended w = record { goes_on = false; word = w; words = []; place = ended }
-positional_added alone after_values w = record { goes_on = false; word = dash ∷ dash ∷ []; words = w ∷ []; place = ended }
-positional_added false open_line w = record { goes_on = false; word = dash ∷ dash ∷ []; words = w ∷ []; place = ended }
-positional_added false in_cluster w = record { goes_on = false; word = dash ∷ dash ∷ []; words = w ∷ []; place = ended }
-positional_added false after_positional w = record { goes_on = false; word = dash ∷ dash ∷ []; words = w ∷ []; place = ended }
-positional_added true open_line w = record { goes_on = false; word = w; words = []; place = after_positional }
-positional_added true in_cluster w = record { goes_on = false; word = w; words = []; place = after_positional }
-positional_added true after_positional w = record { goes_on = false; word = w; words = []; place = after_positional }
+positional_added alone after_values w =
+    record { goes_on = false; word = dash ∷ dash ∷ []; words = w ∷ []; place = ended }
+positional_added false open_line w =
+    record { goes_on = false; word = dash ∷ dash ∷ []; words = w ∷ []; place = ended }
+positional_added false in_cluster w =
+    record { goes_on = false; word = dash ∷ dash ∷ []; words = w ∷ []; place = ended }
+positional_added false after_positional w =
+    record { goes_on = false; word = dash ∷ dash ∷ []; words = w ∷ []; place = ended }
+positional_added true open_line w =
+    record { goes_on = false; word = w; words = []; place = after_positional }
+positional_added true in_cluster w =
+    record { goes_on = false; word = w; words = []; place = after_positional }
+positional_added true after_positional w =
+    record { goes_on = false; word = w; words = []; place = after_positional }
 
--- an item at this place; whether one of several values is to be joined, where it can be, and whether the separator is to stand
--- before a row of positionals that begins here
+-- an item at this place; whether one of several values is to be joined, where it can be, and
+-- whether the separator is to stand before a row of positionals that begins here
 abbrev pub adds : Table → Bool → Bool → Bool → Place → Item → Result Added Reason
-adds t switch joins due place (option (short c) value) = short_added (scalar c) (c == dash) place c (short_form switch (kind t (short c)) value)
-adds t switch joins due place (many (short c) values) = short_added (scalar c) (c == dash) place c (short_many_form (switch && joins) (kind t (short c)) values)
+adds t switch joins due place (option (short c) value) =
+    short_added (scalar c) (c == dash) place c (short_form switch (kind t (short c)) value)
+adds t switch joins due place (many (short c) values) =
+    short_added (scalar c) (c == dash) place c
+    (short_many_form (switch && joins) (kind t (short c)) values)
 adds t switch joins due place (option (long name) value) =
-    long_added (is_utf8 name) (list_any (λ b. b == equals) name) place name (long_form (kind t (long name)) value)
+    long_added (is_utf8 name) (list_any (λ b. b == equals) name) place name
+    (long_form (kind t (long name)) value)
 adds t switch joins due place (many (long name) values) =
-    long_added (is_utf8 name) (list_any (λ b. b == equals) name) place name (long_many_form (kind t (long name)) values)
-adds t switch joins due place (positional w) = Ok (positional_added (stands (is_plain false w) due place) place w)
+    long_added (is_utf8 name) (list_any (λ b. b == equals) name) place name
+    (long_many_form (kind t (long name)) values)
+adds t switch joins due place (positional w) =
+    Ok (positional_added (stands (is_plain false w) due place) place w)
 
 -- ---- all items
 
@@ -211,8 +244,8 @@ is_positional (option name value) = false
 is_positional (many name values) = false
 is_positional (positional w) = true
 
--- these items are a positional and, after it, an option among others. After a value in a word the separator would have to stand
--- before that positional, and so before that option
+-- these items are a positional and, after it, an option among others. After a value in a word the
+-- separator would have to stand before that positional, and so before that option
 abbrev pub separator_comes_too_early : List Item → Bool
 separator_comes_too_early [] = false
 separator_comes_too_early (item ∷ items) = is_positional item && not (list_all is_positional items)
@@ -222,8 +255,8 @@ is_plain_item (option name value) = true
 is_plain_item (many name values) = true
 is_plain_item (positional w) = is_plain false w
 
--- these items are positionals, and one of them would be an option: so the separator is to stand before all that are left. A program
--- that stops at the first positional reads it there alone
+-- these items are positionals, and one of them would be an option: so the separator is to stand
+-- before all that are left. A program that stops at the first positional reads it there alone
 abbrev pub separator_is_due : List Item → Bool
 separator_is_due items = list_all is_positional items && not (list_all is_plain_item items)
 
@@ -252,7 +285,8 @@ with_rests (Ok a) rest = with_rest a (rest a.place)
 unfoldable pub spelled_from : Table → Bool → List Item → Place → Result Rest Fault
 spelled_from t switch [] place = Ok (record { first = []; words = [] })
 spelled_from t switch (item ∷ items) place =
-    with_rests (adds t switch (separator_comes_too_early items) (separator_is_due items) place item) (spelled_from t switch items)
+    with_rests (adds t switch (separator_comes_too_early items) (separator_is_due items) place item)
+    (spelled_from t switch items)
 
 abbrev pub words_or_fault : Result Rest Fault → Result (List (List ℕ)) Fault
 words_or_fault (Err fault) = Err fault

@@ -1,11 +1,13 @@
 -- How words spell what a line says: from items to words, with no call and no state.
 -- The source is `docs/behaviour.md`, after the README of lexopt 0.3.2, "Command line syntax".
-use Rattle.std.specs.Prelude.{◌≡◌, ◌≢◌, ℕ, Bool, true, false, ◌⊎◌, List, [], ◌∷◌, ◌++◌, length, map, Contains, Some, None, encode_utf8}
+use Rattle.std.specs.Prelude.{◌≡◌, ◌≢◌, ℕ, Bool, true, false, ◌⊎◌, List, [], ◌∷◌, ◌++◌, length, map}
+use Rattle.std.specs.Prelude.{Contains, Some, None, encode_utf8}
 use Rattle.std.specs.Char.{IsScalar}
 use Rattle.std.specs.Str.{IsUtf8}
 use Rattle.lexopt_spec.specs.Pieces.{IsDamage, replacement, lossy, lossy_characters}
 use Rattle.lexopt_spec.specs.UnreadLine.{dash, equals, BeginsWith, IsPlain, IsPlainFront}
-use Rattle.lexopt_line_spec.specs.Table.{Name, short, long, Item, option, positional, many, Kind, flag, one, optional, several, kind, Table}
+use Rattle.lexopt_line_spec.specs.Table.{Name, short, long, Item, option, positional, many, Kind}
+use Rattle.lexopt_line_spec.specs.Table.{flag, one, optional, several, kind, Table}
 
 -- ---- what may stand for an option's name
 
@@ -25,7 +27,8 @@ exact = record {
 -- damage may stand for U+FFFD too
 abbrev pub damaged : Letters
 damaged = record {
-  character = λ c bytes after. (IsScalar c × (bytes ≡ encode_utf8 c)) ⊎ ((c ≡ replacement) × IsDamage (bytes ++ after) (length bytes));
+  character = λ c bytes after. (IsScalar c × (bytes ≡ encode_utf8 c))
+      ⊎ ((c ≡ replacement) × IsDamage (bytes ++ after) (length bytes));
   name = λ name bytes. lossy bytes ≡ name;
 }
 
@@ -39,29 +42,45 @@ pub data After : Type 0 where
   -- a value, after `=`
   joined : List ℕ → After
 
--- an option that has no value, with this after it in its word, and these words after that word, is this item, and the words are left
-pub data NoValue (name : Name) (after : After) (words : List (List ℕ)) (item : Item) (left : List (List ℕ)) : Type 0 where
-  no_value : after ≡ nothing → item ≡ option name None → left ≡ words → NoValue name after words item left
+-- an option that has no value, with this after it in its word, and these words after that word, is
+-- this item, and the words are left
+pub data NoValue (name : Name) (after : After) (words : List (List ℕ)) (item : Item)
+    (left : List (List ℕ)) : Type 0 where
+  no_value : after ≡ nothing → item ≡ option name None → left ≡ words
+      → NoValue name after words item left
 
 -- and so for one that has a value
-pub data OneValue (name : Name) (after : After) (words : List (List ℕ)) (item : Item) (left : List (List ℕ)) : Type 0 where
-  attached_value : (v : List ℕ) → after ≡ attached v → item ≡ option name (Some v) → left ≡ words → OneValue name after words item left
-  joined_value : (v : List ℕ) → after ≡ joined v → item ≡ option name (Some v) → left ≡ words → OneValue name after words item left
+pub data OneValue (name : Name) (after : After) (words : List (List ℕ)) (item : Item)
+    (left : List (List ℕ)) : Type 0 where
+  attached_value : (v : List ℕ) → after ≡ attached v → item ≡ option name (Some v) → left ≡ words
+      → OneValue name after words item left
+  joined_value : (v : List ℕ) → after ≡ joined v → item ≡ option name (Some v) → left ≡ words
+      → OneValue name after words item left
   -- whatever it looks like
-  next_word : (w : List ℕ) → after ≡ nothing → item ≡ option name (Some w) → w ∷ left ≡ words → OneValue name after words item left
+  next_word : (w : List ℕ) → after ≡ nothing → item ≡ option name (Some w) → w ∷ left ≡ words
+      → OneValue name after words item left
 
 -- for one that may have a value: the next word is never taken
-pub data OptionalValue (name : Name) (after : After) (words : List (List ℕ)) (item : Item) (left : List (List ℕ)) : Type 0 where
-  no_optional : after ≡ nothing → item ≡ option name None → left ≡ words → OptionalValue name after words item left
-  attached_optional : (v : List ℕ) → after ≡ attached v → item ≡ option name (Some v) → left ≡ words → OptionalValue name after words item left
-  joined_optional : (v : List ℕ) → after ≡ joined v → item ≡ option name (Some v) → left ≡ words → OptionalValue name after words item left
+pub data OptionalValue (name : Name) (after : After) (words : List (List ℕ)) (item : Item)
+    (left : List (List ℕ)) : Type 0 where
+  no_optional : after ≡ nothing → item ≡ option name None → left ≡ words
+      → OptionalValue name after words item left
+  attached_optional : (v : List ℕ) → after ≡ attached v → item ≡ option name (Some v) → left ≡ words
+      → OptionalValue name after words item left
+  joined_optional : (v : List ℕ) → after ≡ joined v → item ≡ option name (Some v) → left ≡ words
+      → OptionalValue name after words item left
 
--- and for one that has several values, at least one: the words after are taken up to the first that can be an option
-pub data SeveralValues (name : Name) (after : After) (words : List (List ℕ)) (item : Item) (left : List (List ℕ)) : Type 0 where
-  joined_several : (v : List ℕ) → after ≡ joined v → item ≡ many name (v ∷ []) → left ≡ words → SeveralValues name after words item left
-  attached_several : (v : List ℕ) (front : List (List ℕ)) → after ≡ attached v → IsPlainFront false words front left → item ≡ many name (v ∷ front)
+-- and for one that has several values, at least one: the words after are taken up to the first that
+-- can be an option
+pub data SeveralValues (name : Name) (after : After) (words : List (List ℕ)) (item : Item)
+    (left : List (List ℕ)) : Type 0 where
+  joined_several : (v : List ℕ) → after ≡ joined v → item ≡ many name (v ∷ []) → left ≡ words
       → SeveralValues name after words item left
-  several_words : (front : List (List ℕ)) → after ≡ nothing → IsPlainFront false words front left → front ≢ [] → item ≡ many name front
+  attached_several : (v : List ℕ) (front : List (List ℕ)) → after ≡ attached v
+      → IsPlainFront false words front left → item ≡ many name (v ∷ front)
+      → SeveralValues name after words item left
+  several_words : (front : List (List ℕ)) → after ≡ nothing → IsPlainFront false words front left
+      → front ≢ [] → item ≡ many name front
       → SeveralValues name after words item left
 
 abbrev pub Completes : Kind → Name → After → List (List ℕ) → Item → List (List ℕ) → Type 0
@@ -79,17 +98,23 @@ BeginsWithMark switch bytes = (switch ≡ true) × BeginsWith equals bytes
 -- these bytes stand after the last character of a cluster
 pub data IsAfterLast (switch : Bool) (bytes : List ℕ) (after : After) : Type 0 where
   nothing_more : bytes ≡ [] → after ≡ nothing → IsAfterLast switch bytes after
-  a_value : bytes ≢ [] → ¬ BeginsWithMark switch bytes → after ≡ attached bytes → IsAfterLast switch bytes after
-  marked_value : (v : List ℕ) → switch ≡ true → bytes ≡ equals ∷ v → after ≡ joined v → IsAfterLast switch bytes after
+  a_value : bytes ≢ [] → ¬ BeginsWithMark switch bytes → after ≡ attached bytes
+      → IsAfterLast switch bytes after
+  marked_value : (v : List ℕ) → switch ≡ true → bytes ≡ equals ∷ v → after ≡ joined v
+      → IsAfterLast switch bytes after
 
 -- these bytes of a cluster, with the words after it, spell the items, and the words are left
-pub data Cluster (letters : Letters) (t : Table) (switch : Bool) (words left : List (List ℕ)) : List ℕ → List Item → Type 0 where
+pub data Cluster (letters : Letters) (t : Table) (switch : Bool)
+    (words left : List (List ℕ)) : List ℕ → List Item → Type 0 where
   -- a flag, and more characters, the first of which is no `=` that is a mark
-  flag_first : (c : ℕ) (character others : List ℕ) (items : List Item) → letters.character c character others → kind t (short c) ≡ flag
+  flag_first : (c : ℕ) (character others : List ℕ) (items : List Item)
+      → letters.character c character others → kind t (short c) ≡ flag
       → ¬ BeginsWithMark switch others → Cluster letters t switch words left others items
       → Cluster letters t switch words left (character ++ others) (option (short c) None ∷ items)
-  last_option : (c : ℕ) (character others : List ℕ) (after : After) (item : Item) → letters.character c character others
-      → IsAfterLast switch others after → Completes (kind t (short c)) (short c) after words item left
+  last_option : (c : ℕ) (character others : List ℕ) (after : After) (item : Item)
+      → letters.character c character others
+      → IsAfterLast switch others after
+      → Completes (kind t (short c)) (short c) after words item left
       → Cluster letters t switch words left (character ++ others) (item ∷ [])
 
 -- ---- long options, as `--name` and `--name=value`
@@ -97,26 +122,35 @@ pub data Cluster (letters : Letters) (t : Table) (switch : Bool) (words left : L
 -- after its dashes the word has these bytes for a name, and this after them
 pub data IsLong (text bytes : List ℕ) (after : After) : Type 0 where
   name_alone : bytes ≢ [] → text ≡ bytes → after ≡ nothing → IsLong text bytes after
-  name_and_value : (v : List ℕ) → text ≡ bytes ++ equals ∷ v → after ≡ joined v → IsLong text bytes after
+  name_and_value : (v : List ℕ) → text ≡ bytes ++ equals ∷ v → after ≡ joined v
+      → IsLong text bytes after
 
 -- ---- a whole line
 
 -- the first of these words spell the items, and the words are left
-pub data Group (letters : Letters) (t : Table) (switch : Bool) (words : List (List ℕ)) (items : List Item) (left : List (List ℕ)) : Type 0 where
-  cluster : (bytes : List ℕ) (others : List (List ℕ)) → words ≡ (dash ∷ bytes) ∷ others → ¬ BeginsWith dash bytes
+pub data Group (letters : Letters) (t : Table) (switch : Bool) (words : List (List ℕ))
+    (items : List Item) (left : List (List ℕ)) : Type 0 where
+  cluster : (bytes : List ℕ) (others : List (List ℕ)) → words ≡ (dash ∷ bytes) ∷ others
+      → ¬ BeginsWith dash bytes
       → Cluster letters t switch others left bytes items → Group letters t switch words items left
-  long_option : (text bytes name : List ℕ) (after : After) (item : Item) (others : List (List ℕ)) → words ≡ (dash ∷ dash ∷ text) ∷ others
-      → IsLong text bytes after → ¬ Contains bytes equals → letters.name name bytes → Completes (kind t (long name)) (long name) after others item left
+  long_option : (text bytes name : List ℕ) (after : After) (item : Item) (others : List (List ℕ))
+      → words ≡ (dash ∷ dash ∷ text) ∷ others
+      → IsLong text bytes after → ¬ Contains bytes equals → letters.name name bytes
+      → Completes (kind t (long name)) (long name) after others item left
       → items ≡ item ∷ [] → Group letters t switch words items left
 
-pub data Line (letters : Letters) (t : Table) (switch : Bool) : List (List ℕ) → List Item → Type 0 where
+pub data Line (letters : Letters) (t : Table)
+    (switch : Bool) : List (List ℕ) → List Item → Type 0 where
   no_words : Line letters t switch [] []
-  plain_word : (w : List ℕ) (words : List (List ℕ)) (items : List Item) → IsPlain false w → Line letters t switch words items
+  plain_word : (w : List ℕ) (words : List (List ℕ)) (items : List Item) → IsPlain false w
+      → Line letters t switch words items
       → Line letters t switch (w ∷ words) (positional w ∷ items)
-  group : (words left : List (List ℕ)) (front items : List Item) → Group letters t switch words front left → Line letters t switch left items
+  group : (words left : List (List ℕ)) (front items : List Item)
+      → Group letters t switch words front left → Line letters t switch left items
       → Line letters t switch words (front ++ items)
   -- `--`: each word after it is a positional
-  separator : (words : List (List ℕ)) → Line letters t switch ((dash ∷ dash ∷ []) ∷ words) (map positional words)
+  separator : (words : List (List ℕ))
+      → Line letters t switch ((dash ∷ dash ∷ []) ∷ words) (map positional words)
 
 -- the words legally spell the items
 abbrev pub Spells : Table → Bool → List (List ℕ) → List Item → Type 0

@@ -6,7 +6,8 @@ use Rattle.lexopt_spec.specs.UnreadLine.{UnreadLine, fresh}
 use Rattle.lexopt_spec.specs.Steps.{Reply}
 use Rattle.lexopt_spec.specs.Runs.{Run, Step}
 use Rattle.lexopt_line_spec.specs.Script as spec
-use Rattle.lexopt_line_spec.specs.Script.{bracketed, call_of, item_text, line_of, reply_text, switched, WholeLineText, Written}
+use Rattle.lexopt_line_spec.specs.Script.{bracketed, call_of, item_text, line_of, reply_text}
+use Rattle.lexopt_line_spec.specs.Script.{switched, WholeLineText, Written}
 use Rattle.lexopt_words.specs.Message.{message}
 use Rattle.lexopt_words.specs.declared.error.Error.{Error}
 use Rattle.lexopt_items.specs.declared.items.Item.{Item}
@@ -19,16 +20,22 @@ abbrev pub answer_text : Result (Vec Item Global) Error → List ℕ
 answer_text (Ok items) = bracketed item_text (map item_view items.items)
 answer_text (Err e) = codes "error: " ++ message e
 
--- a command is done on a parser of this line, under this switch and after this text: the line, the switch and the text after it
-abbrev pub Performs : Script → spec.Command → UnreadLine → Bool → List ℕ → UnreadLine → Bool → List ℕ → Type 0
+-- a command is done on a parser of this line, under this switch and after this text: the line, the
+-- switch and the text after it
+abbrev pub Performs : Script → spec.Command → UnreadLine → Bool → List ℕ → UnreadLine → Bool
+    → List ℕ → Type 0
 Performs script (spec.call c) u on text v now new =
-    (reply : Reply) × Step c u reply v × (now ≡ switched on c) × (new ≡ text ++ line_of (reply_text reply))
+    (reply : Reply) × Step c u reply v × (now ≡ switched on c)
+    × (new ≡ text ++ line_of (reply_text reply))
 Performs script spec.whole_line u on text v now new =
-    (line : List ℕ) × WholeLineText (table_view script.table) on script.words.items line × (v ≡ u) × (now ≡ on) × (new ≡ text ++ line_of line)
+    (line : List ℕ) × WholeLineText (table_view script.table) on script.words.items line × (v ≡ u)
+    × (now ≡ on) × (new ≡ text ++ line_of line)
 
 -- a line for each command, in order
 pub record IsWritten (script : Script) (text : List ℕ) : Type 0 where
   pub replies : List Reply
   pub after : UnreadLine
-  pub run : Run (fresh script.words.items) (filter_map call_of (map command_view script.commands.items)) replies after
-  pub written : Written (table_view script.table) script.words.items true (map command_view script.commands.items) replies text
+  pub run : Run (fresh script.words.items)
+      (filter_map call_of (map command_view script.commands.items)) replies after
+  pub written : Written (table_view script.table) script.words.items true
+      (map command_view script.commands.items) replies text

@@ -2,7 +2,9 @@
 use Rattle.std.specs.Prelude.{ℕ, List, ◌++◌, codes}
 use Rattle.std.specs.Fmt.{decimal}
 use Rattle.lexopt_script.specs.declared.run_error.RunError.{RunError}
-use Rattle.lexopt_script.specs.declared.run_error.RunError.TheVariants.{BadLine, TooLong, ReadFailed, WriteFailed, NoMemory}
+use Rattle.lexopt_script.specs.declared.run_error.RunError.TheVariants.{BadLine, TooLong}
+use Rattle.lexopt_script.specs.declared.run_error.RunError.TheVariants.{ReadFailed, WriteFailed}
+use Rattle.lexopt_script.specs.declared.run_error.RunError.TheVariants.{NoMemory}
 
 -- what `{}` writes
 abbrev pub run_message : RunError → List ℕ

@@ -1,7 +1,10 @@
-//! Runs scripts: `run` reads a script, does what it says, and writes a line for each reply and for each whole line.
-ghost use Rattle.std.specs.Prelude.{◌≡◌, ◌⊎◌, ◌+◌, ◌++◌, ◌≤◌, ◌<◌, ℕ, List, None, Some, Err, IfOk, IfErr, OnOk, length, map, codes, string_bytes};
+//! Runs scripts: `run` reads a script, does what it says, and writes a line for each reply and for
+//! each whole line.
+ghost use Rattle.std.specs.Prelude.{◌≡◌, ◌⊎◌, ◌+◌, ◌++◌, ◌≤◌, ◌<◌, ℕ, List, None, Some, Err, IfOk};
+ghost use Rattle.std.specs.Prelude.{IfErr, OnOk, length, map, codes, string_bytes};
 ghost use Rattle.std.specs.Io.KnownBytes.{Appends, Consumes};
-ghost use Rattle.lexopt_line_spec.specs.Script.{WholeLineText, bad_line, bracketed, item_text, line_of, most_bytes, reply_text, switched};
+ghost use Rattle.lexopt_line_spec.specs.Script.{WholeLineText, bad_line, bracketed, item_text};
+ghost use Rattle.lexopt_line_spec.specs.Script.{line_of, most_bytes, reply_text, switched};
 ghost use Rattle.lexopt_spec.specs.UnreadLine.{fresh};
 ghost use Rattle.lexopt_words.specs.Message.{message};
 ghost use Rattle.lexopt_items.specs.Items.{item_view, table_view};
@@ -24,7 +27,8 @@ use std::io::{Read, Write};
 
 // Writes these items in brackets, with a comma and a blank between them.
 fn write_items(items: &[Item], text: &mut String) -> Result<(), AllocError>
-    ensures { OnOk result (string_bytes text.new ≡ string_bytes text.old ++ bracketed item_text (map item_view items.now)) }
+    ensures { OnOk result (string_bytes text.new
+        ≡ string_bytes text.old ++ bracketed item_text (map item_view items.now)) }
 {
     text.push_str("[")?;
     if let Some((first, others)) = items.split_first() {
@@ -48,7 +52,8 @@ fn write_answer(answer: Result<Vec<Item>, Error>, text: &mut String) -> Result<(
 
 // Writes why a whole line was refused.
 fn write_error(error: &Error, text: &mut String) -> Result<(), AllocError>
-    ensures { OnOk result (string_bytes text.new ≡ string_bytes text.old ++ (codes "error: " ++ message error.now)) }
+    ensures { OnOk result (string_bytes text.new
+        ≡ string_bytes text.old ++ (codes "error: " ++ message error.now)) }
 {
     write!(text, "error: {error}")
 }
@@ -81,7 +86,8 @@ fn switched(on: bool, call: &Call) -> bool
 
 // Writes a line for a reply.
 fn write_reply(reply: &Reply, text: &mut String) -> Result<(), AllocError>
-    ensures { OnOk result (string_bytes text.new ≡ string_bytes text.old ++ line_of (reply_text (reply_view reply.now))) }
+    ensures { OnOk result (string_bytes text.new
+        ≡ string_bytes text.old ++ line_of (reply_text (reply_view reply.now))) }
 {
     writeln!(text, "{reply}")
 }
@@ -95,7 +101,9 @@ fn perform(
     on: bool,
     text: &mut String,
 ) -> Result<bool, AllocError>
-    ensures { IfOk result (λ now. Performs script.now (command_view command.now) parser.old on (string_bytes text.old) parser.new now (string_bytes text.new)) }
+    ensures { IfOk result (λ now.
+        Performs script.now (command_view command.now) parser.old on (string_bytes text.old)
+        parser.new now (string_bytes text.new)) }
 {
     match command {
         Command::Call(call) => {
@@ -146,15 +154,17 @@ fn output(alloc: Global, script: &[u8]) -> Result<String, RunError>
     perform_all(alloc, &script)
 }
 
-/// Reads a whole script, does what it says, and then writes a line for each reply of the parser and for each whole line.
+/// Reads a whole script, does what it says, and then writes a line for each reply of the parser and
+/// for each whole line.
 ///
-/// The words `--out=x`, `file` and the calls `next`, `value`, `next` write `Long "out"`, `"x"` and `Value "file"`. With the
-/// line `t --out` before them, `items` writes `[Long "out" = "x", Value "file"]`.
+/// The words `--out=x`, `file` and the calls `next`, `value`, `next` write `Long "out"`, `"x"` and
+/// `Value "file"`. With the line `t --out` before them, `items` writes `[Long "out" = "x", Value
+/// "file"]`.
 ///
-/// Errors: `TooLong` where more bytes were read than a script may have, `BadLine` with the number of the first bad line,
-/// `ReadFailed`, `NoMemory` where a growth outside the calls of the parser
-/// and outside `read_items` was refused. Nothing was written then. `WriteFailed`: some of
-/// the output may have gone out.
+/// Errors: `TooLong` where more bytes were read than a script may have, `BadLine` with the number
+/// of the first bad line, `ReadFailed`, `NoMemory` where a growth outside the calls of the parser
+/// and outside `read_items` was refused. Nothing was written then. `WriteFailed`: some of the
+/// output may have gone out.
 pub fn run<R: Read, W: Write>(alloc: Global, reader: &mut R, writer: &mut W) -> Result<(), RunError>
     ensures ok { OnOk result ((script text : List ℕ)
         × ReadsWhole (R.remaining reader.old) (R.remaining reader.new) script
@@ -162,15 +172,19 @@ pub fn run<R: Read, W: Write>(alloc: Global, reader: &mut R, writer: &mut W) -> 
 
     // When each error comes.
     ensures bad_line { (line : ℕ) → result ≡ Err (RunError.BadLine line) → ((script : List ℕ)
-        × ReadsWhole (R.remaining reader.old) (R.remaining reader.new) script × (bad_line script ≡ Some line)) }
+        × ReadsWhole (R.remaining reader.old) (R.remaining reader.new) script
+        × (bad_line script ≡ Some line)) }
     ensures too_long { result ≡ Err RunError.TooLong → ((script : List ℕ)
-        × Consumes (R.remaining reader.old) (R.remaining reader.new) script × (most_bytes < length script)) }
+        × Consumes (R.remaining reader.old) (R.remaining reader.new) script
+        × (most_bytes < length script)) }
     ensures write_failed { result ≡ Err RunError.WriteFailed → ((script : List ℕ)
-        × ReadsWhole (R.remaining reader.old) (R.remaining reader.new) script × (bad_line script ≡ None)) }
+        × ReadsWhole (R.remaining reader.old) (R.remaining reader.new) script
+        × (bad_line script ≡ None)) }
 
     // What an error leaves, and how much is read.
     ensures untouched { IfErr result (λ e. (e ≡ RunError.WriteFailed) ⊎ (writer.new ≡ writer.old)) }
-    ensures bounded { (script : List ℕ) × Consumes (R.remaining reader.old) (R.remaining reader.new) script
+    ensures bounded { (script : List ℕ)
+        × Consumes (R.remaining reader.old) (R.remaining reader.new) script
         × (length script ≤ most_bytes + read_room) }
 {
     let script = read_script(alloc, reader)?;

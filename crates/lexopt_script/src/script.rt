@@ -1,24 +1,33 @@
 //! Scripts: the words of a command line, and the calls that are made on it.
 //!
-//! A script is bytes, in lines that end with the byte 0A; the last line may lack it. A line is empty, or one of these.
+//! A script is bytes, in lines that end with the byte 0A; the last line may lack it. A line is
+//! empty, or one of these.
 //!
 //! - `w`: the empty word.
-//! - `w TEXT`: the word TEXT, with one blank before it. `\\` in it is a backslash, `\n` the byte 0A, and `\xHH` the byte
-//!   of these two hexadecimal digits; no other backslash may stand in it.
+//! - `w TEXT`: the word TEXT, with one blank before it. `\\` in it is a backslash, `\n` the byte
+//!   0A, and `\xHH` the byte of these two hexadecimal digits; no other backslash may stand in it.
 //! - `next`, `value`, `optional`: a call.
-//! - `values N`, `raw N`, `try N`: a call of `values`, `raw_args` or `try_raw_args`, and how many items are asked of its
-//!   view: a number of one to nine decimal digits.
+//! - `values N`, `raw N`, `try N`: a call of `values`, `raw_args` or `try_raw_args`, and how many
+//!   items are asked of its view: a number of one to nine decimal digits.
 //! - `on`, `off`: sets whether `=` stands between a short option and its value.
-//! - `t OPTION`, `topt OPTION`, `tmany OPTION`: an option of the table, of one value, of a value that may be left out, or of
-//!   several. OPTION is `-` and one character, which is no dash, or `--` and a name, which may be empty; both in UTF-8,
-//!   and there are no escapes in it.
-//! - `items`: all words are read by the table, under the switch as last set, and the parser is left alone.
+//! - `t OPTION`, `topt OPTION`, `tmany OPTION`: an option of the table, of one value, of a value
+//!   that may be left out, or of several. OPTION is `-` and one character, which is no dash, or
+//!   `--` and a name, which may be empty; both in UTF-8, and there are no escapes in it.
+//! - `items`: all words are read by the table, under the switch as last set, and the parser is left
+//!   alone.
 //!
-//! Every other line is bad, and so is a word or an option after the first line that reads the words.
-ghost use Rattle.std.specs.Prelude.{◌≡◌, ◌⊎◌, ℕ, ◌+◌, ◌++◌, ◌<◌, ◌≤◌, List, None, Some, IfErr, IfOk, MatchOption, OnOk, drop, length, map};
+//! Every other line is bad, and so is a word or an option after the first line that reads the
+//! words.
+ghost use Rattle.std.specs.Prelude.{◌≡◌, ◌⊎◌, ℕ, ◌+◌, ◌++◌, ◌<◌, ◌≤◌, List, None, Some, IfErr};
+ghost use Rattle.std.specs.Prelude.{IfOk, MatchOption, OnOk, drop, length, map};
 ghost use Rattle.std.specs.Option.{option_map};
 ghost use Rattle.std.specs.Io.KnownBytes.{Consumes};
-ghost use Rattle.lexopt_line_spec.specs.Script.{bad_line, after_backslash, commands_of, hexadecimal, in_front, is_bad, joined_to, meaning, meaning_of_call_or_word, meaning_with_option, meaning_with_text, most_bytes, number, one_character, option_named, reads_words, table_of, unescaped, words_of};
+ghost use Rattle.lexopt_line_spec.specs.Script.{bad_line, after_backslash, commands_of};
+ghost use Rattle.lexopt_line_spec.specs.Script.{hexadecimal, in_front, is_bad, joined_to, meaning};
+ghost use Rattle.lexopt_line_spec.specs.Script.{meaning_of_call_or_word, meaning_with_option};
+ghost use Rattle.lexopt_line_spec.specs.Script.{meaning_with_text, most_bytes, number};
+ghost use Rattle.lexopt_line_spec.specs.Script.{one_character, option_named, reads_words, table_of};
+ghost use Rattle.lexopt_line_spec.specs.Script.{unescaped, words_of};
 ghost use Rattle.lexopt_items.specs.Items.{table_view};
 ghost use Rattle.lexopt_script.specs.Output.{ReadsWhole, read_room};
 ghost use Rattle.lexopt_script.specs.Meanings.{command_view, entry_view, meaning_view, name_view};
@@ -69,10 +78,13 @@ impl Command {
 
 /// Reads a script, to the end or past the limit.
 pub fn read_script<R: Read>(alloc: Global, reader: &mut R) -> Result<Vec<u8>, RunError>
-    ensures ok { IfOk result (λ script. ReadsWhole (R.remaining reader.old) (R.remaining reader.new) script.items) }
-    ensures bounded { (script : List ℕ) × Consumes (R.remaining reader.old) (R.remaining reader.new) script
+    ensures ok { IfOk result (λ script.
+        ReadsWhole (R.remaining reader.old) (R.remaining reader.new) script.items) }
+    ensures bounded { (script : List ℕ)
+        × Consumes (R.remaining reader.old) (R.remaining reader.new) script
         × (length script ≤ most_bytes + read_room) }
-    ensures err { IfErr result (λ e. (e ≡ RunError.NoMemory) ⊎ (e ≡ RunError.ReadFailed) ⊎ ((e ≡ RunError.TooLong)
+    ensures err { IfErr result (λ e. (e ≡ RunError.NoMemory) ⊎ (e ≡ RunError.ReadFailed)
+        ⊎ ((e ≡ RunError.TooLong)
         × ((script : List ℕ) × Consumes (R.remaining reader.old) (R.remaining reader.new) script
         × (most_bytes < length script)))) }
 {
@@ -93,8 +105,10 @@ pub fn read_script<R: Read>(alloc: Global, reader: &mut R) -> Result<Vec<u8>, Ru
 /// The words, the table and the commands of a script, or its first bad line.
 pub fn parse_script(alloc: Global, script: &[u8]) -> Result<Script, RunError>
     requires { length script.now ≤ most_bytes }
-    ensures ok { IfOk result (λ s. (s.words.items ≡ words_of script.now) × (table_view s.table ≡ table_of script.now)
-        × (map command_view s.commands.items ≡ commands_of script.now) × (bad_line script.now ≡ None)) }
+    ensures ok { IfOk result (λ s. (s.words.items ≡ words_of script.now)
+        × (table_view s.table ≡ table_of script.now)
+        × (map command_view s.commands.items ≡ commands_of script.now)
+        × (bad_line script.now ≡ None)) }
     ensures err { IfErr result (λ e. (e ≡ RunError.NoMemory)
         ⊎ ((n : ℕ) × (e ≡ RunError.BadLine n) × (bad_line script.now ≡ Some n))) }
 {
@@ -165,7 +179,8 @@ impl Meaning {
 
 // An option joins the table.
 fn join(table: &mut Table, entry: Entry) -> Result<(), AllocError>
-    ensures { OnOk result (table_view table.new ≡ joined_to (table_view table.old) (entry_view entry).kind (entry_view entry).name) }
+    ensures { OnOk result (table_view table.new
+        ≡ joined_to (table_view table.old) (entry_view entry).kind (entry_view entry).name) }
 {
     match entry {
         Entry::One(Name::Short(option)) => table.shorts.push(option)?,
@@ -304,10 +319,12 @@ fn unescaped(alloc: Global, text: &[u8]) -> Result<Option<OsString>, AllocError>
     Ok(Some(OsString::from_vec(bytes)))
 }
 
-// The byte that an escape stands for, of which the text after its backslash is given, and what follows the escape.
+// The byte that an escape stands for, of which the text after its backslash is given, and what
+// follows the escape.
 fn escaped(text: &[u8]) -> Option<(u8, &[u8])>
     ensures { MatchOption result (after_backslash text.now ≡ None)
-        (λ p. (after_backslash text.now ≡ in_front p.0 (unescaped p.1.now)) × (length p.1.now < length text.now)) }
+        (λ p. (after_backslash text.now ≡ in_front p.0 (unescaped p.1.now))
+        × (length p.1.now < length text.now)) }
 {
     match text {
         [b'\\', after @ ..] => Some((b'\\', after)),

@@ -1,16 +1,23 @@
 -- The account of bytes: what becomes of each byte that a call reads.
 -- The source is `docs/behaviour.md`.
-use Rattle.std.specs.Prelude.{ℕ, Bool, true, ◌==◌, ◌&&◌, List, [], ◌∷◌, ◌++◌, map, flat_map, Option, Some, None, encode_utf8, if◌then◌else◌}
+use Rattle.std.specs.Prelude.{ℕ, Bool, true, ◌==◌, ◌&&◌, List, [], ◌∷◌, ◌++◌, map, flat_map, Option}
+use Rattle.std.specs.Prelude.{Some, None, encode_utf8, if◌then◌else◌}
 use Rattle.std.specs.List.{concat}
 use Rattle.lexopt_spec.specs.Pieces.{Piece, first_piece, pieces, replacement}
 use Rattle.lexopt_spec.specs.UnreadLine.{dash, equals, Tail, no_tail, joined, rest, UnreadLine}
-use Rattle.lexopt_spec.specs.Steps.{Reply, short, long, positional, end, taken, maybe, items, busy, done, missing, unexpected, no_memory, ReadsPositional, no_word_left, word_left, ReadsWord, no_word, reads_separator, reads_long, reads_cluster, reads_positional, NextStep, joined_value, equals_value, next_in_cluster, after_separator, next_word}
+use Rattle.lexopt_spec.specs.Steps.{Reply, short, long, positional, end, taken, maybe, items, busy}
+use Rattle.lexopt_spec.specs.Steps.{done, missing, unexpected, no_memory, ReadsPositional}
+use Rattle.lexopt_spec.specs.Steps.{no_word_left, word_left, ReadsWord, no_word, reads_separator}
+use Rattle.lexopt_spec.specs.Steps.{reads_long, reads_cluster, reads_positional, NextStep}
+use Rattle.lexopt_spec.specs.Steps.{joined_value, equals_value, next_in_cluster, after_separator}
+use Rattle.lexopt_spec.specs.Steps.{next_word}
 
 -- some bytes in a row, and what becomes of them
 pub data Segment : Type 0 where
   -- the same bytes stand in the reply
   given : List ℕ → Segment
-  -- a dash of a cluster, the dashes of a long option, the `=` before a value, a separator: it stands in no reply
+  -- a dash of a cluster, the dashes of a long option, the `=` before a value, a separator: it
+  -- stands in no reply
   mark : List ℕ → Segment
   -- a damaged piece: U+FFFD stands in the reply
   damage : List ℕ → Segment
@@ -60,23 +67,33 @@ abbrev pub handing : UnreadLine → List (List ℕ) → List Segment
 handing u [] = []
 handing u (item ∷ more) = dropped_in u.short_equals u.tail ++ (given item ∷ map given more)
 
-abbrev pub positional_account : (u : UnreadLine) (reply : Reply) (after : UnreadLine) → ReadsPositional u reply after → List Segment
+abbrev pub positional_account : (u : UnreadLine) (reply : Reply) (after : UnreadLine)
+    → ReadsPositional u reply after → List Segment
 positional_account u reply after (no_word_left is reply_is after_is) = []
 positional_account u reply after (word_left w ws is reply_is after_is) = given w ∷ []
 
-abbrev pub word_account : (u : UnreadLine) (reply : Reply) (after : UnreadLine) → ReadsWord u reply after → List Segment
+abbrev pub word_account : (u : UnreadLine) (reply : Reply) (after : UnreadLine)
+    → ReadsWord u reply after → List Segment
 word_account u reply after (no_word is reply_is after_is) = []
 word_account u reply after (reads_separator ws is reads) =
-    mark (dash ∷ dash ∷ []) ∷ positional_account (record u { words = ws; ended = true }) reply after reads
+    mark (dash ∷ dash ∷ []) ∷ positional_account (record u {
+      words = ws;
+      ended = true;
+    }) reply after reads
 word_account u reply after (reads_long text name tail ws is some option reply_is after_is) =
     mark (dash ∷ dash ∷ []) ∷ (map piece_segment (pieces name) ++ name_end tail)
-word_account u reply after (reads_cluster bytes ws is other reads) = mark (dash ∷ []) ∷ piece_segment (first_piece bytes) ∷ []
+word_account u reply after (reads_cluster bytes ws is other reads) =
+    mark (dash ∷ []) ∷ piece_segment (first_piece bytes) ∷ []
 word_account u reply after (reads_positional w ws is plain reply_is after_is) = given w ∷ []
 
-abbrev pub next_account : (u : UnreadLine) (reply : Reply) (after : UnreadLine) → NextStep u reply after → List Segment
-next_account u reply after (joined_value value option is spelled reply_is after_is) = given value ∷ []
-next_account u reply after (equals_value value option is on spelled reply_is after_is) = mark (equals ∷ []) ∷ given value ∷ []
-next_account u reply after (next_in_cluster bytes is other reads) = piece_segment (first_piece bytes) ∷ []
+abbrev pub next_account : (u : UnreadLine) (reply : Reply) (after : UnreadLine)
+    → NextStep u reply after → List Segment
+next_account u reply after (joined_value value option is spelled reply_is after_is) =
+    given value ∷ []
+next_account u reply after (equals_value value option is on spelled reply_is after_is) =
+    mark (equals ∷ []) ∷ given value ∷ []
+next_account u reply after (next_in_cluster bytes is other reads) =
+    piece_segment (first_piece bytes) ∷ []
 next_account u reply after (after_separator is ended reads) = positional_account u reply after reads
 next_account u reply after (next_word is ended reads) = word_account u reply after reads
 

@@ -1,5 +1,5 @@
--- Lists of calls on one line: one reply for each call, what becomes of each byte, and what is left of a list that was cut short.
--- The source is `docs/behaviour.md`.
+-- Lists of calls on one line: one reply for each call, what becomes of each byte, and what is left
+-- of a list that was cut short. The source is `docs/behaviour.md`.
 use Rattle.std.specs.Prelude.{◌≡◌, ◌⊎◌, ℕ, Bool, List, [], ◌∷◌, ◌++◌, min}
 use Rattle.std.proofs.Common.{inl, inr}
 use Rattle.lexopt_spec.specs.UnreadLine.{UnreadLine}
@@ -39,12 +39,14 @@ abbrev pub Run : UnreadLine → List Call → List Reply → UnreadLine → Type
 Run u [] [] after = after ≡ u
 Run u [] (reply ∷ replies) after = ⊥
 Run u (call ∷ calls) [] after = ⊥
-Run u (call ∷ calls) (reply ∷ replies) after = (between : UnreadLine) × Step call u reply between × Run between calls replies after
+Run u (call ∷ calls) (reply ∷ replies) after = (between : UnreadLine) × Step call u reply between
+    × Run between calls replies after
 
 -- ---- the account of bytes
 
 -- the segments of what a call reads: every call but `next` hands out items alone
-abbrev pub ample_account : (call : Call) (u : UnreadLine) (reply : Reply) (after : UnreadLine) → StepWithMemory call u reply after → List Segment
+abbrev pub ample_account : (call : Call) (u : UnreadLine) (reply : Reply) (after : UnreadLine)
+    → StepWithMemory call u reply after → List Segment
 ample_account next u reply after step = next_account u reply after step
 ample_account value u reply after step = handing u (handed_items reply)
 ample_account optional u reply after step = handing u (handed_items reply)
@@ -54,12 +56,14 @@ ample_account (try_raw n) u reply after step = handing u (handed_items reply)
 ample_account (raw_if word) u reply after step = handing u (handed_items reply)
 ample_account (switch on) u reply after step = []
 
-abbrev pub account : (call : Call) (u : UnreadLine) (reply : Reply) (after : UnreadLine) → Step call u reply after → List Segment
+abbrev pub account : (call : Call) (u : UnreadLine) (reply : Reply) (after : UnreadLine)
+    → Step call u reply after → List Segment
 account call u reply after (inl step) = ample_account call u reply after step
 account call u reply after (inr refused) = []
 
 -- the segments of a list of calls, in order
-abbrev pub segments : (u : UnreadLine) (calls : List Call) (replies : List Reply) (after : UnreadLine) → Run u calls replies after → List Segment
+abbrev pub segments : (u : UnreadLine) (calls : List Call) (replies : List Reply)
+    (after : UnreadLine) → Run u calls replies after → List Segment
 segments u [] [] after run = []
 segments u [] (reply ∷ replies) after run = []
 segments u (call ∷ calls) [] after run = []
@@ -68,7 +72,8 @@ segments u (call ∷ calls) (reply ∷ replies) after run =
 
 -- a run, and its segments
 abbrev pub AccountedRun : UnreadLine → List Call → List Reply → List Segment → UnreadLine → Type 0
-AccountedRun u calls replies account_of after = (run : Run u calls replies after) × (account_of ≡ segments u calls replies after run)
+AccountedRun u calls replies account_of after = (run : Run u calls replies after)
+    × (account_of ≡ segments u calls replies after run)
 
 -- ---- where a list of calls was cut short
 
@@ -89,4 +94,5 @@ Part u [] after = after ≡ u
 Part u (call ∷ calls) after =
     (after ≡ u)
     ⊎ (((m : ℕ) × (reply : Reply) × Step (up_to m call) u reply after)
-    ⊎ ((between : UnreadLine) × (reply : Reply) × Step call u reply between × Part between calls after))
+    ⊎ ((between : UnreadLine) × (reply : Reply) × Step call u reply between
+    × Part between calls after))

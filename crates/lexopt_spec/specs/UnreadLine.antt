@@ -1,6 +1,7 @@
 -- The unread line: what is left of a command line, as contracts see a parser.
 -- The source is `docs/behaviour.md`. A word is a list of bytes, a name is the UTF-8 of its text.
-use Rattle.std.specs.Prelude.{◌≡◌, ◌≢◌, ℕ, Bool, true, false, ◌==◌, ◌&&◌, ◌||◌, not, ◌⊎◌, List, [], ◌∷◌, ◌++◌, Option, Some, None, encode_utf8, if◌then◌else◌}
+use Rattle.std.specs.Prelude.{◌≡◌, ◌≢◌, ℕ, Bool, true, false, ◌==◌, ◌&&◌, ◌||◌, not, ◌⊎◌, List, []}
+use Rattle.std.specs.Prelude.{◌∷◌, ◌++◌, Option, Some, None, encode_utf8, if◌then◌else◌}
 use Rattle.std.specs.List.{All}
 use Rattle.lexopt_spec.specs.Pieces.{lossy}
 
@@ -36,21 +37,31 @@ pub record UnreadLine : Type 0 where
   -- the binary name, if the line had one: no rule changes it
   pub bin_name : Option (List ℕ)
 
--- a tail stands only with a last option and never after the separator, and the rest of a cluster is never empty
+-- a tail stands only with a last option and never after the separator, and the rest of a cluster is
+-- never empty
 abbrev pub TailStands : Tail → LastOption → Bool → Type 0
 TailStands no_tail last ended = Unit {0}
 TailStands (joined value) last ended = (last ≢ no_option) × (ended ≡ false)
 TailStands (rest bytes) last ended = (last ≢ no_option) × (ended ≡ false) × (bytes ≢ [])
 
--- the lines that a parser can be are among these: it is one at the start, and every call leads from one to one
+-- the lines that a parser can be are among these: it is one at the start, and every call leads from
+-- one to one
 abbrev pub IsLine : UnreadLine → Type 0
 IsLine u = TailStands u.tail u.last u.ended
 
 -- the line of these words, of which none was read
 abbrev pub fresh : List (List ℕ) → UnreadLine
-fresh words = record { tail = no_tail; words = words; ended = false; last = no_option; short_equals = true; bin_name = None }
+fresh words = record {
+  tail = no_tail;
+  words = words;
+  ended = false;
+  last = no_option;
+  short_equals = true;
+  bin_name = None;
+}
 
--- the same, where the first of the words, if there is one, is the binary name: damage in it is shown as U+FFFD
+-- the same, where the first of the words, if there is one, is the binary name: damage in it is
+-- shown as U+FFFD
 abbrev pub invoked : List (List ℕ) → UnreadLine
 invoked [] = fresh []
 invoked (word ∷ words) = record (fresh words) { bin_name = Some (lossy word) }
@@ -71,7 +82,8 @@ abbrev pub pending_in : Bool → Tail → Option (List ℕ × Bool)
 pending_in switch no_tail = None
 pending_in switch (joined value) = Some (value, true)
 pending_in switch (rest []) = None
-pending_in switch (rest (b ∷ bs)) = if switch && b == equals then Some (bs, true) else Some (b ∷ bs, false)
+pending_in switch (rest (b ∷ bs)) = if switch && b == equals then Some (bs, true)
+    else Some (b ∷ bs, false)
 
 abbrev pub pending : UnreadLine → Option (List ℕ × Bool)
 pending u = pending_in u.short_equals u.tail

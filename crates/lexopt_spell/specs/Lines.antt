@@ -1,4 +1,5 @@
--- What `spell` tells of a whole line, over a table and items of Rust. `short_equals` is the setting of the switch.
+-- What `spell` tells of a whole line, over a table and items of Rust. `short_equals` is the setting
+-- of the switch.
 use Rattle.std.specs.Prelude.{◌≡◌, ℕ, Bool, List, map, Ok}
 use Rattle.lexopt_spec.specs.Steps as steps
 use Rattle.lexopt_spec.specs.Steps.{Reply}

@@ -1,20 +1,27 @@
 -- What the speller's functions answer, as contracts see it.
-use Rattle.std.specs.Prelude.{◌≡◌, ℕ, Bool, true, false, List, ◌∷◌, [], ◌++◌, Result, Ok, Err, encode_utf8, string_bytes}
+use Rattle.std.specs.Prelude.{◌≡◌, ℕ, Bool, true, false, List, ◌∷◌, [], ◌++◌, Result, Ok, Err}
+use Rattle.std.specs.Prelude.{encode_utf8, string_bytes}
 use Rattle.lexopt_spec.specs.UnreadLine.{dash}
 use Rattle.lexopt_line_spec.specs.Table.{Item, Table}
 use Rattle.lexopt_line_spec.specs.Spelling as how
 use Rattle.lexopt_line_spec.specs.Speller as spec
 use Rattle.lexopt_line_spec.specs.Speller.{after_bytes}
 use Rattle.lexopt_spell.specs.declared.forms.Place.{Place}
-use Rattle.lexopt_spell.specs.declared.forms.Place.TheVariants.{Open, InCluster, AfterValues, AfterPositional, Ended}
+use Rattle.lexopt_spell.specs.declared.forms.Place.TheVariants.{Open, InCluster, AfterValues}
+use Rattle.lexopt_spell.specs.declared.forms.Place.TheVariants.{AfterPositional, Ended}
 use Rattle.lexopt_spell.specs.declared.forms.After.{After}
 use Rattle.lexopt_spell.specs.declared.forms.After.TheVariants.{Nothing, Attached, Joined}
 use Rattle.lexopt_spell.specs.declared.forms.Form.{Form}
 use Rattle.lexopt_spell.specs.declared.words.Word.{Word}
-use Rattle.lexopt_spell.specs.declared.words.Word.TheVariants.{Short, Dash, Long, Separator, Positional}
+use Rattle.lexopt_spell.specs.declared.words.Word.TheVariants.{Short, Dash, Long, Separator}
+use Rattle.lexopt_spell.specs.declared.words.Word.TheVariants.{Positional}
 use Rattle.lexopt_spell.specs.declared.added.Added.{Added}
 use Rattle.lexopt_spell.specs.declared.spell.Reason.{Reason}
-use Rattle.lexopt_spell.specs.declared.spell.Reason.TheVariants.{EqualsInName, UnexpectedValue, MissingValue, WantsMany, NotMany, EmptyValue, OptionAmongValues, EmptyName, PastSeparator, DashWithoutFlag}
+use Rattle.lexopt_spell.specs.declared.spell.Reason.TheVariants.{EqualsInName, UnexpectedValue}
+use Rattle.lexopt_spell.specs.declared.spell.Reason.TheVariants.{MissingValue, WantsMany, NotMany}
+use Rattle.lexopt_spell.specs.declared.spell.Reason.TheVariants.{EmptyValue, OptionAmongValues}
+use Rattle.lexopt_spell.specs.declared.spell.Reason.TheVariants.{EmptyName, PastSeparator}
+use Rattle.lexopt_spell.specs.declared.spell.Reason.TheVariants.{DashWithoutFlag}
 use Rattle.lexopt_spell.specs.declared.spell.SpellError.{SpellError}
 use Rattle.lexopt_spell.specs.declared.spell.SpellError.TheVariants.{AtFault, OutOfMemory}
 
@@ -33,7 +40,8 @@ reason_view DashWithoutFlag = spec.dash_without_flag
 
 -- the error says which item is at fault, and why. It says nothing where memory is refused
 abbrev pub IsFault : Result (List (List ℕ)) spec.Fault → SpellError → Type 0
-IsFault answer (AtFault index reason) = answer ≡ Err (record { index = index; reason = reason_view reason })
+IsFault answer (AtFault index reason) =
+    answer ≡ Err (record { index = index; reason = reason_view reason })
 IsFault answer OutOfMemory = Unit {0}
 
 -- those before the item that the error names can be spelled, and with it they cannot
@@ -77,7 +85,12 @@ goes_on Separator = false
 goes_on (Positional word) = false
 
 abbrev pub added_view : Added → spec.Added
-added_view a = record { goes_on = goes_on a.word; word = word_bytes a.word; words = a.words.now; place = place_view a.place }
+added_view a = record {
+  goes_on = goes_on a.word;
+  word = word_bytes a.word;
+  words = a.words.now;
+  place = place_view a.place;
+}
 
 abbrev pub added_answer : Result Added Reason → Result spec.Added spec.Reason
 added_answer (Ok a) = Ok (added_view a)

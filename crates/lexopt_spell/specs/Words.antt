@@ -7,7 +7,8 @@ onto_last [] bytes = []
 onto_last (w ∷ []) bytes = (w ++ bytes) ∷ []
 onto_last (w ∷ v ∷ ws) bytes = w ∷ onto_last (v ∷ ws) bytes
 
--- the words with this one, or with its bytes if it goes on with the last, and with more words after it
+-- the words with this one, or with its bytes if it goes on with the last, and with more words after
+-- it
 abbrev pub pushed : Bool → List (List ℕ) → List ℕ → List (List ℕ) → List (List ℕ)
 pushed true words word more = onto_last words word ++ more
 pushed false words word more = words ++ (word ∷ more)

@@ -4,7 +4,8 @@ ghost use Rattle.std.specs.List.{list_all, list_any};
 ghost use Rattle.lexopt_spec.specs.UnreadLine as line;
 ghost use Rattle.lexopt_line_spec.specs.Speller as spec;
 ghost use Rattle.lexopt_items.specs.Items.{item_view, table_view};
-ghost use Rattle.lexopt_spell.specs.Models.{added_answer, added_view, after_view, form_answer, form_view, place_view};
+ghost use Rattle.lexopt_spell.specs.Models.{added_answer, added_view, after_view, form_answer};
+ghost use Rattle.lexopt_spell.specs.Models.{form_view, place_view};
 
 use crate::forms::{
     After, Form, Place, is_plain, long_form, long_many_form, short_form, short_many_form,
@@ -26,7 +27,9 @@ pub struct Added<'a> {
 
 // An option of one character, with this after its name.
 fn short_added(place: Place, option: char, form: Form<'_>) -> Result<Added<'_>, Reason>
-    ensures { added_answer result ≡ spec.short_added true (option == line.dash) (place_view place) option (Ok (form_view form.entry)) }
+    ensures { added_answer result
+        ≡ spec.short_added true (option == line.dash) (place_view place) option
+        (Ok (form_view form.entry)) }
 {
     let word = match place {
         Place::Ended => return Err(Reason::PastSeparator),
@@ -45,7 +48,9 @@ fn short_added(place: Place, option: char, form: Form<'_>) -> Result<Added<'_>, 
 
 // An option whose name has no `=`, with this after it.
 fn long_placed<'a>(place: Place, name: &'a String, form: Form<'a>) -> Result<Added<'a>, Reason>
-    ensures { added_answer result ≡ spec.long_placed (spec.is_named (string_bytes name.now) (after_view form.entry.after)) (place_view place) (string_bytes name.now) (form_view form.entry) }
+    ensures { added_answer result
+        ≡ spec.long_placed (spec.is_named (string_bytes name.now) (after_view form.entry.after))
+        (place_view place) (string_bytes name.now) (form_view form.entry) }
 {
     if name.is_empty() && !matches!(form.after, After::Joined(_)) {
         return Err(Reason::EmptyName);
@@ -67,7 +72,8 @@ fn long_added<'a>(
     form: Result<Form<'a>, Reason>,
 ) -> Result<Added<'a>, Reason>
     ensures { added_answer result
-        ≡ spec.long_added true (list_any (λ b. b == line.equals) (string_bytes name.now)) (place_view place) (string_bytes name.now) (form_answer form.entry) }
+        ≡ spec.long_added true (list_any (λ b. b == line.equals) (string_bytes name.now))
+        (place_view place) (string_bytes name.now) (form_answer form.entry) }
 {
     if name.as_bytes().contains(&b'=') {
         return Err(Reason::EqualsInName);
@@ -91,7 +97,8 @@ fn are_no_options(items: &[Item]) -> bool
 
 // Whether the separator would stand before an option, if it stood before the first of these items.
 //
-// It reads on to the first option, and is asked after options alone: it reads each item of a line once at most.
+// It reads on to the first option, and is asked after options alone: it reads each item of a line
+// once at most.
 fn separator_comes_too_early(items: &[Item]) -> bool
     ensures { result ≡ spec.separator_comes_too_early (map item_view items.now) }
 {
@@ -120,17 +127,21 @@ fn are_plain(items: &[Item]) -> bool
 
 // Whether these items are positionals, and one of them would be an option.
 //
-// It reads on to the first option, and is asked at the first positional of a row alone: it reads each item of a line twice at most.
+// It reads on to the first option, and is asked at the first positional of a row alone: it reads
+// each item of a line twice at most.
 fn separator_is_due(items: &[Item]) -> bool
     ensures { result ≡ spec.separator_is_due (map item_view items.now) }
 {
     are_no_options(items) && !are_plain(items)
 }
 
-// A positional, with these items after it. After values the separator keeps it from being one more of them.
+// A positional, with these items after it. After values the separator keeps it from being one more
+// of them.
 fn positional_added<'a>(place: Place, word: &'a OsString, after: &[Item]) -> Added<'a>
     ensures { added_view result
-        ≡ spec.positional_added (spec.stands (line.is_plain false word.now) (spec.separator_is_due (map item_view after.now)) (place_view place)) (place_view place) word.now }
+        ≡ spec.positional_added (spec.stands (line.is_plain false word.now)
+        (spec.separator_is_due (map item_view after.now)) (place_view place)) (place_view place)
+        word.now }
 {
     let stands = match place {
         Place::Ended => true,
@@ -164,7 +175,9 @@ pub fn adds<'a>(
     table: &Table,
 ) -> Result<Added<'a>, Reason>
     ensures { added_answer result
-        ≡ spec.adds (table_view table.now) short_equals (spec.separator_comes_too_early (map item_view after.now)) (spec.separator_is_due (map item_view after.now))
+        ≡ spec.adds (table_view table.now) short_equals
+        (spec.separator_comes_too_early (map item_view after.now))
+        (spec.separator_is_due (map item_view after.now))
         (place_view place) (item_view item.now) }
 {
     match item {

@@ -37,7 +37,8 @@ pub enum After<'a> {
     Joined(&'a OsString),
 }
 
-/// What stands after an option's name in its word, the words after that word, and what the next item follows then.
+/// What stands after an option's name in its word, the words after that word, and what the next
+/// item follows then.
 #[derive(Clone, Copy)]
 pub struct Form<'a> {
     pub after: After<'a>,
@@ -67,7 +68,8 @@ fn in_word(after: After<'_>) -> Form<'_>
     }
 }
 
-// A value right after a character. It stands after `=` where it would be lost, or begins with `=`, if the switch is on.
+// A value right after a character. It stands after `=` where it would be lost, or begins with `=`,
+// if the switch is on.
 fn attached_form(short_equals: bool, value: &OsString) -> Result<Form<'_>, Reason>
     ensures { form_answer result ≡ spec.attached_form short_equals value.now }
 {
@@ -143,7 +145,8 @@ fn all_plain(words: &[OsString]) -> bool
 
 // Values in words of their own.
 fn words_form(values: &[OsString]) -> Result<Form<'_>, Reason>
-    ensures { form_answer result ≡ spec.words_form (list_all (line.is_plain false) values.now) values.now }
+    ensures { form_answer result
+        ≡ spec.words_form (list_all (line.is_plain false) values.now) values.now }
 {
     if !all_plain(values) {
         return Err(Reason::OptionAmongValues);
@@ -155,9 +158,12 @@ fn words_form(values: &[OsString]) -> Result<Form<'_>, Reason>
     })
 }
 
-// A first value that would be an option, right after a character, and the others in words of their own.
+// A first value that would be an option, right after a character, and the others in words of their
+// own.
 fn attached_words_form<'a>(first: &'a OsString, others: &'a [OsString]) -> Result<Form<'a>, Reason>
-    ensures { form_answer result ≡ spec.short_words_form false (list_all (line.is_plain false) others.now) first.now others.now }
+    ensures { form_answer result
+        ≡ spec.short_words_form false (list_all (line.is_plain false) others.now) first.now
+        others.now }
 {
     if !all_plain(others) {
         return Err(Reason::OptionAmongValues);

@@ -1,7 +1,8 @@
 //! Words that spell what a line is to say: from items to words, for another program.
 ghost use Rattle.std.specs.Prelude.{◌≡◌, ◌⊎◌, ℕ, List, IfErr, IfOk};
 ghost use Rattle.lexopt_items.specs.Lines.{LineReads, LineShows, LineSpells};
-ghost use Rattle.lexopt_spell.specs.Lines.{HaveFault, HaveWords, IsAtFault, LineSaysNothingElse, NamesItemAtFault, NoWordsShow};
+ghost use Rattle.lexopt_spell.specs.Lines.{HaveFault, HaveWords, IsAtFault, LineSaysNothingElse};
+ghost use Rattle.lexopt_spell.specs.Lines.{NamesItemAtFault, NoWordsShow};
 
 use crate::added::adds;
 use crate::forms::Place;
@@ -21,21 +22,28 @@ pub enum Reason {
     UnexpectedValue,
     /// An option of one value is given none, or one of several an empty list.
     MissingValue,
-    /// An option that has several values by the table is not given them as `ShortMany` or `LongMany`.
+    /// An option that has several values by the table is not given them as `ShortMany` or
+    /// `LongMany`.
     WantsMany,
-    /// An option that does not have several values by the table is given as `ShortMany` or `LongMany`.
+    /// An option that does not have several values by the table is given as `ShortMany` or
+    /// `LongMany`.
     NotMany,
-    /// A short option whose value may be left out is given an empty one, and the switch is off: with it on, `-c=` has one.
+    /// A short option whose value may be left out is given an empty one, and the switch is off:
+    /// with it on, `-c=` has one.
     EmptyValue,
-    /// One of several values would be an option: `-x` after `1` in `--dim 1 -x`. A first one may stand right after a
-    /// character, as in `-d-x 1`, and a lone one after the `=` of a long option.
+    /// One of several values would be an option: `-x` after `1` in `--dim 1 -x`. A first one may
+    /// stand right after a character, as in `-d-x 1`, and a lone one after the `=` of a long
+    /// option.
     OptionAmongValues,
-    /// A long option has an empty name, and not one value, which stands after `=`: `--` alone is the separator.
+    /// A long option has an empty name, and not one value, which stands after `=`: `--` alone is
+    /// the separator.
     EmptyName,
-    /// An option stands after a positional that needs `--` before it, so that the option would be a positional too.
+    /// An option stands after a positional that needs `--` before it, so that the option would be a
+    /// positional too.
     PastSeparator,
-    /// `-` as an option of one character, with no flag of one character right before it: no word begins with it, since
-    /// `--` is the separator and `--name` a long option, but in `-v-` it stands after `v`.
+    /// `-` as an option of one character, with no flag of one character right before it: no word
+    /// begins with it, since `--` is the separator and `--name` a long option, but in `-v-` it
+    /// stands after `v`.
     DashWithoutFlag,
 }
 
@@ -107,18 +115,22 @@ impl From<AllocError> for SpellError {
     }
 }
 
-/// Words that spell these items under this table, in the form of the POSIX utility conventions and of GNU.
+/// Words that spell these items under this table, in the form of the POSIX utility conventions and
+/// of GNU.
 ///
-/// Under a table with `o` and `out` of one value, `color` of a value that may be left out, and `d` of several, the items
-/// `Short('v', None)`, `Short('o', Some(x))`, `Long("out", Some(y))`, `Long("color", Some(z))`, `ShortMany('d', [1, 2])`
-/// and `Positional(-f)` give the words `-v`, `-o`, `x`, `--out=y`, `--color=z`, `-d`, `1`, `2`, `--` and `-f`. Each option has a
-/// word of its own, except for `-` as an option of one character, which goes on with the flag before it: `-v-`. The
-/// separator stands only where a positional needs it, which would be an option, or one more of several values; and then before
-/// the first of the positionals that end the line. Where it would stand before an option too, a lone value of a short option
-/// of several is joined to it, as `-d=1`, if the switch is on.
+/// Under a table with `o` and `out` of one value, `color` of a value that may be left out, and `d`
+/// of several, the items `Short('v', None)`, `Short('o', Some(x))`, `Long("out", Some(y))`,
+/// `Long("color", Some(z))`, `ShortMany('d', [1, 2])` and `Positional(-f)` give the words `-v`,
+/// `-o`, `x`, `--out=y`, `--color=z`, `-d`, `1`, `2`, `--` and `-f`. Each option has a word of its
+/// own, except for `-` as an option of one character, which goes on with the flag before it: `-v-`.
+/// The separator stands only where a positional needs it, which would be an option, or one more of
+/// several values; and then before the first of the positionals that end the line. Where it would
+/// stand before an option too, a lone value of a short option of several is joined to it, as
+/// `-d=1`, if the switch is on.
 ///
-/// The switch says whether `=` in a cluster stands between an option and its value, and is to be the one that the words
-/// are read under. Items that no words spell, as an option after a positional `-f`, are refused.
+/// The switch says whether `=` in a cluster stands between an option and its value, and is to be
+/// the one that the words are read under. Items that no words spell, as an option after a
+/// positional `-f`, are refused.
 pub fn spell(
     alloc: Global,
     items: &[Item],
@@ -129,17 +141,22 @@ pub fn spell(
     ensures form { IfOk result (λ words. HaveWords table.now short_equals items.now words.items) }
     ensures fault { IfErr result (λ e. HaveFault table.now short_equals items.now e) }
 
-    // What is answered legally spells the items. A reading of it comes to the end and says them, as every reading does.
-    ensures spelled { IfOk result (λ words. LineSpells table.now short_equals words.items items.now) }
+    // What is answered legally spells the items. A reading of it comes to the end and says them, as
+    // every reading does.
+    ensures spelled { IfOk result (λ words.
+        LineSpells table.now short_equals words.items items.now) }
     ensures read { IfOk result (λ words. LineReads table.now short_equals words.items items.now) }
-    ensures said { IfOk result (λ words. LineSaysNothingElse table.now short_equals words.items items.now) }
+    ensures said { IfOk result (λ words.
+        LineSaysNothingElse table.now short_equals words.items items.now) }
 
-    // The items before the one that is named can be spelled, and with it they cannot. This is so of one item at most.
+    // The items before the one that is named can be spelled, and with it they cannot. This is so of
+    // one item at most.
     ensures at_fault { IfErr result (λ e. NamesItemAtFault table.now short_equals items.now e) }
     ensures one_fault { (i j : ℕ) → IsAtFault table.now short_equals items.now i
         → IsAtFault table.now short_equals items.now j → i ≡ j }
 
-    // Items that some words show, and so those that some words spell, are spelled, or memory is refused.
+    // Items that some words show, and so those that some words spell, are spelled, or memory is
+    // refused.
     ensures answered { (words : List (List ℕ)) → LineShows table.now short_equals words items.now
         → IfErr result (λ e. e ≡ SpellError.OutOfMemory) }
     ensures none { IfErr result (λ e. (e ≡ SpellError.OutOfMemory)

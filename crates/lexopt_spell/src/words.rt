@@ -25,7 +25,8 @@ pub enum Word<'a> {
 
 // Adds to the bytes of a name what stands after it.
 fn with_after(name: String, after: After<'_>) -> Result<OsString, AllocError>
-    ensures { IfOk result (λ word. word ≡ string_bytes name ++ after_bytes (after_view after.entry)) }
+    ensures { IfOk result (λ word.
+        word ≡ string_bytes name ++ after_bytes (after_view after.entry)) }
 {
     let mut bytes = name.into_bytes();
     match after {
@@ -66,7 +67,8 @@ fn extend_last(words: &mut Vec<OsString>, bytes: &OsString) -> Result<(), AllocE
 
 // Adds a word, or bytes to the last word.
 fn push_word(alloc: Global, words: &mut Vec<OsString>, word: Word<'_>) -> Result<(), AllocError>
-    ensures { OnOk result (words.new.items ≡ pushed (goes_on word.entry) words.old.items (word_bytes word.entry) []) }
+    ensures { OnOk result (words.new.items
+        ≡ pushed (goes_on word.entry) words.old.items (word_bytes word.entry) []) }
 {
     let bytes = to_os_string(alloc, word)?;
     match word {
@@ -82,7 +84,8 @@ pub fn push(
     word: Word<'_>,
     more: &[OsString],
 ) -> Result<(), AllocError>
-    ensures { OnOk result (words.new.items ≡ pushed (goes_on word.entry) words.old.items (word_bytes word.entry) more.now) }
+    ensures { OnOk result (words.new.items
+        ≡ pushed (goes_on word.entry) words.old.items (word_bytes word.entry) more.now) }
 {
     push_word(alloc, words, word)?;
     for other in more {

@@ -4,7 +4,10 @@ use Rattle.lexopt_spec.specs.UnreadLine.{LastOption, short_option, long_option, 
 use Rattle.lexopt_words.specs.declared.error.Arg.{Arg}
 use Rattle.lexopt_words.specs.declared.error.Arg.TheVariants.{Short, Long, Value}
 use Rattle.lexopt_words.specs.declared.error.Error.{Error}
-use Rattle.lexopt_words.specs.declared.error.Error.TheVariants.{MissingValue, UnexpectedOption, UnexpectedArgument, UnexpectedValue, ParsingFailed, NonUnicodeValue, Custom, OutOfMemory}
+use Rattle.lexopt_words.specs.declared.error.Error.TheVariants.{MissingValue, UnexpectedOption}
+use Rattle.lexopt_words.specs.declared.error.Error.TheVariants.{UnexpectedArgument, UnexpectedValue}
+use Rattle.lexopt_words.specs.declared.error.Error.TheVariants.{ParsingFailed, NonUnicodeValue}
+use Rattle.lexopt_words.specs.declared.error.Error.TheVariants.{Custom, OutOfMemory}
 
 -- the argument is an option
 abbrev pub IsOption : Arg → Type 0

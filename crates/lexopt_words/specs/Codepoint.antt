@@ -2,7 +2,8 @@
 use Rattle.std.specs.Prelude.{◌≡◌, ℕ, List, [], Option, Some, None}
 use Rattle.lexopt_spec.specs.Pieces.{IsFirstPiece}
 use Rattle.lexopt_words.specs.declared.codepoint.FirstCodepoint.{FirstCodepoint}
-use Rattle.lexopt_words.specs.declared.codepoint.FirstCodepoint.TheVariants.{Empty, Character, Damage}
+use Rattle.lexopt_words.specs.declared.codepoint.FirstCodepoint.TheVariants.{Empty, Character}
+use Rattle.lexopt_words.specs.declared.codepoint.FirstCodepoint.TheVariants.{Damage}
 
 -- the character, if it is one
 abbrev pub character_of : FirstCodepoint → Option ℕ

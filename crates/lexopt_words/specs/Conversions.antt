@@ -2,7 +2,10 @@
 use Rattle.std.specs.Prelude.{◌≡◌, ◌⊎◌, List, ℕ, Result, Ok, Err, MatchResult, string_bytes}
 use Rattle.anyhow.specs.declared.error.Error.{Error as Cause}
 use Rattle.lexopt_words.specs.declared.error.Error.{Error}
-use Rattle.lexopt_words.specs.declared.error.Error.TheVariants.{MissingValue, UnexpectedOption, UnexpectedArgument, UnexpectedValue, ParsingFailed, NonUnicodeValue, Custom, OutOfMemory}
+use Rattle.lexopt_words.specs.declared.error.Error.TheVariants.{MissingValue, UnexpectedOption}
+use Rattle.lexopt_words.specs.declared.error.Error.TheVariants.{UnexpectedArgument, UnexpectedValue}
+use Rattle.lexopt_words.specs.declared.error.Error.TheVariants.{ParsingFailed, NonUnicodeValue}
+use Rattle.lexopt_words.specs.declared.error.Error.TheVariants.{Custom, OutOfMemory}
 
 -- the error holds the text, and a cause of which P holds
 abbrev pub IsParsingFailed : List ℕ → (Cause → Type 0) → Error → Type 0
@@ -15,11 +18,15 @@ IsParsingFailed text P (NonUnicodeValue value) = ⊥
 IsParsingFailed text P (Custom error) = ⊥
 IsParsingFailed text P OutOfMemory = ⊥
 
--- what is answered for a text at which the function answered so: its value, or an error with the text and what `converts` makes of its error
-abbrev pub IsParsed : {T E : Type 0} → (E → Cause → Type 0) → List ℕ → Result T E → Result T Error → Type 0
+-- what is answered for a text at which the function answered so: its value, or an error with the
+-- text and what `converts` makes of its error
+abbrev pub IsParsed : {T E : Type 0} → (E → Cause → Type 0) → List ℕ → Result T E → Result T Error
+    → Type 0
 IsParsed converts text (Ok value) result = result ≡ Ok value
-IsParsed converts text (Err error) result = MatchResult result (λ _. ⊥) (λ e. (e ≡ OutOfMemory) ⊎ IsParsingFailed text (converts error) e)
+IsParsed converts text (Err error) result = MatchResult result (λ _. ⊥) (λ e. (e ≡ OutOfMemory)
+    ⊎ IsParsingFailed text (converts error) e)
 
 -- what is answered for a word that is not UTF-8
 abbrev pub IsNotUnicode : {T : Type 0} → List ℕ → Result T Error → Type 0
-IsNotUnicode word result = MatchResult result (λ _. ⊥) (λ e. (e ≡ OutOfMemory) ⊎ (e ≡ NonUnicodeValue word))
+IsNotUnicode word result = MatchResult result (λ _. ⊥) (λ e. (e ≡ OutOfMemory)
+    ⊎ (e ≡ NonUnicodeValue word))

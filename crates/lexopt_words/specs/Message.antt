@@ -2,9 +2,14 @@
 use Rattle.std.specs.Prelude.{ℕ, List, Option, Some, None, string_bytes}
 use Rattle.anyhow.specs.declared.error.Error.{Error as Cause}
 use Rattle.anyhow.specs.Error.{IsMadeOf, error_message}
-use Rattle.lexopt_spec.specs.Text.{missing_message, unexpected_option_message, unexpected_argument_message, unexpected_value_message, parsing_failed_message, non_unicode_message, no_memory_message}
+use Rattle.lexopt_spec.specs.Text.{missing_message, unexpected_option_message}
+use Rattle.lexopt_spec.specs.Text.{unexpected_argument_message, unexpected_value_message}
+use Rattle.lexopt_spec.specs.Text.{parsing_failed_message, non_unicode_message, no_memory_message}
 use Rattle.lexopt_words.specs.declared.error.Error.{Error}
-use Rattle.lexopt_words.specs.declared.error.Error.TheVariants.{MissingValue, UnexpectedOption, UnexpectedArgument, UnexpectedValue, ParsingFailed, NonUnicodeValue, Custom, OutOfMemory}
+use Rattle.lexopt_words.specs.declared.error.Error.TheVariants.{MissingValue, UnexpectedOption}
+use Rattle.lexopt_words.specs.declared.error.Error.TheVariants.{UnexpectedArgument, UnexpectedValue}
+use Rattle.lexopt_words.specs.declared.error.Error.TheVariants.{ParsingFailed, NonUnicodeValue}
+use Rattle.lexopt_words.specs.declared.error.Error.TheVariants.{Custom, OutOfMemory}
 
 -- what `{}` and `{:?}` write
 abbrev pub message : Error → List ℕ
@@ -13,7 +18,8 @@ message (MissingValue (Some option)) = missing_message (Some (string_bytes optio
 message (UnexpectedOption option) = unexpected_option_message (string_bytes option)
 message (UnexpectedArgument value) = unexpected_argument_message value
 message (UnexpectedValue option value) = unexpected_value_message (string_bytes option) value
-message (ParsingFailed value error) = parsing_failed_message (string_bytes value) (error_message error)
+message (ParsingFailed value error) =
+    parsing_failed_message (string_bytes value) (error_message error)
 message (NonUnicodeValue value) = non_unicode_message value
 message (Custom error) = error_message error
 message OutOfMemory = no_memory_message

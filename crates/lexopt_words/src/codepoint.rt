@@ -1,5 +1,6 @@
 //! The first character of some bytes, or the damaged piece that they begin with.
-ghost use Rattle.std.specs.Prelude.{◌≡◌, ◌<◌, ◌++◌, [], drop, length, IfOk, OnOk, encode_utf8, string_bytes};
+ghost use Rattle.std.specs.Prelude.{◌≡◌, ◌<◌, ◌++◌, [], drop, length, IfOk, OnOk, encode_utf8};
+ghost use Rattle.std.specs.Prelude.{string_bytes};
 ghost use Rattle.lexopt_spec.specs.Pieces.{first_piece, lossy, shown};
 ghost use Rattle.lexopt_words.specs.Codepoint.{IsFirstOf, character_of, size_of};
 ghost use Rattle.bstr.specs.Utf8.{decoded};
@@ -37,8 +38,8 @@ impl FirstCodepoint {
     }
 }
 
-/// The first piece of the bytes: by table 3-7 of the Unicode Standard a well-formed sequence, or else the maximal subpart
-/// of one, or a single byte.
+/// The first piece of the bytes: by table 3-7 of the Unicode Standard a well-formed sequence, or
+/// else the maximal subpart of one, or a single byte.
 #[inline(always)]
 pub fn first_codepoint(bytes: &[u8]) -> FirstCodepoint
     ensures by_the_table { IsFirstOf bytes.now result }
@@ -97,7 +98,8 @@ pub fn lossy_text(alloc: Global, bytes: &[u8]) -> Result<String, AllocError>
 
 // Adds to a text what stands there for a piece: its character, or U+FFFD for damage.
 fn push_shown(text: &mut String, character: Option<char>) -> Result<(), AllocError>
-    ensures { OnOk result (string_bytes text.new ≡ string_bytes text.old ++ encode_utf8 (shown character)) }
+    ensures { OnOk result (string_bytes text.new
+        ≡ string_bytes text.old ++ encode_utf8 (shown character)) }
 {
     match character {
         Some(character) => text.push(character),

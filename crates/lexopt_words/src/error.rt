@@ -20,8 +20,9 @@ pub enum Arg<'a> {
 impl Arg<'_> {
     ghost use Rattle.lexopt_words.specs.Arguments.{Refuses};
 
-    /// The error for an argument that the program does not know: `UnexpectedOption` of `-o` for `Short('o')` and of `--out`
-    /// for `Long("out")`, and `UnexpectedArgument` of a value. `OutOfMemory` comes only in place of `UnexpectedOption`.
+    /// The error for an argument that the program does not know: `UnexpectedOption` of `-o` for
+    /// `Short('o')` and of `--out` for `Long("out")`, and `UnexpectedArgument` of a value.
+    /// `OutOfMemory` comes only in place of `UnexpectedOption`.
     pub fn unexpected(self, alloc: Global) -> Error
         ensures { Refuses self.entry result }
     {
@@ -58,8 +59,8 @@ impl<'a> Clone for Arg<'a> {
 /// Why a command line was refused.
 #[derive(Drop)]
 pub enum Error {
-    /// An option wants a value, and no word is left. The option is spelled with its dashes; there is none where no option
-    /// was read.
+    /// An option wants a value, and no word is left. The option is spelled with its dashes; there
+    /// is none where no option was read.
     MissingValue { option: Option<String> },
     /// An option was not expected. It is spelled with its dashes.
     UnexpectedOption(String),
@@ -73,8 +74,9 @@ pub enum Error {
     NonUnicodeValue(OsString),
     /// The program's own reason. `Error::from` makes it of a text.
     Custom(anyhow::Error),
-    /// Memory was refused. A call of a parser changed nothing then, and can be made again; a constructor gives none of its
-    /// items back, and `Arg::unexpected` does not give the argument back.
+    /// Memory was refused. A call of a parser changed nothing then, and can be made again; a
+    /// constructor gives none of its items back, and `Arg::unexpected` does not give the argument
+    /// back.
     OutOfMemory,
 }
 

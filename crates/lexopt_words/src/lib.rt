@@ -1,5 +1,5 @@
-//! What the command line lexer reads and answers with: words of any bytes and their pieces, errors and their messages, and
-//! the conversions of values.
+//! What the command line lexer reads and answers with: words of any bytes and their pieces, errors
+//! and their messages, and the conversions of values.
 #![tactic(auto)]
 
 pub mod codepoint;

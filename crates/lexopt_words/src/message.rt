@@ -1,7 +1,8 @@
 //! The messages that more than one type prints. The crate `lexopt` does not hand them on.
 ghost use Rattle.std.specs.Prelude.{None, Some, option_map};
 ghost use Rattle.std.specs.Fmt.{WritesOnOk};
-ghost use Rattle.lexopt_spec.specs.Text.{missing_message, no_memory_message, unexpected_value_message};
+ghost use Rattle.lexopt_spec.specs.Text.{missing_message, no_memory_message};
+ghost use Rattle.lexopt_spec.specs.Text.{unexpected_value_message};
 
 use crate::os_string::{OsString, Quoted};
 use std::fmt;
@@ -26,7 +27,8 @@ pub fn write_unexpected_value<W: fmt::Write>(
     value: &OsString,
     f: &mut fmt::Formatter<W>,
 ) -> fmt::Result
-    ensures { WritesOnOk W.write_str_gives f.old result (unexpected_value_message option.now value.now) f.new }
+    ensures { WritesOnOk W.write_str_gives f.old result
+        (unexpected_value_message option.now value.now) f.new }
 {
     let value = Quoted::new(value.as_bytes());
     write!(f, "unexpected argument for option '{option}': {value}")

@@ -1,7 +1,9 @@
 //! Words of any bytes.
 //!
-//! A word of a command line is a list of bytes, which need not be UTF-8. Nothing here changes a byte.
-ghost use Rattle.std.specs.Prelude.{◌≡◌, ◌↔◌, ◌≤◌, ℕ, List, [], drop, length, string_bytes, IfOk, IfSome, IsOk, IsSome, IsTrue, IsUtf8, MatchResult, vec_len};
+//! A word of a command line is a list of bytes, which need not be UTF-8. Nothing here changes a
+//! byte.
+ghost use Rattle.std.specs.Prelude.{◌≡◌, ◌↔◌, ◌≤◌, ℕ, List, [], drop, length, string_bytes, IfOk};
+ghost use Rattle.std.specs.Prelude.{IfSome, IsOk, IsSome, IsTrue, IsUtf8, MatchResult, vec_len};
 
 pub use crate::quoted::Quoted;
 use std::alloc::{AllocError, Global};
@@ -13,8 +15,8 @@ use std::{fmt, str};
 /// A word: a list of bytes, which contracts see as that list.
 #[derive(Drop)]
 pub struct OsString {
-    // The bytes of the word, after some that are no longer a part of it. So a value is taken out of its word and no byte is
-    // moved.
+    // The bytes of the word, after some that are no longer a part of it. So a value is taken out of
+    // its word and no byte is moved.
     bytes: Vec<u8>,
     // How many are no longer a part of it.
     front: usize,
@@ -100,7 +102,8 @@ impl OsString {
     /// The bytes `66 6F 6F` give `foo`. The bytes `66 6F 6F FF` are given back.
     pub fn into_string(self) -> Result<String, OsString>
         ensures exactly_on_utf8 { IsOk result ↔ IsUtf8 self }
-        ensures same_bytes { MatchResult result (λ text. string_bytes text ≡ self) (λ word. word ≡ self) }
+        ensures same_bytes { MatchResult result (λ text. string_bytes text ≡ self) (λ word.
+            word ≡ self) }
     {
         match String::from_utf8(self.into_vec()) {
             Ok(text) => Ok(text),
@@ -196,8 +199,8 @@ impl Eq for OsString {
     ghost laws = { Prim.search (comparing, rules) };
 }
 
-// Words have the order of their lists of bytes: the first byte that differs decides, and a front comes first. `-b` comes
-// after `-ab`.
+// Words have the order of their lists of bytes: the first byte that differs decides, and a front
+// comes first. `-b` comes after `-ab`.
 impl PartialOrd for OsString {
     ghost use Rattle.std.proofs.Common.{rules};
     ghost use Rattle.std.specs.Cmp.{partial_order_from_own_ties};
@@ -207,7 +210,8 @@ impl PartialOrd for OsString {
 
     ghost partial_cmp = { as_partial_cmp (slice_cmp nat_cmp) };
 
-    ghost laws = { partial_order_from_own_ties (Prim.search (comparing, rules)) (Prim.search (comparing, rules)) };
+    ghost laws = { partial_order_from_own_ties (Prim.search (comparing, rules))
+        (Prim.search (comparing, rules)) };
 
     fn partial_cmp(&self, other: &OsString) -> Option<Ordering> {
         Some(self.cmp(other))

@@ -3,16 +3,17 @@ ghost use Rattle.std.specs.Prelude.{◌≡◌, ℕ, List, Some, IfSome, encode_u
 ghost use Rattle.std.specs.List.{flat_map};
 ghost use Rattle.std.specs.Fmt.{WritesOnOk};
 ghost use Rattle.lexopt_spec.specs.Pieces.{pieces};
-ghost use Rattle.lexopt_spec.specs.Text.{byte_escape, quoted, quoted_as, quoted_character, quoted_piece};
+ghost use Rattle.lexopt_spec.specs.Text.{byte_escape, quoted, quoted_as, quoted_character};
+ghost use Rattle.lexopt_spec.specs.Text.{quoted_piece};
 ghost use Rattle.lexopt_words.specs.Codepoint.{character_of};
 
 use crate::codepoint::{FirstCodepoint, first_codepoint};
 use std::fmt;
 use std::marker::Model;
 
-/// Bytes that print in double quotes. A double quote, a backslash, each control character of ASCII and each byte that is
-/// no UTF-8 are escaped. Every other character stands for itself, also one that a terminal may act on, as U+0085, U+009B
-/// and U+2028.
+/// Bytes that print in double quotes. A double quote, a backslash, each control character of ASCII
+/// and each byte that is no UTF-8 are escaped. Every other character stands for itself, also one
+/// that a terminal may act on, as U+0085, U+009B and U+2028.
 ///
 /// The bytes `66 6F 6F FF` print as `"foo\xFF"`.
 #[derive(Drop)]
@@ -46,7 +47,8 @@ impl fmt::Display for Quoted<'_> {
 }
 
 fn write_pieces<W: fmt::Write>(bytes: &[u8], f: &mut fmt::Formatter<W>) -> fmt::Result
-    ensures { WritesOnOk W.write_str_gives f.old result (flat_map quoted_piece (pieces bytes.now)) f.new }
+    ensures { WritesOnOk W.write_str_gives f.old result (flat_map quoted_piece (pieces bytes.now))
+        f.new }
 {
     let mut rest = bytes;
     while !rest.is_empty() {
@@ -64,7 +66,8 @@ fn write_piece<W: fmt::Write>(
     f: &mut fmt::Formatter<W>,
 ) -> fmt::Result
     requires { IfSome (character_of piece) (λ c. bytes.now ≡ encode_utf8 c) }
-    ensures { WritesOnOk W.write_str_gives f.old result (quoted_as bytes.now (character_of piece)) f.new }
+    ensures { WritesOnOk W.write_str_gives f.old result (quoted_as bytes.now (character_of piece))
+        f.new }
 {
     match piece {
         FirstCodepoint::Character(character, _) => write_character(character, f),
@@ -73,7 +76,8 @@ fn write_piece<W: fmt::Write>(
 }
 
 fn write_character<W: fmt::Write>(character: char, f: &mut fmt::Formatter<W>) -> fmt::Result
-    ensures { WritesOnOk W.write_str_gives f.old result (quoted_character character (encode_utf8 character)) f.new }
+    ensures { WritesOnOk W.write_str_gives f.old result
+        (quoted_character character (encode_utf8 character)) f.new }
 {
     match character {
         '"' => f.write_str("\\\""),

@@ -20,16 +20,19 @@ pub trait ValueExt: private::Sealed {
 
     /// What the text of the word stands for, by its type's `FromStr`: at `10` a `u32` gives ten.
     ///
-    /// Errors: `NonUnicodeValue` with a copy of the word where it is not UTF-8; `ParsingFailed` with the text and the cause
-    /// where the type refuses it; `OutOfMemory` only in place of these two.
+    /// Errors: `NonUnicodeValue` with a copy of the word where it is not UTF-8; `ParsingFailed`
+    /// with the text and the cause where the type refuses it; `OutOfMemory` only in place of these
+    /// two.
     fn parse<T: FromStr>(&self) -> Result<T, Error>
     where
         T::Err: Into<anyhow::Error>,
         ensures text { IsUtf8 (word self.now) → ((answer : Result T T.Err)
-            × T.from_str_gives (word self.now) answer × IsParsed T.Err.converts (word self.now) answer result) }
+            × T.from_str_gives (word self.now) answer
+            × IsParsed T.Err.converts (word self.now) answer result) }
         ensures damaged { (IsUtf8 (word self.now) → ⊥) → IsNotUnicode (word self.now) result };
 
-    /// What the function makes of the text of the word. It is called once where the word is UTF-8, and else not at all.
+    /// What the function makes of the text of the word. It is called once where the word is UTF-8,
+    /// and else not at all.
     ///
     /// Errors: as of `parse`, the cause being what the function answered.
     fn parse_with<F, T, E>(&self, func: F) -> Result<T, Error>
@@ -38,7 +41,8 @@ pub trait ValueExt: private::Sealed {
         E: Into<anyhow::Error>,
         requires { IsUtf8 (word self.now) → FnOnceTakesAt F.FnOnce func (word self.now) }
         ensures text { IsUtf8 (word self.now) → ((answer : Result T E)
-            × FnOnceReturnsAt F.FnOnce func (word self.now) answer × IsParsed E.converts (word self.now) answer result) }
+            × FnOnceReturnsAt F.FnOnce func (word self.now) answer
+            × IsParsed E.converts (word self.now) answer result) }
         ensures damaged { (IsUtf8 (word self.now) → ⊥) → IsNotUnicode (word self.now) result };
 
     /// The text of the word. It takes no memory.
@@ -57,7 +61,8 @@ impl ValueExt for OsString {
     where
         T::Err: Into<anyhow::Error>,
     {
-        // Where the value met the error at the end of the function, it would be moved with the room of one.
+        // Where the value met the error at the end of the function, it would be moved with the room
+        // of one.
         match self.parse_with(|text| T::from_str(text)) {
             Ok(value) => return Ok(value),
             Err(error) => Err(error),

@@ -1,5 +1,7 @@
-//! Callers of `next`, of `value` and of views, with clauses of their own, which stand on the clauses of the public calls alone.
-ghost use Rattle.std.specs.Prelude.{◌≡◌, ◌≢◌, ◌↔◌, ℕ, List, [], ◌∷◌, Contains, None, Some, IfErr, IfNone, IfOk, IfSome, IsTrue};
+//! Callers of `next`, of `value` and of views, with clauses of their own, which stand on the
+//! clauses of the public calls alone.
+ghost use Rattle.std.specs.Prelude.{◌≡◌, ◌≢◌, ◌↔◌, ℕ, List, [], ◌∷◌, Contains, None, Some, IfErr};
+ghost use Rattle.std.specs.Prelude.{IfNone, IfOk, IfSome, IsTrue};
 ghost use Rattle.std.specs.List.{cons_option};
 ghost use Rattle.lexopt_spec.specs.Runs.{Run, Step, next, raw, value, values};
 ghost use Rattle.lexopt_spec.specs.Steps as steps;
@@ -12,7 +14,8 @@ use lexopt::replay::{Call, Reply, replay};
 use lexopt::{Arg, Error, OsString, Parser};
 use std::alloc::Global;
 
-/// Reads an option of one character and takes its value, as of `-n 10`; none where anything else comes, or no value.
+/// Reads an option of one character and takes its value, as of `-n 10`; none where anything else
+/// comes, or no value.
 pub fn option_and_value(
     alloc: Global,
     parser: &mut Parser,
@@ -29,12 +32,13 @@ pub fn option_and_value(
     }
 }
 
-/// Takes the next argument where it is a positional one, which is then a word of the line, byte for byte. Anything else that
-/// comes is dropped.
+/// Takes the next argument where it is a positional one, which is then a word of the line, byte for
+/// byte. Anything else that comes is dropped.
 #[tactic(auto, using(crate::proofs::Words::positional_is_a_word))]
 pub fn next_file(parser: &mut Parser) -> Result<Option<OsString>, Error>
     ensures file { IfOk result (λ found. IfSome found (λ word. Contains parser.old.words word)) }
-    ensures other { IfOk result (λ found. IfNone found ((reply : steps.Reply) × CanReply parser.old (Some reply)
+    ensures other { IfOk result (λ found. IfNone found ((reply : steps.Reply)
+        × CanReply parser.old (Some reply)
         × ((word : List ℕ) → reply ≢ positional word))) }
     ensures err { IfErr result (λ e. CanReply parser.old (error_reply e)) }
 {
@@ -46,8 +50,11 @@ pub fn next_file(parser: &mut Parser) -> Result<Option<OsString>, Error>
 
 /// Takes two values of the last option, or one where there is no other. The words after them stay.
 pub fn two_values(parser: &mut Parser) -> Result<(Option<OsString>, Option<OsString>), Error>
-    ensures ok { IfOk result (λ found. Step (values 2) parser.old (items (cons_option found.0 (cons_option found.1 []))) parser.new) }
-    ensures err { IfErr result (λ e. RepliesWith (Step (values 2)) parser.old (error_reply e) parser.new) }
+    ensures ok { IfOk result (λ found.
+        Step (values 2) parser.old (items (cons_option found.0 (cons_option found.1 [])))
+        parser.new) }
+    ensures err { IfErr result (λ e.
+        RepliesWith (Step (values 2)) parser.old (error_reply e) parser.new) }
 {
     let mut view = parser.values()?;
     let first = view.next();
@@ -55,10 +62,13 @@ pub fn two_values(parser: &mut Parser) -> Result<(Option<OsString>, Option<OsStr
     Ok((first, second))
 }
 
-/// Takes the next word where it is a number after one dash, as `-10`, which `next` would read as options.
+/// Takes the next word where it is a number after one dash, as `-10`, which `next` would read as
+/// options.
 pub fn negative_number(parser: &mut Parser) -> Result<Option<OsString>, Error>
-    ensures ok { IfOk result (λ found. (pending parser.old ≡ None) × TakesNegative parser.old found parser.new) }
-    ensures err { IfErr result (λ e. RepliesWith (Step (raw 1)) parser.old (error_reply e) parser.new) }
+    ensures ok { IfOk result (λ found. (pending parser.old ≡ None)
+        × TakesNegative parser.old found parser.new) }
+    ensures err { IfErr result (λ e.
+        RepliesWith (Step (raw 1)) parser.old (error_reply e) parser.new) }
 {
     let mut view = parser.raw_args()?;
     let is_wanted = match view.peek() {

@@ -1,5 +1,6 @@
-//! Calls that no script has, or not so: copies of a parser, and `optional_value` itself. The other calls that read a line are
-//! made by the tests beside this one, and rows of them stand among the cases.
+//! Calls that no script has, or not so: copies of a parser, and `optional_value` itself. The other
+//! calls that read a line are made by the tests beside this one, and rows of them stand among the
+//! cases.
 use lexopt::{Error, Parser};
 use std::test::Fail;
 use test_helpers::calls::{gives, reads_short, reads_word, takes};
@@ -24,8 +25,8 @@ fn optional_values(rt: HostRuntime) -> Result<(), Fail> {
     Ok(())
 }
 
-// Whether a copy takes one value, and then the parser itself another. The switch of the parser itself is set after the
-// copy.
+// Whether a copy takes one value, and then the parser itself another. The switch of the parser
+// itself is set after the copy.
 fn both_take(parser: &mut Parser, on: bool, of_copy: &[u8], own: &[u8]) -> Result<bool, Error> {
     let mut copy = parser.clone()?;
     parser.set_short_equals(on);

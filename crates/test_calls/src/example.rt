@@ -41,8 +41,8 @@ fn read_options(parser: &mut Parser, options: &mut Options) -> Result<(), UsageE
     Ok(())
 }
 
-// Whether a line, whose words stand in these lines, is understood, and what was read until then is `-n 10`, `--shout` and
-// these files.
+// Whether a line, whose words stand in these lines, is understood, and what was read until then is
+// `-n 10`, `--shout` and these files.
 fn reads(alloc: Global, line: &[u8], known: bool, files: &[&[u8]]) -> Result<bool, Error> {
     let mut parser = Parser::from_vec(words_of(alloc, line)?);
     let mut options = Options {

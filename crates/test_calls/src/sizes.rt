@@ -13,7 +13,8 @@ fn writes(alloc: Global, script: &str, text: &str) -> bool {
         && written.as_slice() == text.as_bytes()
 }
 
-// Whether a long name with a long value, and the name alone, are read and told, where a piece of both is shown so in a name.
+// Whether a long name with a long value, and the name alone, are read and told, where a piece of
+// both is shown so in a name.
 fn is_told(alloc: Global, piece: &str, shown: &str) -> Result<bool, AllocError> {
     let bytes = piece.repeat(alloc, MANY)?;
     let name = shown.repeat(alloc, MANY)?;

@@ -1,5 +1,5 @@
-//! Views: several values of one option, and the words that are left; what no script asks of them. The callers with clauses
-//! of their own.
+//! Views: several values of one option, and the words that are left; what no script asks of them.
+//! The callers with clauses of their own.
 use crate::callers::{negative_number, next_file, option_and_value, two_values};
 use lexopt::{Error, OsStr, OsString, Parser, RawArgs, ValuesIter};
 use std::alloc::Global;

@@ -1,5 +1,5 @@
-//! Whole lines: a table of options of one value, an option of one dash, which no script can put into a table, and items as
-//! values. Other lines stand among the cases.
+//! Whole lines: a table of options of one value, an option of one dash, which no script can put
+//! into a table, and items as values. Other lines stand among the cases.
 use lexopt::Error;
 use lexopt::items::{Table, read_items};
 use std::alloc::{AllocError, Global};
@@ -16,7 +16,8 @@ fn table_with_a_dash(alloc: Global) -> Result<Table, AllocError> {
     Ok(Table::one_value(alloc, shorts, longs))
 }
 
-// What the answer to these words is by that table, as a text: each item on a line of its own, or the message.
+// What the answer to these words is by that table, as a text: each item on a line of its own, or
+// the message.
 fn told(alloc: Global, words: &[u8]) -> Result<String, Fail> {
     let table = table_with_a_dash(alloc)?;
     match read_items(alloc, words_of(alloc, words)?, true, &table) {

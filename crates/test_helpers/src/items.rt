@@ -58,7 +58,8 @@ pub fn are_words(words: &[OsString], wanted: &[&[u8]]) -> bool {
             .all(|(word, bytes)| word.as_bytes() == *bytes)
 }
 
-/// The table of `o` and `out` of one value, `c` and `color` of a value that may be left out, and `d` and `cmd` of several.
+/// The table of `o` and `out` of one value, `c` and `color` of a value that may be left out, and
+/// `d` and `cmd` of several.
 pub fn table_of_each_kind(alloc: Global) -> Result<Table, AllocError> {
     let mut table = Table::new(alloc);
     table.shorts.push('o')?;

@@ -1,15 +1,18 @@
-//! Answers calls, so that the answers can be compared. `bench/src/bin/compare` does the same with the Rust crate.
+//! Answers calls, so that the answers can be compared. `bench/src/bin/compare` does the same with
+//! the Rust crate.
 //!
-//! Standard input has a case in each line: a constructor, words and calls, with a blank between them. For each case a line
-//! of answers is written: a blank stands after the answer to each call, and then what is left, which is the pending value
-//! and the words.
+//! Standard input has a case in each line: a constructor, words and calls, with a blank between
+//! them. For each case a line of answers is written: a blank stands after the answer to each call,
+//! and then what is left, which is the pending value and the words.
 //!
 //! - The constructor is `a` for `from_args`, or `i` for `from_iter`.
 //! - Each word is a point and then its bytes, in hexadecimal digits.
-//! - Each call is a letter and a digit N: `n` is `next`; `u` is `next`, and then `unexpected` of what it gave; `v` is `value`;
-//!   `p` is `value`, and then `parse`, `parse_with` and `string` of what it gave; `o` is `optional_value`; `s`, `r`, `t` are
-//!   `values`, `raw_args`, `try_raw_args`, and then N items; `l` is `peek` and `as_slice`, `i` is `next_if` with the Nth wanted
-//!   word; `e` is `set_short_equals`, off where N is 0; `c` is `clone`, and the copy goes on; `b` is `bin_name`.
+//! - Each call is a letter and a digit N: `n` is `next`; `u` is `next`, and then `unexpected` of
+//!   what it gave; `v` is `value`; `p` is `value`, and then `parse`, `parse_with` and `string` of
+//!   what it gave; `o` is `optional_value`; `s`, `r`, `t` are `values`, `raw_args`, `try_raw_args`,
+//!   and then N items; `l` is `peek` and `as_slice`, `i` is `next_if` with the Nth wanted word; `e`
+//!   is `set_short_equals`, off where N is 0; `c` is `clone`, and the copy goes on; `b` is
+//!   `bin_name`.
 
 mod written;
 
@@ -46,7 +49,8 @@ fn number(number: Result<i32, Error>, answers: &mut Answers) -> Result<(), Error
     }
 }
 
-// A value as a number, in two ways, and then as a text, of which an error of the program's own is made.
+// A value as a number, in two ways, and then as a text, of which an error of the program's own is
+// made.
 fn converted(parser: &mut Parser, answers: &mut Answers) -> Result<(), Error> {
     let value = parser.value()?;
     number(value.parse(), answers)?;

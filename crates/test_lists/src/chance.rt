@@ -1,8 +1,9 @@
 //! Makes calls by chance on words by chance, and checks what comes against the laws alone.
 //!
-//! A round is a line of at most four words of at most eight bytes, ten calls of any
-//! kind, and two that take what is left; and the same words as a whole line, under a table and a switch by chance. The laws are
-//! those of the module `laws`. It prints how many rounds and calls were made, and the first round that broke a law, if one did.
+//! A round is a line of at most four words of at most eight bytes, ten calls of any kind, and two
+//! that take what is left; and the same words as a whole line, under a table and a switch by
+//! chance. The laws are those of the module `laws`. It prints how many rounds and calls were made,
+//! and the first round that broke a law, if one did.
 
 mod laws;
 mod numbers;

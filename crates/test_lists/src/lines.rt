@@ -1,23 +1,26 @@
-//! Reads every list of at most three of 25 words by `read_items`, and by a plain reader that is written from the rules
-//! alone, and compares the two.
+//! Reads every list of at most three of 25 words by `read_items`, and by a plain reader that is
+//! written from the rules alone, and compares the two.
 //!
-//! The tables have the letter `a`, the character U+FFFD, which stands for damage, and the marks, which are `-` and `=` as short
-//! options and `-` and the empty name as long ones. Each of the three is of no value, of one, of one that may be left out, or of
-//! several, in all 64 ways; and in four more tables all stand in lists of several kinds.
+//! The tables have the letter `a`, the character U+FFFD, which stands for damage, and the marks,
+//! which are `-` and `=` as short options and `-` and the empty name as long ones. Each of the
+//! three is of no value, of one, of one that may be left out, or of several, in all 64 ways; and in
+//! four more tables all stand in lists of several kinds.
 //!
-//! Wherever the plain reader finds items, they are spelled by `spell`; the words are read as these items, and are the words of
-//! what is read.
+//! Wherever the plain reader finds items, they are spelled by `spell`; the words are read as these
+//! items, and are the words of what is read.
 //!
-//! By each table it also spells every list of at most three of 27 items, with the switch on and off. Where there are words, they
-//! are read as the items. Where an item is at fault, those before it have words, and with it they have none; nor are they what
-//! any short list of words is read as. Where words that are spelled with one setting are read alike with the other, both
-//! settings have the same words.
+//! By each table it also spells every list of at most three of 27 items, with the switch on and
+//! off. Where there are words, they are read as the items. Where an item is at fault, those before
+//! it have words, and with it they have none; nor are they what any short list of words is read as.
+//! Where words that are spelled with one setting are read alike with the other, both settings have
+//! the same words.
 //!
-//! For each table it prints how many readings agreed and how many differed, with the switch on and off, and the first list
-//! that differed; the same of the items that were spelled again; and the counts of the lists of items. Items are compared as
-//! they are, and errors by their messages.
+//! For each table it prints how many readings agreed and how many differed, with the switch on and
+//! off, and the first list that differed; the same of the items that were spelled again; and the
+//! counts of the lists of items. Items are compared as they are, and errors by their messages.
 //!
-//! Last it reads clusters, with the switch off: each list of one to four of twenty bytes, by `next` and by the plain pieces.
+//! Last it reads clusters, with the switch off: each list of one to four of twenty bytes, by `next`
+//! and by the plain pieces.
 
 mod clusters;
 mod lists;
@@ -42,7 +45,8 @@ use std::io;
 use test_helpers::parsers::words_from;
 use test_helpers::words::WORDS;
 
-// How lists of words were read in both ways, and how the items of those that have some were spelled.
+// How lists of words were read in both ways, and how the items of those that have some were
+// spelled.
 #[derive(Drop)]
 struct Found {
     read: Tally,
@@ -191,7 +195,8 @@ impl Total {
         }
     }
 
-    // Reads all lists of words by this table, spells all lists of items by it, and adds what is found.
+    // Reads all lists of words by this table, spells all lists of items by it, and adds what is
+    // found.
     fn read_by(&mut self, rt: &(impl Print + AllocGlobal), choice: Choice) -> io::Result<()> {
         let alloc = rt.alloc();
         let table = choice.table(alloc)?;

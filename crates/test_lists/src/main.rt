@@ -1,8 +1,9 @@
 //! Tries the library on many lists of words, and prints what was found.
 //!
-//! With no argument it reads every short list of words, makes every sequence of calls on each, makes calls by chance, and
-//! answers the cases of standard input. With `chance SEED ROUNDS` it makes calls by chance alone, and with `answers` it answers
-//! cases alone; `bench/compare` asks for these.
+//! With no argument it reads every short list of words, makes every sequence of calls on each,
+//! makes calls by chance, and answers the cases of standard input. With `chance SEED ROUNDS` it
+//! makes calls by chance alone, and with `answers` it answers cases alone; `bench/compare` asks for
+//! these.
 #![tactic(auto)]
 
 mod answers;

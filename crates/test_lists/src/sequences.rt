@@ -1,8 +1,10 @@
-//! Tries every sequence of `next`, `value`, `optional_value` and `values` on every list of at most three of 25 words.
+//! Tries every sequence of `next`, `value`, `optional_value` and `values` on every list of at most
+//! three of 25 words.
 //!
-//! Each call is made on the parser, and by `replay` on a copy: the replies agree. A sequence ends where `next` finds nothing
-//! more, where no value is there, and where no optional value is; `values` is read to its end. Before each call it checks what
-//! `raw_args`, `try_raw_args` and `optional_value` say of the line, on copies where they consume something.
+//! Each call is made on the parser, and by `replay` on a copy: the replies agree. A sequence ends
+//! where `next` finds nothing more, where no value is there, and where no optional value is;
+//! `values` is read to its end. Before each call it checks what `raw_args`, `try_raw_args` and
+//! `optional_value` say of the line, on copies where they consume something.
 //!
 //! It prints how many lists it tried, and what went wrong first, if anything did.
 

@@ -1,4 +1,5 @@
-//! Readers and writers that fail, that are slow and that never end, and scripts that a case file cannot say.
+//! Readers and writers that fail, that are slow and that never end, and scripts that a case file
+//! cannot say.
 use lexopt::replay::{RunError, run};
 use std::alloc::{AllocError, Global};
 use std::io;
@@ -123,8 +124,8 @@ fn reads_that_fail(rt: HostRuntime) {
     );
 }
 
-// Whether the stored script comes to this answer where its writer has so much room, and what that took is a front of what is
-// to be written.
+// Whether the stored script comes to this answer where its writer has so much room, and what that
+// took is a front of what is to be written.
 fn goes_out(
     alloc: Global,
     room: usize,
@@ -154,7 +155,8 @@ fn writes_that_fail(rt: HostRuntime) {
     assert!(rt; goes_out(rt.alloc(), WRITTEN.len(), Full::Fails, false, failed));
 }
 
-// Whether a script of this many line feeds, of which another byte takes the place of the first, comes to this answer.
+// Whether a script of this many line feeds, of which another byte takes the place of the first,
+// comes to this answer.
 fn is_long(
     alloc: Global,
     first: u8,

@@ -1,7 +1,8 @@
-//! Refused memory: the script `refused_memory` beside `src` runs these tests with each request for memory refused in turn.
+//! Refused memory: the script `refused_memory` beside `src` runs these tests with each request for
+//! memory refused in turn.
 //!
-//! One request of a test is refused in a run. Each test checks what stands afterwards, and then fails and says which call
-//! was refused. Where nothing is refused, each test passes.
+//! One request of a test is refused in a run. Each test checks what stands afterwards, and then
+//! fails and says which call was refused. Where nothing is refused, each test passes.
 use lexopt::items::read_items;
 use lexopt::replay::{Call, Reply, RunError, replay, run};
 use lexopt::spell::{Reason, SpellError, spell};
@@ -49,8 +50,9 @@ fn reads_long_option(parser: &mut Parser) -> Result<Option<bool>, Error> {
     Ok((is_read && takes(parser, b"x")?).then_some(refused))
 }
 
-// `next` asks for memory once, for the name: it is refused in one run, and in each other run that has a parser the option
-// and its value are read, also where the request after the one for the name is refused.
+// `next` asks for memory once, for the name: it is refused in one run, and in each other run that
+// has a parser the option and its value are read, also where the request after the one for the name
+// is refused.
 #[test]
 fn long_option(rt: HostRuntime) -> Result<(), Fail> {
     let Ok(mut parser) = parser_of(rt.alloc(), &[b"--out=x"]) else {
@@ -111,8 +113,8 @@ fn reads_damage(parser: &mut Parser) -> Result<bool, Error> {
     )
 }
 
-// A damaged cluster: its options and the value that is not there take no memory, the error that names the damaged option
-// does.
+// A damaged cluster: its options and the value that is not there take no memory, the error that
+// names the damaged option does.
 #[test]
 fn damaged_cluster(rt: HostRuntime) -> Result<(), Fail> {
     let Ok(mut parser) = parser_of(rt.alloc(), &[b"-a\xff"]) else {
@@ -209,8 +211,8 @@ fn switched_cluster(rt: HostRuntime) -> Result<(), Fail> {
     Ok(())
 }
 
-// What a script writes: nothing where `run` is refused, else all of it, or what it writes where the one call that asks for
-// memory is refused.
+// What a script writes: nothing where `run` is refused, else all of it, or what it writes where the
+// one call that asks for memory is refused.
 fn replays(
     alloc: Global,
     mut script: &[u8],
@@ -227,8 +229,8 @@ fn replays(
     }
 }
 
-// The script that `lexopt_replay` stores: where its first `next` is refused, `value` gives the whole word and reading goes
-// on.
+// The script that `lexopt_replay` stores: where its first `next` is refused, `value` gives the
+// whole word and reading goes on.
 #[test]
 fn stored_script(rt: HostRuntime) -> Result<(), Fail> {
     replays(rt.alloc(), SCRIPT, WRITTEN, NEXT_REFUSED, "next")
@@ -256,7 +258,8 @@ fn script_of_a_switched_cluster(rt: HostRuntime) -> Result<(), Fail> {
     replays(rt.alloc(), script, whole, whole, "no call")
 }
 
-// The list of the items that are asked of a view is the script's own, so `run` is refused where it finds no memory.
+// The list of the items that are asked of a view is the script's own, so `run` is refused where it
+// finds no memory.
 #[test]
 fn script_of_words(rt: HostRuntime) -> Result<(), Fail> {
     let script = b"w -ab\nw c\nw d\nnext\ntry 9\nraw 0\ntry 9\nnext\n";
@@ -303,7 +306,8 @@ fn parser_of_the_environment(rt: HostRuntime) -> Result<(), Fail> {
     }
 }
 
-// Whether a copy is refused; the parser itself, and a copy if there is one, read the option and have the name.
+// Whether a copy is refused; the parser itself, and a copy if there is one, read the option and
+// have the name.
 fn copies(parser: &mut Parser) -> Result<Option<bool>, Error> {
     let is_copied = match parser.clone() {
         Ok(mut copy) => Some(reads_named(&mut copy, "foo", 'x')?),
@@ -321,7 +325,8 @@ fn copied_parser(rt: HostRuntime) -> Result<(), Fail> {
     ended(copies(&mut parser)?, "clone")
 }
 
-// The words and the calls of a list with every call, of which five can want memory in a reply or in a list of items.
+// The words and the calls of a list with every call, of which five can want memory in a reply or in
+// a list of items.
 fn line(alloc: Global) -> Result<Parser, Error> {
     parser_of(
         alloc,
@@ -353,8 +358,8 @@ fn around<T>(list: &[T], place: usize) -> Option<(&[T], &[T])> {
     Some((list.get(..place)?, list.get(place..)?.get(1..)?))
 }
 
-// Whether the calls but the one at a place, made on a new parser, have the replies but the one there: so that call changed
-// nothing.
+// Whether the calls but the one at a place, made on a new parser, have the replies but the one
+// there: so that call changed nothing.
 fn changed_nothing(
     alloc: Global,
     calls: &[Call],
@@ -392,7 +397,8 @@ fn leave(alloc: Global, front: &[Call], last: Call, found: &[Reply]) -> Result<b
     Ok(left(alloc, &mut parser)?.as_slice() == found)
 }
 
-// Whether some front of the calls leaves what is left, or such a front and the next call with fewer of its items.
+// Whether some front of the calls leaves what is left, or such a front and the next call with fewer
+// of its items.
 fn is_part(alloc: Global, calls: &[Call], found: &[Reply]) -> Result<bool, Error> {
     for count in 0..=calls.len() {
         let Some(front) = calls.get(..count) else {
@@ -407,7 +413,8 @@ fn is_part(alloc: Global, calls: &[Call], found: &[Reply]) -> Result<bool, Error
     Ok(false)
 }
 
-// With memory refused once, a list of calls has one reply `NoMemory`, of a call that changed nothing, or ends at a part.
+// With memory refused once, a list of calls has one reply `NoMemory`, of a call that changed
+// nothing, or ends at a part.
 #[test]
 fn calls_of_every_kind(rt: HostRuntime) -> Result<(), Fail> {
     let alloc = rt.alloc();
@@ -464,7 +471,8 @@ fn read_so(alloc: Global, lines: &[u8], wanted: &str) -> Result<(), Fail> {
     }
 }
 
-// A whole line is read whole, or refused for memory: no item is left out, and no value is another one.
+// A whole line is read whole, or refused for memory: no item is left out, and no value is another
+// one.
 #[test]
 fn whole_line(rt: HostRuntime) -> Result<(), Fail> {
     read_so(
@@ -501,8 +509,8 @@ fn line_with_an_unexpected_value(rt: HostRuntime) -> Result<(), Fail> {
     )
 }
 
-// The line of a script that stands for the whole line is an error where its reading is refused memory; the calls after it
-// want none.
+// The line of a script that stands for the whole line is an error where its reading is refused
+// memory; the calls after it want none.
 #[test]
 fn script_of_a_whole_line(rt: HostRuntime) -> Result<(), Fail> {
     let script = b"w -ox\nw -d\nw 1\nw 2\nt -o\ntmany -d\nitems\nnext\noptional\n";

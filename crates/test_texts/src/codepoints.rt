@@ -3,7 +3,8 @@ use lexopt_words::codepoint::{FirstCodepoint, first_codepoint, lossy_text};
 use std::alloc::{AllocError, Global};
 use std::test::Fail;
 
-// What bytes begin with: a character, or damage where there is none; and its length, which is 0 where there are no bytes.
+// What bytes begin with: a character, or damage where there is none; and its length, which is 0
+// where there are no bytes.
 fn first(bytes: &[u8]) -> (Option<char>, usize) {
     match first_codepoint(bytes) {
         FirstCodepoint::Empty => (None, 0),

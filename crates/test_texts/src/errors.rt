@@ -1,4 +1,5 @@
-//! Errors: what each prints, what it holds, and what becomes one. Those of scripts, with their status.
+//! Errors: what each prints, what it holds, and what becomes one. Those of scripts, with their
+//! status.
 use lexopt::replay::RunError;
 use lexopt::{Arg, Error, OsString};
 use std::alloc::{AllocError, AllocFailed, Global};
@@ -126,7 +127,8 @@ fn messages(rt: HostRuntime) -> Result<(), Fail> {
     Ok(())
 }
 
-// `anyhow` keeps at most 120 bytes of a message: of 121 letters it keeps a front and a mark that says so.
+// `anyhow` keeps at most 120 bytes of a message: of 121 letters it keeps a front and a mark that
+// says so.
 fn keeps_a_front(alloc: Global) -> Result<bool, AllocError> {
     let mut text = String::new(alloc);
     for _ in 0..121 {

@@ -1,4 +1,5 @@
-//! Tests of words, arguments, conversions, errors, code points and names, and of items that are spelled. It has nothing else.
+//! Tests of words, arguments, conversions, errors, code points and names, and of items that are
+//! spelled. It has nothing else.
 #![tactic(auto)]
 
 #[cfg(test)]

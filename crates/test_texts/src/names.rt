@@ -57,7 +57,8 @@ fn reads_after_a_name(parser: &mut Parser) -> Result<bool, Error> {
     Ok(reads_short(parser, 'x')? && is_at_end(parser)? && parser.bin_name() == Some("foo"))
 }
 
-// Whether a copy has the same name, and reads the same words; and a copy of a parser with no name has none.
+// Whether a copy has the same name, and reads the same words; and a copy of a parser with no name
+// has none.
 fn copies_have_names(alloc: Global) -> Result<bool, Error> {
     let mut parser = named(alloc, &[b"foo", b"-x"])?;
     let mut copy = parser.clone()?;

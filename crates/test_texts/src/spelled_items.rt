@@ -1,5 +1,5 @@
-//! Items and the words that spell them, by the form of each kind of option and of positionals. Each reason why items have no
-//! words, and what it prints.
+//! Items and the words that spell them, by the form of each kind of option and of positionals. Each
+//! reason why items have no words, and what it prints.
 use lexopt::items::Table;
 use lexopt::spell::{Reason, SpellError, spell};
 use std::alloc::{AllocError, Global};
@@ -66,7 +66,8 @@ fn is_spelled_so(
     Ok(are_words(&words, row.words))
 }
 
-// The place of the first row whose items other words spell, with this setting of the switch, or none.
+// The place of the first row whose items other words spell, with this setting of the switch, or
+// none.
 fn spelled_otherwise(
     alloc: Global,
     rows: &[Row],
@@ -82,7 +83,8 @@ fn spelled_otherwise(
     Ok(None)
 }
 
-// Whether the items are refused so, the error prints that, and its reason what stands after the first `: ` of it.
+// Whether the items are refused so, the error prints that, and its reason what stands after the
+// first `: ` of it.
 fn is_refused_so(
     alloc: Global,
     fault: &Fault,
@@ -330,8 +332,8 @@ const SEVERAL: [Row; 8] = [
     },
 ];
 
-// With the switch on, a lone value of a short option of several is joined where a positional comes next and an option stands
-// somewhere after that.
+// With the switch on, a lone value of a short option of several is joined where a positional comes
+// next and an option stands somewhere after that.
 const JOINED: [Row; 3] = [
     Row {
         items: &[ShortMany('d', &[b"1"]), Positional(b"f"), Short('v')],
@@ -368,8 +370,8 @@ const NOT_JOINED: [Row; 3] = [
     },
 ];
 
-// The separator stands once at most: before a positional that would be one more of several values, or before the last
-// positionals, where one of them would be an option.
+// The separator stands once at most: before a positional that would be one more of several values,
+// or before the last positionals, where one of them would be an option.
 const POSITIONALS: [Row; 9] = [
     Row {
         items: &[Positional(b"f"), Positional(b"g=h")],
@@ -424,7 +426,8 @@ const POSITIONALS: [Row; 9] = [
     },
 ];
 
-// Damage stays as it is in a value and in a positional. U+FFFD in a name is that character, in three bytes.
+// Damage stays as it is in a value and in a positional. U+FFFD in a name is that character, in
+// three bytes.
 const DAMAGE: [Row; 7] = [
     Row {
         items: &[ShortValue('c', b"\xFF")],
@@ -469,7 +472,8 @@ const ON: &[bool] = &[true];
 
 const OFF: &[bool] = &[false];
 
-// The places of the first rows, and of the first row among them, whose items other words spell, or none.
+// The places of the first rows, and of the first row among them, whose items other words spell, or
+// none.
 fn first_otherwise(
     alloc: Global,
     forms: &[(&[Row], More, &[bool])],
@@ -734,7 +738,8 @@ const PAST_SEPARATOR: [Fault; 5] = [
     },
 ];
 
-// Only with the switch on can a lone value of a short option of several be joined, so that no separator is needed.
+// Only with the switch on can a lone value of a short option of several be joined, so that no
+// separator is needed.
 const LONE_VALUE: [Fault; 1] = [Fault {
     items: &[ShortMany('d', &[b"1"]), Positional(b"f"), Short('v')],
     index: 2,
@@ -781,8 +786,9 @@ const DASH_WITHOUT_FLAG: [Fault; 6] = [
     },
 ];
 
-// Of two reasons the first of these is told: `=` in the name, the values, the empty name, a separator before the option, no flag
-// before `-`. Of two items that cannot be spelled the first is named.
+// Of two reasons the first of these is told: `=` in the name, the values, the empty name, a
+// separator before the option, no flag before `-`. Of two items that cannot be spelled the first is
+// named.
 const TWO_REASONS: [Fault; 5] = [
     Fault {
         items: &[LongValue("a=", b"x")],

@@ -4,7 +4,8 @@ use std::alloc::{AllocError, Global};
 use std::hash::{DefaultHasher, Hash, Hasher};
 use std::test::Fail;
 
-// Whether a word has these bytes, and its copy, the view of it, its list of bytes and the word of that list.
+// Whether a word has these bytes, and its copy, the view of it, its list of bytes and the word of
+// that list.
 fn has_bytes(alloc: Global, bytes: &[u8]) -> Result<bool, AllocError> {
     let view = OsStr::from_bytes(bytes);
     let word = OsString::from_bytes(alloc, bytes)?;
@@ -95,7 +96,8 @@ fn quoted_bytes(rt: HostRuntime) -> Result<(), Fail> {
     Ok(())
 }
 
-// Whether bytes are this text, in a view, in a word and in the text that a word becomes; a word that is none stays one.
+// Whether bytes are this text, in a view, in a word and in the text that a word becomes; a word
+// that is none stays one.
 fn has_text(alloc: Global, bytes: &[u8], text: Option<&str>) -> Result<bool, AllocError> {
     let word = OsString::from_bytes(alloc, bytes)?;
     let is_text = OsStr::from_bytes(bytes).to_str() == text && word.to_str() == text;
@@ -152,7 +154,8 @@ fn debug_text_of_words(rt: HostRuntime) -> Result<(), Fail> {
     Ok(())
 }
 
-// Words in their order, which is that of their lists of bytes: the first byte that differs decides, and a front comes first.
+// Words in their order, which is that of their lists of bytes: the first byte that differs decides,
+// and a front comes first.
 const ORDERED: [&[u8]; 12] = [
     b"",
     b"\0",

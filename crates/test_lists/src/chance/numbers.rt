@@ -4,7 +4,8 @@ use lexopt::items::Table;
 use lexopt::replay::Call;
 use std::alloc::{AllocError, Global};
 
-// Bytes that mean something to a command line, and bytes that begin, go on and end characters, or none.
+// Bytes that mean something to a command line, and bytes that begin, go on and end characters, or
+// none.
 const BYTES: [u8; 24] = [
     b'-', b'-', b'-', b'=', b'=', b'a', b'b', b'a', 0x00, b'\n', 0x7F, 0x80, 0x9D, 0x9E, 0xA0,
     0xB5, 0xBF, 0xC2, 0xED, 0xEF, 0xF0, 0xF4, 0xFE, 0xFF,

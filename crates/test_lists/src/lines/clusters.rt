@@ -1,4 +1,5 @@
-//! Clusters of a few bytes each, read by `next` with the switch off: one option for each piece, and then the end.
+//! Clusters of a few bytes each, read by `next` with the switch off: one option for each piece, and
+//! then the end.
 use crate::lines::pieces::first_piece;
 use lexopt::{Arg, Error, OsString, Parser};
 use std::alloc::Global;

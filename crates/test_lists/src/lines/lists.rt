@@ -1,4 +1,5 @@
-//! Every list of at most three of some items, which are spelled, or at fault, with the switch on and off.
+//! Every list of at most three of some items, which are spelled, or at fault, with the switch on
+//! and off.
 use crate::lines::short_lists::{ReadLists, short_words};
 use crate::lines::shown::shown_items;
 use crate::lines::spelled::{Reading, Spelled};
@@ -42,8 +43,9 @@ const ITEMS: [Given; 27] = [
     Positional(b"--"),
 ];
 
-/// How many lists were spelled and read again, how many were at fault, and how many were otherwise; how many have the same words
-/// with the switch on and off, which are read alike; and how many some short list of words is read as.
+/// How many lists were spelled and read again, how many were at fault, and how many were otherwise;
+/// how many have the same words with the switch on and off, which are read alike; and how many some
+/// short list of words is read as.
 #[derive(Drop)]
 pub struct Counts {
     spelled: u64,
@@ -62,7 +64,8 @@ struct Setting<'t, 'i> {
 }
 
 impl Setting<'_, '_> {
-    // Whether words spell the items before this one, none the items up to it, and no short list of words is read as these.
+    // Whether words spell the items before this one, none the items up to it, and no short list of
+    // words is read as these.
     fn is_at_fault(&self, items: &[Item], index: usize) -> Result<bool, AllocError> {
         let (Some(before), Some(with)) = (items.get(..index), items.get(..index.saturating_add(1)))
         else {
@@ -145,7 +148,8 @@ impl Counts {
         }
     }
 
-    // Words of both settings of which one list is read as the items by the other setting too: they are the same.
+    // Words of both settings of which one list is read as the items by the other setting too: they
+    // are the same.
     fn compare(
         &mut self,
         on: Reading<'_>,

@@ -14,7 +14,8 @@ const ROWS: [&[(u8, u8)]; 9] = [
     &[(0xF4, 0xF4), (0x80, 0x8F), (0x80, 0xBF), (0x80, 0xBF)],
 ];
 
-/// What bytes begin with: the bytes of a character, or of a damaged piece, which has none; and what stands after it.
+/// What bytes begin with: the bytes of a character, or of a damaged piece, which has none; and what
+/// stands after it.
 #[derive(Clone, Copy)]
 pub struct Piece<'a> {
     pub character: Option<char>,
@@ -37,7 +38,8 @@ fn fitting(row: &[(u8, u8)], bytes: &[u8]) -> usize {
         .count()
 }
 
-// The number that the bytes of a well-formed sequence stand for: 7, 5, 4 or 3 bits of the first, and 6 of each other one.
+// The number that the bytes of a well-formed sequence stand for: 7, 5, 4 or 3 bits of the first,
+// and 6 of each other one.
 fn code(sequence: &[u8]) -> u32 {
     let mut code = 0u32;
     for byte in sequence {
@@ -68,7 +70,8 @@ fn piece_of(bytes: &[u8], count: usize, is_character: bool) -> Piece<'_> {
     }
 }
 
-/// The first piece, where there is a byte: a sequence of the table, or else the longest front that begins one, or one byte.
+/// The first piece, where there is a byte: a sequence of the table, or else the longest front that
+/// begins one, or one byte.
 pub fn first_piece(bytes: &[u8]) -> Option<Piece<'_>> {
     if bytes.is_empty() {
         return None;

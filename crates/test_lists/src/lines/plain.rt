@@ -1,6 +1,8 @@
-//! Whole lines, read plainly: word by word, and what a word leaves open for the next one is kept beside them.
+//! Whole lines, read plainly: word by word, and what a word leaves open for the next one is kept
+//! beside them.
 //!
-//! It is written from the rules alone, to be compared with `read_items`, and calls nothing of what that stands on.
+//! It is written from the rules alone, to be compared with `read_items`, and calls nothing of what
+//! that stands on.
 use crate::lines::pieces::{first_piece, lossy, push_quoted};
 use lexopt::OsString;
 use lexopt::items::{Item, Table};

@@ -47,7 +47,8 @@ impl<'i> ReadLists<'i> {
         Ok(ReadLists { items, read })
     }
 
-    // The number of a list of at most three, if each of it is one of the items. No two lists have one number.
+    // The number of a list of at most three, if each of it is one of the items. No two lists have
+    // one number.
     fn number(&self, list: &[Item]) -> Option<usize> {
         if list.len() > MOST_ITEMS {
             return None;
