@@ -69,7 +69,7 @@ class Answer:
 
 
 def answers_of(text):
-    """The answers that stand after one another."""
+    """The answers, one after another."""
     found = []
     for letter, fields, message in re.findall(r'([A-Z-])((?::[0-9a-f]*)*)("[0-9a-f]*)?', text.decode()):
         fields = tuple(bytes.fromhex(field) for field in fields.split(":")[1:])

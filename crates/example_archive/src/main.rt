@@ -1,5 +1,5 @@
-//! A whole line by a table of options: `example_archive [-v|--verbose] [-o|--output=FILE]
-//! [-b[SUFFIX]|--backup[=SUFFIX]] [-x|--exclude PATTERN..] [FILE]..`.
+//! A whole line by a table of options: `example_archive OPTION.. [FILE]..`, with the options
+//! `-v|--verbose`, `-o|--output=FILE`, `-b[SUFFIX]|--backup[=SUFFIX]` and `-x|--exclude PATTERN..`.
 //!
 //! It packs nothing: it prints what it has read, quoted. A word may be of any bytes.
 //!

@@ -1,5 +1,5 @@
-//! Passes its line on, with one option changed: `example_forward [-v|--verbose] [-j|--jobs=N]
-//! [--color[=WHEN]] [-x|--exclude PATTERN..] [FILE]..`.
+//! Passes its line on, with one option changed: `example_forward OPTION.. [FILE]..`, with the
+//! options `-v|--verbose`, `-j|--jobs=N`, `--color[=WHEN]` and `-x|--exclude PATTERN..`.
 //!
 //! It prints the words that another program is to be called with, each quoted for a POSIX shell.
 //! They say what its own line said, but for `--color`, which says `always`: what the other program

@@ -1,5 +1,5 @@
-//! Reads its own options, and passes the rest of the line on unchanged: `example_timeout
-//! [-s|--signal=NAME] [-k|--kill-after=SECONDS] SECONDS COMMAND [ARG]..`, as of `timeout`.
+//! Reads its own options, and passes the rest of the line on unchanged, as `timeout` does:
+//! `example_timeout [-s|--signal=NAME] [-k|--kill-after=SECONDS] SECONDS COMMAND [ARG]..`.
 //!
 //! It starts no command: it prints what it has read, and then each word that the command would be
 //! started with, quoted. A word may be of any bytes.

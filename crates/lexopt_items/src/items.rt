@@ -360,10 +360,11 @@ fn error_of(ending: Ending) -> Result<Vec<Item>, Error>
 ///
 /// Under a table with `o` and `out` of one value, `color` of a value that may be left out, and `d`
 /// of several, the words `-vo=x --out y --color=z -d 1 2 -- file` give `Short('v', None)`,
-/// `Short('o', Some(x))`, `Long("out", Some(y))`, `Long("color", Some(z))`, `ShortMany('d', [1,
-/// 2])` and `Positional(file)`. The switch says whether `=` in a cluster stands between an option
-/// and its value. The forms are those that lexopt documents; `docs/behaviour.md` has them all. A
-/// damaged piece of an option's name is read, and looked up, as U+FFFD.
+/// `Short('o', Some(x))`, `Long("out", Some(y))`, `Long("color", Some(z))`,
+/// `ShortMany('d', [1, 2])` and `Positional(file)`. The switch says whether `=` in a cluster stands
+/// between an option and its value. The forms are those that lexopt documents;
+/// `docs/behaviour.md` has them all. A damaged piece of an option's name is read, and looked up, as
+/// U+FFFD.
 ///
 /// Errors, each of which ends the reading: `MissingValue` where an option of one value has none and
 /// no word is left, or one of several values has none; `UnexpectedValue` where an option that the

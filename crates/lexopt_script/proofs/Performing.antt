@@ -39,7 +39,7 @@ error_text : (e : Error) (final : Reply) → error_reply e ≡ Some final → (c
 error_text e final is = subst (λ (o : Option Reply). MatchOption o (Unit {0}) (λ r. (codes "error: " ++ message e ≡ reply_text r) × (r ≢ end))) is (error_texts e)
 
 pub answer_written : (t : spec.Table) (on : Bool) (words : List (List ℕ)) (answer : Result (Vec Item Global) Error)
-    → IfOk answer (λ items. IsReading t (start on words) end (map item_view items.items)) → IfErr answer (λ e. IsRefused t (start on words) e)
+    → IfOk answer (λ items. IsReading t (start on words) end (map item_view items.items)) → IfErr answer (λ e. FailsWith t (start on words) e)
     → WholeLineText t on words (answer_text answer)
 answer_written t on words (Ok items) reading refused = items_read (map item_view items.items) reading refl
 answer_written t on words (Err e) reading (inl none) = memory_refused (ap (λ x. codes "error: " ++ message x) none)

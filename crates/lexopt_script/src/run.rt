@@ -158,8 +158,8 @@ fn output(alloc: Global, script: &[u8]) -> Result<String, RunError>
 /// for each whole line.
 ///
 /// The words `--out=x`, `file` and the calls `next`, `value`, `next` write `Long "out"`, `"x"` and
-/// `Value "file"`. With the line `t --out` before them, `items` writes `[Long "out" = "x", Value
-/// "file"]`.
+/// `Value "file"`. With the line `t --out` before them, `items` writes
+/// `[Long "out" = "x", Value "file"]`.
 ///
 /// Errors: `TooLong` where more bytes were read than a script may have, `BadLine` with the number
 /// of the first bad line, `ReadFailed`, `NoMemory` where a growth outside the calls of the parser

@@ -51,8 +51,8 @@ use Rattle.std.specs.Option.{option_map}
 use Rattle.lexopt_calls.specs.Replies.{reply_view}
 use Rattle.lexopt_calls.specs.contracts.reply.Reply as Reply-type
 use Rattle.lexopt_calls.proofs.reply.Reply.TheLaws as Reply-laws
-use Rattle.lexopt_calls.specs.contracts.replay.copied as copied
-use Rattle.lexopt_calls.proofs.replay.copied.Met.{met as copied_met}
+use Rattle.lexopt_calls.specs.contracts.replay.copy_reply as copied
+use Rattle.lexopt_calls.proofs.replay.copy_reply.Met.{met as copied_met}
 use Rattle.lexopt_calls.specs.contracts.replay.call_next as f
 use Rattle.lexopt_calls.proofs.replay.call_next.Statement.{statement}
 use Rattle.lexopt_calls.proofs.replay.call_next.Code as code
@@ -111,7 +111,7 @@ call_next_spec 𝓤 𝓛 𝓜 𝓡 wired =
     let zc : C.Ghost = (((α ∷ [], tt), (full_share, tt), tt, (al, (y, tt)), (va ∷ [], (u ∷ [], tt))), tt) in
     nothing ! $ move ! (1 ∷ 0 ∷ []) $ join ! $ move ! (5 ∷ 0 ∷ []) $ join ! $ nothing ! $ move ! (2 ∷ 0 ∷ []) $ join ! $ join ! $
     nothing ! $ move ! (1 ∷ 0 ∷ []) $ use2 𝓛 (raw (C.pre zc)) (id⊢ 𝓤 _) $
-    calls_at ! (framed 𝓤 𝓛.H 𝓜 (tables 𝓤 𝓛.H 𝓜 𝓡 𝓡.env)) C (copied_met 𝓤 𝓛 𝓜 𝓡 (code.calls-lexopt_calls::replay::copied 𝓡.env wired)) zc
+    calls_at ! (framed 𝓤 𝓛.H 𝓜 (tables 𝓤 𝓛.H 𝓜 𝓡 𝓡.env)) C (copied_met 𝓤 𝓛 𝓜 𝓡 (code.calls-lexopt_calls::replay::copy_reply 𝓡.env wired)) zc
     (and_then ! (get ! refl) (and_then ! (get ! refl) (no_more !))) (λ v.
     use1 𝓛 (later (some (λ (t : Tr.Denot). ((‵ (flft (α ∷ []) full_share) ⊛ ‵ ftrue) ⊛ ‵ (Tr.own_val t (v ∷ []))) ⊛
     some (λ (ws : Lasts copied.ended zc.0.0 zc.0.3). ‵ (lasts copied.ended zc.0.0 zc.0.3 ws) ⊛ raw (fact 𝓤 (IfOk t (λ x. option_map reply_view x ≡ next_reply y))))))) (id⊢ 𝓤 _) $

@@ -7,9 +7,9 @@ use Rattle.lexopt_base.specs.Replies.{RepliesWith}
 use Rattle.lexopt_calls.proofs.Views.{raw_made}
 use Rattle.lexopt_calls.proofs.replay.call_raw.Goals as goal
 
-pub returns-in_err-words_of-in-Ok : goal.returns-in_err-words_of-in-Ok
-returns-in_err-words_of-in-Ok c =
-    let h = c.in_err-words_of-in-Ok.ensures.items in
+pub returns-in_err-take_words-in-Ok : goal.returns-in_err-take_words-in-Ok
+returns-in_err-take_words-in-Ok c =
+    let h = c.in_err-take_words-in-Ok.ensures.items in
     let made = raw_made h.0 c.args.parser.now c.in-Ok.view.parser.now _ h.1 c.in-Ok.ensures.nothing_pending c.in-Ok.ensures.unchanged h.3 in (
       h.0,
       Some (items h.1),
@@ -18,9 +18,9 @@ returns-in_err-words_of-in-Ok c =
       IfOk-from_err c.from_residual.result _ c.from_residual.ensures.0,
     )
 
-pub returns-in_ok-words_of-in-Ok : goal.returns-in_ok-words_of-in-Ok
-returns-in_ok-words_of-in-Ok c =
-    let h = c.in_ok-words_of-in-Ok.ensures.items in
+pub returns-in_ok-take_words-in-Ok : goal.returns-in_ok-take_words-in-Ok
+returns-in_ok-take_words-in-Ok c =
+    let h = c.in_ok-take_words-in-Ok.ensures.items in
     let made = raw_made h.0 c.args.parser.now c.in-Ok.view.parser.now _ h.1 c.in-Ok.ensures.nothing_pending c.in-Ok.ensures.unchanged h.3 in (
       h.0,
       Some (items h.1),

@@ -6,9 +6,9 @@ use Rattle.lexopt_spec.specs.Runs.{Step, try_raw}
 use Rattle.lexopt_calls.proofs.Views.{try_raw_made, busy_made}
 use Rattle.lexopt_calls.proofs.replay.call_try_raw.Goals as goal
 
-pub returns-in_err-words_of-in-Some : goal.returns-in_err-words_of-in-Some
-returns-in_err-words_of-in-Some c =
-    let h = c.in_err-words_of-in-Some.ensures.items in
+pub returns-in_err-take_words-in-Some : goal.returns-in_err-take_words-in-Some
+returns-in_err-take_words-in-Some c =
+    let h = c.in_err-take_words-in-Some.ensures.items in
     let made = try_raw_made h.0 c.args.parser.now c.in-Some.view.parser.now _ h.1 (c.in-Some.ensures.nothing_pending.0 refl) c.in-Some.ensures.unchanged h.3 in (
       h.0,
       items h.1,
@@ -17,9 +17,9 @@ returns-in_err-words_of-in-Some c =
       IfOk-from_err c.from_residual.result _ c.from_residual.ensures.0,
     )
 
-pub returns-in_ok-words_of-in-Some : goal.returns-in_ok-words_of-in-Some
-returns-in_ok-words_of-in-Some c =
-    let h = c.in_ok-words_of-in-Some.ensures.items in
+pub returns-in_ok-take_words-in-Some : goal.returns-in_ok-take_words-in-Some
+returns-in_ok-take_words-in-Some c =
+    let h = c.in_ok-take_words-in-Some.ensures.items in
     let made = try_raw_made h.0 c.args.parser.now c.in-Some.view.parser.now _ h.1 (c.in-Some.ensures.nothing_pending.0 refl) c.in-Some.ensures.unchanged h.3 in (
       h.0,
       items h.1,
