@@ -63,6 +63,7 @@ enum Found {
 }
 
 /// A command line of which some is read. Contracts see it as its unread line.
+#[derive(Drop)]
 pub struct Parser {
     alloc: Global,
     words: KeptWords,
@@ -527,23 +528,6 @@ impl Clone for Parser {
             short_equals: self.short_equals,
             bin_name,
         })
-    }
-}
-
-// Written out: a caller's proof then passes each drop in one step, where a derived one shows it
-// every field.
-impl Drop for Parser {
-    #[inline(always)]
-    fn drop(self) {
-        let Parser {
-            alloc: _alloc,
-            words: _words,
-            state: _state,
-            last_option: _last_option,
-            name: _name,
-            short_equals: _short_equals,
-            bin_name: _bin_name,
-        } = self;
     }
 }
 
