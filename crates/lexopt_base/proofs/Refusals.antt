@@ -2,13 +2,14 @@
 use Rattle.std.proofs.Common.{◌≡◌, ℕ, Bool, true, false, List, [], ◌∷◌, Option, Some, None, IsSome, string_bytes, refl, sym, ap, subst, ◌∙◌, inl, inr}
 use Rattle.lexopt_spec.specs.UnreadLine.{UnreadLine, no_tail, spelling, pending, IsPlain}
 use Rattle.lexopt_spec.specs.Views.{RawStep, refuses_pending}
-use Rattle.lexopt_spec.specs.Steps.{Reply, unexpected, no_memory, Answers, Next, NextStep, TakesMemory, ReadsPositional, no_word_left, word_left, ReadsWord, reads_positional}
+use Rattle.lexopt_spec.specs.Steps.{Reply, missing, unexpected, no_memory, Answers, Next, NextStep, TakesMemory, ReadsPositional, no_word_left, word_left, ReadsWord, reads_positional}
 use Rattle.lexopt_spec.proofs.LineLemmas.{refuses_joined, answers_map}
-use Rattle.lexopt_base.specs.Replies.{RepliesWith}
-use Rattle.lexopt_base.specs.Helpers.{IsJoined, RefusesPending}
-use Rattle.lexopt_base.specs.Found.{refusal_reply}
-use Rattle.lexopt_base.specs.declared.parser.Refusal.{Refusal}
-use Rattle.lexopt_base.specs.declared.parser.Refusal.TheVariants.{UnexpectedValue, OutOfMemory}
+use Rattle.lexopt_words.specs.declared.error.Error.{Error}
+use Rattle.lexopt_words.specs.declared.error.Error.TheVariants as error
+use Rattle.lexopt_base.specs.Replies.{RepliesWith, error_reply}
+use Rattle.lexopt_base.specs.Refusals.{IsErrorOf, IsMissing, RefusesPending, refusal_reply}
+use Rattle.lexopt_base.specs.declared.refusal.Refusal.{Refusal}
+use Rattle.lexopt_base.specs.declared.refusal.Refusal.TheVariants.{MissingValue, UnexpectedValue, OutOfMemory}
 
 -- a call that was refused memory changes nothing, where its step would have made a text
 pub refused : (Step : UnreadLine → Reply → UnreadLine → Type 0) (u : UnreadLine) (wanted : Reply) (there : UnreadLine) → Step u wanted there → TakesMemory wanted
@@ -20,27 +21,23 @@ pub some_of : {A : Type 0} (o : Option A) → IsSome o → (x : A) × (o ≡ Som
 some_of None is = let f : false ≡ true = is in cc
 some_of (Some x) is = (x, refl)
 
-joined_of : (p : Option (List ℕ × Bool)) → IsJoined p → (value : List ℕ) × (p ≡ Some (value, true))
-joined_of None is = absurd is
-joined_of (Some value) is = (value.0, ap (λ (b : Bool). Some (value.0, b)) is)
-
-flag_of : Option (List ℕ × Bool) → List ℕ
-flag_of None = []
-flag_of (Some value) = value.0
+value_of : Option (List ℕ × Bool) → List ℕ
+value_of None = []
+value_of (Some value) = value.0
 
 -- `next` refuses a value that is joined by `=`
-pub refuses : (u v : UnreadLine) (refusal : Refusal) → IsJoined (pending u) → RefusesPending u refusal v → RepliesWith Next u (Some (refusal_reply refusal)) v
-unfolding joined_of flag_of
-refuses u v (UnexpectedValue option value) is h =
-    let found = joined_of (pending u) is in
-    let same : found.0 ≡ value = ap flag_of (sym found.1 ∙ h.1.1) in
-    let step = refuses_joined u value (string_bytes option) (found.1 ∙ ap (λ (l : List ℕ). Some (l, true)) same) h.0 in
+pub refuses : (u v : UnreadLine) (known : List ℕ) (refusal : Refusal) → pending u ≡ Some (known, true) → RefusesPending u refusal v
+    → RepliesWith Next u (Some (refusal_reply refusal)) v
+unfolding value_of
+refuses u v known (MissingValue option) is h = absurd h
+refuses u v known (UnexpectedValue option value) is h =
+    let same : known ≡ value = ap value_of (sym is ∙ h.1.1) in
+    let step = refuses_joined u value (string_bytes option) (is ∙ ap (λ (l : List ℕ). Some (l, true)) same) h.0 in
     inl (subst (λ (x : UnreadLine). NextStep u (unexpected (string_bytes option) value) x) (sym h.1.2) step)
-refuses u v OutOfMemory is h =
-    let found = joined_of (pending u) is in
+refuses u v known OutOfMemory is h =
     let option = some_of (spelling u.last) h.1 in
-    let step = refuses_joined u found.0 option.0 found.1 option.1 in
-    inr (record { reply_is = refl; after_is = h.0; in_place_of = (unexpected option.0 found.0, record u { tail = no_tail }, step, tt) })
+    let step = refuses_joined u known option.0 is option.1 in
+    inr (record { reply_is = refl; after_is = h.0; in_place_of = (unexpected option.0 known, record u { tail = no_tail }, step, tt) })
 
 -- what a helper's relation gives, the call's relation gives
 pub gives_map : (S T : UnreadLine → Reply → UnreadLine → Type 0) (u : UnreadLine) → ((r : Reply) (v : UnreadLine) → S u r v → T u r v)
@@ -65,9 +62,27 @@ positional_read u word others r v some plain (word_left w ws is reply after) =
 -- `raw_args` refuses what is pending, whatever would have been asked of the words
 pub refuses_raw : (Taken : UnreadLine → Reply → UnreadLine → Type 0) (u v : UnreadLine) (refusal : Refusal) → RefusesPending u refusal v
     → RepliesWith (Answers (RawStep Taken)) u (Some (refusal_reply refusal)) v
+refuses_raw Taken u v (MissingValue option) h = absurd h
 refuses_raw Taken u v (UnexpectedValue option value) h = inl (refuses_pending value (string_bytes option) h.1.0 h.1.1 h.0 refl h.1.2)
 refuses_raw Taken u v OutOfMemory h =
     let option = some_of (spelling u.last) h.1 in
     let found = some_of (pending u) h.2 in
     let step = refuses_pending found.0.0 option.0 found.0.1 found.1 option.1 refl refl in
     inr (record { reply_is = refl; after_is = h.0; in_place_of = (unexpected option.0 found.0.0, record u { tail = no_tail }, step, tt) })
+
+-- the error says the refusal
+pub error_said : (refusal : Refusal) (e : Error) → IsErrorOf refusal e → error_reply e ≡ Some (refusal_reply refusal)
+error_said (MissingValue None) e is = ap error_reply is
+error_said (MissingValue (Some option)) e is = ap error_reply is
+error_said (UnexpectedValue option value) e is = ap error_reply is
+error_said OutOfMemory e is = ap error_reply is
+
+-- a call for values finds none
+pub none_left : (Step : UnreadLine → Reply → UnreadLine → Type 0) (u : UnreadLine) (e : Error) → Step u (missing (spelling u.last)) u → IsMissing u.last e
+    → RepliesWith (Answers Step) u (error_reply e) u
+none_left Step u (error.MissingValue None) step is = inl (subst (λ (o : Option (List ℕ)). Step u (missing o) u) (sym is) step)
+none_left Step u (error.MissingValue (Some option)) step is = inl (subst (λ (o : Option (List ℕ)). Step u (missing o) u) (sym is) step)
+none_left Step u error.OutOfMemory step is =
+    let option = some_of (spelling u.last) is in
+    refused Step u (missing (Some option.0)) u (subst (λ (o : Option (List ℕ)). Step u (missing o) u) option.1 step) tt
+none_left Step u e step is = absurd is

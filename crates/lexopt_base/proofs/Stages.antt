@@ -9,8 +9,3 @@ pub on_is : (stage : Stage) → stage ≢ End → stage_of stage ≢ views.at_en
 on_is Start on is = let e : views.at_start ≡ views.at_end = is in cc
 on_is GoingOn on is = let e : views.going_on ≡ views.at_end = is in cc
 on_is End on is = on refl
-
-pub start_is : (stage : Stage) → stage_of stage ≡ views.at_start → stage ≡ Start
-start_is Start is = refl
-start_is GoingOn is = absurd (let e : views.going_on ≡ views.at_start = is in cc)
-start_is End is = absurd (let e : views.at_end ≡ views.at_start = is in cc)

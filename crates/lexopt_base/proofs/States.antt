@@ -1,18 +1,18 @@
 -- What the states of a parser stand for.
-use Rattle.std.proofs.Common.{◌≡◌, ◌≢◌, ◌⊎◌, ℕ, zero, suc, ◌+◌, ◌-◌, get_or, ◌<◌, ◌≤◌, ◌==◌, ◌&&◌, Bool, true, false, List, [], ◌∷◌, length, drop, Option, Some, None, IsSome, refl, sym, ap, subst, ◌∙◌, arith, ⊎_elim, true≢false, add-one, length-drop}
+use Rattle.std.proofs.Common.{◌≡◌, ◌≢◌, ℕ, zero, suc, ◌+◌, ◌-◌, get_or, ◌<◌, ◌≤◌, ◌==◌, ◌&&◌, Bool, true, false, List, [], ◌∷◌, length, drop, Option, Some, None, refl, sym, ap, ◌∙◌, arith, ⊎_elim, add-one, length-drop}
 use Rattle.std.proofs.lemmas.Bool.{cases_Bool, cond-true, cond-false, cases_lt}
 use Rattle.std.proofs.lemmas.List.{drop-drop, drop_all, get_or-drop}
 use Rattle.std.proofs.Math.Seq.{drop-cons}
-use Rattle.lexopt_spec.specs.UnreadLine.{UnreadLine, equals, Tail, no_tail, rest_of, pending, pending_in}
+use Rattle.lexopt_spec.specs.UnreadLine.{UnreadLine, equals, no_tail, rest_of, pending, pending_in}
 use Rattle.bstr.specs.Utf8.{decoded}
 use Rattle.lexopt_spec.specs.Pieces.{shown}
-use Rattle.lexopt_spec.specs.Steps.{Reply, long, maybe, OptionalStep, optional_pending, optional_none}
+use Rattle.lexopt_spec.specs.Steps.{Reply, long}
 use Rattle.lexopt_spec.proofs.LineLemmas.{rest_of-some, same_parts}
-use Rattle.lexopt_base.specs.KeptWords.{Kept, word_before, TakesNext}
+use Rattle.lexopt_base.specs.KeptWords.{Kept, word_before, last_bytes, TakesNext}
 use Rattle.lexopt_base.specs.Models.{tail_of, ended_of, last_of, line_of, IsPlaced, IsShortRead}
 use Rattle.lexopt_base.specs.Found.{name_of}
 use Rattle.lexopt_spec.specs.Views.{WordItem}
-use Rattle.lexopt_base.specs.Helpers.{IsJoined, TakesPending}
+use Rattle.lexopt_base.specs.Refusals.{HasPending, TakesPending}
 use Rattle.lexopt_base.specs.declared.parser.State.{State}
 use Rattle.lexopt_base.specs.declared.parser.State.TheVariants.{Ready, PendingValue, Shorts, FinishedOpts}
 use Rattle.lexopt_base.specs.declared.parser.LastOption.{LastOption}
@@ -80,52 +80,66 @@ word_taken p u (Some word) after seen placed none takes = (
       (ap (λ (l : UnreadLine). l.ended) seen) (ap (λ (l : UnreadLine). l.last) seen) (ap (λ (l : UnreadLine). l.short_equals) seen) (ap (λ (l : UnreadLine). l.bin_name) seen),
 )
 
+-- ---- what is pending
+
+abbrev value_in : Option (List ℕ × Bool) → List ℕ
+value_in None = []
+value_in (Some p) = p.0
+
+abbrev pub flag_in : Option (List ℕ × Bool) → Bool
+flag_in None = false
+flag_in (Some p) = p.1
+
+-- the value in the rest of a cluster is what it ends with
+rest_ends : (short_equals : Bool) (bytes value : List ℕ) (by_equals : Bool) → pending_in short_equals (rest_of bytes) ≡ Some (value, by_equals)
+    → (k : ℕ) × (k ≤ length bytes) × (value ≡ drop k bytes)
+rest_ends short_equals [] value by_equals is = absurd (let e : None ≡ Some (value, by_equals) = is in cc)
+rest_ends short_equals (b ∷ bs) value by_equals is = ⊎_elim
+    (λ (yes : (short_equals && b == equals) ≡ true).
+    (1, omega arith, sym (ap value_in (sym (cond-true _ (Some (bs, true)) (Some (b ∷ bs, false)) yes) ∙ is))))
+    (λ (no : (short_equals && b == equals) ≡ false).
+    (0, omega arith, sym (ap value_in (sym (cond-false _ (Some (bs, true)) (Some (b ∷ bs, false)) no) ∙ is))))
+    (cases_Bool (short_equals && b == equals))
+
+-- what is pending is what the word before the cursor ends with
+abbrev Ends : List ℕ → State → List ℕ → Type 0
+Ends word state value = (k : ℕ) × (k ≤ length word) × (value ≡ drop k word) × (0 < length word) × (ended_of state ≡ false)
+
+pending_ends : (short_equals : Bool) (word : List ℕ) (state : State) (value : List ℕ) (by_equals : Bool) → IsPlaced word state
+    → pending_in short_equals (tail_of word state) ≡ Some (value, by_equals) → Ends word state value
+pending_ends short_equals word Ready value by_equals placed is = absurd (let e : None ≡ Some (value, by_equals) = is in cc)
+pending_ends short_equals word FinishedOpts value by_equals placed is = absurd (let e : None ≡ Some (value, by_equals) = is in cc)
+pending_ends short_equals word (PendingValue position) value by_equals placed is =
+    (position, placed.1, sym (ap value_in is), omega (placed.0, placed.1, arith), refl)
+pending_ends short_equals word (Shorts position) value by_equals placed is =
+    let found = rest_ends short_equals (drop position word) value by_equals is in
+    (position + found.0, omega (found.1, length-drop position word, placed, arith), found.2 ∙ drop-drop found.0 position word, omega (placed, arith), refl)
+
+-- so it is the last bytes of that word
+last_is : (word value : List ℕ) (k count : ℕ) → k ≤ length word → value ≡ drop k word → length value ≡ count → last_bytes count word ≡ value
+last_is word value k count within is size =
+    let left : length value ≡ length word - k = ap length is ∙ length-drop k word in
+    ap (λ n. drop n word) (omega (within, left, size, arith)) ∙ sym is
+
+-- there are so many bytes to take
+pub within_word : (p : Inside) (u : UnreadLine) (count : ℕ) → line_of p ≡ u → IsPlaced p.words.current p.state → HasPending u count
+    → (p.words.current ≢ []) × (count ≤ length p.words.current)
+within_word p u count seen placed has =
+    let ends = pending_ends p.short_equals p.words.current p.state has.0 has.1 placed (ap pending seen ∙ has.2) in
+    let left : length has.0 ≡ length p.words.current - ends.0 = ap length ends.2 ∙ length-drop ends.0 p.words.current in
+    (λ none. let e : length p.words.current ≡ 0 = ap length none in omega (e, ends.3, arith), omega (left, has.3, ends.1, arith))
+
 -- a value is taken out of the word before the cursor
-pub value_taken : (p : Inside) (u : UnreadLine) (value : List ℕ) (by_equals : Bool) (after : Kept) → line_of p ≡ u
-    → pending_in p.short_equals (tail_of p.words.current p.state) ≡ Some (value, by_equals) → ended_of p.state ≡ false → after.left ≡ p.words.left
-    → TakesPending u (Some value) (line_of (record p { words = after; state = Ready }))
-value_taken p u value by_equals after seen is running left = (
-  by_equals,
-  ap pending (sym seen) ∙ is,
-  same_parts _ _ refl (left ∙ ap (λ (l : UnreadLine). l.words) seen) (sym running ∙ ap (λ (l : UnreadLine). l.ended) seen)
-      (ap (λ (l : UnreadLine). l.last) seen) (ap (λ (l : UnreadLine). l.short_equals) seen) (ap (λ (l : UnreadLine). l.bin_name) seen),
-)
-
--- ---- values in clusters
-
-pub joined_rest : (switch : Bool) (bytes : List ℕ) → IsJoined (pending_in switch (rest_of bytes)) → pending_in switch (rest_of bytes) ≡ Some (drop 1 bytes, true)
-joined_rest switch [] is = absurd is
-joined_rest switch (b ∷ bs) is = ⊎_elim
-    (λ (yes : (switch && b == equals) ≡ true). cond-true _ _ _ yes)
-    (λ (no : (switch && b == equals) ≡ false). absurd (true≢false (sym (subst IsJoined (cond-false _ (Some (bs, true)) (Some (b ∷ bs, false)) no) is))))
-    (cases_Bool (switch && b == equals))
-
-pub unjoined_rest : (switch : Bool) (bytes : List ℕ) → 0 < length bytes → (IsJoined (pending_in switch (rest_of bytes)) → ⊥) → pending_in switch (rest_of bytes) ≡ Some (bytes, false)
-unjoined_rest switch [] some not = absurd (omega arith)
-unjoined_rest switch (b ∷ bs) some not = ⊎_elim
-    (λ (yes : (switch && b == equals) ≡ true). absurd (not (subst IsJoined (sym (cond-true _ (Some (bs, true)) (Some (b ∷ bs, false)) yes)) refl)))
-    (λ (no : (switch && b == equals) ≡ false). cond-false _ _ _ no)
-    (cases_Bool (switch && b == equals))
-
-pub some_rest : (switch : Bool) (bytes : List ℕ) → 0 < length bytes → IsSome (pending_in switch (rest_of bytes))
-some_rest switch [] some = absurd (omega arith)
-some_rest switch (b ∷ bs) some = ⊎_elim
-    (λ (yes : (switch && b == equals) ≡ true). subst IsSome (sym (cond-true _ (Some (bs, true)) (Some (b ∷ bs, false)) yes)) refl)
-    (λ (no : (switch && b == equals) ≡ false). subst IsSome (sym (cond-false _ (Some (bs, true)) (Some (b ∷ bs, false)) no)) refl)
-    (cases_Bool (switch && b == equals))
-
--- a state with a tail has a value
-pub some_pending : (p : Inside) (u : UnreadLine) → line_of p ≡ u → IsPlaced p.words.current p.state
-    → ((position : ℕ) × (p.state ≡ PendingValue position)) ⊎ ((position : ℕ) × (p.state ≡ Shorts position)) → IsSome (pending u)
-some_pending p u seen placed is = ⊎_elim
-    (λ (joined : (position : ℕ) × (p.state ≡ PendingValue position)).
-    subst IsSome (sym (ap (λ (s : State). pending_in p.short_equals (tail_of p.words.current s)) joined.1) ∙ ap pending seen) refl)
-    (λ (cluster : (position : ℕ) × (p.state ≡ Shorts position)).
-    let below : cluster.0 < length p.words.current = subst (λ (s : State). IsPlaced p.words.current s) cluster.1 placed in
-    let some : 0 < length (drop cluster.0 p.words.current) = omega (arith, length-drop cluster.0 p.words.current) in
-    subst IsSome (sym (ap (λ (s : State). pending_in p.short_equals (tail_of p.words.current s)) cluster.1) ∙ ap pending seen)
-    (some_rest p.short_equals (drop cluster.0 p.words.current) some))
-    is
+pub value_taken : (p : Inside) (u : UnreadLine) (count : ℕ) (result : List ℕ) (after : Kept) → line_of p ≡ u → IsPlaced p.words.current p.state → HasPending u count
+    → result ≡ last_bytes count p.words.current → after.left ≡ p.words.left → TakesPending u result (line_of (record p { words = after; state = Ready }))
+value_taken p u count result after seen placed has is left =
+    let ends = pending_ends p.short_equals p.words.current p.state has.0 has.1 placed (ap pending seen ∙ has.2) in
+    let same : result ≡ has.0 = is ∙ last_is p.words.current has.0 ends.0 count ends.1 ends.2 has.3 in (
+      has.1,
+      has.2 ∙ ap (λ (v : List ℕ). Some (v, has.1)) (sym same),
+      same_parts _ _ refl (left ∙ ap (λ (l : UnreadLine). l.words) seen) (sym ends.4 ∙ ap (λ (l : UnreadLine). l.ended) seen)
+          (ap (λ (l : UnreadLine). l.last) seen) (ap (λ (l : UnreadLine). l.short_equals) seen) (ap (λ (l : UnreadLine). l.bin_name) seen),
+    )
 
 -- ---- names
 
@@ -156,10 +170,3 @@ short_read_out word at size c shows takes out = record {
   ended = refl;
   placed = tt;
 }
-
--- ---- values that are asked for
-
--- what is pending is taken, as `optional_value` answers
-pub optional_taken : (u : UnreadLine) (result : Option (List ℕ)) (after : UnreadLine) → TakesPending u result after → OptionalStep u (maybe result) after
-optional_taken u None after takes = optional_none (ap (λ (t : Tail). pending_in u.short_equals t) takes.0) refl takes.1
-optional_taken u (Some value) after takes = optional_pending value takes.0 takes.1 refl takes.2

@@ -1,11 +1,11 @@
 -- What the parser found, as a reply. No public clause cites this file.
-use Rattle.std.specs.Prelude.{Option, Some, None, Result, Ok, Err, string_bytes}
+use Rattle.std.specs.Prelude.{Option, Some, None, Result, Ok, Err}
 use Rattle.lexopt_spec.specs.UnreadLine.{LastOption, no_option, short_option, long_option}
-use Rattle.lexopt_spec.specs.Steps.{Reply, short, long, positional, end, unexpected, no_memory}
+use Rattle.lexopt_spec.specs.Steps.{Reply, short, long, positional, end}
 use Rattle.lexopt_base.specs.declared.parser.Found.{Found}
 use Rattle.lexopt_base.specs.declared.parser.Found.TheVariants as found
-use Rattle.lexopt_base.specs.declared.parser.Refusal.{Refusal}
-use Rattle.lexopt_base.specs.declared.parser.Refusal.TheVariants.{UnexpectedValue, OutOfMemory}
+use Rattle.lexopt_base.specs.declared.refusal.Refusal.{Refusal}
+use Rattle.lexopt_base.specs.Refusals.{refusal_reply}
 
 -- the name that stands as the last option, if that is a long one
 abbrev pub name_of : LastOption → Option Reply
@@ -20,11 +20,7 @@ found_as last found.Long = name_of last
 found_as last (found.Value word) = Some (positional word)
 found_as last found.End = Some end
 
--- why nothing was found, as a reply
-abbrev pub refusal_reply : Refusal → Reply
-refusal_reply (UnexpectedValue option value) = unexpected (string_bytes option) value
-refusal_reply OutOfMemory = no_memory
-
+-- the same, or why nothing was found
 abbrev pub found_reply : LastOption → Result Found Refusal → Option Reply
 found_reply last (Ok f) = found_as last f
 found_reply last (Err refusal) = Some (refusal_reply refusal)

@@ -1,5 +1,6 @@
 -- Words with a cursor: how they are seen, and what is taken of them.
-use Rattle.std.specs.Prelude.{◌≡◌, ◌≤◌, ℕ, zero, suc, List, [], ◌∷◌, drop, slice_index_or, vec_len}
+use Rattle.std.specs.Prelude.{◌≡◌, ◌≤◌, ◌-◌, ℕ, zero, suc, List, [], ◌∷◌, drop, length}
+use Rattle.std.specs.Prelude.{slice_index_or, vec_len}
 use Rattle.std.specs.Prelude.{Option, Some, None}
 use Rattle.lexopt_base.specs.declared.kept_words.KeptWords.TheInside.{Inside}
 
@@ -32,3 +33,7 @@ IsFirst (Some word) words = (others : List (List ℕ)) × (words ≡ word ∷ ot
 abbrev pub TakesNext : Kept → Option (List ℕ) → Kept → Type 0
 TakesNext kept None after = (kept.left ≡ []) × (after ≡ kept)
 TakesNext kept (Some word) after = kept.left ≡ word ∷ after.left
+
+-- the last `count` bytes of a word
+abbrev pub last_bytes : ℕ → List ℕ → List ℕ
+last_bytes count word = drop (length word - count) word

@@ -1,8 +1,9 @@
 pub mod KeptWords
 pub mod Models
 pub mod Replies
+pub mod Refusals
 pub mod Found
-pub mod Helpers
+pub mod Pending
 pub mod Ends
 pub mod Stages
 pub mod Views

@@ -22,14 +22,14 @@ GivesValue view item after =
     × ValueItem (stage_of view.stage) view.parser.now item after.parser.now (stage_of after.stage)
 
 -- this error is what `values` answers, however many items would have been asked
-abbrev pub RefusesValues : UnreadLine → Error → UnreadLine → Type 0
-RefusesValues u e after = (n : ℕ) → RepliesWith (Step (values n)) u (error_reply e) after
+abbrev pub ValuesFailsWith : UnreadLine → Error → UnreadLine → Type 0
+ValuesFailsWith u e after = (n : ℕ) → RepliesWith (Step (values n)) u (error_reply e) after
 
 -- after an error the line is the one that goes with it, else the one that the view leaves
 abbrev pub RestsIfRefused : MutBor UnreadLine → Result ValuesIter Error → Fml
 RestsIfRefused parser result =
     RestsIfErr the_row parser (λ view. view.parser.ghost_name) result (λ after.
-    IfErr result (λ e. RefusesValues parser.now e after))
+    IfErr result (λ e. ValuesFailsWith parser.now e after))
 
 -- ---- `raw_args` and `try_raw_args`
 
@@ -40,15 +40,15 @@ GivesWord view item after =
     × WordItem view.parser.now item after.parser.now
 
 -- this error is what `raw_args` answers, whatever would have been asked of the words
-abbrev pub RefusesRaw : UnreadLine → Error → UnreadLine → Type 0
-RefusesRaw u e after =
+abbrev pub RawFailsWith : UnreadLine → Error → UnreadLine → Type 0
+RawFailsWith u e after =
     ((n : ℕ) → RepliesWith (Step (raw n)) u (error_reply e) after)
     × ((word : List ℕ) → RepliesWith (Step (raw_if word)) u (error_reply e) after)
 
 abbrev pub RestsIfRawRefused : MutBor UnreadLine → Result RawArgs Error → Fml
 RestsIfRawRefused parser result =
     RestsIfErr the_row parser (λ view. view.parser.ghost_name) result (λ after.
-    IfErr result (λ e. RefusesRaw parser.now e after))
+    IfErr result (λ e. RawFailsWith parser.now e after))
 
 -- with no view the line is as it was, else the one that the view leaves
 abbrev pub RestsIfBusy : MutBor UnreadLine → Option RawArgs → Fml

@@ -1,11 +1,10 @@
 //! The words of a command line, in one vector that is kept.
 //!
 //! Reading moves a cursor over the words. A word that is handed out is taken out whole, and an
-//! empty one stays in its place, so handing it out takes no memory. No word moves but the one just
-//! before the cursor, where the word after it is taken first.
+//! empty one stays in its place, so handing it out allocates nothing. No word moves.
 ghost use Rattle.std.specs.Prelude.{◌≡◌, ◌≢◌, ◌≤◌, ◌∷◌, [], IfOk, Some, drop, length, vec_len};
 ghost use Rattle.std.specs.Prelude.{option_map};
-ghost use Rattle.lexopt_base.specs.KeptWords.{IsFirst, TakesNext};
+ghost use Rattle.lexopt_base.specs.KeptWords.{IsFirst, TakesNext, last_bytes};
 
 use lexopt_words::os_string::OsString;
 use lexopt_words::words::copies;
@@ -55,6 +54,16 @@ impl KeptWords {
         self.words[self.count - 1].as_bytes()
     }
 
+    /// The word just before the cursor, from this position on.
+    #[inline(always)]
+    pub fn tail(&self, position: usize) -> &[u8]
+        requires some { self.now.current ≢ [] }
+        requires within { position ≤ length self.now.current }
+        ensures { result.now ≡ drop position self.now.current }
+    {
+        &self.current()[position..]
+    }
+
     /// The word after the cursor.
     pub fn first(&self) -> Option<&OsString>
         ensures { IsFirst (option_map (λ word. word.now) result) self.now.left }
@@ -85,24 +94,6 @@ impl KeptWords {
         Some(word)
     }
 
-    /// Takes the word after the cursor; the word just before the cursor stays just before it.
-    #[inline(always)]
-    pub fn take_after(&mut self) -> Option<OsString>
-        requires { self.old.current ≢ [] }
-        ensures taken { TakesNext self.old result self.new }
-        ensures current { self.new.current ≡ self.old.current }
-    {
-        let place = self.count;
-        if place == self.words.len() {
-            return None;
-        }
-        let empty = OsString::new(self.alloc);
-        let current = mem::replace(&mut self.words[place - 1], empty);
-        let word = mem::replace(&mut self.words[place], current);
-        self.count = place + 1;
-        Some(word)
-    }
-
     /// The words after the cursor.
     pub fn left(&self) -> &[OsString]
         ensures { result.now ≡ self.now.left }
@@ -122,16 +113,17 @@ impl KeptWords {
         })
     }
 
-    /// Takes the word just before the cursor, without its first `count` bytes.
+    /// Takes the last `count` bytes of the word just before the cursor. Nothing is left of it.
     #[inline(always)]
-    pub fn take_current(&mut self, count: usize) -> OsString
+    pub fn take_tail(&mut self, count: usize) -> OsString
         requires some { self.old.current ≢ [] }
         requires within { count ≤ length self.old.current }
-        ensures value { result ≡ drop count self.old.current }
+        ensures value { result ≡ last_bytes count self.old.current }
         ensures left { self.new.left ≡ self.old.left }
     {
         let empty = OsString::new(self.alloc);
         let word = mem::replace(&mut self.words[self.count - 1], empty);
-        word.without_front(count)
+        let front = word.len() - count;
+        word.without_front(front)
     }
 }

@@ -16,4 +16,5 @@ mod kept_words;
 pub mod parser;
 pub mod prelude;
 pub mod raw;
+pub mod refusal;
 pub mod values;

@@ -1,12 +1,12 @@
 //! The parser: a command line of which some is read.
 ghost use Rattle.std.specs.Prelude.{◌≡◌, ◌≢◌, ◌↔◌, ◌⊎◌, ◌<◌, ◌≤◌, ℕ, List, [], ◌∷◌, Some, None};
-ghost use Rattle.std.specs.Prelude.{false, IsTrue, IsSome, IfOk, IfErr, OnErr, OnOk, codes, drop};
+ghost use Rattle.std.specs.Prelude.{false, IsTrue, IsSome, IfOk, IfErr, OnErr, OnOk, codes};
 ghost use Rattle.std.specs.Prelude.{length, string_bytes};
 ghost use Rattle.std.specs.Option.{option_map};
 ghost use Rattle.std.specs.Iterator.{IsFiniteIterable};
 ghost use Rattle.std.specs.Iterator.Runs.{WholeRun};
 ghost use Rattle.lexopt_spec.specs.Pieces.{lossy};
-ghost use Rattle.lexopt_spec.specs.UnreadLine.{IsNormalIn, dash, fresh, invoked, no_tail, pending};
+ghost use Rattle.lexopt_spec.specs.UnreadLine.{IsNormalIn, fresh, invoked, no_tail, pending};
 ghost use Rattle.lexopt_spec.specs.UnreadLine.{pending_in, rest_of, spelling};
 ghost use Rattle.lexopt_spec.specs.Steps.{Answers, Next, OptionalStep, Reply, Value};
 ghost use Rattle.lexopt_spec.specs.Steps.{ReadsPositional, ReadsWord, maybe};
@@ -14,11 +14,13 @@ ghost use Rattle.lexopt_base.specs.Replies.{CanReply, RepliesWith, next_reply, v
 ghost use Rattle.lexopt_base.specs.Found.{found_as, found_reply};
 ghost use Rattle.lexopt_words.specs.Message.{IsCustom};
 ghost use Rattle.lexopt_spec.specs.Views.{WordItem, available};
-ghost use Rattle.lexopt_base.specs.Helpers.{IsJoined, RefusesPending, TakesPending};
-ghost use Rattle.lexopt_base.specs.Views.{RefusesRaw, RefusesValues};
+ghost use Rattle.lexopt_base.specs.Refusals.{HasPending, IsMissing, RefusesPending, TakesPending};
+ghost use Rattle.lexopt_base.specs.Pending.{pending_view};
+ghost use Rattle.lexopt_base.specs.Views.{RawFailsWith, ValuesFailsWith};
 ghost use Rattle.lexopt_base.specs.Models.{IsLongRead, IsShortRead};
 
 use crate::kept_words::KeptWords;
+use crate::refusal::Refusal;
 use bstr::ByteSlice;
 use lexopt_words::codepoint::{codepoint_at, lossy_text};
 use lexopt_words::error::{Arg, Error};
@@ -60,6 +62,14 @@ enum Found {
     Long,
     Value(OsString),
     End,
+}
+
+// The value that is left of the word of the last option.
+#[derive(Clone, Copy)]
+pub(crate) struct Pending<'a> {
+    pub value: &'a [u8],
+    // Whether `=` joins it to its option.
+    pub is_joined: bool,
 }
 
 /// A command line of which some is read. Contracts see it as its unread line.
@@ -210,14 +220,14 @@ impl Parser {
     pub fn value(&mut self) -> Result<OsString, Error>
         ensures { RepliesWith Value self.old (value_reply result) self.new }
     {
-        if let Some(value) = self.take_pending() {
-            return Ok(value);
+        if let Some(pending) = self.pending() {
+            let count = pending.value.len();
+            return Ok(self.take_value(count));
         }
         if let Some(word) = self.take_word() {
             return Ok(word);
         }
-        let option = self.spelling()?;
-        Err(Error::MissingValue { option })
+        Err(self.missing_value())
     }
 
     /// Takes a value that belongs to the last option, if one is left of its word. It never takes
@@ -228,7 +238,8 @@ impl Parser {
     pub fn optional_value(&mut self) -> Option<OsString>
         ensures { OptionalStep self.old (maybe result) self.new }
     {
-        self.take_pending()
+        let count = self.pending()?.value.len();
+        Some(self.take_value(count))
     }
 
     // A parser of these words, the first of which is its name.
@@ -267,19 +278,24 @@ impl Parser {
     fn advance(&mut self) -> Result<Found, Refusal>
         ensures { RepliesWith Next self.old (found_reply self.new.last result) self.new }
     {
-        if self.has_joined_value() {
-            return Err(self.refuse_pending());
-        }
         match self.state {
             State::Ready => self.read_word(),
             State::FinishedOpts => Ok(self.read_positional()),
+            State::PendingValue(position) => {
+                let count = self.words.tail(position).len();
+                Err(self.refuse(count))
+            }
             State::Shorts(position) => {
+                let pending = pending_in_cluster(self.words.tail(position), self.short_equals);
+                if pending.is_joined {
+                    let count = pending.value.len();
+                    return Err(self.refuse(count));
+                }
                 let (option, state) = read_short(self.words.current(), position);
                 self.last_option = LastOption::Short(option);
                 self.state = state;
                 Ok(Found::Short(option))
             }
-            State::PendingValue(_) => unreachable!(),
         }
     }
 
@@ -349,44 +365,42 @@ impl Parser {
         }
     }
 
-    // Takes the value that belongs to the last option, if one is left of its word.
+    // The value that is left of the word of the last option.
     #[inline(always)]
-    pub(crate) fn take_pending(&mut self) -> Option<OsString>
+    pub(crate) fn pending(&self) -> Option<Pending<'_>>
+        ensures value { option_map pending_view result ≡ pending self.now }
+        ensures option { IsSome result → IsSome (spelling self.now.last) }
+        ensures none { result ≡ None → self.now.tail ≡ no_tail }
+    {
+        match self.state {
+            State::Ready | State::FinishedOpts => None,
+            State::PendingValue(position) => Some(Pending {
+                value: self.words.tail(position),
+                is_joined: true,
+            }),
+            State::Shorts(position) => {
+                Some(pending_in_cluster(self.words.tail(position), self.short_equals))
+            }
+        }
+    }
+
+    // Takes the pending value, which has so many bytes.
+    #[inline(always)]
+    pub(crate) fn take_value(&mut self, count: usize) -> OsString
+        requires { HasPending self.old count }
         ensures { TakesPending self.old result self.new }
     {
-        let position = match self.state {
-            State::Ready | State::FinishedOpts => return None,
-            State::PendingValue(position) => position,
-            State::Shorts(position) => {
-                if is_joined(self.words.current(), position, self.short_equals) {
-                    position + 1
-                } else {
-                    position
-                }
-            }
-        };
         self.state = State::Ready;
-        Some(self.words.take_current(position))
+        self.words.take_tail(count)
     }
 
     // Takes the next word, where nothing is left of the word before it.
     #[inline(always)]
-    fn take_word(&mut self) -> Option<OsString>
+    pub(crate) fn take_word(&mut self) -> Option<OsString>
         requires { self.old.tail ≡ no_tail }
         ensures { WordItem self.old result self.new }
     {
         self.words.take_next()
-    }
-
-    // Takes the next word for a view. What is left of the word before it stays.
-    #[inline(always)]
-    pub(crate) fn take_next_word(&mut self) -> Option<OsString>
-        ensures { WordItem self.old result self.new }
-    {
-        match self.state {
-            State::Ready | State::FinishedOpts => self.words.take_next(),
-            State::PendingValue(_) | State::Shorts(_) => self.words.take_after(),
-        }
     }
 
     // The words that are still unread.
@@ -396,42 +410,9 @@ impl Parser {
         self.words.left()
     }
 
-    // Whether a value is left of the word of the last option.
-    #[inline(always)]
-    pub(crate) fn has_pending(&self) -> bool
-        ensures value { IsTrue result ↔ IsSome (pending self.now) }
-        ensures option { IsTrue result → IsSome (spelling self.now.last) }
-    {
-        match self.state {
-            State::Ready | State::FinishedOpts => false,
-            State::PendingValue(_) | State::Shorts(_) => true,
-        }
-    }
-
-    // Whether that value is joined to its option by `=`.
-    #[inline(always)]
-    pub(crate) fn has_joined_value(&self) -> bool
-        ensures { IsTrue result ↔ IsJoined (pending self.now) }
-    {
-        match self.state {
-            State::Ready | State::FinishedOpts => false,
-            State::PendingValue(_) => true,
-            State::Shorts(position) => is_joined(self.words.current(), position, self.short_equals),
-        }
-    }
-
-    // Whether no word is half read, and the next one can be one of several values.
-    #[inline(always)]
-    pub(crate) fn is_normal(&self) -> bool
-        ensures { IsTrue result ↔ ((pending self.now ≡ None)
-            × IsNormalIn self.now.ended self.now.words) }
-    {
-        !self.has_pending() && self.has_plain_word()
-    }
-
     // Whether the next word can be one of several values.
     #[inline(always)]
-    fn has_plain_word(&self) -> bool
+    pub(crate) fn has_plain_word(&self) -> bool
         ensures { IsTrue result ↔ IsNormalIn self.now.ended self.now.words }
     {
         match self.words.first() {
@@ -441,56 +422,65 @@ impl Parser {
         }
     }
 
-    // Refuses the pending value, which is then consumed.
+    // Refuses the pending value, which has so many bytes. It is then consumed.
     //
-    // It is inlined, and `spelling` is not: an `Error` has room for a cause, which is zeroed for
+    // It is inlined, and `spelling` is not: an `Error` stores its cause inline, which is zeroed for
     // each answer of `next` unless LLVM sees that nothing of it is used. It does where the value
     // comes into the error in the caller's own function, and the text out of a call that hands it
     // over by its parts. Where this function is a call, or `spelling` is inlined, each answer costs
     // some 70 instructions more; `bench/run --check` tells.
     #[inline(always)]
-    fn refuse_pending(&mut self) -> Refusal
-        requires value { IsSome (pending self.old) }
+    fn refuse(&mut self, count: usize) -> Refusal
+        requires value { HasPending self.old count }
         requires option { IsSome (spelling self.old.last) }
         ensures { RefusesPending self.old result self.new }
     {
-        let option = match self.spelling() {
-            Ok(Some(option)) => option,
-            Ok(None) => unreachable!(),
-            Err(_) => return Refusal::OutOfMemory,
-        };
-        match self.take_pending() {
-            Some(value) => Refusal::UnexpectedValue { option, value },
-            None => unreachable!(),
+        match self.spelling() {
+            Ok(option) => Refusal::UnexpectedValue {
+                option: option.unwrap(),
+                value: self.take_value(count),
+            },
+            Err(_) => Refusal::OutOfMemory,
         }
     }
 
     // Refuses the pending value, if there is one.
     pub(crate) fn refuse_if_pending(&mut self) -> Result<(), Error>
-        ensures ok { OnOk result ((pending self.old ≡ None) × (self.new ≡ self.old)) }
-        ensures err { IfErr result (λ e. RefusesRaw self.old e self.new) }
+        ensures ok { OnOk result ((self.old.tail ≡ no_tail) × (self.new ≡ self.old)) }
+        ensures err { IfErr result (λ e. RawFailsWith self.old e self.new) }
     {
-        if self.has_pending() {
-            return Err(Error::from(self.refuse_pending()));
-        }
-        Ok(())
+        let Some(pending) = self.pending() else {
+            return Ok(());
+        };
+        let count = pending.value.len();
+        Err(Error::from(self.refuse(count)))
     }
 
     // Refuses a line with no value for the last option.
     #[inline(always)]
-    pub(crate) fn refuse_missing(&self) -> Result<(), Error>
+    pub(crate) fn refuse_if_missing(&self) -> Result<(), Error>
         ensures ok { OnOk result (available self.now ≢ []) }
-        ensures err { IfErr result (λ e. RefusesValues self.now e self.now) }
+        ensures err { IfErr result (λ e. ValuesFailsWith self.now e self.now) }
     {
-        if self.has_pending() || self.has_plain_word() {
+        if self.pending().is_some() || self.has_plain_word() {
             return Ok(());
         }
-        let option = self.spelling()?;
-        Err(Error::MissingValue { option })
+        Err(self.missing_value())
     }
 
-    // How the last option is spelled, with its dashes. It stands apart for the sake of
-    // `refuse_pending`.
+    // The error that no value is left for the last option.
+    #[cold]
+    #[inline(never)]
+    fn missing_value(&self) -> Error
+        ensures { IsMissing self.now.last result }
+    {
+        match self.spelling() {
+            Ok(option) => Error::MissingValue { option },
+            Err(_) => Error::OutOfMemory,
+        }
+    }
+
+    // How the last option is spelled, with its dashes. It stands apart for the sake of `refuse`.
     #[cold]
     #[inline(never)]
     fn spelling(&self) -> Result<Option<String>, AllocError>
@@ -531,39 +521,6 @@ impl Clone for Parser {
     }
 }
 
-// Why nothing was found. An `Error` has room for a cause, so it is made where it is handed out.
-#[derive(Drop)]
-enum Refusal {
-    UnexpectedValue { option: String, value: OsString },
-    OutOfMemory,
-}
-
-impl From<AllocError> for Refusal {
-    ghost use Rattle.std.specs.Prelude.{◌≡◌};
-    ghost use Rattle.lexopt_base.specs.declared.parser.Refusal.TheVariants.{OutOfMemory};
-
-    ghost from_gives = { λ _ refusal. refusal ≡ OutOfMemory };
-
-    fn from(_error: AllocError) -> Refusal {
-        Refusal::OutOfMemory
-    }
-}
-
-impl From<Refusal> for Error {
-    ghost use Rattle.std.specs.Prelude.{◌≡◌, Some};
-    ghost use Rattle.lexopt_base.specs.Found.{refusal_reply};
-    ghost use Rattle.lexopt_base.specs.Replies.{error_reply};
-
-    ghost from_gives = { λ refusal e. error_reply e ≡ Some (refusal_reply refusal) };
-
-    fn from(refusal: Refusal) -> Error {
-        match refusal {
-            Refusal::UnexpectedValue { option, value } => Error::UnexpectedValue { option, value },
-            Refusal::OutOfMemory => Error::OutOfMemory,
-        }
-    }
-}
-
 // All items of these.
 fn collect_words<I>(alloc: Global, args: I) -> Result<Vec<OsString>, AllocError>
 where
@@ -577,14 +534,22 @@ where
     Ok(items)
 }
 
-// Whether what is left of a cluster from this position of its word on is a value that `=` joins to
-// the option before it.
+// The value that is left of a cluster, of which these bytes are still unread.
 #[inline(always)]
-fn is_joined(word: &[u8], position: usize, short_equals: bool) -> bool
-    requires { position < length word.now }
-    ensures { IsTrue result ↔ IsJoined (pending_in short_equals (rest_of (drop position word.now))) }
+fn pending_in_cluster(rest: &[u8], short_equals: bool) -> Pending<'_>
+    requires { rest.now ≢ [] }
+    ensures { pending_in short_equals (rest_of rest.now) ≡ Some (pending_view result) }
 {
-    word[position] == b'=' && short_equals
+    if short_equals && rest[0] == b'=' {
+        return Pending {
+            value: &rest[1..],
+            is_joined: true,
+        };
+    }
+    Pending {
+        value: rest,
+        is_joined: false,
+    }
 }
 
 // The short option at this position of a word, and the state after it.

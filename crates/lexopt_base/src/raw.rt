@@ -1,10 +1,6 @@
 //! The words that are left, unread.
-ghost use Rattle.std.specs.Prelude.{◌≡◌, ◌↔◌, Some, None, IsSome, IfOk, IfSome, option_map};
-ghost use Rattle.std.specs.Prelude.{slice_get};
-ghost use Rattle.std.specs.Borrow.{sem};
-ghost use Rattle.lexopt_spec.specs.UnreadLine.{pending};
-ghost use Rattle.lexopt_base.specs.KeptWords.{IsFirst};
-ghost use Rattle.lexopt_base.specs.Views.{RestsIfRawRefused, RestsIfBusy, TakesIf};
+ghost use Rattle.std.specs.Prelude.{◌≡◌};
+ghost use Rattle.lexopt_spec.specs.UnreadLine.{no_tail};
 
 use crate::parser::Parser;
 use lexopt_words::error::Error;
@@ -15,9 +11,15 @@ use lexopt_words::os_string::{OsStr, OsString};
 #[derive(Drop)]
 pub struct RawArgs<'a> {
     parser: &'a mut Parser,
+    ghost has_no_tail: { parser.now.tail ≡ no_tail },
 }
 
 impl Parser {
+    ghost use Rattle.std.specs.Prelude.{◌≡◌, ◌↔◌, None, IsSome, IfOk, IfSome};
+    ghost use Rattle.std.specs.Borrow.{sem};
+    ghost use Rattle.lexopt_spec.specs.UnreadLine.{pending};
+    ghost use Rattle.lexopt_base.specs.Views.{RestsIfRawRefused, RestsIfBusy};
+
     /// The words that are left, unread. The separator is a word like any other here, and ends no
     /// options.
     ///
@@ -45,7 +47,7 @@ impl Parser {
         ensures same_parser { IfSome result (λ view.
             view.parser.ghost_name ≡ self.entry.ghost_name) }
     {
-        if self.has_pending() {
+        if self.pending().is_some() {
             return None;
         }
         Some(RawArgs { parser: self })
@@ -64,11 +66,15 @@ impl Iterator for RawArgs<'_> {
 
     /// Takes the next word.
     fn next(&mut self) -> Option<OsString> {
-        self.parser.take_next_word()
+        self.parser.take_word()
     }
 }
 
 impl RawArgs<'_> {
+    ghost use Rattle.std.specs.Prelude.{◌≡◌, Some, option_map, slice_get};
+    ghost use Rattle.lexopt_base.specs.KeptWords.{IsFirst};
+    ghost use Rattle.lexopt_base.specs.Views.{TakesIf};
+
     /// The next word, which stays.
     pub fn peek(&self) -> Option<OsStr<'_>>
         ensures { IsFirst (option_map (λ word. word.bytes.now) result) self.now.parser.now.words }

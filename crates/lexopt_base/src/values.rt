@@ -1,10 +1,7 @@
 //! Several values of one option.
-ghost use Rattle.std.specs.Prelude.{◌≡◌, ◌≢◌, [], IfOk};
-ghost use Rattle.std.specs.Borrow.{sem};
-ghost use Rattle.lexopt_spec.specs.UnreadLine.{pending};
-ghost use Rattle.lexopt_spec.specs.Views.{ValueItem, at_start, available};
-ghost use Rattle.lexopt_base.specs.Stages.{stage_of};
-ghost use Rattle.lexopt_base.specs.Views.{RestsIfRefused};
+ghost use Rattle.std.specs.Prelude.{◌≡◌};
+ghost use Rattle.lexopt_spec.specs.UnreadLine.{no_tail};
+ghost use Rattle.lexopt_base.specs.declared.values.Stage.TheVariants.{GoingOn};
 
 use crate::parser::Parser;
 use lexopt_words::error::Error;
@@ -24,9 +21,16 @@ enum Stage {
 pub struct ValuesIter<'a> {
     parser: &'a mut Parser,
     stage: Stage,
+    ghost has_no_tail: { stage ≡ GoingOn → parser.now.tail ≡ no_tail },
 }
 
 impl Parser {
+    ghost use Rattle.std.specs.Prelude.{◌≡◌, ◌≢◌, [], IfOk};
+    ghost use Rattle.std.specs.Borrow.{sem};
+    ghost use Rattle.lexopt_spec.specs.Views.{at_start, available};
+    ghost use Rattle.lexopt_base.specs.Stages.{stage_of};
+    ghost use Rattle.lexopt_base.specs.Views.{RestsIfRefused};
+
     /// Several values for the last option, of which there is one at least: what is left of its
     /// word, and then the next words up to the first that looks like an option. A value that is
     /// joined by `=` stands alone.
@@ -45,7 +49,7 @@ impl Parser {
         ensures at_start { IfOk result (λ view. stage_of view.stage ≡ at_start) }
         ensures same_parser { IfOk result (λ view. view.parser.ghost_name ≡ self.entry.ghost_name) }
     {
-        self.refuse_missing()?;
+        self.refuse_if_missing()?;
         Ok(ValuesIter {
             parser: self,
             stage: Stage::Start,
@@ -77,6 +81,11 @@ impl Iterator for ValuesIter<'_> {
 }
 
 impl ValuesIter<'_> {
+    ghost use Rattle.std.specs.Prelude.{◌≡◌, ◌≢◌};
+    ghost use Rattle.lexopt_spec.specs.UnreadLine.{no_tail};
+    ghost use Rattle.lexopt_spec.specs.Views.{ValueItem};
+    ghost use Rattle.lexopt_base.specs.Stages.{stage_of};
+
     // The first value: what is left of the word of the option, or else a word.
     #[inline(always)]
     fn first(&mut self) -> Option<OsString>
@@ -85,8 +94,10 @@ impl ValuesIter<'_> {
         ensures item { ValueItem (stage_of self.old.stage) self.old.parser.now result
             self.new.parser.now (stage_of self.new.stage) }
     {
-        let is_last = self.parser.has_joined_value();
-        if let Some(value) = self.parser.take_pending() {
+        if let Some(pending) = self.parser.pending() {
+            let is_last = pending.is_joined;
+            let count = pending.value.len();
+            let value = self.parser.take_value(count);
             self.stage = if is_last { Stage::End } else { Stage::GoingOn };
             return Some(value);
         }
@@ -97,14 +108,14 @@ impl ValuesIter<'_> {
     #[inline(always)]
     fn another(&mut self) -> Option<OsString>
         requires on { self.old.stage ≢ Stage.End }
-        requires first { self.old.stage ≡ Stage.Start → pending self.old.parser.now ≡ None }
+        requires tail { self.old.parser.now.tail ≡ no_tail }
         ensures same_parser { self.new.parser.ghost_name ≡ self.old.parser.ghost_name }
         ensures item { ValueItem (stage_of self.old.stage) self.old.parser.now result
             self.new.parser.now (stage_of self.new.stage) }
     {
-        if self.parser.is_normal() {
+        if self.parser.has_plain_word() {
             self.stage = Stage::GoingOn;
-            return self.parser.take_next_word();
+            return self.parser.take_word();
         }
         self.stage = Stage::End;
         None

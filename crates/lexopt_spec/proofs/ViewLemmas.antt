@@ -4,16 +4,13 @@ use Rattle.std.proofs.Math.Seq.{take-nil, drop-nil}
 use Rattle.std.specs.List.{cons_option}
 use Rattle.lexopt_spec.specs.UnreadLine.{no_tail, UnreadLine, pending, IsNormalIn}
 use Rattle.lexopt_spec.specs.Steps.{items}
-use Rattle.lexopt_spec.specs.Views.{plain_front, available, available_with, without, ValuesStep, some_values, TakesWords, RawStep, lends_words, TryRawStep, try_lends_words, Stage, at_start, going_on, at_end, left_after, values_left, ValueItem, gives_pending, gives_word, stops, stops_at_pending, stopped, WordItem, ValueItems, WordItems}
+use Rattle.lexopt_spec.specs.Views.{plain_front, available, available_with, without, ValuesStep, some_values, TakesWords, RawStep, lends_words, TryRawStep, try_lends_words, Stage, at_start, going_on, at_end, values_left, ValueItem, gives_pending, gives_word, stops, stopped, WordItem, ValueItems, WordItems}
 use Rattle.lexopt_spec.proofs.PlainFronts.{front-more, front-none}
 
 -- ---- one item of a view of values
 
 at_available : (u : UnreadLine) (p : Option (List ℕ × Bool)) → pending u ≡ p → values_left at_start u ≡ available_with p (plain_front u.ended u.words)
 at_available u p is = ap (λ f. available_with f (plain_front u.ended u.words)) is
-
-after_none : (u : UnreadLine) → pending u ≡ None → values_left going_on u ≡ plain_front u.ended u.words
-after_none u p = ap (λ f. left_after f (plain_front u.ended u.words)) p
 
 -- what comes is the first of what was left
 pub item_is_first : (stage : Stage) (u : UnreadLine) (item : Option (List ℕ)) (after : UnreadLine) (now : Stage)
@@ -23,17 +20,13 @@ item_is_first at_start u item after now (gives_pending x false s p i a n) = rw (
 item_is_first going_on u item after now (gives_pending x by_equals s p i a n) = absurd (let e : going_on ≡ at_start = s in cc)
 item_is_first at_end u item after now (gives_pending x by_equals s p i a n) = absurd (let e : at_end ≡ at_start = s in cc)
 item_is_first at_start u item after now (gives_word w ws s p is plain i a n) =
-    rw (i, a, n) (at_available u None p ∙ ap (λ l. plain_front u.ended l) is ∙ front-more u.ended w ws plain
-    ∙ ap (λ l. w ∷ l) (sym (after_none (record u { words = ws }) p)))
+    rw (i, a, n) (at_available u None p ∙ ap (λ l. plain_front u.ended l) is ∙ front-more u.ended w ws plain)
 item_is_first going_on u item after now (gives_word w ws s p is plain i a n) =
-    rw (i, a, n) (after_none u p ∙ ap (λ l. plain_front u.ended l) is ∙ front-more u.ended w ws plain
-    ∙ ap (λ l. w ∷ l) (sym (after_none (record u { words = ws }) p)))
+    rw (i, a, n) (ap (λ l. plain_front u.ended l) is ∙ front-more u.ended w ws plain)
 item_is_first at_end u item after now (gives_word w ws s p is plain i a n) = absurd (s refl)
 item_is_first at_start u item after now (stops s p other i a n) = rw (i, a, n) (at_available u None p ∙ front-none u.ended u.words other)
-item_is_first going_on u item after now (stops s p other i a n) = rw (i, a, n) (after_none u p ∙ front-none u.ended u.words other)
+item_is_first going_on u item after now (stops s p other i a n) = rw (i, a, n) (front-none u.ended u.words other)
 item_is_first at_end u item after now (stops s p other i a n) = absurd (s refl)
-item_is_first stage u item after now (stops_at_pending found s p i a n) =
-    rw (s, i, a, n) (ap (λ f. left_after f (plain_front u.ended u.words)) p)
 item_is_first stage u item after now (stopped s i a n) = rw (s, i, a, n) refl
 
 -- once none came, none comes
@@ -42,7 +35,6 @@ pub none_ends : (stage : Stage) (u : UnreadLine) (after : UnreadLine) (now : Sta
 none_ends stage u after now (gives_pending value by_equals s p i a n) = absurd (let e : None ≡ Some value = i in cc)
 none_ends stage u after now (gives_word w ws s p is plain i a n) = absurd (let e : None ≡ Some w = i in cc)
 none_ends stage u after now (stops s p other i a n) = (a, n)
-none_ends stage u after now (stops_at_pending found s p i a n) = (a, n)
 none_ends stage u after now (stopped s i a n) = (a, n)
 
 pub none_ever : (u : UnreadLine) (item : Option (List ℕ)) (after : UnreadLine) (now : Stage)
@@ -50,7 +42,6 @@ pub none_ever : (u : UnreadLine) (item : Option (List ℕ)) (after : UnreadLine)
 none_ever u item after now (gives_pending value by_equals s p i a n) = absurd (let e : at_end ≡ at_start = s in cc)
 none_ever u item after now (gives_word w ws s p is plain i a n) = absurd (s refl)
 none_ever u item after now (stops s p other i a n) = absurd (s refl)
-none_ever u item after now (stops_at_pending found s p i a n) = (i, a, n)
 none_ever u item after now (stopped s i a n) = (i, a, n)
 
 -- ---- n items of a view of values
@@ -87,8 +78,6 @@ items_after n stage u item between next others came after (gives_word w ws s p i
       ∙ ap (λ f. without f (length others) (record u { words = ws })) p ∙ after_word u w ws (length others) p is),
 )
 items_after n stage u item between next others came after (stops s p other i a k) so_far line all =
-    no_more n u item between next others came after i a k so_far line all
-items_after n stage u item between next others came after (stops_at_pending found s p i a k) so_far line all =
     no_more n u item between next others came after i a k so_far line all
 items_after n stage u item between next others came after (stopped s i a k) so_far line all =
     no_more n u item between next others came after i a k so_far line all
@@ -235,16 +224,7 @@ takes_normal stage u None after on p normal step = absurd (subst (IsNormalIn u.e
 takes_normal stage u (Some w) after on p normal step =
     gives_word w after.words on p step.0 (subst (IsNormalIn u.ended) step.0 normal) refl step.1 refl
 
-stops_at : (stage : Stage) (u : UnreadLine) (found : List ℕ × Bool) → stage ≢ at_end → (stage ≡ at_start → pending u ≡ None) → pending u ≡ Some found
-    → ValueItem stage u None u at_end
-stops_at at_start u found on first p = absurd (let e : Some found ≡ None = sym p ∙ first refl in cc)
-stops_at going_on u found on first p = stops_at_pending found refl p refl refl refl
-stops_at at_end u found on first p = absurd (on refl)
-
 -- the next word is not normal
-pub stops_there : (stage : Stage) (u : UnreadLine) → stage ≢ at_end → (stage ≡ at_start → pending u ≡ None)
-    → ((pending u ≡ None) × IsNormalIn u.ended u.words → ⊥) → ValueItem stage u None u at_end
-stops_there stage u on first other = elim (pending u) as (λ p. pending u ≡ p → ValueItem stage u None u at_end) [
-  | None ↦ λ p. stops on p (λ normal. other (p, normal)) refl refl refl
-  | Some found ↦ λ p. stops_at stage u found on first p
-] refl
+pub stops_there : (stage : Stage) (u : UnreadLine) → stage ≢ at_end → pending u ≡ None → (IsNormalIn u.ended u.words → ⊥)
+    → ValueItem stage u None u at_end
+stops_there stage u on p other = stops on p other refl refl refl

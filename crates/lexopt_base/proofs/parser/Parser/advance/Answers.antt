@@ -1,20 +1,32 @@
-use Rattle.std.proofs.Common.{◌≡◌, ◌<◌, List, ℕ, drop, length, refl, sym, ap, subst, ◌∙◌, inl, true≢false, arith, length-drop}
-use Rattle.lexopt_spec.specs.UnreadLine.{UnreadLine, short_option}
+use Rattle.std.proofs.Common.{◌≡◌, ◌<◌, List, ℕ, Bool, Some, drop, length, sym, ap, subst, ◌∙◌, inl, true≢false, arith, length-drop}
+use Rattle.lexopt_spec.specs.UnreadLine.{UnreadLine, pending, pending_in, rest_of, short_option}
 use Rattle.lexopt_spec.specs.Steps.{short, NextStep, ReadsPositional, ReadsWord, next_in_cluster, after_separator, next_word}
 use Rattle.lexopt_spec.proofs.LineLemmas.{goes_on, rest_of-some, same_parts}
 use Rattle.lexopt_base.specs.Models.{tail_of, ended_of, IsPlaced, IsShortRead}
-use Rattle.lexopt_base.specs.Helpers.{IsJoined}
 use Rattle.lexopt_base.specs.Found.{found_as, found_reply}
 use Rattle.lexopt_base.specs.declared.parser.State.{State}
+use Rattle.lexopt_base.proofs.States.{flag_in}
 use Rattle.lexopt_base.proofs.Refusals.{refuses, gives_map, gives_step}
 use Rattle.lexopt_base.proofs.parser.Parser.advance.Goals as goal
 
-pub returns-then-has_joined_value : goal.returns-then-has_joined_value
-returns-then-has_joined_value c =
-    refuses c.args.self.now c.refuse_pending.new.self c.refuse_pending.result (c.has_joined_value.ensures.0 c.if-has_joined_value.true) c.refuse_pending.ensures
+pub returns-in-PendingValue : goal.returns-in-PendingValue
+returns-in-PendingValue c =
+    let p = c.self.inside in
+    let word = p.words.current in
+    let pends = ap pending (sym c.self.view_is) ∙ ap (λ (s : State). pending_in p.short_equals (tail_of word s)) c.in-PendingValue.is in
+    refuses c.args.self.now c.refuse.new.self (drop c.in-PendingValue.position word) c.refuse.result pends c.refuse.ensures
 
-pub returns-in-Shorts : goal.returns-in-Shorts
-returns-in-Shorts c =
+pub returns-then-pending : goal.returns-then-pending
+returns-then-pending c =
+    let p = c.self.inside in
+    let found = c.pending_in_cluster-pending.result in
+    let pends = ap pending (sym c.self.view_is) ∙ ap (λ (s : State). pending_in p.short_equals (tail_of p.words.current s)) c.in-Shorts.is
+    ∙ ap (λ (l : List ℕ). pending_in p.short_equals (rest_of l)) (sym c.tail.ensures) ∙ c.pending_in_cluster-pending.ensures
+    ∙ ap (λ (b : Bool). Some (found.value.now, b)) c.if-pending.true in
+    refuses c.args.self.now c.refuse-then-pending.new.self found.value.now c.refuse-then-pending.result pends c.refuse-then-pending.ensures
+
+pub returns-else-pending : goal.returns-else-pending
+returns-else-pending c =
     let u = c.args.self.now in
     let p = c.self.inside in
     let word = p.words.current in
@@ -24,9 +36,11 @@ returns-in-Shorts c =
     let some : 0 < length bytes = omega (arith, length-drop at word) in
     let is = ap (λ (s : State). tail_of word s) c.in-Shorts.is in
     let tail = ap (λ (l : UnreadLine). l.tail) (sym c.self.view_is) ∙ is ∙ rest_of-some bytes some in
+    let pends = ap pending (sym c.self.view_is) ∙ ap (λ (s : State). pending_in p.short_equals (tail_of word s)) c.in-Shorts.is
+    ∙ ap (λ (l : List ℕ). pending_in p.short_equals (rest_of l)) (sym c.tail.ensures) ∙ c.pending_in_cluster-pending.ensures in
     let read = subst (λ (l : List ℕ). IsShortRead l at c.read_short-option.result.0 c.read_short-option.result.1) c.current.ensures c.read_short-option.ensures in
     inl (next_in_cluster bytes tail
-    (goes_on u bytes tail (λ value known. true≢false (sym (c.has_joined_value.ensures.1 (subst IsJoined (sym known) refl)) ∙ c.if-has_joined_value.false)))
+    (goes_on u bytes tail (λ value known. true≢false (sym (ap flag_in (sym pends ∙ known)) ∙ c.if-pending.false)))
     (record {
       some = λ none. let e : length bytes ≡ 0 = ap length none in omega arith;
       reply_is = ap short read.shown_is;

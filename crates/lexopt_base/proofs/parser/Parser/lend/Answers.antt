@@ -3,7 +3,7 @@ use Rattle.lexopt_spec.specs.UnreadLine.{UnreadLine}
 use Rattle.lexopt_base.specs.Models.{last_of}
 use Rattle.lexopt_base.specs.Found.{found_reply}
 use Rattle.lexopt_base.specs.declared.parser.Found.{Found}
-use Rattle.lexopt_base.specs.declared.parser.Refusal.{Refusal}
+use Rattle.lexopt_base.specs.declared.refusal.Refusal.{Refusal}
 use Rattle.lexopt_base.proofs.States.{lent}
 use Rattle.lexopt_base.proofs.parser.Parser.lend.Goals as goal
 

@@ -36,12 +36,12 @@ use Rattle.std.proofs.result.Result.TheLaws as Result-laws
 use Rattle.std.proofs.option.Option.TheLaws as Option-laws
 use Rattle.lexopt_base.specs.contracts.parser.Parser.{the_row as R}
 use Rattle.lexopt_base.specs.contracts.parser.Found as Found-type
-use Rattle.lexopt_base.specs.contracts.parser.Refusal as Refusal-type
+use Rattle.lexopt_base.specs.contracts.refusal.Refusal as Refusal-type
 use Rattle.lexopt_words.specs.contracts.error.Arg as Arg-type
 use Rattle.lexopt_words.specs.contracts.error.Error as Error-type
 use Rattle.lexopt_base.proofs.parser.Parser.TheLaws as R-laws
 use Rattle.lexopt_base.proofs.parser.Found.TheLaws as Found-laws
-use Rattle.lexopt_base.proofs.parser.Refusal.TheLaws as Refusal-laws
+use Rattle.lexopt_base.proofs.refusal.Refusal.TheLaws as Refusal-laws
 use Rattle.lexopt_words.proofs.error.Arg.TheLaws as Arg-laws
 use Rattle.lexopt_words.proofs.error.Error.TheLaws as Error-laws
 use Rattle.lexopt_spec.specs.UnreadLine.{UnreadLine}

@@ -1,5 +1,6 @@
-use Rattle.lexopt_base.proofs.States.{optional_taken}
+use Rattle.std.proofs.Common.{refl}
+use Rattle.lexopt_spec.specs.Steps.{optional_pending}
 use Rattle.lexopt_base.proofs.parser.Parser.optional_value.Goals as goal
 
 pub returns : goal.returns
-returns c = optional_taken c.args.self.now c.take_pending.result c.take_pending.new.self c.take_pending.ensures
+returns c = let h = c.take_value.ensures in optional_pending c.take_value.result h.0 h.1 refl h.2

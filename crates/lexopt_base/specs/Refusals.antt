@@ -1,0 +1,46 @@
+-- Refusals, as replies and as errors, and what is pending where a value is refused or taken.
+use Rattle.std.specs.Prelude.{◌≡◌, ℕ, Bool, List, Some, IsSome, length, option_map}
+use Rattle.std.specs.Prelude.{string_bytes}
+use Rattle.lexopt_spec.specs.UnreadLine.{LastOption, UnreadLine, no_tail, spelling}
+use Rattle.lexopt_spec.specs.UnreadLine.{pending}
+use Rattle.lexopt_spec.specs.Steps.{Reply, missing, unexpected, no_memory}
+use Rattle.lexopt_words.specs.declared.error.Error.{Error}
+use Rattle.lexopt_words.specs.declared.error.Error.TheVariants as error
+use Rattle.lexopt_base.specs.declared.refusal.Refusal.{Refusal}
+use Rattle.lexopt_base.specs.declared.refusal.Refusal.TheVariants.{MissingValue, UnexpectedValue}
+use Rattle.lexopt_base.specs.declared.refusal.Refusal.TheVariants.{OutOfMemory}
+
+-- a refusal as a reply
+abbrev pub refusal_reply : Refusal → Reply
+refusal_reply (MissingValue option) = missing (option_map string_bytes option)
+refusal_reply (UnexpectedValue option value) = unexpected (string_bytes option) value
+refusal_reply OutOfMemory = no_memory
+
+-- the error that says it
+abbrev pub IsErrorOf : Refusal → Error → Type 0
+IsErrorOf (MissingValue option) e = e ≡ error.MissingValue option
+IsErrorOf (UnexpectedValue option value) e = e ≡ error.UnexpectedValue option value
+IsErrorOf OutOfMemory e = e ≡ error.OutOfMemory
+
+-- the error says that no value is left for the last option, or that there is no memory to name it
+abbrev pub IsMissing : LastOption → Error → Type 0
+IsMissing last (error.MissingValue option) = option_map string_bytes option ≡ spelling last
+IsMissing last error.OutOfMemory = IsSome (spelling last)
+IsMissing last e = ⊥
+
+-- a value of so many bytes is pending
+abbrev pub HasPending : UnreadLine → ℕ → Type 0
+HasPending u count = (value : List ℕ) × (by_equals : Bool) × (pending u ≡ Some (value, by_equals))
+    × (length value ≡ count)
+
+-- the pending value is taken
+abbrev pub TakesPending : UnreadLine → List ℕ → UnreadLine → Type 0
+TakesPending u value after = (by_equals : Bool) × (pending u ≡ Some (value, by_equals))
+    × (after ≡ record u { tail = no_tail })
+
+-- the pending value is refused: it is taken, or there is no memory to say of what option it is
+abbrev pub RefusesPending : UnreadLine → Refusal → UnreadLine → Type 0
+RefusesPending u (MissingValue option) after = ⊥
+RefusesPending u (UnexpectedValue option value) after =
+    (spelling u.last ≡ Some (string_bytes option)) × TakesPending u value after
+RefusesPending u OutOfMemory after = (after ≡ u) × IsSome (spelling u.last) × IsSome (pending u)
