@@ -1,94 +1,121 @@
 //! Lists of calls on a parser: `replay` makes them, and gives a reply for each.
-ghost use Rattle.std.specs.Prelude.{◌≡◌, ◌++◌, ◌≤◌, ◌↔◌, ℕ, List, Option, IsTrue, IfOk, IfErr};
-ghost use Rattle.std.specs.Prelude.{OnErr};
-ghost use Rattle.std.specs.Option.{option_map};
+ghost use Rattle.std.specs.Prelude.{◌≡◌, ◌++◌, ◌≤◌, ◌↔◌, ℕ, List, Some, IsTrue, IfOk, IfErr, OnErr};
 ghost use Rattle.lexopt_spec.specs.Steps as steps;
 ghost use Rattle.lexopt_spec.specs.Steps.{Next, Value};
 ghost use Rattle.lexopt_spec.specs.Runs.{Step, values, raw, raw_if, try_raw, up_to};
 ghost use Rattle.lexopt_spec.specs.Views.{ValueItems, WordItems};
 ghost use Rattle.lexopt_base.specs.Stages.{stage_of};
-ghost use Rattle.lexopt_base.specs.Replies.{RepliesWith, error_reply, next_reply};
-ghost use Rattle.lexopt_calls.specs.Replies.{TakesThis, call_view, reply_view};
+ghost use Rattle.lexopt_spec.specs.UnreadLine.{UnreadLine};
+ghost use Rattle.lexopt_base.specs.Replies.{CanReply, error_reply, next_reply};
+ghost use Rattle.lexopt_calls.specs.Replies.{TakesThis, call_view, next_view, reply_view};
 ghost use Rattle.lexopt_calls.specs.Lists.{AccountsForBytes, KeepsBound, Replays, ReplaysPart};
 ghost use Rattle.lexopt_calls.specs.Lists.{ReplaysPieces};
 
 use crate::reply::{Call, Reply};
 use lexopt_base::parser::Parser;
 use lexopt_base::raw::RawArgs;
+use lexopt_base::refusal::Refusal;
 use lexopt_base::values::ValuesIter;
 use lexopt_words::error::{Arg, Error};
 use lexopt_words::os_string::{OsStr, OsString};
 use std::alloc::{AllocError, Global};
 
-// Copies a reply of `next` out of the parser. It is none where no parser answers so.
-#[inline(always)]
-fn copy_reply(
-    alloc: Global,
-    reply: Result<Option<Arg<'_>>, Error>,
-) -> Result<Option<Reply>, AllocError>
-    ensures { IfOk result (λ copy. option_map reply_view copy ≡ next_reply reply.entry) }
-{
-    match reply {
-        Ok(None) => Ok(Some(Reply::End)),
-        Ok(Some(Arg::Short(option))) => Ok(Some(Reply::Short(option))),
-        Ok(Some(Arg::Long(name))) => Ok(Some(Reply::LongName(String::from_str(alloc, name)?))),
-        Ok(Some(Arg::Value(word))) => Ok(Some(Reply::Positional(word))),
-        Err(error) => Ok(refusal(error)),
+/// What `next` answered, with the name of a long option copied out of the parser. The crate `lexopt`
+/// does not hand this on.
+///
+/// Its variants are flat, since each item of a whole line goes through it: with a `Refusal` inside,
+/// an item cost some 30 instructions more.
+#[derive(Drop)]
+pub enum NextReply {
+    Short(char),
+    Long(String),
+    Value(OsString),
+    End,
+    UnexpectedValue(String, OsString),
+    OutOfMemory,
+}
+
+impl From<NextReply> for Reply {
+    ghost use Rattle.std.specs.Prelude.{◌≡◌};
+    ghost use Rattle.lexopt_calls.specs.Replies.{next_view, reply_view};
+
+    ghost from_gives = { λ next reply. reply_view reply ≡ next_view next };
+
+    fn from(next: NextReply) -> Reply {
+        match next {
+            NextReply::Short(option) => Reply::Short(option),
+            NextReply::Long(name) => Reply::LongName(name),
+            NextReply::Value(word) => Reply::Positional(word),
+            NextReply::End => Reply::End,
+            NextReply::UnexpectedValue(option, value) => Reply::Unexpected(option, value),
+            NextReply::OutOfMemory => Reply::NoMemory,
+        }
     }
 }
 
-// The reply of an error. It is none where no parser answers so.
+// Copies a reply of `next` out of the parser.
 #[inline(always)]
-fn refusal(error: Error) -> Option<Reply>
-    ensures { option_map reply_view result ≡ error_reply error }
+fn copy_reply(alloc: Global, reply: Result<Option<Arg<'_>>, Error>) -> Result<NextReply, AllocError>
+    requires { (u : UnreadLine) × CanReply u (next_reply reply) }
+    ensures { IfOk result (λ copy. next_reply reply.entry ≡ Some (next_view copy)) }
+{
+    match reply {
+        Ok(None) => Ok(NextReply::End),
+        Ok(Some(Arg::Short(option))) => Ok(NextReply::Short(option)),
+        Ok(Some(Arg::Long(name))) => Ok(NextReply::Long(String::from_str(alloc, name)?)),
+        Ok(Some(Arg::Value(word))) => Ok(NextReply::Value(word)),
+        Err(error) => Ok(copy_error(error)),
+    }
+}
+
+// Copies an error of `next`.
+#[inline(always)]
+fn copy_error(error: Error) -> NextReply
+    requires { (u : UnreadLine) × CanReply u (error_reply error) }
+    ensures { error_reply error ≡ Some (next_view result) }
 {
     match error {
-        Error::MissingValue { option } => Some(Reply::Missing(option)),
-        Error::UnexpectedOption(_)
+        Error::UnexpectedValue { option, value } => NextReply::UnexpectedValue(option, value),
+        Error::OutOfMemory => NextReply::OutOfMemory,
+        Error::MissingValue { .. }
+        | Error::UnexpectedOption(_)
         | Error::UnexpectedArgument(_)
         | Error::ParsingFailed { .. }
         | Error::NonUnicodeValue(_)
-        | Error::Custom(_) => None,
-        Error::UnexpectedValue { option, value } => Some(Reply::Unexpected(option, value)),
-        Error::OutOfMemory => Some(Reply::NoMemory),
+        | Error::Custom(_) => unreachable!(),
     }
 }
 
-/// One call of `next`. The reply is none where no parser answers so. The crate `lexopt` does not
-/// hand this on.
+/// One call of `next`. The crate `lexopt` does not hand this on.
 #[inline(always)]
-pub fn call_next(alloc: Global, parser: &mut Parser) -> Result<Option<Reply>, AllocError>
-    ensures { (reply : Option steps.Reply) × RepliesWith Next parser.old reply parser.new
-        × IfOk result (λ copy. option_map reply_view copy ≡ reply) }
+pub fn call_next(alloc: Global, parser: &mut Parser) -> Result<NextReply, AllocError>
+    ensures { (reply : steps.Reply) × Next parser.old reply parser.new
+        × IfOk result (λ copy. next_view copy ≡ reply) }
 {
     let reply = parser.next();
     copy_reply(alloc, reply)
 }
 
 // One call of `value`.
-fn call_value(parser: &mut Parser) -> Option<Reply>
-    ensures { RepliesWith Value parser.old (option_map reply_view result) parser.new }
+fn call_value(parser: &mut Parser) -> Reply
+    ensures { Value parser.old (reply_view result) parser.new }
 {
     match parser.value() {
-        Ok(word) => Some(Reply::Taken(word)),
-        Err(error) => refusal(error),
+        Ok(word) => Reply::Taken(word),
+        Err(error) => Reply::from(Refusal::of_error(error)),
     }
 }
 
 // One call of `values`, and so many items of its view. Where the list of them finds no memory, some
 // were taken.
-fn call_values(
-    alloc: Global,
-    parser: &mut Parser,
-    count: usize,
-) -> Result<Option<Reply>, AllocError>
-    ensures { (m : ℕ) × (reply : Option steps.Reply) × (m ≤ count)
-        × RepliesWith (Step (values m)) parser.old reply parser.new
-        × IfOk result (λ copy. (m ≡ count) × (option_map reply_view copy ≡ reply)) }
+fn call_values(alloc: Global, parser: &mut Parser, count: usize) -> Result<Reply, AllocError>
+    ensures { (m : ℕ) × (reply : steps.Reply) × (m ≤ count)
+        × Step (values m) parser.old reply parser.new
+        × IfOk result (λ copy. (m ≡ count) × (reply_view copy ≡ reply)) }
 {
     match parser.values() {
-        Ok(mut view) => Ok(Some(Reply::Items(take_values(alloc, &mut view, count)?))),
-        Err(error) => Ok(refusal(error)),
+        Ok(mut view) => Ok(Reply::Items(take_values(alloc, &mut view, count)?)),
+        Err(error) => Ok(Reply::from(Refusal::of_error(error))),
     }
 }
 
@@ -116,14 +143,14 @@ pub fn take_values(
 }
 
 // One call of `raw_args`, and so many words.
-fn call_raw(alloc: Global, parser: &mut Parser, count: usize) -> Result<Option<Reply>, AllocError>
-    ensures { (m : ℕ) × (reply : Option steps.Reply) × (m ≤ count)
-        × RepliesWith (Step (raw m)) parser.old reply parser.new
-        × IfOk result (λ copy. (m ≡ count) × (option_map reply_view copy ≡ reply)) }
+fn call_raw(alloc: Global, parser: &mut Parser, count: usize) -> Result<Reply, AllocError>
+    ensures { (m : ℕ) × (reply : steps.Reply) × (m ≤ count)
+        × Step (raw m) parser.old reply parser.new
+        × IfOk result (λ copy. (m ≡ count) × (reply_view copy ≡ reply)) }
 {
     match parser.raw_args() {
-        Ok(mut view) => Ok(Some(Reply::Items(take_words(alloc, &mut view, count)?))),
-        Err(error) => Ok(refusal(error)),
+        Ok(mut view) => Ok(Reply::Items(take_words(alloc, &mut view, count)?)),
+        Err(error) => Ok(Reply::from(Refusal::of_error(error))),
     }
 }
 
@@ -140,15 +167,14 @@ fn call_try_raw(alloc: Global, parser: &mut Parser, count: usize) -> Result<Repl
 }
 
 // One call of `raw_args`, and its next word where it is this one.
-fn call_raw_if(parser: &mut Parser, wanted: &OsString) -> Option<Reply>
-    ensures { RepliesWith (Step (raw_if wanted.now)) parser.old (option_map reply_view result)
-        parser.new }
+fn call_raw_if(parser: &mut Parser, wanted: &OsString) -> Reply
+    ensures { Step (raw_if wanted.now) parser.old (reply_view result) parser.new }
 {
     match parser.raw_args() {
-        Ok(mut view) => Some(Reply::Maybe(take_if(&mut view, wanted, |word| {
+        Ok(mut view) => Reply::Maybe(take_if(&mut view, wanted, |word| {
             word.as_bytes() == wanted.as_bytes()
-        }))),
-        Err(error) => refusal(error),
+        })),
+        Err(error) => Reply::from(Refusal::of_error(error)),
     }
 }
 
@@ -195,22 +221,18 @@ pub fn reply_to(alloc: Global, parser: &mut Parser, call: &Call) -> Result<Reply
         × IfOk result (λ copy. (up_to m (call_view call.now) ≡ call_view call.now)
         × (reply_view copy ≡ reply)) }
 {
-    let reply = match call {
-        Call::Next => call_next(alloc, parser)?,
-        Call::Value => call_value(parser),
-        Call::Optional => Some(Reply::Maybe(parser.optional_value())),
-        Call::Values(count) => call_values(alloc, parser, *count)?,
-        Call::Raw(count) => call_raw(alloc, parser, *count)?,
-        Call::TryRaw(count) => Some(call_try_raw(alloc, parser, *count)?),
-        Call::RawIf(word) => call_raw_if(parser, word),
+    match call {
+        Call::Next => Ok(Reply::from(call_next(alloc, parser)?)),
+        Call::Value => Ok(call_value(parser)),
+        Call::Optional => Ok(Reply::Maybe(parser.optional_value())),
+        Call::Values(count) => call_values(alloc, parser, *count),
+        Call::Raw(count) => call_raw(alloc, parser, *count),
+        Call::TryRaw(count) => call_try_raw(alloc, parser, *count),
+        Call::RawIf(word) => Ok(call_raw_if(parser, word)),
         Call::Switch(on) => {
             parser.set_short_equals(*on);
-            Some(Reply::Done)
+            Ok(Reply::Done)
         }
-    };
-    match reply {
-        Some(reply) => Ok(reply),
-        None => unreachable!(),
     }
 }
 

@@ -7,6 +7,7 @@ ghost use Rattle.lexopt_line_spec.specs.Table.{long, positional, short};
 ghost use Rattle.lexopt_line_spec.specs.Script.{bracketed, item_text, name_text, reads_line};
 ghost use Rattle.lexopt_calls.specs.Replies.{call_view};
 
+use lexopt_base::refusal::Refusal;
 use lexopt_words::message::{write_missing_value, write_no_memory, write_unexpected_value};
 use lexopt_words::os_string::{OsString, Quoted};
 use std::fmt;
@@ -71,6 +72,22 @@ pub enum Reply {
     Unexpected(String, OsString),
     /// Memory was refused.
     NoMemory,
+}
+
+impl From<Refusal> for Reply {
+    ghost use Rattle.std.specs.Prelude.{◌≡◌};
+    ghost use Rattle.lexopt_base.specs.Refusals.{refusal_reply};
+    ghost use Rattle.lexopt_calls.specs.Replies.{reply_view};
+
+    ghost from_gives = { λ refusal reply. reply_view reply ≡ refusal_reply refusal };
+
+    fn from(refusal: Refusal) -> Reply {
+        match refusal {
+            Refusal::MissingValue(option) => Reply::Missing(option),
+            Refusal::UnexpectedValue { option, value } => Reply::Unexpected(option, value),
+            Refusal::OutOfMemory => Reply::NoMemory,
+        }
+    }
 }
 
 impl fmt::Display for Reply {

@@ -15,19 +15,20 @@ use Rattle.lexopt_line_spec.specs.Spelling.{Shows}
 use Rattle.lexopt_line_spec.proofs.WholeLines.{shown_said}
 use Rattle.lexopt_base.specs.Replies.{RepliesWith, error_reply}
 use Rattle.lexopt_words.specs.declared.error.Error.{Error}
-use Rattle.lexopt_words.specs.declared.error.Error.TheVariants.{MissingValue, UnexpectedOption, UnexpectedArgument, UnexpectedValue, ParsingFailed, NonUnicodeValue, Custom, OutOfMemory}
+use Rattle.lexopt_words.specs.declared.error.Error.TheVariants as error
 use Rattle.std.specs.Prelude.{Result, Ok, Err, IfErr, IfOk}
 use Rattle.std.specs.Result.{IsErrAnd}
-use Rattle.std.specs.Option.{option_map}
-use Rattle.lexopt_calls.specs.declared.reply.Reply as replies
+use Rattle.lexopt_calls.specs.declared.replay.NextReply.{NextReply}
 use Rattle.lexopt_items.specs.declared.kinds.Kind as copies
 use Rattle.lexopt_items.specs.declared.kinds.Kind.TheVariants.{Flag, One, Optional, Several}
-use Rattle.lexopt_items.specs.declared.items.Ending.{Ending}
-use Rattle.lexopt_items.specs.declared.items.Ending.TheVariants.{Missing, Unexpected, NoMemory}
+use Rattle.lexopt_base.specs.declared.refusal.Refusal.{Refusal}
+use Rattle.lexopt_base.specs.declared.refusal.Refusal.TheVariants.{MissingValue, UnexpectedValue, OutOfMemory}
+use Rattle.lexopt_base.specs.Refusals.{IsErrorOf, refusal_reply}
+use Rattle.lexopt_base.proofs.Refusals.{error_said}
 use Rattle.lexopt_items.specs.declared.items.Values.{Values}
 use Rattle.lexopt_items.specs.declared.items.Values.TheVariants.{AtMostOne, All}
-use Rattle.lexopt_calls.specs.Replies.{reply_view}
-use Rattle.lexopt_items.specs.Items.{ReadsItem, ReadsValues, ValuesEndBy, EndsBy, IsErrorOf, FailsWith, ending_view, item_with, kind_view}
+use Rattle.lexopt_calls.specs.Replies.{next_view}
+use Rattle.lexopt_items.specs.Items.{ReadsItem, ReadsValues, ValuesEndBy, EndsBy, FailsWith, item_with, kind_view}
 
 pub list_any-map : {X Y : Type 0} (f : X → Y) (p : Y → Bool) (xs : List X) → list_any p (map f xs) ≡ list_any (λ x. p (f x)) xs
 list_any-map f p [] = refl
@@ -93,47 +94,34 @@ option_read t u v w name k values is step reads = absurd reads
 
 -- ---- errors
 
--- an error of the call for the values of an option ends the reading
-pub value_refused : (k : copies.Kind) (u v : UnreadLine) (e : Error) (ending : Ending) (call : Call) → IsDue (kind_view k) call → error_reply e ≡ Some (ending_view ending)
-    → RepliesWith (Step call) u (error_reply e) v → ValuesEndBy k u ending
-value_refused k u v e ending call due is gives = inr (call, v, due, subst (λ (o : Option Reply). RepliesWith (Step call) u o v) is gives)
+-- the call for the values of an option is refused
+pub value_refused : (k : copies.Kind) (u v : UnreadLine) (e : Error) (refusal : Refusal) (call : Call) → IsDue (kind_view k) call → error_reply e ≡ Some (refusal_reply refusal)
+    → RepliesWith (Step call) u (error_reply e) v → ValuesEndBy k u refusal
+value_refused k u v e refusal call due is gives = inr (call, v, due, subst (λ (o : Option Reply). RepliesWith (Step call) u o v) is gives)
 
-no_memory_ends : (ending : Ending) → Some steps.no_memory ≡ Some (ending_view ending) → ending ≡ NoMemory
-no_memory_ends (Missing o) is = let f : Some steps.no_memory ≡ Some (ending_view (Missing o)) = is in cc
-no_memory_ends (Unexpected o x) is = let f : Some steps.no_memory ≡ Some (ending_view (Unexpected o x)) = is in cc
-no_memory_ends NoMemory is = refl
-
--- or memory is refused
-pub values_refused : (k : copies.Kind) (u v : UnreadLine) (e : Error) (ending : Ending) (call : Call) → IsDue (kind_view k) call → error_reply e ≡ Some (ending_view ending)
-    → (e ≡ OutOfMemory) ⊎ RepliesWith (Step call) u (error_reply e) v → ValuesEndBy k u ending
-values_refused k u v e ending call due is (inl none) = inl (no_memory_ends ending (ap error_reply (sym none) ∙ is))
-values_refused k u v e ending call due is (inr gives) = value_refused k u v e ending call due is gives
-
--- the call for the values of an option ends the reading
-pub option_refused : (t : Table) (u v : UnreadLine) (name : Name) (k : copies.Kind) (ending : Ending) → kind_view k ≡ kind t name → Next u (option_reply name) v → ValuesEndBy k v ending
-    → EndsBy t u ending
-option_refused t u v name k ending is step (inl none) = inl none
-option_refused t u v name k (Missing o) is step (inr r) = inr (_, reads_refused t u v r.1 name (kind_view k) r.0 (ending_view (Missing o)) (sym is) r.2 tt step r.3)
-option_refused t u v name k (Unexpected o x) is step (inr r) = inr (_, reads_refused t u v r.1 name (kind_view k) r.0 (ending_view (Unexpected o x)) (sym is) r.2 tt step r.3)
-option_refused t u v name k NoMemory is step (inr r) = inl refl
+-- so the reading ends
+pub option_refused : (t : Table) (u v : UnreadLine) (name : Name) (k : copies.Kind) (refusal : Refusal) → kind_view k ≡ kind t name → Next u (option_reply name) v → ValuesEndBy k v refusal
+    → EndsBy t u refusal
+option_refused t u v name k refusal is step (inl none) = inl none
+option_refused t u v name k (MissingValue o) is step (inr r) = inr (_, reads_refused t u v r.1 name (kind_view k) r.0 (refusal_reply (MissingValue o)) (sym is) r.2 tt step r.3)
+option_refused t u v name k (UnexpectedValue o x) is step (inr r) = inr (_, reads_refused t u v r.1 name (kind_view k) r.0 (refusal_reply (UnexpectedValue o x)) (sym is) r.2 tt step r.3)
+option_refused t u v name k OutOfMemory is step (inr r) = inl refl
 
 -- `next` ends the reading
-pub next_refused : (t : Table) (u v : UnreadLine) (o : String Global) (x : List ℕ) → Next u (ending_view (Unexpected o x)) v → EndsBy t u (Unexpected o x)
-next_refused t u v o x step = inr (_, reads_last t u v (ending_view (Unexpected o x)) tt step)
+pub next_refused : (t : Table) (u v : UnreadLine) (o : String Global) (x : List ℕ) → Next u (refusal_reply (UnexpectedValue o x)) v → EndsBy t u (UnexpectedValue o x)
+next_refused t u v o x step = inr (_, reads_last t u v (refusal_reply (UnexpectedValue o x)) tt step)
 
 -- what was read before
-pub refused_later : (t : Table) (u v : UnreadLine) (l : List Item) (ending : Ending) → SaysUpTo t u l v → EndsBy t v ending → EndsBy t u ending
-refused_later t u v l ending says (inl is) = inl is
-refused_later t u v l ending says (inr reading) = inr (_, says (ending_view ending) reading.0 reading.1)
+pub refused_later : (t : Table) (u v : UnreadLine) (l : List Item) (refusal : Refusal) → SaysUpTo t u l v → EndsBy t v refusal → EndsBy t u refusal
+refused_later t u v l refusal says (inl is) = inl is
+refused_later t u v l refusal says (inr reading) = inr (_, says (refusal_reply refusal) reading.0 reading.1)
 
 -- the error of what ended it
-pub is_refused : (t : Table) (u : UnreadLine) (ending : Ending) (e : Error) → EndsBy t u ending → IsErrorOf ending e → FailsWith t u e
-is_refused t u NoMemory e ends is = inl is
-is_refused t u (Missing o) e (inl none) is = let f : Missing o ≡ NoMemory = none in cc
-is_refused t u (Missing None) e (inr r) is = inr (_, r.0, r.1, ap error_reply is)
-is_refused t u (Missing (Some o)) e (inr r) is = inr (_, r.0, r.1, ap error_reply is)
-is_refused t u (Unexpected o x) e (inl none) is = let f : Unexpected o x ≡ NoMemory = none in cc
-is_refused t u (Unexpected o x) e (inr r) is = inr (_, r.0, r.1, ap error_reply is)
+pub is_refused : (t : Table) (u : UnreadLine) (refusal : Refusal) (e : Error) → EndsBy t u refusal → IsErrorOf refusal e → FailsWith t u e
+is_refused t u OutOfMemory e ends is = inl is
+is_refused t u (MissingValue o) e (inl none) is = let f : MissingValue o ≡ OutOfMemory = none in cc
+is_refused t u (UnexpectedValue o x) e (inl none) is = let f : UnexpectedValue o x ≡ OutOfMemory = none in cc
+is_refused t u refusal e (inr r) is = inr (_, r.0, r.1, error_said refusal e is)
 
 -- the end
 pub end_read : (t : Table) (u v w : UnreadLine) (l : List Item) → SaysUpTo t u l v → Next v steps.end w → IsReading t u steps.end l
@@ -141,9 +129,8 @@ end_read t u v w l says step = subst (IsReading t u steps.end) (append-nil l) (s
 
 -- ---- what a step gave
 
-pub gave : (u v : UnreadLine) (copy : Option replies.Reply) (x : replies.Reply) → ((reply : Option Reply) × RepliesWith Next u reply v × (option_map reply_view copy ≡ reply))
-    → copy ≡ Some x → Next u (reply_view x) v
-gave u v copy x h is = subst (λ (r : Option Reply). RepliesWith Next u r v) (sym h.2 ∙ ap (option_map reply_view) is) h.1
+pub gave : (u v : UnreadLine) (copy x : NextReply) → ((reply : Reply) × Next u reply v × (next_view copy ≡ reply)) → copy ≡ x → Next u (next_view x) v
+gave u v copy x h is = subst (λ (r : Reply). Next u r v) (sym h.2 ∙ ap next_view is) h.1
 
 -- an error, of which more is known
 pub err_says : {X Y : Type 0} (r : Result X Y) (P Q : Y → Type 0) → IsErrAnd r P → ((y : Y) → P y → Q y) → IfErr r Q
@@ -161,23 +148,23 @@ handed_on r e Q is h = err_says r (λ y. y ≡ e) Q is (λ y same. subst Q (sym 
 -- ---- what a whole reading shows
 
 no_error : (x : Error) → error_reply x ≡ Some steps.end → ⊥
-no_error (MissingValue None) is = let f : Some (steps.missing None) ≡ Some steps.end = is in cc
-no_error (MissingValue (Some o)) is = let f : Some (steps.missing (Some (string_bytes o))) ≡ Some steps.end = is in cc
-no_error (UnexpectedOption o) is = let f : None ≡ Some steps.end = is in cc
-no_error (UnexpectedArgument x) is = let f : None ≡ Some steps.end = is in cc
-no_error (UnexpectedValue o x) is = let f : Some (steps.unexpected (string_bytes o) x) ≡ Some steps.end = is in cc
-no_error (ParsingFailed x c) is = let f : None ≡ Some steps.end = is in cc
-no_error (NonUnicodeValue x) is = let f : None ≡ Some steps.end = is in cc
-no_error (Custom c) is = let f : None ≡ Some steps.end = is in cc
-no_error OutOfMemory is = let f : Some steps.no_memory ≡ Some steps.end = is in cc
+no_error (error.MissingValue None) is = let f : Some (steps.missing None) ≡ Some steps.end = is in cc
+no_error (error.MissingValue (Some o)) is = let f : Some (steps.missing (Some (string_bytes o))) ≡ Some steps.end = is in cc
+no_error (error.UnexpectedOption o) is = let f : None ≡ Some steps.end = is in cc
+no_error (error.UnexpectedArgument x) is = let f : None ≡ Some steps.end = is in cc
+no_error (error.UnexpectedValue o x) is = let f : Some (steps.unexpected (string_bytes o) x) ≡ Some steps.end = is in cc
+no_error (error.ParsingFailed x c) is = let f : None ≡ Some steps.end = is in cc
+no_error (error.NonUnicodeValue x) is = let f : None ≡ Some steps.end = is in cc
+no_error (error.Custom c) is = let f : None ≡ Some steps.end = is in cc
+no_error error.OutOfMemory is = let f : Some steps.no_memory ≡ Some steps.end = is in cc
 
 -- where a reading ends in an error, the words show nothing
 pub refused_shows_none : (t : Table) (switch : Bool) (words : List (List ℕ)) (e : Error) → FailsWith t (start switch words) e
-    → (e ≡ OutOfMemory) ⊎ ((l : List Item) → Shows t switch words l → ⊥)
+    → (e ≡ error.OutOfMemory) ⊎ ((l : List Item) → Shows t switch words l → ⊥)
 refused_shows_none t switch words e (inl is) = inl is
 refused_shows_none t switch words e (inr reading) = inr (λ l shows.
     let final = (shown_said t switch words l reading.1 reading.0 shows reading.2).0 in no_error e (reading.3 ∙ ap Some final))
 
-pub refused_shows : (t : Table) (switch : Bool) (words : List (List ℕ)) (l : List Item) (e : Error) → Shows t switch words l → FailsWith t (start switch words) e → e ≡ OutOfMemory
+pub refused_shows : (t : Table) (switch : Bool) (words : List (List ℕ)) (l : List Item) (e : Error) → Shows t switch words l → FailsWith t (start switch words) e → e ≡ error.OutOfMemory
 refused_shows t switch words l e shows refused =
     ⊎_elim (λ is. is) (λ (none : (m : List Item) → Shows t switch words m → ⊥). absurd (none l shows)) (refused_shows_none t switch words e refused)

@@ -1,9 +1,8 @@
 -- Tables, items and errors as contracts see them, and what one turn of `read_items` reads.
 use Rattle.std.specs.Prelude.{◌≡◌, ◌<◌, ◌⊎◌, ℕ, List, [], ◌∷◌, length, map, Option, Some, None}
-use Rattle.std.specs.Prelude.{option_map, string_bytes}
+use Rattle.std.specs.Prelude.{string_bytes}
 use Rattle.lexopt_spec.specs.UnreadLine.{UnreadLine}
-use Rattle.lexopt_spec.specs.Steps.{Reply, Next, Value, end, taken, maybe, items, missing}
-use Rattle.lexopt_spec.specs.Steps.{unexpected, no_memory}
+use Rattle.lexopt_spec.specs.Steps.{Reply, Next, Value, end, taken, maybe, items}
 use Rattle.lexopt_spec.specs.Runs as calls
 use Rattle.lexopt_spec.specs.Runs.{Step}
 use Rattle.lexopt_line_spec.specs.Table as spec
@@ -12,16 +11,16 @@ use Rattle.lexopt_line_spec.specs.Readings.{IsDue, IsReading, SaysUpTo}
 use Rattle.lexopt_line_spec.specs.Bound.{bound}
 use Rattle.lexopt_base.specs.Replies.{error_reply}
 use Rattle.lexopt_words.specs.declared.error.Error.{Error}
-use Rattle.lexopt_words.specs.declared.error.Error.TheVariants.{MissingValue, UnexpectedValue}
-use Rattle.lexopt_words.specs.declared.error.Error.TheVariants.{OutOfMemory}
+use Rattle.lexopt_words.specs.declared.error.Error.TheVariants as error
 use Rattle.lexopt_items.specs.declared.items.Item.{Item}
 use Rattle.lexopt_items.specs.declared.items.Item.TheVariants.{Short, Long, ShortMany, LongMany}
 use Rattle.lexopt_items.specs.declared.items.Item.TheVariants.{Positional}
 use Rattle.lexopt_items.specs.declared.items.Table.{Table}
 use Rattle.lexopt_items.specs.declared.kinds.Kind.{Kind}
 use Rattle.lexopt_items.specs.declared.kinds.Kind.TheVariants.{Flag, One, Optional, Several}
-use Rattle.lexopt_items.specs.declared.items.Ending.{Ending}
-use Rattle.lexopt_items.specs.declared.items.Ending.TheVariants.{Missing, Unexpected, NoMemory}
+use Rattle.lexopt_base.specs.declared.refusal.Refusal.{Refusal}
+use Rattle.lexopt_base.specs.declared.refusal.Refusal.TheVariants.{OutOfMemory}
+use Rattle.lexopt_base.specs.Refusals.{refusal_reply}
 use Rattle.lexopt_items.specs.declared.items.Values.{Values}
 use Rattle.lexopt_items.specs.declared.items.Values.TheVariants.{AtMostOne, All}
 
@@ -62,36 +61,25 @@ ReadsValues Several u (All values) v = (n : ℕ) × (length values.items < n)
     × Step (calls.values n) u (items values.items) v
 ReadsValues k u values v = ⊥
 
--- what ends a reading, as a reply
-abbrev pub ending_view : Ending → Reply
-ending_view (Missing o) = missing (option_map string_bytes o)
-ending_view (Unexpected o word) = unexpected (string_bytes o) word
-ending_view NoMemory = no_memory
-
--- memory is refused, or the call for the values of an option of this kind ends the reading so
-abbrev pub ValuesEndBy : Kind → UnreadLine → Ending → Type 0
-ValuesEndBy k u ending =
-    (ending ≡ NoMemory) ⊎ ((call : calls.Call) × (v : UnreadLine) × IsDue (kind_view k) call
-    × Step call u (ending_view ending) v)
+-- the list of values is out of memory, or the call for the values of an option of this kind is
+-- refused so
+abbrev pub ValuesEndBy : Kind → UnreadLine → Refusal → Type 0
+ValuesEndBy k u refusal =
+    (refusal ≡ OutOfMemory) ⊎ ((call : calls.Call) × (v : UnreadLine) × IsDue (kind_view k) call
+    × Step call u (refusal_reply refusal) v)
 
 -- the item that is read next, and none at the end
 abbrev pub ReadsItem : spec.Table → UnreadLine → Option spec.Item → UnreadLine → Type 0
 ReadsItem t u None v = Next u end v
 ReadsItem t u (Some item) v = SaysUpTo t u (item ∷ []) v × (bound v < bound u)
 
--- memory is refused, or a reading of the line ends so
-abbrev pub EndsBy : spec.Table → UnreadLine → Ending → Type 0
-EndsBy t u ending = (ending ≡ NoMemory)
-    ⊎ ((l : List spec.Item) × IsReading t u (ending_view ending) l)
+-- out of memory, or a reading of the line ends so
+abbrev pub EndsBy : spec.Table → UnreadLine → Refusal → Type 0
+EndsBy t u refusal = (refusal ≡ OutOfMemory)
+    ⊎ ((l : List spec.Item) × IsReading t u (refusal_reply refusal) l)
 
--- the error that says what ended a reading
-abbrev pub IsErrorOf : Ending → Error → Type 0
-IsErrorOf (Missing o) e = e ≡ MissingValue o
-IsErrorOf (Unexpected o word) e = e ≡ UnexpectedValue o word
-IsErrorOf NoMemory e = e ≡ OutOfMemory
-
--- memory is refused, or a reading of the line ends with this error
+-- out of memory, or a reading of the line ends with this error
 abbrev pub FailsWith : spec.Table → UnreadLine → Error → Type 0
-FailsWith t u e = (e ≡ OutOfMemory)
+FailsWith t u e = (e ≡ error.OutOfMemory)
     ⊎ ((final : Reply) × (l : List spec.Item) × IsReading t u final l
     × (error_reply e ≡ Some final))

@@ -1,5 +1,5 @@
 //! Whole lines, read by a table of options.
-ghost use Rattle.std.specs.Prelude.{◌≡◌, ◌⊎◌, ℕ, [], List, Some, IsSome, IfErr, IfOk, map};
+ghost use Rattle.std.specs.Prelude.{◌≡◌, ◌⊎◌, ℕ, [], List, IfErr, IfOk, map};
 ghost use Rattle.std.specs.Prelude.{string_bytes};
 ghost use Rattle.std.specs.Option.{option_map};
 ghost use Rattle.std.specs.Result.{IsErrAnd};
@@ -9,10 +9,9 @@ ghost use Rattle.lexopt_spec.specs.Steps.{end};
 ghost use Rattle.lexopt_line_spec.specs.Table as spec;
 ghost use Rattle.lexopt_line_spec.specs.Table.{one_value};
 ghost use Rattle.lexopt_line_spec.specs.Readings.{IsReading};
-ghost use Rattle.lexopt_spec.specs.Runs.{Step, values};
-ghost use Rattle.lexopt_base.specs.Replies.{RepliesWith, error_reply};
-ghost use Rattle.lexopt_items.specs.Items.{EndsBy, IsErrorOf, FailsWith, ReadsItem, ReadsValues};
-ghost use Rattle.lexopt_items.specs.Items.{ValuesEndBy, ending_view, item_view, item_with};
+ghost use Rattle.lexopt_base.specs.Refusals.{IsErrorOf};
+ghost use Rattle.lexopt_items.specs.Items.{EndsBy, FailsWith, ReadsItem, ReadsValues};
+ghost use Rattle.lexopt_items.specs.Items.{ValuesEndBy, item_view, item_with};
 ghost use Rattle.lexopt_items.specs.Items.{table_view};
 ghost use Rattle.lexopt_items.specs.Lines.{IsAnswered, IsSpellable, LineFails, LineReads};
 ghost use Rattle.lexopt_items.specs.Lines.{LineShows, LineSpells, NamesAreWhole, ShowsList};
@@ -20,13 +19,12 @@ ghost use Rattle.lexopt_items.specs.Lines.{ShowsNothing, SpellsList};
 
 use crate::kinds::{Kind, kind_of_long, kind_of_short};
 use lexopt_base::parser::Parser;
-use lexopt_calls::replay::{call_next, take_values};
-use lexopt_calls::reply::{
-    Reply, write_list, write_long, write_positional, write_short, write_word,
-};
+use lexopt_base::refusal::Refusal;
+use lexopt_calls::replay::{NextReply, call_next, take_values};
+use lexopt_calls::reply::{write_list, write_long, write_positional, write_short, write_word};
 use lexopt_words::error::Error;
 use lexopt_words::os_string::OsString;
-use std::alloc::{AllocError, Global};
+use std::alloc::Global;
 use std::fmt;
 
 /// The options that have values, by how many they have; any other option has none. Names stand
@@ -176,134 +174,59 @@ impl Values {
 // For how many items of a longer line there is room before its list grows.
 const FIRST_ROOM: usize = 16;
 
-// What ends a reading before the end of the line. An `Error` has room for a cause, so it is made
-// where it is handed out.
-#[derive(Drop)]
-enum Ending {
-    Missing(Option<String>),
-    Unexpected(String, OsString),
-    NoMemory,
-}
-
-impl From<AllocError> for Ending {
-    ghost use Rattle.std.specs.Prelude.{◌≡◌};
-    ghost use Rattle.lexopt_items.specs.declared.items.Ending.TheVariants.{NoMemory};
-
-    ghost from_gives = { λ _ ending. ending ≡ NoMemory };
-
-    fn from(_error: AllocError) -> Ending {
-        Ending::NoMemory
-    }
-}
-
-impl From<Ending> for Error {
-    ghost use Rattle.lexopt_items.specs.Items.{IsErrorOf};
-
-    ghost from_gives = { IsErrorOf };
-
-    fn from(ending: Ending) -> Error {
-        match ending {
-            Ending::Missing(option) => Error::MissingValue { option },
-            Ending::Unexpected(option, value) => Error::UnexpectedValue { option, value },
-            Ending::NoMemory => Error::OutOfMemory,
-        }
-    }
-}
-
-// What an error of the parser ends a reading with.
-fn ending_of(error: Error) -> Ending
-    requires { IsSome (error_reply error) }
-    ensures { error_reply error ≡ Some (ending_view result) }
-{
-    match error {
-        Error::MissingValue { option } => Ending::Missing(option),
-        Error::UnexpectedValue { option, value } => Ending::Unexpected(option, value),
-        Error::OutOfMemory => Ending::NoMemory,
-        Error::UnexpectedOption(_)
-        | Error::UnexpectedArgument(_)
-        | Error::ParsingFailed { .. }
-        | Error::NonUnicodeValue(_)
-        | Error::Custom(_) => unreachable!(),
-    }
-}
-
-// All values of the last option.
-#[inline(always)]
-fn all_values(alloc: Global, parser: &mut Parser) -> Result<Vec<OsString>, Error>
-    ensures ok { IfOk result (λ values.
-        ReadsValues Kind.Several parser.old (Values.All values) parser.new) }
-    ensures err { IfErr result (λ e. (e ≡ Error.OutOfMemory)
-        ⊎ RepliesWith (Step (values 1)) parser.old (error_reply e) parser.new) }
-{
-    match parser.values() {
-        Ok(mut view) => Ok(take_values(alloc, &mut view, usize::MAX)?),
-        Err(error) => Err(error),
-    }
-}
-
 // All values of the last option, which has several. It stands apart, so that what is inlined for
 // other options stays short.
 #[inline(never)]
-fn read_several(alloc: Global, parser: &mut Parser) -> Result<Vec<OsString>, Ending>
+fn read_several(alloc: Global, parser: &mut Parser) -> Result<Vec<OsString>, Refusal>
     ensures ok { IfOk result (λ values.
         ReadsValues Kind.Several parser.old (Values.All values) parser.new) }
-    ensures err { IfErr result (λ ending. ValuesEndBy Kind.Several parser.old ending) }
+    ensures err { IfErr result (λ refusal. ValuesEndBy Kind.Several parser.old refusal) }
 {
-    match all_values(alloc, parser) {
-        Ok(values) => Ok(values),
-        Err(error) => Err(ending_of(error)),
+    match parser.values() {
+        Ok(mut view) => Ok(take_values(alloc, &mut view, usize::MAX)?),
+        Err(error) => Err(Refusal::of_error(error)),
     }
 }
 
 // The values of the last option, which is of this kind.
 #[inline(always)]
-fn read_values(alloc: Global, parser: &mut Parser, kind: Kind) -> Result<Values, Ending>
+fn read_values(alloc: Global, parser: &mut Parser, kind: Kind) -> Result<Values, Refusal>
     ensures ok { IfOk result (λ values. ReadsValues kind parser.old values parser.new) }
-    ensures err { IfErr result (λ ending. ValuesEndBy kind parser.old ending) }
+    ensures err { IfErr result (λ refusal. ValuesEndBy kind parser.old refusal) }
 {
     match kind {
         Kind::Flag => Ok(Values::AtMostOne(None)),
         Kind::One => match parser.value() {
             Ok(word) => Ok(Values::AtMostOne(Some(word))),
-            Err(error) => Err(ending_of(error)),
+            Err(error) => Err(Refusal::of_error(error)),
         },
         Kind::Optional => Ok(Values::AtMostOne(parser.optional_value())),
-        Kind::Several => match read_several(alloc, parser) {
-            Ok(values) => Ok(Values::All(values)),
-            Err(ending) => Err(ending),
-        },
+        Kind::Several => Ok(Values::All(read_several(alloc, parser)?)),
     }
 }
 
 // The next item of a line, and none at its end.
 #[inline(always)]
-fn read_item(alloc: Global, parser: &mut Parser, table: &Table) -> Result<Option<Item>, Ending>
+fn read_item(alloc: Global, parser: &mut Parser, table: &Table) -> Result<Option<Item>, Refusal>
     ensures ok { IfOk result (λ item.
         ReadsItem (table_view table.now) parser.old (option_map item_view item) parser.new) }
-    ensures err { IfErr result (λ ending. EndsBy (table_view table.now) parser.old ending) }
+    ensures err { IfErr result (λ refusal. EndsBy (table_view table.now) parser.old refusal) }
 {
     match call_next(alloc, parser)? {
-        Some(Reply::Short(option)) => {
+        NextReply::Short(option) => {
             let values = read_values(alloc, parser, kind_of_short(table, option))?;
             Ok(Some(values.of_short(option)))
         }
-        Some(Reply::LongName(name)) => {
+        NextReply::Long(name) => {
             let values = read_values(alloc, parser, kind_of_long(table, &name))?;
             Ok(Some(values.of_long(name)))
         }
-        Some(Reply::Positional(word)) => Ok(Some(Item::Positional(word))),
-        Some(Reply::End) => Ok(None),
-        Some(Reply::Unexpected(option, value)) => Err(Ending::Unexpected(option, value)),
-        Some(Reply::NoMemory) => Err(Ending::NoMemory),
-        Some(
-            Reply::Taken(_)
-            | Reply::Maybe(_)
-            | Reply::Items(_)
-            | Reply::Busy
-            | Reply::Done
-            | Reply::Missing(_),
-        )
-        | None => { unreachable!() }
+        NextReply::Value(word) => Ok(Some(Item::Positional(word))),
+        NextReply::End => Ok(None),
+        NextReply::UnexpectedValue(option, value) => {
+            Err(Refusal::UnexpectedValue { option, value })
+        }
+        NextReply::OutOfMemory => Err(Refusal::OutOfMemory),
     }
 }
 
@@ -314,17 +237,17 @@ fn read_items_left(
     parser: &mut Parser,
     table: &Table,
     room: usize,
-) -> Result<Vec<Item>, Ending>
+) -> Result<Vec<Item>, Refusal>
     ensures ok { IfOk result (λ items.
         IsReading (table_view table.now) parser.old end (map item_view items.items)) }
-    ensures err { IfErr result (λ ending. EndsBy (table_view table.now) parser.old ending) }
+    ensures err { IfErr result (λ refusal. EndsBy (table_view table.now) parser.old refusal) }
 {
     let Ok(mut items) = Vec::with_capacity(alloc, room) else {
-        return Err(Ending::NoMemory);
+        return Err(Refusal::OutOfMemory);
     };
     while let Some(item) = read_item(alloc, parser, table)? {
         if items.push(item).is_err() {
-            return Err(Ending::NoMemory);
+            return Err(Refusal::OutOfMemory);
         }
     }
     Ok(items)
@@ -343,16 +266,16 @@ fn items_of(
 {
     match read_items_left(alloc, parser, table, room) {
         Ok(items) => Ok(items),
-        Err(ending) => error_of(ending),
+        Err(refusal) => error_of(refusal),
     }
 }
 
 // No items, for what ended their reading.
 #[cold]
-fn error_of(ending: Ending) -> Result<Vec<Item>, Error>
-    ensures { IsErrAnd result (IsErrorOf ending) }
+fn error_of(refusal: Refusal) -> Result<Vec<Item>, Error>
+    ensures { IsErrAnd result (IsErrorOf refusal) }
 {
-    Err(Error::from(ending))
+    Err(Error::from(refusal))
 }
 
 /// Reads a whole line by a table: after each option of the table its values are read, and any other

@@ -101,10 +101,6 @@ fn items_come_one_by_one()
         (codes "b" ∷ []) (record (fresh (codes "c" ∷ [])) { last = short_option 0x61 }) at_end }
     ensures words { WordItems 3 (fresh (codes "a" ∷ codes "--" ∷ [])) (codes "a" ∷ codes "--" ∷ [])
         (fresh []) }
-    ensures pending_after_the_start { let u : UnreadLine = record (fresh []) {
-      tail = rest (codes "b");
-      last = short_option 0x61;
-    } in ValueItem going_on u None u at_end }
 {}
 
 // A run with these replies has these segments.

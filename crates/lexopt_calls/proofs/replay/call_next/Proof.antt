@@ -1,15 +1,15 @@
 -- `call_next` lends the parser to `next` for a new lifetime, copies the reply out under it, and ends it. So the parser is back at what `next` says of it.
-use Rattle.std.proofs.Common.{◌≡◌, ℕ, refl}
+use Rattle.std.proofs.Common.{◌≡◌, ℕ, Some, refl}
 use Rattle.std.specs.Prelude.{IfOk}
 use Rattle.std.proofs.raw_atomic.Walks.{proved}
 use mathlib.Core.List.{List, [], ◌∷◌}
 use base.Fraction.{full_share}
-use base.Logic.{id⊢}
+use base.Logic.{id⊢, emp}
 use base.Fml.{ftrue, flft, fres}
 use mir.Syntax.{named}
-use contract.Monad.{fact}
+use contract.Monad.{fact, fact_i}
 use contract.Running.{tables}
-use types.Kit.{‵, raw, ◌⊛◌, some, later, ◌$◌, ◌∵◌, !, qed, done, move, keep, drop, use1, use2, use3, split, join, pick, await, suffices}
+use types.Kit.{‵, raw, ◌⊛◌, some, later, ◌$◌, ◌∵◌, !, qed, done, move, keep, drop, use0, use1, use2, use3, split, join, pick, await, suffices}
 use types.Tokens.{lft_new, lft_end}
 use types.Run.{enter, of_opd, addr, stop, no_more, and_then, returns}
 use types.ByLocal.{alloc_all, pass_all, free_all, look_at, get, through, sets, lands_as}
@@ -47,10 +47,10 @@ use Rattle.lexopt_base.specs.Ends.{EndsAfter}
 use Rattle.lexopt_base.proofs.Ends.{ends_said}
 use Rattle.lexopt_base.specs.contracts.parser.Parser.next as next
 use Rattle.lexopt_base.proofs.parser.Parser.next.Met.{met as next_met}
-use Rattle.std.specs.Option.{option_map}
-use Rattle.lexopt_calls.specs.Replies.{reply_view}
-use Rattle.lexopt_calls.specs.contracts.reply.Reply as Reply-type
-use Rattle.lexopt_calls.proofs.reply.Reply.TheLaws as Reply-laws
+use Rattle.lexopt_calls.specs.Replies.{next_view}
+use Rattle.lexopt_calls.specs.contracts.replay.NextReply as NextReply-type
+use Rattle.lexopt_calls.proofs.replay.NextReply.TheLaws as NextReply-laws
+use Rattle.lexopt_calls.proofs.StepReplies.{copied as copied_reply, given}
 use Rattle.lexopt_calls.specs.contracts.replay.copy_reply as copied
 use Rattle.lexopt_calls.proofs.replay.copy_reply.Met.{met as copied_met}
 use Rattle.lexopt_calls.specs.contracts.replay.call_next as f
@@ -65,10 +65,10 @@ stayed = (stay_dropped (plain (λ _. Al)) yes, (stay_ref (0 ∷ []) tt (plain (�
 
 -- what `call_next` gives
 abbrev Tr : RattleType
-Tr = Result-type.the_row (Option-type.the_row Reply-type.the_row) AllocError-type.the_row
+Tr = Result-type.the_row NextReply-type.the_row AllocError-type.the_row
 
 Tr-laws : Laws Tr
-Tr-laws = Result-laws.the_row_laws (Option-type.the_row Reply-type.the_row) AllocError-type.the_row (Option-laws.the_row_laws Reply-type.the_row Reply-laws.the_row_laws) AllocError-laws.the_row_laws
+Tr-laws = Result-laws.the_row_laws NextReply-type.the_row AllocError-type.the_row NextReply-laws.the_row_laws AllocError-laws.the_row_laws
 
 pub call_next_spec : {M : Type 1} → statement M
 call_next_spec 𝓤 𝓛 𝓜 𝓡 wired =
@@ -104,28 +104,32 @@ call_next_spec 𝓤 𝓛 𝓜 𝓡 wired =
     some (λ (ws : Lasts next.ended z.0.0 z.0.3). ‵ (lasts next.ended z.0.0 z.0.3 ws) ⊛ (‵ (EndsAfter lent y) ⊛ raw (fact 𝓤 (CanReply r.now (next_reply y)))))))) (id⊢ 𝓤 _) $
     await ! tt $ pick ! (λ y. split ! $ split ! $ split ! $ move ! (2 ∷ []) $
     -- [the reply; the token of α; nothing; the rest; what the lender keeps; the allocator]
-    peeks ! Or (Is Or) (shows 𝓛 Or) y (u ∷ []) (λ is.
+    move ! (3 ∷ []) $ pick ! (λ ws. split ! $ drop ! $ split ! $ move ! (1 ∷ []) $ heard ! _ (λ can.
+    -- [what `next` says; the reply; the token of α; nothing; what the lender keeps; the allocator]
+    move ! (1 ∷ []) $ peeks ! Or (Is Or) (shows 𝓛 Or) y (u ∷ []) (λ is.
     let typed = ((Or-laws.lawful 𝓛).typed y (u ∷ []) is).0 in
     lands_as ! refl refl typed $ sets ! (of_opd ! (get ! refl)) refl typed $
     let C = triple_of 𝓛 copied.signature (copied.spec 𝓛 𝓜.mem 𝓡.returns) in
     let zc : C.Ghost = (((α ∷ [], tt), (full_share, tt), tt, (al, (y, tt)), (va ∷ [], (u ∷ [], tt))), tt) in
-    nothing ! $ move ! (1 ∷ 0 ∷ []) $ join ! $ move ! (5 ∷ 0 ∷ []) $ join ! $ nothing ! $ move ! (2 ∷ 0 ∷ []) $ join ! $ join ! $
-    nothing ! $ move ! (1 ∷ 0 ∷ []) $ use2 𝓛 (raw (C.pre zc)) (id⊢ 𝓤 _) $
+    let Asked = (line : UnreadLine) × CanReply line (next_reply y) in
+    -- [the reply; what `next` says; the token of α; nothing; what the lender keeps; the allocator]
+    nothing ! $ move ! (1 ∷ 0 ∷ []) $ join ! $ move ! (5 ∷ 0 ∷ []) $ join ! $ nothing ! $ move ! (3 ∷ 0 ∷ []) $ join ! $ join ! $
+    use0 𝓛 (raw (fact 𝓤 Asked)) (fact_i 𝓤 Asked (emp 𝓤) (r.now, can)) $ move ! (1 ∷ 0 ∷ []) $ use2 𝓛 (raw (C.pre zc)) (id⊢ 𝓤 _) $
     calls_at ! (framed 𝓤 𝓛.H 𝓜 (tables 𝓤 𝓛.H 𝓜 𝓡 𝓡.env)) C (copied_met 𝓤 𝓛 𝓜 𝓡 (code.calls-lexopt_calls::replay::copy_reply 𝓡.env wired)) zc
     (and_then ! (get ! refl) (and_then ! (get ! refl) (no_more !))) (λ v.
     use1 𝓛 (later (some (λ (t : Tr.Denot). ((‵ (flft (α ∷ []) full_share) ⊛ ‵ ftrue) ⊛ ‵ (Tr.own_val t (v ∷ []))) ⊛
-    some (λ (ws : Lasts copied.ended zc.0.0 zc.0.3). ‵ (lasts copied.ended zc.0.0 zc.0.3 ws) ⊛ raw (fact 𝓤 (IfOk t (λ x. option_map reply_view x ≡ next_reply y))))))) (id⊢ 𝓤 _) $
+    some (λ (ws : Lasts copied.ended zc.0.0 zc.0.3). ‵ (lasts copied.ended zc.0.0 zc.0.3 ws) ⊛ raw (fact 𝓤 (IfOk t (λ x. next_reply y ≡ Some (next_view x)))))))) (id⊢ 𝓤 _) $
     await ! tt $ pick ! (λ t. split ! $ split ! $ split ! $ lft_end ! tt $ move ! (2 ∷ []) $
-    -- [the copy; α is over; nothing; the rest; nothing; what `next` says; what the lender keeps]
     peeks ! Tr (Is Tr) (shows 𝓛 Tr) t (v ∷ []) (λ is'.
     lands_as ! refl refl (((Tr-laws.lawful 𝓛).typed t (v ∷ []) is').0) $ move ! (3 ∷ []) $ pick ! (λ ws'. split ! $ drop ! $ heard ! _ (λ same.
-    move ! (4 ∷ []) $ pick ! (λ ws. split ! $ drop ! $ split ! $
+    move ! (3 ∷ []) $
     use1 𝓛 (some (λ (w : UnreadLine). raw (fact 𝓤 (RepliesWith Next r.now (next_reply y) w)) ⊛ ‵ (fres δ (R.coded.code w)))) (ends_said 𝓛 lent y) $ pick ! (λ w. split ! $ heard ! _ (λ steps.
-    -- [the loan's last value; the other clause; the copy; α is over; nothing; nothing; what the lender keeps]
-    move ! (3 ∷ 6 ∷ 0 ∷ []) $ use3 𝓛 (later (‵ (Ref κ (record r { now = w })) ⊛ ‵ (flft κ q)))
+    -- [the loan's last value; the copy; α is over; nothing; nothing; what the lender keeps]
+    move ! (2 ∷ 5 ∷ 0 ∷ []) $ use3 𝓛 (later (‵ (Ref κ (record r { now = w })) ⊛ ‵ (flft κ q)))
     (comes_back 𝓛 R (named 0) κ (α ∷ []) q γ b o δ r.now w) $ await ! tt $ split ! $
-    returns ! (look_at ! 0 refl) $ free_all ! refl $ keep ! (0 ∷ 1 ∷ 3 ∷ []) $
+    returns ! (look_at ! 0 refl) $ free_all ! refl $ keep ! (0 ∷ 1 ∷ 2 ∷ []) $
     -- [the parser; the token of κ; the copy]
     suffices ! _ (ends_at 𝓛 f.ended stayed c ((κs, qs, bounds, a, (va ∷ [], (vs, tt))), tt) v t (tt, (w, tt)) (tt, (tt, tt))) $
-    says ! (next_reply y, steps, same) $
-    nothing ! $ move ! (1 ∷ 0 ∷ []) $ join ! $ nothing ! $ join ! $ nothing ! $ move ! (2 ∷ 0 ∷ []) $ join ! $ done !)))))))))))))))
+    let made = given Next r.now (next_reply y) w steps in
+    says ! (made.0, made.1, copied_reply t (next_reply y) made.0 made.2 same) $
+    nothing ! $ move ! (1 ∷ 0 ∷ []) $ join ! $ nothing ! $ join ! $ nothing ! $ move ! (2 ∷ 0 ∷ []) $ join ! $ done !))))))))))))))))

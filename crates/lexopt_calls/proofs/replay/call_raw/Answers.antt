@@ -1,9 +1,11 @@
-use Rattle.std.proofs.Common.{rules, Some, ap, subst}
+use Rattle.std.proofs.Common.{arith, rules, ap, refl, subst}
 use Rattle.std.proofs.lemmas.Result.{IfOk-from_err}
 use Rattle.lexopt_spec.specs.UnreadLine.{UnreadLine}
 use Rattle.lexopt_spec.specs.Steps.{items}
 use Rattle.lexopt_spec.specs.Runs.{Step, raw}
-use Rattle.lexopt_base.specs.Replies.{RepliesWith}
+use Rattle.lexopt_base.specs.Refusals.{refusal_reply}
+use Rattle.lexopt_base.specs.Replies.{error_reply}
+use Rattle.lexopt_calls.proofs.StepReplies.{err_told, refusal_given, some_reply}
 use Rattle.lexopt_calls.proofs.Views.{raw_made}
 use Rattle.lexopt_calls.proofs.replay.call_raw.Goals as goal
 
@@ -12,9 +14,9 @@ returns-in_err-take_words-in-Ok c =
     let h = c.in_err-take_words-in-Ok.ensures.items in
     let made = raw_made h.0 c.args.parser.now c.in-Ok.view.parser.now _ h.1 c.in-Ok.ensures.nothing_pending c.in-Ok.ensures.unchanged h.3 in (
       h.0,
-      Some (items h.1),
+      items h.1,
       h.2,
-      subst (λ (l : UnreadLine). RepliesWith (Step (raw h.0)) c.args.parser.now (Some (items h.1)) l) (search rules) made,
+      subst (λ (l : UnreadLine). Step (raw h.0) c.args.parser.now (items h.1) l) (search rules) made,
       IfOk-from_err c.from_residual.result _ c.from_residual.ensures.0,
     )
 
@@ -23,8 +25,23 @@ returns-in_ok-take_words-in-Ok c =
     let h = c.in_ok-take_words-in-Ok.ensures.items in
     let made = raw_made h.0 c.args.parser.now c.in-Ok.view.parser.now _ h.1 c.in-Ok.ensures.nothing_pending c.in-Ok.ensures.unchanged h.3 in (
       h.0,
-      Some (items h.1),
+      items h.1,
       h.2,
-      subst (λ (l : UnreadLine). RepliesWith (Step (raw h.0)) c.args.parser.now (Some (items h.1)) l) (search rules) made,
-      (h.4.0, ap (λ l. Some (items l)) h.4.1),
+      subst (λ (l : UnreadLine). Step (raw h.0) c.args.parser.now (items h.1) l) (search rules) made,
+      (h.4.0, ap items h.4.1),
+    )
+
+pub of_error-requires : goal.of_error-requires
+of_error-requires c =
+    let told = err_told c.raw_args.result c.in-Err.error _ c.in-Err.is c.raw_args.follows.holds-at-none in
+    some_reply (Step (raw c.args.count)) c.args.parser.now (error_reply c.in-Err.error) _ (told.0 c.args.count)
+
+pub returns-in-Err : goal.returns-in-Err
+returns-in-Err c =
+    let told = err_told c.raw_args.result c.in-Err.error _ c.in-Err.is c.raw_args.follows.holds-at-none in (
+      c.args.count,
+      refusal_reply c.of_error.result,
+      omega arith,
+      refusal_given (Step (raw c.args.count)) c.args.parser.now (error_reply c.in-Err.error) _ _ (told.0 c.args.count) c.of_error.ensures,
+      (refl, c.from.ensures),
     )

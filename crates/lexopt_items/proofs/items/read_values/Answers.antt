@@ -6,7 +6,7 @@ use Rattle.lexopt_items.proofs.items.read_values.Goals as goal
 
 pub returns-in-Err-clause-err : goal.returns-in-Err-clause-err
 returns-in-Err-clause-err c =
-    rw c.in-One.is (value_refused One c.args.parser.now c.value.new.self c.in-Err.error c.ending_of.result value refl c.ending_of.ensures c.in-Err.ensures)
+    rw c.in-One.is (value_refused One c.args.parser.now c.value.new.self c.in-Err.error c.of_error.result value refl c.of_error.ensures c.in-Err.ensures)
 
 pub returns-in-Optional-clause-ok : goal.returns-in-Optional-clause-ok
 returns-in-Optional-clause-ok c = rw c.in-Optional.is (inl c.optional_value.ensures)

@@ -1,5 +1,5 @@
 use Rattle.std.proofs.Common.{◌≡◌, ◌≢◌, false, true, [], ◌∷◌, Some, None, codes, refl}
-use Rattle.lexopt_spec.specs.Views.{going_on, at_end, gives_pending, gives_word, stops, stops_at_pending, stopped}
+use Rattle.lexopt_spec.specs.Views.{going_on, at_end, gives_pending, gives_word, stops, stopped}
 use Rattle.lexopt_spec.proofs.PlainFronts.{plain_holds}
 use Rattle.lexopt_laws.proofs.Worked.{not_normal}
 use Rattle.lexopt_laws.proofs.call_examples.items_come_one_by_one.Goals as goal
@@ -54,6 +54,3 @@ returns-clause-words c = (
   (Some (codes "--"), _, _, (refl, refl), (None, _, [], (refl, refl), (refl, refl), refl), refl),
   refl,
 )
-
-pub returns-clause-pending_after_the_start : goal.returns-clause-pending_after_the_start
-returns-clause-pending_after_the_start c = stops_at_pending (codes "b", false) refl refl refl refl refl
