@@ -1,8 +1,8 @@
 //! Replays a script of calls and whole lines: reads it from standard input, and writes a line for
-//! each of them to standard output.
+//! each to standard output.
 //!
-//! The exit status is 0, or 2 where the script is at fault, or 1 where a read, a write or a growth
-//! of memory failed; then a line says why.
+//! The exit status is 0; or 2 if the script is at fault, or 1 if a read, a write or an allocation
+//! failed. Then a line says why.
 #![tactic(auto)]
 
 use lexopt_script::run::run;

@@ -7,11 +7,11 @@ use Rattle.lexopt_spec.specs.Runs.{Run}
 use Rattle.lexopt_line_spec.specs.Script.{bad_line, calls_of, commands_of, most_bytes, table_of}
 use Rattle.lexopt_line_spec.specs.Script.{words_of, Written}
 
--- the room of one read, in bytes
+-- the size of one read, in bytes
 abbrev pub read_room : ℕ
 read_room = 512
 
--- a reader gave these bytes, which were all that it had and are no more than a script may have
+-- a reader gave these bytes: all that it had, and no more than a script may have
 abbrev pub ReadsWhole : Option (List ℕ) → Option (List ℕ) → List ℕ → Type 0
 ReadsWhole old new script = Consumes old new script × IsAtEnd new × (length script ≤ most_bytes)
 

@@ -1,4 +1,4 @@
--- What is written for a script that was read. No public clause cites this file.
+-- What is written for a script once it was read. No public clause cites this file.
 use Rattle.std.specs.Prelude.{◌≡◌, ℕ, Bool, true, List, ◌++◌, map, Result, Ok, Err, Vec, codes}
 use Rattle.std.specs.Global.{Global}
 use Rattle.std.specs.List.{filter_map}
@@ -20,8 +20,8 @@ abbrev pub answer_text : Result (Vec Item Global) Error → List ℕ
 answer_text (Ok items) = bracketed item_text (map item_view items.items)
 answer_text (Err e) = codes "error: " ++ message e
 
--- a command is done on a parser of this line, under this switch and after this text: the line, the
--- switch and the text after it
+-- a command runs on a parser of this line, under this `short_equals` and after this text, and
+-- leaves these
 abbrev pub Performs : Script → spec.Command → UnreadLine → Bool → List ℕ → UnreadLine → Bool
     → List ℕ → Type 0
 Performs script (spec.call c) u on text v now new =

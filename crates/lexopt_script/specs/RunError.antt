@@ -1,4 +1,4 @@
--- What a failed run prints, and the exit status that it asks for.
+-- What a failed run prints, and the exit status for it.
 use Rattle.std.specs.Prelude.{ℕ, List, ◌++◌, codes}
 use Rattle.std.specs.Fmt.{decimal}
 use Rattle.lexopt_script.specs.declared.run_error.RunError.{RunError}
@@ -14,7 +14,7 @@ run_message ReadFailed = codes "read failed"
 run_message WriteFailed = codes "write failed"
 run_message NoMemory = codes "out of memory"
 
--- 2 where the script is at fault, and else 1
+-- 2 if the script is at fault, otherwise 1
 abbrev pub status_of : RunError → ℕ
 status_of (BadLine line) = 2
 status_of TooLong = 2

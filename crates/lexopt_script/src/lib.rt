@@ -1,4 +1,4 @@
-//! Scripts: what `run` reads, does and writes. The crate `lexopt` hands on its public items.
+//! Scripts: what `run` reads, does and writes. The crate `lexopt` re-exports its public items.
 #![tactic(auto)]
 
 pub mod run;

@@ -1,5 +1,5 @@
-//! Runs scripts: `run` reads a script, does what it says, and writes a line for each reply and for
-//! each whole line.
+//! Runs scripts: `run` reads a script, does what it says, and writes a line for each reply and each
+//! whole line.
 ghost use Rattle.std.specs.Prelude.{◌≡◌, ◌⊎◌, ◌+◌, ◌++◌, ◌≤◌, ◌<◌, ℕ, List, None, Some, Err, IfOk};
 ghost use Rattle.std.specs.Prelude.{IfErr, OnOk, length, map, codes, string_bytes};
 ghost use Rattle.std.specs.Io.KnownBytes.{Appends, Consumes};
@@ -25,7 +25,7 @@ use lexopt_words::words::copies;
 use std::alloc::{AllocError, Global};
 use std::io::{Read, Write};
 
-// Writes these items in brackets, with a comma and a blank between them.
+// Writes these items in brackets, with a comma and a space between them.
 fn write_items(items: &[Item], text: &mut String) -> Result<(), AllocError>
     ensures { OnOk result (string_bytes text.new
         ≡ string_bytes text.old ++ bracketed item_text (map item_view items.now)) }
@@ -40,7 +40,7 @@ fn write_items(items: &[Item], text: &mut String) -> Result<(), AllocError>
     text.push_str("]")
 }
 
-// Writes what the reading of a whole line answered.
+// Writes the result of reading a whole line.
 fn write_answer(answer: Result<Vec<Item>, Error>, text: &mut String) -> Result<(), AllocError>
     ensures { OnOk result (string_bytes text.new ≡ string_bytes text.old ++ answer_text answer) }
 {
@@ -58,7 +58,7 @@ fn write_error(error: &Error, text: &mut String) -> Result<(), AllocError>
     write!(text, "error: {error}")
 }
 
-// Reads the whole line of these words by the table, and writes a line for the answer.
+// Reads these words as a whole line by the table, and writes a line for the result.
 fn write_whole_line(
     alloc: Global,
     words: &[OsString],
@@ -74,7 +74,7 @@ fn write_whole_line(
     text.push_str("\n")
 }
 
-// The switch after a call.
+// `short_equals` after a call.
 fn switched(on: bool, call: &Call) -> bool
     ensures { result ≡ switched on (call_view call.now) }
 {
@@ -92,7 +92,7 @@ fn write_reply(reply: &Reply, text: &mut String) -> Result<(), AllocError>
     writeln!(text, "{reply}")
 }
 
-// Does what a command says, writes a line for it, and gives the switch after it.
+// Does what a command says, writes a line for it, and returns `short_equals` after it.
 fn perform(
     alloc: Global,
     script: &Script,
@@ -129,7 +129,7 @@ fn parser_of(alloc: Global, words: &[OsString]) -> Result<Parser, RunError>
     }
 }
 
-// Does what a script says, and gives what is written for it.
+// Does what a script says, and returns what to write for it.
 fn perform_all(alloc: Global, script: &Script) -> Result<String, RunError>
     ensures ok { IfOk result (λ text. IsWritten script.now (string_bytes text)) }
     ensures err { IfErr result (λ e. e ≡ RunError.NoMemory) }
@@ -143,7 +143,7 @@ fn perform_all(alloc: Global, script: &Script) -> Result<String, RunError>
     Ok(text)
 }
 
-// What is written for a script, or its first bad line.
+// What to write for a script, or its first bad line.
 fn output(alloc: Global, script: &[u8]) -> Result<String, RunError>
     requires { length script.now ≤ most_bytes }
     ensures ok { IfOk result (λ text. IsOutput script.now (string_bytes text)) }
@@ -155,16 +155,16 @@ fn output(alloc: Global, script: &[u8]) -> Result<String, RunError>
 }
 
 /// Reads a whole script, does what it says, and then writes a line for each reply of the parser and
-/// for each whole line.
+/// each whole line.
 ///
 /// The words `--out=x`, `file` and the calls `next`, `value`, `next` write `Long "out"`, `"x"` and
 /// `Value "file"`. With the line `t --out` before them, `items` writes
 /// `[Long "out" = "x", Value "file"]`.
 ///
-/// Errors: `TooLong` where more bytes were read than a script may have, `BadLine` with the number
-/// of the first bad line, `ReadFailed`, `NoMemory` where a growth outside the calls of the parser
-/// and outside `read_items` was refused. Nothing was written then. `WriteFailed`: some of the
-/// output may have gone out.
+/// Errors: `TooLong` if more bytes were read than a script may have; `BadLine` with the number of
+/// the first bad line; `ReadFailed`; `NoMemory` if memory ran out, but not in a call of the parser
+/// or in `read_items`. After these nothing was written. After `WriteFailed` some of the output may
+/// have been.
 pub fn run<R: Read, W: Write>(alloc: Global, reader: &mut R, writer: &mut W) -> Result<(), RunError>
     ensures ok { OnOk result ((script text : List ℕ)
         × ReadsWhole (R.remaining reader.old) (R.remaining reader.new) script

@@ -15,14 +15,14 @@ pub enum RunError {
     ReadFailed,
     /// The output could not be written.
     WriteFailed,
-    /// Memory was refused.
+    /// Memory ran out.
     NoMemory,
 }
 
 impl RunError {
     ghost use Rattle.lexopt_script.specs.RunError.{status_of};
 
-    /// The exit status for a program: 2 where the script is at fault, and else 1.
+    /// The exit status for a program: 2 if the script is at fault, otherwise 1.
     pub fn status(&self) -> u8
         ensures { result ≡ status_of self.now }
     {

@@ -1,23 +1,22 @@
 //! Scripts: the words of a command line, and the calls that are made on it.
 //!
-//! A script is bytes, in lines that end with the byte 0A; the last line may lack it. A line is
+//! A script is bytes, in lines that end with the byte 0A, which the last line may lack. A line is
 //! empty, or one of these.
 //!
 //! - `w`: the empty word.
-//! - `w TEXT`: the word TEXT, with one blank before it. `\\` in it is a backslash, `\n` the byte
-//!   0A, and `\xHH` the byte of these two hexadecimal digits; no other backslash may stand in it.
+//! - `w TEXT`: the word TEXT, after one space. In it `\\` is a backslash, `\n` the byte 0A, and
+//!   `\xHH` the byte with these two hexadecimal digits; any other backslash makes the line bad.
 //! - `next`, `value`, `optional`: a call.
-//! - `values N`, `raw N`, `try N`: a call of `values`, `raw_args` or `try_raw_args`, and how many
-//!   items are asked of its view: a number of one to nine decimal digits.
-//! - `on`, `off`: sets whether `=` stands between a short option and its value.
-//! - `t OPTION`, `topt OPTION`, `tmany OPTION`: an option of the table, of one value, of a value
-//!   that may be left out, or of several. OPTION is `-` and one character, which is no dash, or
-//!   `--` and a name, which may be empty; both in UTF-8, and there are no escapes in it.
-//! - `items`: all words are read by the table, under the switch as last set, and the parser is left
+//! - `values N`, `raw N`, `try N`: a call of `values`, `raw_args` or `try_raw_args`, whose view is
+//!   asked for N items. N is one to nine decimal digits.
+//! - `on`, `off`: sets `short_equals`, whether `=` separates a short option from its value.
+//! - `t OPTION`, `topt OPTION`, `tmany OPTION`: adds an option to the table, with one value, a
+//!   value that may be left out, or several. OPTION is `-` and one character other than a dash, or
+//!   `--` and a name, which may be empty. It is UTF-8, with no escapes.
+//! - `items`: reads all words by the table, under `short_equals` as last set. The parser is left
 //!   alone.
 //!
-//! Every other line is bad, and so is a word or an option after the first line that reads the
-//! words.
+//! Every other line is bad. So is a word or an option after the first line that reads the words.
 ghost use Rattle.std.specs.Prelude.{◌≡◌, ◌⊎◌, ℕ, ◌+◌, ◌++◌, ◌<◌, ◌≤◌, List, None, Some, IfErr};
 ghost use Rattle.std.specs.Prelude.{IfOk, MatchOption, OnOk, drop, length, map};
 ghost use Rattle.std.specs.Option.{option_map};
@@ -44,10 +43,10 @@ use std::str;
 // The most bytes that a script may have.
 const LIMIT: usize = 1_048_576;
 
-// The room of one read: at most so many bytes are read past the limit.
+// The size of one read: at most this many bytes are read past the limit.
 const ROOM: usize = 512;
 
-/// The words of a command line, the table of its options, and what is done, in order.
+/// The words of a command line, the table of its options, and what to do, in order.
 #[derive(Drop)]
 pub struct Script {
     pub words: Vec<OsString>,
@@ -55,17 +54,17 @@ pub struct Script {
     pub commands: Vec<Command>,
 }
 
-/// What is done on the words of a script.
+/// What to do with the words of a script.
 #[derive(Drop)]
 pub enum Command {
-    /// A call on the parser of them.
+    /// Make a call on the parser of them.
     Call(Call),
-    /// All of them are read by the table.
+    /// Read all of them by the table.
     Items,
 }
 
 impl Command {
-    // Whether the words are read, which the switch alone does not.
+    // Whether this reads the words. Only a call that sets `short_equals` does not.
     fn reads_words(&self) -> bool
         ensures { result ≡ reads_words (command_view self.now) }
     {
@@ -165,7 +164,7 @@ enum Name {
 }
 
 impl Meaning {
-    // Whether the line is bad, where the words were read before it or were not.
+    // Whether the line is bad. `is_read` says whether the words were read before it.
     fn is_bad(&self, is_read: bool) -> bool
         ensures { result ≡ is_bad is_read (meaning_view self.now) }
     {
@@ -177,7 +176,7 @@ impl Meaning {
     }
 }
 
-// An option joins the table.
+// Adds an option to the table.
 fn join(table: &mut Table, entry: Entry) -> Result<(), AllocError>
     ensures { OnOk result (table_view table.new
         ≡ joined_to (table_view table.old) (entry_view entry).kind (entry_view entry).name) }
@@ -203,7 +202,7 @@ fn meaning_of(alloc: Global, line: &[u8]) -> Result<Meaning, AllocError>
     }
 }
 
-// The meaning of a line that is a call or a word, an empty line among them.
+// The meaning of a line that is a call, a word or empty.
 fn meaning_of_call_or_word(alloc: Global, line: &[u8]) -> Result<Meaning, AllocError>
     ensures { IfOk result (λ m. meaning_view m ≡ meaning_of_call_or_word line.now) }
 {
@@ -219,7 +218,7 @@ fn meaning_of_call_or_word(alloc: Global, line: &[u8]) -> Result<Meaning, AllocE
     }
 }
 
-// The meaning of a line that has a blank, and a text, a number or an option after it.
+// The meaning of a line that has a space, and then a text, a number or an option.
 fn meaning_with_text(alloc: Global, line: &[u8]) -> Result<Meaning, AllocError>
     ensures { IfOk result (λ m. meaning_view m ≡ meaning_with_text line.now) }
 {
@@ -244,7 +243,7 @@ fn meaning_with_text(alloc: Global, line: &[u8]) -> Result<Meaning, AllocError>
     }
 }
 
-// The meaning of a line that has a blank, and an option of the table after it.
+// The meaning of a line that has a space, and then an option of the table.
 fn meaning_with_option(alloc: Global, line: &[u8]) -> Result<Meaning, AllocError>
     ensures { IfOk result (λ m. meaning_view m ≡ meaning_with_option line.now) }
 {
@@ -279,7 +278,7 @@ fn option_named(alloc: Global, text: &[u8]) -> Result<Option<Name>, AllocError>
     }
 }
 
-// The character that these bytes encode, if they are one and no more.
+// The character that these bytes encode, if they encode exactly one.
 fn one_character(bytes: &[u8]) -> Option<char>
     ensures { result ≡ one_character bytes.now }
 {
@@ -319,8 +318,8 @@ fn unescaped(alloc: Global, text: &[u8]) -> Result<Option<OsString>, AllocError>
     Ok(Some(OsString::from_vec(bytes)))
 }
 
-// The byte that an escape stands for, of which the text after its backslash is given, and what
-// follows the escape.
+// The byte that an escape stands for, and what follows the escape. `text` begins after the
+// backslash.
 fn escaped(text: &[u8]) -> Option<(u8, &[u8])>
     ensures { MatchOption result (after_backslash text.now ≡ None)
         (λ p. (after_backslash text.now ≡ in_front p.0 (unescaped p.1.now))

@@ -9,12 +9,12 @@ IsNegative [] = ⊥
 IsNegative (a ∷ []) = ⊥
 IsNegative (a ∷ b ∷ others) = (a ≡ dash) × (0x30 ≤ b) × (b ≤ 0x39)
 
--- the next word begins so
+-- the next word begins that way
 abbrev pub HasNegative : List (List ℕ) → Type 0
 HasNegative [] = ⊥
 HasNegative (word ∷ words) = IsNegative word
 
--- the next word is taken, where it begins so; else nothing changes
+-- the next word is taken if it begins that way; otherwise nothing changes
 abbrev pub TakesNegative : UnreadLine → Option (List ℕ) → UnreadLine → Type 0
 TakesNegative u None after = ¬ HasNegative u.words × (after ≡ u)
 TakesNegative u (Some word) after = IsNegative word × WordItem u (Some word) after

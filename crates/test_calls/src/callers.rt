@@ -1,5 +1,5 @@
-//! Callers of `next`, of `value` and of views, with clauses of their own, which stand on the
-//! clauses of the public calls alone.
+//! Callers of `next`, of `value` and of views, with clauses of their own. These rest on the clauses
+//! of the public calls alone.
 ghost use Rattle.std.specs.Prelude.{◌≡◌, ◌≢◌, ◌↔◌, ℕ, List, [], ◌∷◌, Contains, None, Some, IfErr};
 ghost use Rattle.std.specs.Prelude.{IfNone, IfOk, IfSome, IsTrue};
 ghost use Rattle.std.specs.List.{cons_option};
@@ -14,7 +14,7 @@ use lexopt::replay::{Call, Reply, replay};
 use lexopt::{Arg, Error, OsString, Parser};
 use std::alloc::Global;
 
-/// Reads an option of one character and takes its value, as of `-n 10`; none where anything else
+/// Reads an option of one character and takes its value, as in `-n 10`. `None` if anything else
 /// comes, or no value.
 pub fn option_and_value(
     alloc: Global,
@@ -32,8 +32,8 @@ pub fn option_and_value(
     }
 }
 
-/// Takes the next argument where it is a positional one, which is then a word of the line, byte for
-/// byte. Anything else that comes is dropped.
+/// Takes the next argument if it is positional. It is then a word of the line, byte for byte.
+/// Anything else is dropped.
 #[tactic(auto, using(crate::proofs::Words::positional_is_a_word))]
 pub fn next_file(parser: &mut Parser) -> Result<Option<OsString>, Error>
     ensures file { IfOk result (λ found. IfSome found (λ word. Contains parser.old.words word)) }
@@ -48,7 +48,7 @@ pub fn next_file(parser: &mut Parser) -> Result<Option<OsString>, Error>
     }
 }
 
-/// Takes two values of the last option, or one where there is no other. The words after them stay.
+/// Takes two values of the last option, or one if there is no other. The words after them stay.
 pub fn two_values(parser: &mut Parser) -> Result<(Option<OsString>, Option<OsString>), Error>
     ensures ok { IfOk result (λ found.
         Step (values 2) parser.old (items (cons_option found.0 (cons_option found.1 [])))
@@ -62,7 +62,7 @@ pub fn two_values(parser: &mut Parser) -> Result<(Option<OsString>, Option<OsStr
     Ok((first, second))
 }
 
-/// Takes the next word where it is a number after one dash, as `-10`, which `next` would read as
+/// Takes the next word if it is a dash and then a digit, as `-10`, which `next` would read as
 /// options.
 pub fn negative_number(parser: &mut Parser) -> Result<Option<OsString>, Error>
     ensures ok { IfOk result (λ found. (pending parser.old ≡ None)
@@ -78,7 +78,7 @@ pub fn negative_number(parser: &mut Parser) -> Result<Option<OsString>, Error>
     if is_wanted { Ok(view.next()) } else { Ok(None) }
 }
 
-// Whether a word is a dash and then a digit, and whatever stands after it.
+// Whether a word is a dash, a digit, and whatever follows.
 fn is_negative(word: &[u8]) -> bool
     ensures { IsTrue result ↔ IsNegative word.now }
 {

@@ -1,12 +1,13 @@
-//! Calls that no script has, or not so: copies of a parser, and `optional_value` itself. The other
-//! calls that read a line are made by the tests beside this one, and rows of them stand among the
-//! cases.
+//! Calls that no script can make, or not in this way: copies of a parser, and `optional_value`
+//! itself. The tests beside this one make the other calls that read a line, and rows of them are
+//! cases of `test_cases`.
 use lexopt::{Error, Parser};
 use std::test::Fail;
 use test_helpers::calls::{gives, reads_short, reads_word, takes};
 use test_helpers::parsers::parser_of;
 
-// Whether what stands after `-c` is its value with the switch off, and the next word is none.
+// Whether everything after `-c` is its value when `short_equals` is false, and the next word is not
+// a value.
 fn takes_with_equals(parser: &mut Parser) -> Result<bool, Error> {
     let is_read = reads_short(parser, 'c')?;
     parser.set_short_equals(false);
@@ -25,15 +26,15 @@ fn optional_values(rt: HostRuntime) -> Result<(), Fail> {
     Ok(())
 }
 
-// Whether a copy takes one value, and then the parser itself another. The switch of the parser
-// itself is set after the copy.
+// Whether a copy takes one value, and then the parser itself another. After the copy is made,
+// `short_equals` is set on the parser itself.
 fn both_take(parser: &mut Parser, on: bool, of_copy: &[u8], own: &[u8]) -> Result<bool, Error> {
     let mut copy = parser.clone()?;
     parser.set_short_equals(on);
     Ok(takes(&mut copy, of_copy)? && takes(parser, own)?)
 }
 
-// A copy has what is pending.
+// A copy has the pending value.
 #[test]
 fn copies_of_parsers(rt: HostRuntime) -> Result<(), Fail> {
     let mut parser = parser_of(rt.alloc(), &[b"-ab"])?;

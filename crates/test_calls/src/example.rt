@@ -1,4 +1,4 @@
-//! The example of the README.
+//! A reader of options with an error type of its own.
 use lexopt::{Arg, Error, OsString, Parser};
 use std::alloc::Global;
 use std::test::Fail;
@@ -14,7 +14,7 @@ struct Options {
     files: Vec<OsString>,
 }
 
-// Why it was not understood.
+// Why the line was not understood.
 #[derive(Debug, Drop)]
 enum UsageError {
     CommandLine(Error),
@@ -27,7 +27,7 @@ impl From<Error> for UsageError {
     }
 }
 
-// Reads the whole line; `-n 10`, `-n10`, `-n=10`, `--number=10` and `--number 10` are the same.
+// Reads the whole line. `-n 10`, `-n10`, `-n=10`, `--number=10` and `--number 10` mean the same.
 fn read_options(parser: &mut Parser, options: &mut Options) -> Result<(), UsageError> {
     for _ in 0..u64::MAX {
         match parser.next()? {
@@ -41,8 +41,8 @@ fn read_options(parser: &mut Parser, options: &mut Options) -> Result<(), UsageE
     Ok(())
 }
 
-// Whether a line, whose words stand in these lines, is understood, and what was read until then is
-// `-n 10`, `--shout` and these files.
+// Whether a line, given as one word in each line, is understood if `known` says so, and what was
+// read is `-n 10`, `--shout` and these files.
 fn reads(alloc: Global, line: &[u8], known: bool, files: &[&[u8]]) -> Result<bool, Error> {
     let mut parser = Parser::from_vec(words_of(alloc, line)?);
     let mut options = Options {
@@ -63,7 +63,7 @@ fn reads(alloc: Global, line: &[u8], known: bool, files: &[&[u8]]) -> Result<boo
     Ok(is_known == known && shout && gives(number, b"10") && are_words(&found, files))
 }
 
-// Lines, whether each is understood, and the files of it.
+// Lines, whether each is understood, and its files.
 const LINES: [(&[u8], bool, &[&[u8]]); 6] = [
     (
         b"-n10\n--shout\nfile\n--\n-x\n",

@@ -1,6 +1,6 @@
-//! Tests of calls with memory enough: single calls, views, lists of calls, whole lines, the example
-//! of the README, and sizes. Lines that a script can say stand among the cases of `test_cases`. It
-//! also has callers with clauses of their own.
+//! Tests of calls with enough memory: single calls, views, lists of calls, whole lines, a reader of
+//! options with an error type of its own, and sizes. Lines that a script can say are cases of
+//! `test_cases`. The crate also has callers with clauses of their own.
 #![tactic(auto)]
 
 pub mod callers;

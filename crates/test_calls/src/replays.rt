@@ -1,4 +1,4 @@
-//! Lists of calls, and their replies as values. What they print stands among the cases.
+//! Lists of calls, and their replies as values. The cases of `test_cases` have what they print.
 use lexopt::replay::{Call, replay};
 use lexopt::{Error, OsString, Parser};
 use std::alloc::Global;
@@ -16,7 +16,7 @@ fn answers(
     Ok(format!(in alloc; "{found:?}")?.as_str() == replies)
 }
 
-// The same of the call that no script has: for the next word, where it is this one.
+// The same for the call that no script has: it takes the next word if it is this one.
 fn answers_if(
     alloc: Global,
     parser: &mut Parser,
@@ -27,7 +27,7 @@ fn answers_if(
     answers(alloc, parser, &[Call::RawIf(word)], replies)
 }
 
-// Whether a word is given where it is the one that is wanted, and stays elsewhere.
+// Whether a word is given if it is the wanted one, and otherwise stays.
 fn gives_the_wanted(alloc: Global, parser: &mut Parser) -> Result<bool, Error> {
     Ok(
         answers_if(alloc, parser, b"x", "[Maybe(None)]")?

@@ -1,20 +1,20 @@
-//! Long names, many words and long scripts: nothing answers want of memory for their size.
+//! Long names, many words and long scripts: none of them runs out of memory.
 use lexopt::replay::run;
 use std::alloc::{AllocError, Global};
 use std::test::Fail;
 
-// How many pieces a long name has, and how many words of each kind a long script.
+// How many pieces a long name has, and how many words of each kind a long script has.
 const MANY: usize = 1_500;
 
-// Whether a script is run, and writes this text.
+// Whether a script runs, and writes this text.
 fn writes(alloc: Global, script: &str, text: &str) -> bool {
     let mut written = Vec::new(alloc);
     run(alloc, &mut script.as_bytes(), &mut written).is_ok()
         && written.as_slice() == text.as_bytes()
 }
 
-// Whether a long name with a long value, and the name alone, are read and told, where a piece of
-// both is shown so in a name.
+// Whether a long name with a long value, and the name alone, are read and printed. Both repeat
+// `piece`, which a name shows as `shown`.
 fn is_told(alloc: Global, piece: &str, shown: &str) -> Result<bool, AllocError> {
     let bytes = piece.repeat(alloc, MANY)?;
     let name = shown.repeat(alloc, MANY)?;

@@ -1,5 +1,5 @@
-//! Views: several values of one option, and the words that are left; what no script asks of them.
-//! The callers with clauses of their own.
+//! Views: several values of one option, and the words that are left, asked in ways that no script
+//! can. Also the callers with clauses of their own.
 use crate::callers::{negative_number, next_file, option_and_value, two_values};
 use lexopt::{Error, OsStr, OsString, Parser, RawArgs, ValuesIter};
 use std::alloc::Global;
@@ -22,7 +22,7 @@ fn gives_both(view: &mut ValuesIter<'_>) -> bool {
         && view.next().is_none()
 }
 
-// Whether `-a` has the values `b` and `c`, and none after them.
+// Whether `-a` has the values `b` and `c`, and no more.
 fn has_both(parser: &mut Parser) -> Result<bool, Error> {
     Ok(reads_short(parser, 'a')? && gives_both(&mut parser.values()?))
 }
@@ -34,7 +34,7 @@ fn several_values(rt: HostRuntime) -> Result<(), Fail> {
     Ok(())
 }
 
-// How many values of `-a` are collect_words.
+// How many values `collect` gives for `-a`.
 fn collect_words(alloc: Global, parser: &mut Parser) -> Result<usize, Error> {
     if !reads_short(parser, 'a')? {
         return Ok(0);
@@ -50,7 +50,7 @@ fn collected_values(rt: HostRuntime) -> Result<(), Fail> {
     Ok(())
 }
 
-// How long the longest value of `-a` is.
+// The length of the longest value of `-a`.
 fn longest(parser: &mut Parser) -> Result<usize, Error> {
     let mut most = 0;
     if reads_short(parser, 'a')? {
@@ -93,7 +93,7 @@ fn lends(view: &mut RawArgs<'_>) -> bool {
         && gives(view.next(), b"--")
 }
 
-// Whether the view that was tried is there, and lends and gives so.
+// Whether `try_raw_args` gives a view, and the view does so.
 fn lends_if_free(parser: &mut Parser) -> bool {
     match parser.try_raw_args() {
         Some(mut view) => lends(&mut view),
@@ -108,7 +108,7 @@ fn words_lent(rt: HostRuntime) -> Result<(), Fail> {
     Ok(())
 }
 
-// Whether `two_values` takes these values, and `negative_number` a word that is one, and no other.
+// Whether `two_values` takes `b` and `c`, and `negative_number` takes `-10` but not `d`.
 fn takes_by_callers(parser: &mut Parser) -> Result<bool, Error> {
     let (first, second) = two_values(parser)?;
     Ok(
@@ -136,7 +136,7 @@ fn reads_number(alloc: Global, parser: &mut Parser) -> Result<bool, Error> {
     }
 }
 
-// Whether `next_file` gives no option, and this word after it.
+// Whether `next_file` gives nothing for an option, and then this word.
 fn gives_after_an_option(parser: &mut Parser, wanted: &[u8]) -> Result<bool, Error> {
     Ok(next_file(parser)?.is_none() && gives(next_file(parser)?, wanted))
 }

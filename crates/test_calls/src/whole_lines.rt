@@ -1,5 +1,5 @@
-//! Whole lines: a table of options of one value, an option of one dash, which no script can put
-//! into a table, and items as values. Other lines stand among the cases.
+//! Whole lines: a table of options of one value; the option `-`, which no script can put into a
+//! table; and items as values. Other lines are cases of `test_cases`.
 use lexopt::Error;
 use lexopt::items::{Table, read_items};
 use std::alloc::{AllocError, Global};
@@ -16,8 +16,7 @@ fn table_with_a_dash(alloc: Global) -> Result<Table, AllocError> {
     Ok(Table::one_value(alloc, shorts, longs))
 }
 
-// What the answer to these words is by that table, as a text: each item on a line of its own, or
-// the message.
+// What these words say by that table, as text: each item on a line of its own, or the message.
 fn told(alloc: Global, words: &[u8]) -> Result<String, Fail> {
     let table = table_with_a_dash(alloc)?;
     match read_items(alloc, words_of(alloc, words)?, true, &table) {
@@ -44,7 +43,7 @@ fn one_value_each(rt: HostRuntime) -> Result<(), Fail> {
     Ok(())
 }
 
-// Whether these words are read as these items, by the table of each kind.
+// Whether these words are read as these items, by the table with each kind.
 fn reads_as(alloc: Global, words: &[u8], wanted: &[Given]) -> Result<bool, Error> {
     let table = table_of_each_kind(alloc)?;
     let wanted = items_of(alloc, wanted)?;

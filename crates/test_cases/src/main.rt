@@ -1,29 +1,29 @@
-//! Replays cases: scripts of calls and whole lines, each with the text that it is to write.
+//! Replays cases: scripts of calls and whole lines, each with the text that it should write.
 //!
 //! Standard input holds the cases; the head of the file `stdin` says how they are written. Each
-//! case that comes to something else is printed, and after each section the number of its cases
-//! that agree and that differ.
+//! case that differs is printed, and after each section the number of its cases that agree and that
+//! differ.
 #![tactic(auto)]
 
 use lexopt::replay::run;
 use std::alloc::{AllocError, Global};
 use std::io;
 
-// What a script comes to: what is written for it, and the message if it is refused.
+// The outcome of a script: what is written for it, and the message if it is refused.
 #[derive(PartialEq, Drop)]
 struct Outcome {
     written: Vec<u8>,
     refusal: String,
 }
 
-// A script, and what it is to come to.
+// A script, and its expected outcome.
 #[derive(Drop)]
 struct Case {
     script: String,
     wanted: Outcome,
 }
 
-// A section: its name, the heading that was read last, and its cases so far.
+// A section: its name, the last heading, and the counts of its cases so far.
 #[derive(Drop)]
 struct Section {
     name: String,
@@ -40,7 +40,7 @@ impl Outcome {
         }
     }
 
-    // What a script comes to.
+    // The outcome of a script.
     fn of(alloc: Global, script: &str) -> Result<Outcome, AllocError> {
         let mut outcome = Outcome::new(alloc);
         if let Err(error) = run(alloc, &mut script.as_bytes(), &mut outcome.written) {
@@ -68,7 +68,7 @@ impl Case {
         self.script.is_empty() && self.wanted.written.is_empty() && self.wanted.refusal.is_empty()
     }
 
-    // Adds a line, if it is one of a case.
+    // Adds a line, if it belongs to a case.
     fn add(&mut self, line: &str) -> Result<bool, AllocError> {
         if let Some(text) = after(line, ">") {
             self.script.push_str(text)?;
@@ -96,7 +96,7 @@ impl Section {
         })
     }
 
-    // Replays a case, and prints it if it comes to something else.
+    // Replays a case, and prints it if it differs.
     fn replay(&mut self, rt: &(impl Print + AllocGlobal), case: &Case) -> io::Result<()> {
         if case.is_empty() {
             return Ok(());
@@ -130,7 +130,7 @@ impl Section {
     }
 }
 
-// What stands after the mark of a line: nothing, or a text with a blank in front.
+// What follows the mark of a line: nothing, or a space and a text.
 fn after<'a>(line: &'a str, mark: &str) -> Option<&'a str> {
     let rest = line.strip_prefix(mark)?;
     if rest.is_empty() {

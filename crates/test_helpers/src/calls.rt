@@ -1,4 +1,4 @@
-//! Calls of a parser, compared with what is wanted.
+//! Calls of a parser, compared with the expected result.
 use lexopt::replay::{Call, Reply, replay};
 use lexopt::{Arg, Error, OsString, Parser};
 use std::alloc::Global;
@@ -19,7 +19,7 @@ pub fn reads_long(parser: &mut Parser, wanted: &str) -> Result<bool, Error> {
     }
 }
 
-/// Whether the next argument is no option but this word.
+/// Whether the next argument is positional, and is this word.
 pub fn reads_word(parser: &mut Parser, wanted: &[u8]) -> Result<bool, Error> {
     match parser.next()? {
         Some(Arg::Value(word)) => Ok(word.as_bytes() == wanted),
@@ -27,17 +27,17 @@ pub fn reads_word(parser: &mut Parser, wanted: &[u8]) -> Result<bool, Error> {
     }
 }
 
-/// Whether all is read.
+/// Whether everything is read.
 pub fn is_at_end(parser: &mut Parser) -> Result<bool, Error> {
     Ok(parser.next()?.is_none())
 }
 
-/// Whether these bytes are the value.
+/// Whether the value is these bytes.
 pub fn takes(parser: &mut Parser, wanted: &[u8]) -> Result<bool, Error> {
     Ok(parser.value()?.as_bytes() == wanted)
 }
 
-/// Whether there is a word, as of a view or of `optional_value`, and it has these bytes.
+/// Whether there is a word, from a view or from `optional_value`, and it has these bytes.
 pub fn gives(word: Option<OsString>, wanted: &[u8]) -> bool {
     match word {
         Some(word) => word.as_bytes() == wanted,
@@ -45,7 +45,7 @@ pub fn gives(word: Option<OsString>, wanted: &[u8]) -> bool {
     }
 }
 
-/// Whether an answer is that this option misses its value; none where memory was refused.
+/// Whether the error says that this option has no value; `None` if memory ran out.
 pub fn is_missing(error: Option<Error>, of: &str) -> Option<bool> {
     match error {
         Some(
@@ -58,7 +58,7 @@ pub fn is_missing(error: Option<Error>, of: &str) -> Option<bool> {
     }
 }
 
-/// Whether an answer is that this option has this unexpected value; none where memory was refused.
+/// Whether the error says that this option has this unexpected value; `None` if memory ran out.
 pub fn is_unexpected(error: Option<Error>, of: &str, held: &[u8]) -> Option<bool> {
     match error {
         Some(Error::UnexpectedValue { option, value }) => {

@@ -1,10 +1,10 @@
-//! Items that a test writes down, and tables that read them.
+//! Items as tests write them, and tables that read them.
 use crate::parsers::words_from;
 use lexopt::OsString;
 use lexopt::items::{Item, Table};
 use std::alloc::{AllocError, Global};
 
-/// An item as a test writes it, which has no memory of its own.
+/// An item as a test writes it, which owns no memory.
 #[derive(Clone, Copy)]
 pub enum Given {
     /// An option of one character, with no value.
@@ -49,7 +49,7 @@ pub fn items_of(alloc: Global, list: &[Given]) -> Result<Vec<Item>, AllocError> 
     Ok(items)
 }
 
-/// Whether these are the words, in their order.
+/// Whether these are the words, in order.
 pub fn are_words(words: &[OsString], wanted: &[&[u8]]) -> bool {
     words.len() == wanted.len()
         && words
@@ -58,8 +58,8 @@ pub fn are_words(words: &[OsString], wanted: &[&[u8]]) -> bool {
             .all(|(word, bytes)| word.as_bytes() == *bytes)
 }
 
-/// The table of `o` and `out` of one value, `c` and `color` of a value that may be left out, and
-/// `d` and `cmd` of several.
+/// A table: `o` and `out` have one value, `c` and `color` a value that may be left out, `d` and
+/// `cmd` several.
 pub fn table_of_each_kind(alloc: Global) -> Result<Table, AllocError> {
     let mut table = Table::new(alloc);
     table.shorts.push('o')?;

@@ -1,5 +1,5 @@
-//! What tests ask a parser with, and what they compare. It lies below crates of tests alone. It
-//! has no contracts: its functions are proved to be safe and to end.
+//! What tests call a parser with, and how they compare. Only crates of tests use it. It has no
+//! contracts: its functions are proved to be safe and to end.
 #![tactic(auto)]
 
 pub mod calls;

@@ -2,7 +2,7 @@
 use lexopt::{Error, OsString, Parser};
 use std::alloc::{AllocError, Global};
 
-/// The words that stand in these lines.
+/// The words in these lines, one in each.
 pub fn words_of(alloc: Global, lines: &[u8]) -> Result<Vec<OsString>, AllocError> {
     let mut words = Vec::new(alloc);
     if !lines.is_empty() {
@@ -22,12 +22,12 @@ pub fn words_from(alloc: Global, list: &[&[u8]]) -> Result<Vec<OsString>, AllocE
     Ok(words)
 }
 
-/// A parser of these words, with no name.
+/// A parser of these words, with no binary name.
 pub fn parser_of(alloc: Global, words: &[&[u8]]) -> Result<Parser, Error> {
     Parser::from_args(alloc, words_from(alloc, words)?)
 }
 
-/// A parser of these words, the first of which is its name.
+/// A parser of these words, the first of which is the binary name.
 pub fn named(alloc: Global, words: &[&[u8]]) -> Result<Parser, Error> {
     Parser::from_iter(alloc, words_from(alloc, words)?)
 }

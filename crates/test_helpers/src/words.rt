@@ -1,7 +1,7 @@
 //! Words of every kind.
 
-/// Words that are no option, the separator, clusters and long options, with values, without, and
-/// with damage.
+/// Words that are no option, the separator, clusters and long options: with values, without, and
+/// damaged.
 pub const WORDS: [&[u8]; 25] = [
     b"",
     b"-",

@@ -1,9 +1,9 @@
 //! Answers calls, so that the answers can be compared. `bench/src/bin/compare` does the same with
 //! the Rust crate.
 //!
-//! Standard input has a case in each line: a constructor, words and calls, with a blank between
-//! them. For each case a line of answers is written: a blank stands after the answer to each call,
-//! and then what is left, which is the pending value and the words.
+//! Standard input has a case in each line: a constructor, words and calls, with a space between
+//! them. For each case a line is written: the answer to each call and a space, and then what is
+//! left, the pending value and the words.
 //!
 //! - The constructor is `a` for `from_args`, or `i` for `from_iter`.
 //! - Each word is a point and then its bytes, in hexadecimal digits.
@@ -11,7 +11,7 @@
 //!   what it gave; `v` is `value`; `p` is `value`, and then `parse`, `parse_with` and `string` of
 //!   what it gave; `o` is `optional_value`; `s`, `r`, `t` are `values`, `raw_args`, `try_raw_args`,
 //!   and then N items; `l` is `peek` and `as_slice`, `i` is `next_if` with the Nth wanted word; `e`
-//!   is `set_short_equals`, off where N is 0; `c` is `clone`, and the copy goes on; `b` is
+//!   is `set_short_equals`, false if N is 0; `c` is `clone`, after which the copy goes on; `b` is
 //!   `bin_name`.
 
 mod written;
@@ -49,7 +49,7 @@ fn number(number: Result<i32, Error>, answers: &mut Answers) -> Result<(), Error
     }
 }
 
-// A value as a number, in two ways, and then as a text, of which an error of the program's own is
+// A value as a number, in two ways, and then as a text, from which an error of the program's own is
 // made.
 fn converted(parser: &mut Parser, answers: &mut Answers) -> Result<(), Error> {
     let value = parser.value()?;
@@ -94,7 +94,7 @@ fn look(parser: &mut Parser, answers: &mut Answers) -> Result<(), Error> {
     answers.words(view.as_slice())
 }
 
-// Takes the next word where it is the wanted one.
+// Takes the next word if it is the wanted one.
 fn take_if(parser: &mut Parser, number: usize, answers: &mut Answers) -> Result<(), Error> {
     let wanted = *WANTED.get(number).unwrap_or(&WANTED[0]);
     let mut view = parser.raw_args()?;
@@ -153,7 +153,7 @@ fn digit(byte: u8) -> u8 {
     }
 }
 
-// A word that is written in hexadecimal digits.
+// A word written in hexadecimal digits.
 fn word(alloc: Global, text: &str) -> Result<OsString, AllocError> {
     let mut bytes = Vec::with_capacity(alloc, text.len() / 2)?;
     for pair in text.as_bytes().chunks(2) {

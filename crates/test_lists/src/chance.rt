@@ -1,9 +1,9 @@
-//! Makes calls by chance on words by chance, and checks what comes against the laws alone.
+//! Makes random calls on random words, and checks the results against the laws alone.
 //!
 //! A round is a line of at most four words of at most eight bytes, ten calls of any kind, and two
-//! that take what is left; and the same words as a whole line, under a table and a switch by
-//! chance. The laws are those of the module `laws`. It prints how many rounds and calls were made,
-//! and the first round that broke a law, if one did.
+//! that take what is left; and the same words as a whole line, under a random table and setting of
+//! `short_equals`. The laws are those of the module `laws`. It prints how many rounds and calls
+//! were made, and the first round that broke a law, if one did.
 
 mod laws;
 mod numbers;
@@ -16,12 +16,12 @@ use lexopt::{Error, OsString, Parser};
 use lexopt_words::words::copies;
 use std::alloc::Global;
 
-// How many calls are made by chance in a round, and how many take what is left.
+// How many random calls a round makes, and how many take what is left.
 const CALLS: usize = 10;
 
 const LAST_CALLS: usize = 2;
 
-// Makes calls on the words, and takes what is left. The law that was broken, if one was.
+// Makes calls on the words, and takes what is left. Returns the law that was broken, if one was.
 fn calls_by_chance(
     alloc: Global,
     chance: &mut Chance,
@@ -45,7 +45,7 @@ fn calls_by_chance(
     Ok(laws::broken_by_replies(words, &replies))
 }
 
-// Whether these calls have the same replies where they are made in two parts.
+// Whether these calls have the same replies if they are made in two parts.
 fn is_same_in_parts(
     alloc: Global,
     chance: &mut Chance,
@@ -76,7 +76,7 @@ fn items_of(
     }
 }
 
-// Reads the words as a whole line. The law that was broken, if one was.
+// Reads the words as a whole line. Returns the law that was broken, if one was.
 fn line_by_chance(
     alloc: Global,
     chance: &mut Chance,
@@ -103,7 +103,7 @@ fn round(alloc: Global, chance: &mut Chance) -> Result<Option<&'static str>, Err
     }
 }
 
-/// Makes so many rounds from this seed, and prints how many there were.
+/// Makes this many rounds from this seed, and prints how many there were.
 pub fn print(rt: &(impl Print + AllocGlobal), seed: u64, rounds: u64) -> Result<()> {
     let mut chance = Chance::new(seed);
     for number in 0..rounds {

@@ -1,26 +1,25 @@
-//! Reads every list of at most three of 25 words by `read_items`, and by a plain reader that is
-//! written from the rules alone, and compares the two.
+//! Reads every list of at most three of 25 words by `read_items` and by a plain reader, written
+//! from the rules alone, and compares the two.
 //!
-//! The tables have the letter `a`, the character U+FFFD, which stands for damage, and the marks,
-//! which are `-` and `=` as short options and `-` and the empty name as long ones. Each of the
-//! three is of no value, of one, of one that may be left out, or of several, in all 64 ways; and in
-//! four more tables all stand in lists of several kinds.
+//! The tables have the letter `a`, the character U+FFFD, which stands for damage, and the marks:
+//! `-` and `=` as short options, `-` and the empty name as long ones. Each of these three has no
+//! value, one, one that may be left out, or several, in all 64 ways. In four more tables all are in
+//! lists of several kinds.
 //!
-//! Wherever the plain reader finds items, they are spelled by `spell`; the words are read as these
-//! items, and are the words of what is read.
+//! The items that the plain reader finds are spelled by `spell`. The words are read as these items,
+//! and spelling what is read gives the same words.
 //!
-//! By each table it also spells every list of at most three of 27 items, with the switch on and
-//! off. Where there are words, they are read as the items. Where an item is at fault, those before
-//! it have words, and with it they have none; nor are they what any short list of words is read as.
-//! Where words that are spelled with one setting are read alike with the other, both settings have
-//! the same words.
+//! By each table it also spells every list of at most three of 27 items, under either setting of
+//! `short_equals`. If there are words, they are read as the items. If an item is at fault, those
+//! before it have words, and with it they have none; nor is any short list of words read as these.
+//! If the words of one setting are read alike under the other, both settings have the same words.
 //!
-//! For each table it prints how many readings agreed and how many differed, with the switch on and
-//! off, and the first list that differed; the same of the items that were spelled again; and the
-//! counts of the lists of items. Items are compared as they are, and errors by their messages.
+//! For each table it prints how many readings agreed and how many differed, under either setting,
+//! and the first list that differed; the same for the items that were spelled again; and the counts
+//! of the lists of items. Items are compared as values, and errors by their messages.
 //!
-//! Last it reads clusters, with the switch off: each list of one to four of twenty bytes, by `next`
-//! and by the plain pieces.
+//! Last it reads clusters, with `short_equals` false: each list of one to four of twenty bytes, by
+//! `next` and by the plain pieces.
 
 mod clusters;
 mod lists;
@@ -45,15 +44,14 @@ use std::io;
 use test_helpers::parsers::words_from;
 use test_helpers::words::WORDS;
 
-// How lists of words were read in both ways, and how the items of those that have some were
-// spelled.
+// How lists of words were read in both ways, and how their items were spelled, if they have any.
 #[derive(Drop)]
 struct Found {
     read: Tally,
     spelled: Tally,
 }
 
-// Whether `read_items` refuses the line by this message.
+// Whether `read_items` refuses the line with this message.
 fn is_refused_so(
     alloc: Global,
     message: &String,
@@ -68,7 +66,7 @@ fn is_refused_so(
     }
 }
 
-// Whether `read_items` reads the words as what the plain reader says of them.
+// Whether `read_items` reads the words as the plain reader does.
 fn agree(
     alloc: Global,
     plain: &Result<Vec<Item>, Refusal>,
@@ -137,7 +135,7 @@ impl Found {
         }
     }
 
-    // Reads these words with the switch on and off.
+    // Reads these words under either setting of `short_equals`.
     fn read_both(
         &mut self,
         alloc: Global,
@@ -148,7 +146,7 @@ impl Found {
         self.read(alloc, words, false, table)
     }
 
-    // Reads all lists, the short ones first.
+    // Reads all lists, the shortest first.
     fn read_all(&mut self, alloc: Global, table: &Table) -> Result<(), AllocError> {
         self.read_both(alloc, &[], table)?;
         for first in WORDS {
@@ -180,7 +178,7 @@ impl Found {
     }
 }
 
-// What was found by all tables.
+// What was found with all tables.
 #[derive(Drop)]
 struct Total {
     found: Found,

@@ -1,9 +1,8 @@
 //! Tries the library on many lists of words, and prints what was found.
 //!
 //! With no argument it reads every short list of words, makes every sequence of calls on each,
-//! makes calls by chance, and answers the cases of standard input. With `chance SEED ROUNDS` it
-//! makes calls by chance alone, and with `answers` it answers cases alone; `bench/compare` asks for
-//! these.
+//! makes random calls, and answers the cases of standard input. With `chance SEED ROUNDS` it only
+//! makes random calls, and with `answers` it only answers cases; `bench/compare` uses that.
 #![tactic(auto)]
 
 mod answers;
@@ -14,7 +13,7 @@ mod sequences;
 use anyhow::{Result, bail};
 use std::env;
 
-// The rounds by chance that are always made, and their seed.
+// The random rounds that are always made, and their seed.
 const SEED: u64 = 1;
 
 const ROUNDS: u64 = 20_000;

@@ -2,9 +2,9 @@
 //! three of 25 words.
 //!
 //! Each call is made on the parser, and by `replay` on a copy: the replies agree. A sequence ends
-//! where `next` finds nothing more, where no value is there, and where no optional value is;
-//! `values` is read to its end. Before each call it checks what `raw_args`, `try_raw_args` and
-//! `optional_value` say of the line, on copies where they consume something.
+//! when `next` finds nothing more, or when there is no value or no optional value; `values` is read
+//! to its end. Before each call it checks what `raw_args`, `try_raw_args` and `optional_value` say
+//! about the line, on copies if they consume something.
 //!
 //! It prints how many lists it tried, and what went wrong first, if anything did.
 
@@ -42,7 +42,8 @@ impl Tried {
         }
     }
 
-    // Makes one call after a place, in both ways. The place after it, if a sequence goes on there.
+    // Makes one call after a place, in both ways. Returns the place after it, if a sequence goes on
+    // there.
     fn step(&mut self, alloc: Global, place: &Place, step: Step) -> Result<Option<Place>, Error> {
         let mut parser = place.parser.clone()?;
         let mut copy = place.parser.clone()?;

@@ -1,4 +1,4 @@
-//! Answers as they are compared: a letter, and after it bytes in hexadecimal digits.
+//! Answers as they are compared: a letter, and then bytes in hexadecimal digits.
 use lexopt::{Error, OsString};
 use std::alloc::Global;
 
@@ -21,7 +21,7 @@ impl Answers {
         self.text.as_slice()
     }
 
-    /// An answer without bytes, or the beginning of one; also what stands between answers.
+    /// An answer without bytes, or the beginning of one; also what separates answers.
     pub fn letter(&mut self, letter: u8) -> Result<(), Error> {
         self.text.push(letter)?;
         Ok(())
@@ -33,7 +33,7 @@ impl Answers {
         self.field(b':', bytes)
     }
 
-    /// A word that there may be.
+    /// A word, if there is one.
     pub fn word(&mut self, word: Option<OsString>) -> Result<(), Error> {
         match word {
             Some(word) => self.bytes(b'V', word.as_bytes()),

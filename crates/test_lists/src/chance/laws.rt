@@ -3,10 +3,10 @@ use lexopt::OsString;
 use lexopt::items::Item;
 use lexopt::replay::Reply;
 
-// What was handed out of the words, so far.
+// What was handed out of the words so far.
 #[derive(Clone, Copy)]
 struct Handed<'a> {
-    // The words after the last one of which something was handed out.
+    // The words after the last one that something was handed out of.
     words: &'a [OsString],
     // How many options, values and words.
     count: usize,
@@ -62,7 +62,7 @@ impl<'a> Handed<'a> {
     }
 }
 
-// A word gives an option for each byte after its dash at most, and itself at least.
+// A word gives at most an option for each byte after its dash, and at least itself.
 fn bound(words: &[OsString]) -> usize {
     let mut bound = 0usize;
     for word in words {

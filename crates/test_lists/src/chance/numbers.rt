@@ -1,11 +1,11 @@
-//! Words, calls and tables by chance, from a seed.
+//! Random words, calls and tables, from a seed.
 use lexopt::OsString;
 use lexopt::items::Table;
 use lexopt::replay::Call;
 use std::alloc::{AllocError, Global};
 
-// Bytes that mean something to a command line, and bytes that begin, go on and end characters, or
-// none.
+// Bytes that mean something to a command line, and bytes that begin, continue or end a character,
+// or are part of none.
 const BYTES: [u8; 24] = [
     b'-', b'-', b'-', b'=', b'=', b'a', b'b', b'a', 0x00, b'\n', 0x7F, 0x80, 0x9D, 0x9E, 0xA0,
     0xB5, 0xBF, 0xC2, 0xED, 0xEF, 0xF0, 0xF4, 0xFE, 0xFF,
@@ -28,7 +28,7 @@ impl Chance {
         }
     }
 
-    /// A number below this one; 0 where there is none.
+    /// A number below this one; 0 if there is none.
     pub fn below(&mut self, count: usize) -> usize {
         let mut state = self.state;
         state ^= state >> 12;
@@ -78,7 +78,7 @@ impl Chance {
         })
     }
 
-    /// So many calls.
+    /// This many calls.
     pub fn calls(&mut self, alloc: Global, count: usize) -> Result<Vec<Call>, AllocError> {
         let mut calls = Vec::new(alloc);
         for _ in 0..count {

@@ -1,5 +1,5 @@
-//! Clusters of a few bytes each, read by `next` with the switch off: one option for each piece, and
-//! then the end.
+//! Clusters of a few bytes each, read by `next` with `short_equals` false: one option for each
+//! piece, and then the end.
 use crate::lines::pieces::first_piece;
 use lexopt::{Arg, Error, OsString, Parser};
 use std::alloc::Global;
@@ -10,7 +10,7 @@ const BYTES: [u8; 20] = [
     0xF1, 0xF4, 0xF5, 0xFF,
 ];
 
-/// How many clusters were read as their pieces, and how many otherwise.
+/// How many clusters were read as their pieces, and how many were not.
 #[derive(Clone, Copy)]
 pub struct Counts {
     pub agreed: u64,

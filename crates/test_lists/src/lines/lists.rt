@@ -1,5 +1,5 @@
-//! Every list of at most three of some items, which are spelled, or at fault, with the switch on
-//! and off.
+//! Every list of at most three of some items, spelled or at fault, under either setting of
+//! `short_equals`.
 use crate::lines::short_lists::{ReadLists, short_words};
 use crate::lines::shown::shown_items;
 use crate::lines::spelled::{Reading, Spelled};
@@ -12,7 +12,7 @@ use test_helpers::items::Given::{
 };
 use test_helpers::items::{Given, items_of};
 
-// Items of every kind. By some tables they are at fault, and by others not.
+// Items of every kind. Under some tables they are at fault, under others not.
 const ITEMS: [Given; 27] = [
     Short('a'),
     ShortValue('a', b""),
@@ -43,9 +43,9 @@ const ITEMS: [Given; 27] = [
     Positional(b"--"),
 ];
 
-/// How many lists were spelled and read again, how many were at fault, and how many were otherwise;
-/// how many have the same words with the switch on and off, which are read alike; and how many some
-/// short list of words is read as.
+/// How many lists were spelled and read again, how many were at fault, and how many were neither;
+/// how many have the same words under either setting, read alike; and how many some short list of
+/// words is read as.
 #[derive(Drop)]
 pub struct Counts {
     spelled: u64,
@@ -56,7 +56,7 @@ pub struct Counts {
     first: Option<String>,
 }
 
-// A setting of the switch, and what short lists of words are read as by it.
+// A setting of `short_equals`, and what short lists of words are read as under it.
 #[derive(Drop)]
 struct Setting<'t, 'i> {
     reading: Reading<'t>,
@@ -81,7 +81,7 @@ impl Setting<'_, '_> {
     }
 }
 
-// What short lists of words are read as by this table, with this setting of the switch.
+// What short lists of words are read as by this table, under this setting of `short_equals`.
 fn setting_of<'t, 'i>(
     alloc: Global,
     table: &'t Table,
@@ -113,7 +113,7 @@ impl Counts {
         }
     }
 
-    // Counts a list that is otherwise.
+    // Counts a list that is neither.
     fn differ(&mut self, reading: Reading<'_>, items: &[Item]) -> Result<(), AllocError> {
         self.differed = self.differed.saturating_add(1);
         if self.first.is_none() {
@@ -122,7 +122,7 @@ impl Counts {
         Ok(())
     }
 
-    // Spells the items with one setting of the switch. The words, if there are any.
+    // Spells the items under one setting of `short_equals`. Returns the words, if there are any.
     fn spell(
         &mut self,
         setting: &Setting<'_, '_>,
@@ -148,8 +148,8 @@ impl Counts {
         }
     }
 
-    // Words of both settings of which one list is read as the items by the other setting too: they
-    // are the same.
+    // Compares the words of both settings: if one list is read as the items under the other setting
+    // too, they are the same.
     fn compare(
         &mut self,
         on: Reading<'_>,
@@ -169,7 +169,7 @@ impl Counts {
         }
     }
 
-    // Spells a list with the switch on and off.
+    // Spells a list under either setting of `short_equals`.
     fn spell_both(
         &mut self,
         on: &Setting<'_, '_>,

@@ -14,8 +14,8 @@ const ROWS: [&[(u8, u8)]; 9] = [
     &[(0xF4, 0xF4), (0x80, 0x8F), (0x80, 0xBF), (0x80, 0xBF)],
 ];
 
-/// What bytes begin with: the bytes of a character, or of a damaged piece, which has none; and what
-/// stands after it.
+/// What bytes begin with: the bytes of a character, or of a damaged piece, which has no character;
+/// and what follows.
 #[derive(Clone, Copy)]
 pub struct Piece<'a> {
     pub character: Option<char>,
@@ -30,7 +30,7 @@ impl Piece<'_> {
     }
 }
 
-// How many bytes, from the first on, are as this row has them.
+// How many bytes, from the first on, this row allows.
 fn fitting(row: &[(u8, u8)], bytes: &[u8]) -> usize {
     row.iter()
         .zip(bytes)
@@ -55,7 +55,7 @@ fn code(sequence: &[u8]) -> u32 {
     code
 }
 
-// A piece of so many bytes, which are a character or damage.
+// A piece of this many bytes, a character or damage.
 fn piece_of(bytes: &[u8], count: usize, is_character: bool) -> Piece<'_> {
     let (front, rest) = bytes.split_at(count.min(bytes.len()));
     let character = if is_character {
@@ -70,7 +70,7 @@ fn piece_of(bytes: &[u8], count: usize, is_character: bool) -> Piece<'_> {
     }
 }
 
-/// The first piece, where there is a byte: a sequence of the table, or else the longest front that
+/// The first piece, if there is a byte: a sequence of the table, or else the longest prefix that
 /// begins one, or one byte.
 pub fn first_piece(bytes: &[u8]) -> Option<Piece<'_>> {
     if bytes.is_empty() {

@@ -1,8 +1,7 @@
-//! Whole lines, read plainly: word by word, and what a word leaves open for the next one is kept
-//! beside them.
+//! Whole lines, read plainly: word by word, keeping what a word leaves open for the next one.
 //!
-//! It is written from the rules alone, to be compared with `read_items`, and calls nothing of what
-//! that stands on.
+//! It is written from the rules alone, to be compared with `read_items`, and calls nothing that
+//! `read_items` uses.
 use crate::lines::pieces::{first_piece, lossy, push_quoted};
 use lexopt::OsString;
 use lexopt::items::{Item, Table};
@@ -44,7 +43,7 @@ enum Name {
     Long(String),
 }
 
-// What stands after an option in its word.
+// What follows an option in its word.
 #[derive(Clone, Copy)]
 enum After<'a> {
     Nothing,
@@ -114,7 +113,7 @@ impl Name {
     }
 }
 
-// The option wants a value, and there is none.
+// The option needs a value, and there is none.
 fn missing(alloc: Global, name: &Name) -> Result<Refusal, AllocError> {
     let mut message = String::from_str(alloc, "missing argument for option '")?;
     name.push_to(&mut message)?;
@@ -140,7 +139,7 @@ fn is_plain(word: &[u8]) -> bool {
     }
 }
 
-// What stands after an option of a cluster.
+// What follows an option of a cluster.
 fn after_short(rest: &[u8], short_equals: bool) -> After<'_> {
     match rest {
         [] => After::Nothing,
@@ -149,7 +148,7 @@ fn after_short(rest: &[u8], short_equals: bool) -> After<'_> {
     }
 }
 
-// The name of a long option, up to the first `=`, and what stands after it.
+// The name of a long option, up to the first `=`, and what follows it.
 fn long_parts(word: &[u8]) -> (&[u8], After<'_>) {
     let mut parts = word.splitn(2, |byte| *byte == b'=');
     let name = parts.next().unwrap_or(word);
@@ -189,7 +188,7 @@ impl Reader<'_> {
         Ok(())
     }
 
-    // Gives the word to the option that is open; false where none takes it.
+    // Gives the word to the option that is open; false if none takes it.
     fn give(&mut self, word: &[u8]) -> Result<bool, Refusal> {
         match mem::replace(&mut self.open, Open::Nothing) {
             Open::Nothing => Ok(false),
@@ -209,7 +208,7 @@ impl Reader<'_> {
         }
     }
 
-    // Reads an option and what stands after it; false where that is more of a cluster.
+    // Reads an option and what follows it; false if that is more of a cluster.
     fn read_option(&mut self, name: Name, after: After<'_>) -> Result<bool, Refusal> {
         match name.kind(self.table) {
             Kind::Flag => self.read_flag(name, after),

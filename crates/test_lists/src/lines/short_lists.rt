@@ -8,12 +8,12 @@ use test_helpers::words::WORDS;
 // The most items of a list that has a number.
 const MOST_ITEMS: usize = 3;
 
-// There are fewer than so many numbers of lists.
+// The numbers of lists are below this one.
 const NUMBERS: usize = 30_000;
 
 const BYTES: [u8; 3] = [b'-', b'=', b'a'];
 
-// There are so many words of at most three of the bytes.
+// This many words have at most three of the bytes.
 const SHORTER: usize = 1 + 3 + 9 + 27;
 
 /// Every word of at most four of the bytes `-`, `=` and `a`.
@@ -47,8 +47,8 @@ impl<'i> ReadLists<'i> {
         Ok(ReadLists { items, read })
     }
 
-    // The number of a list of at most three, if each of it is one of the items. No two lists have
-    // one number.
+    // The number of a list of at most three, if each is one of the items. No two lists have the
+    // same number.
     fn number(&self, list: &[Item]) -> Option<usize> {
         if list.len() > MOST_ITEMS {
             return None;

@@ -1,14 +1,14 @@
-//! Words and items as they are printed where something differs.
+//! Words and items as they are printed if something differs.
 use crate::lines::pieces::push_quoted;
 use lexopt::items::Item;
 use std::alloc::{AllocError, Global};
 
-// Adds the setting of the switch.
+// Adds the setting of `short_equals`.
 fn push_switch(text: &mut String, short_equals: bool) -> Result<(), AllocError> {
     text.push_str(if short_equals { "on" } else { "off" })
 }
 
-/// The words in quotes, and the switch.
+/// The words in quotes, and `short_equals`.
 pub fn shown_words(
     alloc: Global,
     words: &[&[u8]],
@@ -23,7 +23,7 @@ pub fn shown_words(
     Ok(text)
 }
 
-/// The items, and the switch.
+/// The items, and `short_equals`.
 pub fn shown_items(
     alloc: Global,
     items: &[Item],

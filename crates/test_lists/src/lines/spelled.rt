@@ -5,14 +5,14 @@ use lexopt::{Error, OsString};
 use lexopt_words::words::copies;
 use std::alloc::{AllocError, Global};
 
-/// What `spell` answers where it has memory: words, or the index of the item at fault.
+/// What `spell` returns with enough memory: words, or the index of the item at fault.
 #[derive(Drop)]
 pub enum Spelled {
     Words(Vec<OsString>),
     Fault(usize),
 }
 
-/// How items are read and spelled: by this table, with this setting of the switch.
+/// How items are read and spelled: by this table, under this setting of `short_equals`.
 #[derive(Clone, Copy)]
 pub struct Reading<'t> {
     pub alloc: Global,
@@ -47,7 +47,7 @@ impl Reading<'_> {
         }
     }
 
-    // Whether these are the words of the items that they are read as.
+    // Whether spelling what these words are read as gives them back.
     fn spells_again(self, words: Vec<OsString>, items: &[Item]) -> Result<bool, AllocError> {
         let Some(found) = self.read(copies(self.alloc, &words)?)? else {
             return Ok(false);
@@ -58,7 +58,8 @@ impl Reading<'_> {
         }
     }
 
-    /// Whether words spell the items, are read as them, and are the words of what is read.
+    /// Whether words spell the items, are read as them, and are given back by spelling what is
+    /// read.
     pub fn comes_back(self, items: &[Item]) -> Result<bool, AllocError> {
         match self.spelled(items)? {
             Spelled::Words(words) => self.spells_again(words, items),

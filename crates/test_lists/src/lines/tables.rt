@@ -2,7 +2,7 @@
 use lexopt::items::Table;
 use std::alloc::{AllocError, Global};
 
-/// In which lists of a table some options stand.
+/// Which lists of a table some options are in.
 #[derive(Clone, Copy)]
 pub struct Lists {
     name: &'static str,
@@ -11,7 +11,7 @@ pub struct Lists {
     several: bool,
 }
 
-/// Options stand in one list, or in none.
+/// Options are in one list, or in none.
 pub const KINDS: [Lists; 4] = [
     Lists {
         name: "none",
@@ -39,7 +39,7 @@ pub const KINDS: [Lists; 4] = [
     },
 ];
 
-/// Options stand in lists of two or three kinds.
+/// Options are in lists of two or three kinds.
 pub const OVERLAPS: [Lists; 4] = [
     Lists {
         name: "one and optional",
@@ -89,7 +89,7 @@ const MARKS: Options = Options {
     longs: &["", "-"],
 };
 
-/// A table: in which lists the letter, the character of damage, and the marks stand.
+/// A table: which lists the letter, the character of damage, and the marks are in.
 #[derive(Clone, Copy)]
 pub struct Choice {
     pub letter: Lists,
@@ -139,7 +139,7 @@ impl Lists {
 }
 
 impl Choice {
-    /// All options stand in the same lists.
+    /// All options are in the same lists.
     pub fn same(lists: Lists) -> Choice {
         Choice {
             letter: lists,
@@ -157,7 +157,7 @@ impl Choice {
         Ok(table)
     }
 
-    /// What is printed of it.
+    /// What is printed about it.
     pub fn name(self, alloc: Global) -> Result<String, AllocError> {
         let letter = self.letter.name;
         let damage = self.damage.name;

@@ -1,4 +1,4 @@
-//! Counts of what agreed and of what differed.
+//! Counts of what agreed and what differed.
 use std::io;
 
 /// How many agreed and differed, and the first that differed.
@@ -23,7 +23,7 @@ impl Tally {
         self.agreed = self.agreed.saturating_add(1);
     }
 
-    /// Counts one that differed, which is shown so if it is the first.
+    /// Counts one that differed, and keeps how to show it if it is the first.
     pub fn differ(&mut self, shown: String) {
         self.differed = self.differed.saturating_add(1);
         if self.first.is_none() {

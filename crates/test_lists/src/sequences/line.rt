@@ -1,11 +1,11 @@
-//! What the calls that look at a line say of it.
+//! What the calls that look at a line say about it.
 use crate::sequences::step::Step;
 use lexopt::replay::Reply;
 use lexopt::{Error, OsString, Parser};
 use lexopt_words::words::copies;
 use std::alloc::Global;
 
-// Where no view is given: none is given again, `raw_args` refuses the value once, and it is an
+// If there was no view: there is none again, `raw_args` refuses the value once, and it is an
 // optional value.
 fn is_busy(parser: &mut Parser) -> Result<bool, Error> {
     if parser.try_raw_args().is_some() {
@@ -21,8 +21,8 @@ fn is_busy(parser: &mut Parser) -> Result<bool, Error> {
     Ok(parser.clone()?.optional_value().is_some())
 }
 
-// Where a view is given, with these words: there is no optional value, and `raw_args` shows the
-// same words.
+// If there was a view, with these words: there is no optional value, and `raw_args` shows the same
+// words.
 fn is_free(parser: &mut Parser, words: &[OsString]) -> Result<bool, Error> {
     if parser.optional_value().is_some() {
         return Ok(false);
@@ -43,8 +43,8 @@ pub fn is_sound(alloc: Global, parser: &mut Parser) -> Result<bool, Error> {
     }
 }
 
-/// Whether no word is left where `next` found nothing more or `value` no word, and `values` has
-/// given one at least.
+/// Whether no word is left if `next` found nothing more or `value` no word, and whether `values`
+/// gave at least one.
 pub fn agrees_with(step: Step, reply: &Reply, parser: &mut Parser) -> Result<bool, Error> {
     match (step, reply) {
         (Step::Next, Reply::End) | (Step::Value, Reply::Missing(_)) => {

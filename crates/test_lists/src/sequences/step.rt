@@ -17,7 +17,7 @@ pub enum Step {
 
 pub const STEPS: [Step; 4] = [Step::Next, Step::Value, Step::Optional, Step::Values];
 
-// What an error of the parser says. Any other error is handed on, and so is want of memory.
+// What an error of the parser says. Any other error is handed on, and so is `OutOfMemory`.
 fn refusal(error: Error) -> Result<Reply, Error> {
     match error {
         Error::MissingValue { option } => Ok(Reply::Missing(option)),
@@ -43,7 +43,7 @@ fn made_values(alloc: Global, parser: &mut Parser) -> Result<Reply, Error> {
     }
 }
 
-/// The reply of a call that is made by itself.
+/// The reply to a call made by itself.
 pub fn made(alloc: Global, parser: &mut Parser, step: Step) -> Result<Reply, Error> {
     match step {
         Step::Next => made_next(alloc, parser),
@@ -56,7 +56,7 @@ pub fn made(alloc: Global, parser: &mut Parser, step: Step) -> Result<Reply, Err
     }
 }
 
-/// The reply of the same call where `replay` makes it.
+/// The reply to the same call made by `replay`.
 pub fn replayed(alloc: Global, parser: &mut Parser, step: Step) -> Result<Reply, Error> {
     let call = match step {
         Step::Next => Call::Next,
