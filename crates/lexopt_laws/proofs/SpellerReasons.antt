@@ -9,7 +9,8 @@ use lib.Utf8.{scalar}
 use Rattle.lexopt_spec.specs.UnreadLine.{dash, equals, is_plain}
 use Rattle.lexopt_line_spec.specs.Table.{short, long, Item, option, many, positional, Kind, flag, one, optional, several, kind, Table}
 use Rattle.lexopt_line_spec.specs.Spelling.{Spells}
-use Rattle.lexopt_line_spec.specs.Speller.{Reason, no_name, equals_in_name, unexpected_value, missing_value, wants_many, not_many, empty_value, option_among_values, empty_name, past_separator, dash_without_flag, Place, open_line, in_cluster, after_values, after_positional, ended, Form, attached_form, short_form, long_form, words_form, short_words_form, short_many_form, long_many_form, Added, short_added, is_named, long_placed, long_added, adds, is_positional, separator_comes_too_early, separator_is_due, is_plain_item, Fault, with_rest, with_rests, spelled_from, spelled, is_of_the_place}
+use Rattle.lexopt_line_spec.specs.Speller.{Reason, no_name, equals_in_name, unexpected_value, missing_value, wants_many, not_many, empty_value, option_among_values, empty_name, past_separator, dash_without_flag, Place, open_line, in_cluster, after_values, after_positional, ended, is_positional, Fault, is_of_the_place}
+use Rattle.lexopt_line_spec.specs.SpellerTables.{Form, attached_form, short_form, long_form, words_form, short_words_form, short_many_form, long_many_form, Added, short_added, is_named, long_placed, long_added, adds, separator_comes_too_early, separator_is_due, is_plain_item, with_rest, with_rests, spelled_from, spelled}
 use Rattle.lexopt_line_spec.proofs.SpellerAnswers.{none_is}
 use Rattle.lexopt_line_spec.proofs.SpellerTests.{has_equals}
 use Rattle.lexopt_line_spec.proofs.SpellerSound.{spelled_spells}
@@ -38,20 +39,20 @@ if_form : (b : Bool) (f g : Form) → OfItem (if b then Ok f else Ok g)
 if_form true f g = ok_form f
 if_form false f g = ok_form g
 
-attached_of : (switch : Bool) (v : List ℕ) → OfItem (attached_form switch v)
+attached_of : (short_equals : Bool) (v : List ℕ) → OfItem (attached_form short_equals v)
 attached_of true [] = ok_form _
 attached_of false [] = err_form empty_value refl
 attached_of true (b ∷ bs) = if_form (b == equals) _ _
 attached_of false (b ∷ bs) = ok_form _
 
-short_of : (switch : Bool) (k : Kind) (value : Option (List ℕ)) → OfItem (short_form switch k value)
-short_of switch flag None = ok_form _
-short_of switch flag (Some v) = err_form unexpected_value refl
-short_of switch one None = err_form missing_value refl
-short_of switch one (Some v) = ok_form _
-short_of switch optional None = ok_form _
-short_of switch optional (Some v) = attached_of switch v
-short_of switch several value = err_form wants_many refl
+short_of : (short_equals : Bool) (k : Kind) (value : Option (List ℕ)) → OfItem (short_form short_equals k value)
+short_of short_equals flag None = ok_form _
+short_of short_equals flag (Some v) = err_form unexpected_value refl
+short_of short_equals one None = err_form missing_value refl
+short_of short_equals one (Some v) = ok_form _
+short_of short_equals optional None = ok_form _
+short_of short_equals optional (Some v) = attached_of short_equals v
+short_of short_equals several value = err_form wants_many refl
 
 long_of : (k : Kind) (value : Option (List ℕ)) → OfItem (long_form k value)
 long_of flag None = ok_form _
@@ -165,137 +166,137 @@ long_why true true place name form r of is = of_item (reason_of equals_in_name r
 long_why true false place name (Err s) r of is = of_item (reason_of s r (of s refl) is) (λ y d other a ok. none_is _ a ok)
 long_why true false place name (Ok f) r of is = placed_why (is_named name f.after) place name f r is
 
-either_many : (switch : Bool) (k : Kind) (values : List (List ℕ)) → Either (λ y. short_many_form (switch && y) k values)
-either_many switch k values = λ x y f is. let o = form_joined (switch && x) (switch && y) k values f is in (o.0, o.1)
+either_many : (short_equals : Bool) (k : Kind) (values : List (List ℕ)) → Either (λ y. short_many_form (short_equals && y) k values)
+either_many short_equals k values = λ x y f is. let o = form_joined (short_equals && x) (short_equals && y) k values f is in (o.0, o.1)
 
-why : (t : Table) (switch joins due : Bool) (place : Place) (item : Item) (r : Reason) → adds t switch joins due place item ≡ Err r
-    → Why (λ y e other. adds t switch y e other item) place r
-why t switch joins due place (option (short c) value) r is =
+why : (t : Table) (short_equals joins due : Bool) (place : Place) (item : Item) (r : Reason) → adds t short_equals joins due place item ≡ Err r
+    → Why (λ y e other. adds t short_equals y e other item) place r
+why t short_equals joins due place (option (short c) value) r is =
     let k = kind t (short c) in
-    short_why (scalar c) (c == dash) place c (λ y. short_form switch k value) joins r (short_form switch k value) refl (short_of switch k value) (λ x y f found. (f, found)) is
-why t switch joins due place (many (short c) values) r is =
+    short_why (scalar c) (c == dash) place c (λ y. short_form short_equals k value) joins r (short_form short_equals k value) refl (short_of short_equals k value) (λ x y f found. (f, found)) is
+why t short_equals joins due place (many (short c) values) r is =
     let k = kind t (short c) in
-    short_why (scalar c) (c == dash) place c (λ y. short_many_form (switch && y) k values) joins r (short_many_form (switch && joins) k values) refl
-    (short_many_of (switch && joins) k values) (either_many switch k values) is
-why t switch joins due place (option (long name) value) r is =
+    short_why (scalar c) (c == dash) place c (λ y. short_many_form (short_equals && y) k values) joins r (short_many_form (short_equals && joins) k values) refl
+    (short_many_of (short_equals && joins) k values) (either_many short_equals k values) is
+why t short_equals joins due place (option (long name) value) r is =
     long_why (is_utf8 name) (has_equals name) place name (long_form (kind t (long name)) value) r (long_of (kind t (long name)) value) is
-why t switch joins due place (many (long name) values) r is =
+why t short_equals joins due place (many (long name) values) r is =
     long_why (is_utf8 name) (has_equals name) place name (long_many_form (kind t (long name)) values) r (long_many_of (kind t (long name)) values) is
-why t switch joins due place (positional w) r is = none_is r _ (sym is)
+why t short_equals joins due place (positional w) r is = none_is r _ (sym is)
 
 -- ---- the item at fault
 
-here_reason : (t : Table) (switch : Bool) (place : Place) (item : Item) (items : List Item) (f : Fault) (r : Reason)
-    → adds t switch (separator_comes_too_early items) (separator_is_due items) place item ≡ Err r → spelled_from t switch (item ∷ items) place ≡ Err f → r ≡ f.reason
+here_reason : (t : Table) (short_equals : Bool) (place : Place) (item : Item) (items : List Item) (f : Fault) (r : Reason)
+    → adds t short_equals (separator_comes_too_early items) (separator_is_due items) place item ≡ Err r → spelled_from t short_equals (item ∷ items) place ≡ Err f → r ≡ f.reason
 unfolding spelled_from
-here_reason t switch place item items f r err is =
-    let h : Failing (Err (record { index = 0; reason = r })) f = sym (ap (λ o. with_rests o (spelled_from t switch items)) err) ∙ is in
+here_reason t short_equals place item items f r err is =
+    let h : Failing (Err (record { index = 0; reason = r })) f = sym (ap (λ o. with_rests o (spelled_from t short_equals items)) err) ∙ is in
     let e : record { index = 0; reason = r } ≡ f = cc in ap (λ (x : Fault). x.reason) e
 
-later_reason : (t : Table) (switch : Bool) (place : Place) (item : Item) (items : List Item) (f : Fault) (a : Added) (g : Fault)
-    → adds t switch (separator_comes_too_early items) (separator_is_due items) place item ≡ Ok a → spelled_from t switch items a.place ≡ Err g
-    → spelled_from t switch (item ∷ items) place ≡ Err f → g.reason ≡ f.reason
+later_reason : (t : Table) (short_equals : Bool) (place : Place) (item : Item) (items : List Item) (f : Fault) (a : Added) (g : Fault)
+    → adds t short_equals (separator_comes_too_early items) (separator_is_due items) place item ≡ Ok a → spelled_from t short_equals items a.place ≡ Err g
+    → spelled_from t short_equals (item ∷ items) place ≡ Err f → g.reason ≡ f.reason
 unfolding spelled_from
-later_reason t switch place item items f a g added_is rest_is is =
+later_reason t short_equals place item items f a g added_is rest_is is =
     let h : Failing (Err (record { index = suc g.index; reason = g.reason })) f =
-    sym (ap (λ o. with_rests o (spelled_from t switch items)) added_is ∙ ap (with_rest a) rest_is) ∙ is in
+    sym (ap (λ o. with_rests o (spelled_from t short_equals items)) added_is ∙ ap (with_rest a) rest_is) ∙ is in
     let e : record { index = suc g.index; reason = g.reason } ≡ f = cc in ap (λ (x : Fault). x.reason) e
 
 -- the item is not added somewhere, for this reason
-record Refused (t : Table) (switch : Bool) (it : Item) (r : Reason) : Type 0 where
+record Refused (t : Table) (short_equals : Bool) (it : Item) (r : Reason) : Type 0 where
   joins : Bool
   due : Bool
   place : Place
-  is : adds t switch joins due place it ≡ Err r
+  is : adds t short_equals joins due place it ≡ Err r
 
 abbrev RefusedOf : Table → Bool → List Item → Type 0
-RefusedOf t switch items = (place : Place) (f : Fault) (it : Item) (others : List Item) → spelled_from t switch items place ≡ Err f → drop f.index items ≡ it ∷ others
-    → Refused t switch it f.reason
+RefusedOf t short_equals items = (place : Place) (f : Fault) (it : Item) (others : List Item) → spelled_from t short_equals items place ≡ Err f → drop f.index items ≡ it ∷ others
+    → Refused t short_equals it f.reason
 
-first_refused : (t : Table) (switch : Bool) (place : Place) (item : Item) (items : List Item) (f : Fault) (it : Item) (others : List Item) → RefusedOf t switch items
-    → spelled_from t switch (item ∷ items) place ≡ Err f → drop f.index (item ∷ items) ≡ it ∷ others → Fails t switch place item items f → Refused t switch it f.reason
-first_refused t switch place item items f it others more is dropped (here r err first) =
+first_refused : (t : Table) (short_equals : Bool) (place : Place) (item : Item) (items : List Item) (f : Fault) (it : Item) (others : List Item) → RefusedOf t short_equals items
+    → spelled_from t short_equals (item ∷ items) place ≡ Err f → drop f.index (item ∷ items) ≡ it ∷ others → Fails t short_equals place item items f → Refused t short_equals it f.reason
+first_refused t short_equals place item items f it others more is dropped (here r err first) =
     let e : item ∷ items ≡ it ∷ others = sym (ap (λ n. drop n (item ∷ items)) first) ∙ dropped in
     let same : item ≡ it = cc in
-    subst (Refused t switch it) (here_reason t switch place item items f r err is)
-    (subst (λ (x : Item). Refused t switch x r) same (record { joins = _; due = _; place = place; is = err }))
-first_refused t switch place item items f it others more is dropped (later a g added_is rest_is index) =
-    subst (Refused t switch it) (later_reason t switch place item items f a g added_is rest_is is)
+    subst (Refused t short_equals it) (here_reason t short_equals place item items f r err is)
+    (subst (λ (x : Item). Refused t short_equals x r) same (record { joins = _; due = _; place = place; is = err }))
+first_refused t short_equals place item items f it others more is dropped (later a g added_is rest_is index) =
+    subst (Refused t short_equals it) (later_reason t short_equals place item items f a g added_is rest_is is)
     (more a.place g it others rest_is (sym (ap (λ n. drop n (item ∷ items)) index) ∙ dropped))
 
-refused : (t : Table) (switch : Bool) (items : List Item) → RefusedOf t switch items
-refused t switch [] = λ place f it others is dropped. no_both t switch [] place f is (nil_can t switch place)
-refused t switch (item ∷ items) = λ place f it others is dropped.
-    first_refused t switch place item items f it others (refused t switch items) is dropped (fails t switch place item items f is)
+refused : (t : Table) (short_equals : Bool) (items : List Item) → RefusedOf t short_equals items
+refused t short_equals [] = λ place f it others is dropped. no_both t short_equals [] place f is (nil_can t short_equals place)
+refused t short_equals (item ∷ items) = λ place f it others is dropped.
+    first_refused t short_equals place item items f it others (refused t short_equals items) is dropped (fails t short_equals place item items f is)
 
-spelled_refused : (t : Table) (switch : Bool) (l : List Item) (f : Fault) (it : Item) (others : List Item) → spelled t switch l ≡ Err f → drop f.index l ≡ it ∷ others
-    → Refused t switch it f.reason
-spelled_refused t switch l f it others is dropped =
-    refused t switch l open_line f it others (from_words (spelled_from t switch l open_line) f is) dropped
+spelled_refused : (t : Table) (short_equals : Bool) (l : List Item) (f : Fault) (it : Item) (others : List Item) → spelled t short_equals l ≡ Err f → drop f.index l ≡ it ∷ others
+    → Refused t short_equals it f.reason
+spelled_refused t short_equals l f it others is dropped =
+    refused t short_equals l open_line f it others (from_words (spelled_from t short_equals l open_line) f is) dropped
 
 -- ---- a reason of the item
 
 -- an item of a line is added somewhere
-added_somewhere : (t : Table) (switch : Bool) (it : Item) (after before : List Item) (place : Place) → Can t switch (before ++ it ∷ after) place
-    → (joins : Bool) × (due : Bool) × (other : Place) × (a : Added) × (adds t switch joins due other it ≡ Ok a)
-added_somewhere t switch it after [] place can = let s = can_split t switch place it after can in (_, _, place, s.0, s.1)
-added_somewhere t switch it after (item ∷ before) place can =
-    let s = can_split t switch place item (before ++ it ∷ after) can in added_somewhere t switch it after before s.0.place s.2
+added_somewhere : (t : Table) (short_equals : Bool) (it : Item) (after before : List Item) (place : Place) → Can t short_equals (before ++ it ∷ after) place
+    → (joins : Bool) × (due : Bool) × (other : Place) × (a : Added) × (adds t short_equals joins due other it ≡ Ok a)
+added_somewhere t short_equals it after [] place can = let s = can_split t short_equals place it after can in (_, _, place, s.0, s.1)
+added_somewhere t short_equals it after (item ∷ before) place can =
+    let s = can_split t short_equals place item (before ++ it ∷ after) can in added_somewhere t short_equals it after before s.0.place s.2
 
-never : (t : Table) (switch : Bool) (it : Item) (place : Place) (r : Reason) → is_of_the_place r ≡ false → Why (λ y e other. adds t switch y e other it) place r
-    → (joins due : Bool) (other : Place) (a : Added) → adds t switch joins due other it ≡ Ok a → ⊥
-never t switch it place r of (of_item is none) joins due other a ok = none joins due other a ok
-never t switch it place r of (of_place is separator goes_on) joins due other a ok = true≢false (sym is ∙ of)
+never : (t : Table) (short_equals : Bool) (it : Item) (place : Place) (r : Reason) → is_of_the_place r ≡ false → Why (λ y e other. adds t short_equals y e other it) place r
+    → (joins due : Bool) (other : Place) (a : Added) → adds t short_equals joins due other it ≡ Ok a → ⊥
+never t short_equals it place r of (of_item is none) joins due other a ok = none joins due other a ok
+never t short_equals it place r of (of_place is separator goes_on) joins due other a ok = true≢false (sym is ∙ of)
 
-pub item_nowhere : (t : Table) (switch : Bool) (l : List Item) (f : Fault) (it : Item) (others : List Item) → spelled t switch l ≡ Err f → is_of_the_place f.reason ≡ false
-    → drop f.index l ≡ it ∷ others → (words : List (List ℕ)) (before after : List Item) → Spells t switch words (before ++ it ∷ after) → ⊥
-item_nowhere t switch l f it others is of dropped words before after spells =
-    let no = spelled_refused t switch l f it others is dropped in
-    let some = added_somewhere t switch it after before open_line (spells_can t switch words (before ++ it ∷ after) spells) in
-    never t switch it no.place f.reason of (why t switch no.joins no.due no.place it f.reason no.is) some.0 some.1 some.2 some.3 some.4
+pub item_nowhere : (t : Table) (short_equals : Bool) (l : List Item) (f : Fault) (it : Item) (others : List Item) → spelled t short_equals l ≡ Err f → is_of_the_place f.reason ≡ false
+    → drop f.index l ≡ it ∷ others → (words : List (List ℕ)) (before after : List Item) → Spells t short_equals words (before ++ it ∷ after) → ⊥
+item_nowhere t short_equals l f it others is of dropped words before after spells =
+    let no = spelled_refused t short_equals l f it others is dropped in
+    let some = added_somewhere t short_equals it after before open_line (spells_can t short_equals words (before ++ it ∷ after) spells) in
+    never t short_equals it no.place f.reason of (why t short_equals no.joins no.due no.place it f.reason no.is) some.0 some.1 some.2 some.3 some.4
 
 -- ---- a reason of the place
 
-goes_on : (t : Table) (switch : Bool) (it : Item) (place : Place) (r : Reason) → is_of_the_place r ≡ true → Why (λ y e other. adds t switch y e other it) place r
-    → InCluster (λ y e other. adds t switch y e other it)
-goes_on t switch it place r of (of_item is none) = absurd (true≢false (sym of ∙ is))
-goes_on t switch it place r of (of_place is separator in_cluster_is) = in_cluster_is
+goes_on : (t : Table) (short_equals : Bool) (it : Item) (place : Place) (r : Reason) → is_of_the_place r ≡ true → Why (λ y e other. adds t short_equals y e other it) place r
+    → InCluster (λ y e other. adds t short_equals y e other it)
+goes_on t short_equals it place r of (of_item is none) = absurd (true≢false (sym of ∙ is))
+goes_on t short_equals it place r of (of_place is separator in_cluster_is) = in_cluster_is
 
 -- a flag of one character, which is no dash, begins a cluster
-flag_added : (switch : Bool) (c : ℕ) (s d : Bool) (k : Kind) → s ≡ true → d ≡ false → k ≡ flag
-    → (a : Added) × (short_added s d open_line c (short_form switch k None) ≡ Ok a) × (a.place ≡ in_cluster)
-flag_added switch c true false flag s_is d_is k_is = (_, refl, refl)
-flag_added switch c false d k s_is d_is k_is = absurd (true≢false (sym s_is))
-flag_added switch c true true k s_is d_is k_is = absurd (true≢false d_is)
-flag_added switch c true false one s_is d_is k_is = absurd (let e : one ≡ flag = k_is in cc)
-flag_added switch c true false optional s_is d_is k_is = absurd (let e : optional ≡ flag = k_is in cc)
-flag_added switch c true false several s_is d_is k_is = absurd (let e : several ≡ flag = k_is in cc)
+flag_added : (short_equals : Bool) (c : ℕ) (s d : Bool) (k : Kind) → s ≡ true → d ≡ false → k ≡ flag
+    → (a : Added) × (short_added s d open_line c (short_form short_equals k None) ≡ Ok a) × (a.place ≡ in_cluster)
+flag_added short_equals c true false flag s_is d_is k_is = (_, refl, refl)
+flag_added short_equals c false d k s_is d_is k_is = absurd (true≢false (sym s_is))
+flag_added short_equals c true true k s_is d_is k_is = absurd (true≢false d_is)
+flag_added short_equals c true false one s_is d_is k_is = absurd (let e : one ≡ flag = k_is in cc)
+flag_added short_equals c true false optional s_is d_is k_is = absurd (let e : optional ≡ flag = k_is in cc)
+flag_added short_equals c true false several s_is d_is k_is = absurd (let e : several ≡ flag = k_is in cc)
 
-pub after_flag : (t : Table) (switch : Bool) (l : List Item) (f : Fault) (it : Item) (others : List Item) → spelled t switch l ≡ Err f → is_of_the_place f.reason ≡ true
+pub after_flag : (t : Table) (short_equals : Bool) (l : List Item) (f : Fault) (it : Item) (others : List Item) → spelled t short_equals l ≡ Err f → is_of_the_place f.reason ≡ true
     → drop f.index l ≡ it ∷ others → (c : ℕ) → IsScalar c → c ≢ dash → kind t (short c) ≡ flag
-    → (words : List (List ℕ)) × Spells t switch words (option (short c) None ∷ it ∷ [])
-after_flag t switch l f it others is of dropped c scalar_is other flag_is =
-    let no = spelled_refused t switch l f it others is dropped in
-    let b = goes_on t switch it no.place f.reason of (why t switch no.joins no.due no.place it f.reason no.is)
+    → (words : List (List ℕ)) × Spells t short_equals words (option (short c) None ∷ it ∷ [])
+after_flag t short_equals l f it others is of dropped c scalar_is other flag_is =
+    let no = spelled_refused t short_equals l f it others is dropped in
+    let b = goes_on t short_equals it no.place f.reason of (why t short_equals no.joins no.due no.place it f.reason no.is)
     (separator_comes_too_early []) (separator_is_due []) in
-    let a = flag_added switch c (scalar c) (c == dash) (kind t (short c)) scalar_is (ne_eqb c dash other) flag_is in
-    let last = cons_can t switch in_cluster it [] b.0 b.1 (nil_can t switch b.0.place) in
-    let can = cons_can t switch open_line (option (short c) None) (it ∷ []) a.0 a.1 (subst (Can t switch (it ∷ [])) (sym a.2) last) in
-    let some = can_words t switch (option (short c) None ∷ it ∷ []) can in
-    (some.0, spelled_spells t switch (option (short c) None ∷ it ∷ []) some.0 some.1)
+    let a = flag_added short_equals c (scalar c) (c == dash) (kind t (short c)) scalar_is (ne_eqb c dash other) flag_is in
+    let last = cons_can t short_equals in_cluster it [] b.0 b.1 (nil_can t short_equals b.0.place) in
+    let can = cons_can t short_equals open_line (option (short c) None) (it ∷ []) a.0 a.1 (subst (Can t short_equals (it ∷ [])) (sym a.2) last) in
+    let some = can_words t short_equals (option (short c) None ∷ it ∷ []) can in
+    (some.0, spelled_spells t short_equals (option (short c) None ∷ it ∷ []) some.0 some.1)
 
 -- ---- after the separator
 
-separator_stands : (t : Table) (switch : Bool) (it : Item) (place : Place) (r : Reason) → r ≡ past_separator → Why (λ y e other. adds t switch y e other it) place r → place ≡ ended
-separator_stands t switch it place r is (of_item of none) = absurd (true≢false (sym (ap is_of_the_place is) ∙ of))
-separator_stands t switch it place r is (of_place of separator goes_on) = separator is
+separator_stands : (t : Table) (short_equals : Bool) (it : Item) (place : Place) (r : Reason) → r ≡ past_separator → Why (λ y e other. adds t short_equals y e other it) place r → place ≡ ended
+separator_stands t short_equals it place r is (of_item of none) = absurd (true≢false (sym (ap is_of_the_place is) ∙ of))
+separator_stands t short_equals it place r is (of_place of separator goes_on) = separator is
 
 -- items of which one is at fault are not all positionals
-some_option : (t : Table) (switch : Bool) (items : List Item) (place : Place) (f : Fault) → spelled_from t switch items place ≡ Err f → list_all is_positional items ≡ false
-some_option t switch items place f is = by (list_all is_positional items) refl
+some_option : (t : Table) (short_equals : Bool) (items : List Item) (place : Place) (f : Fault) → spelled_from t short_equals items place ≡ Err f → list_all is_positional items ≡ false
+some_option t short_equals items place f is = by (list_all is_positional items) refl
   where
     by : (b : Bool) → list_all is_positional items ≡ b → b ≡ false
-    by true all = no_both t switch items place f is (all_can t switch items place (all_positional items all))
+    by true all = no_both t short_equals items place f is (all_can t short_equals items place (all_positional items all))
     by false all = refl
 
 option_last : (front : List Item) (it : Item) → is_positional it ≡ false → list_all is_positional (front ++ it ∷ []) ≡ false
@@ -305,66 +306,66 @@ option_last (many name values ∷ front) it other = refl
 option_last (positional w ∷ front) it other = option_last front it other
 
 -- with an option in the place of the item at fault, and nothing after it, the separator is due as before
-due_same : (t : Table) (switch : Bool) (items : List Item) (place : Place) (f : Fault) (it : Item) → is_positional it ≡ false → spelled_from t switch items place ≡ Err f
+due_same : (t : Table) (short_equals : Bool) (items : List Item) (place : Place) (f : Fault) (it : Item) → is_positional it ≡ false → spelled_from t short_equals items place ≡ Err f
     → separator_is_due (take f.index items ++ it ∷ []) ≡ separator_is_due items
-due_same t switch items place f it other is =
+due_same t short_equals items place f it other is =
     let front = take f.index items ++ it ∷ [] in
     ap (λ b. b && not (list_all is_plain_item front)) (option_last (take f.index items) it other)
-    ∙ sym (ap (λ b. b && not (list_all is_plain_item items)) (some_option t switch items place f is))
+    ∙ sym (ap (λ b. b && not (list_all is_plain_item items)) (some_option t short_equals items place f is))
 
 early_option : (it : Item) (rest : List Item) → is_positional it ≡ false → separator_comes_too_early (it ∷ rest) ≡ false
 early_option it rest other = ap (λ b. b && not (list_all is_positional rest)) other
 
-early_by : (t : Table) (switch : Bool) (place : Place) (item : Item) (items : List Item) (f : Fault) (it : Item) → is_positional it ≡ false
-    → Fails t switch place item items f → separator_comes_too_early (take f.index (item ∷ items) ++ it ∷ []) ≡ separator_comes_too_early (item ∷ items)
-early_by t switch place (option name value) items f it other (here r err first) =
+early_by : (t : Table) (short_equals : Bool) (place : Place) (item : Item) (items : List Item) (f : Fault) (it : Item) → is_positional it ≡ false
+    → Fails t short_equals place item items f → separator_comes_too_early (take f.index (item ∷ items) ++ it ∷ []) ≡ separator_comes_too_early (item ∷ items)
+early_by t short_equals place (option name value) items f it other (here r err first) =
     ap (λ n. separator_comes_too_early (take n (option name value ∷ items) ++ it ∷ [])) first ∙ early_option it [] other
-early_by t switch place (many name values) items f it other (here r err first) =
+early_by t short_equals place (many name values) items f it other (here r err first) =
     ap (λ n. separator_comes_too_early (take n (many name values ∷ items) ++ it ∷ [])) first ∙ early_option it [] other
-early_by t switch place (positional w) items f it other (here r err first) = none_is r _ (sym err)
-early_by t switch place (option name value) items f it other (later a g added_is rest_is index) =
+early_by t short_equals place (positional w) items f it other (here r err first) = none_is r _ (sym err)
+early_by t short_equals place (option name value) items f it other (later a g added_is rest_is index) =
     ap (λ n. separator_comes_too_early (take n (option name value ∷ items) ++ it ∷ [])) index
-early_by t switch place (many name values) items f it other (later a g added_is rest_is index) =
+early_by t short_equals place (many name values) items f it other (later a g added_is rest_is index) =
     ap (λ n. separator_comes_too_early (take n (many name values ∷ items) ++ it ∷ [])) index
-early_by t switch place (positional w) items f it other (later a g added_is rest_is index) =
+early_by t short_equals place (positional w) items f it other (later a g added_is rest_is index) =
     ap (λ n. separator_comes_too_early (take n (positional w ∷ items) ++ it ∷ [])) index
-    ∙ ap not (option_last (take g.index items) it other) ∙ sym (ap not (some_option t switch items a.place g rest_is))
+    ∙ ap not (option_last (take g.index items) it other) ∙ sym (ap not (some_option t short_equals items a.place g rest_is))
 
 -- and it comes too early, or not, as before
-early_same : (t : Table) (switch : Bool) (items : List Item) (place : Place) (f : Fault) (it : Item) → is_positional it ≡ false → spelled_from t switch items place ≡ Err f
+early_same : (t : Table) (short_equals : Bool) (items : List Item) (place : Place) (f : Fault) (it : Item) → is_positional it ≡ false → spelled_from t short_equals items place ≡ Err f
     → separator_comes_too_early (take f.index items ++ it ∷ []) ≡ separator_comes_too_early items
-early_same t switch [] place f it other is = no_both t switch [] place f is (nil_can t switch place)
-early_same t switch (item ∷ items) place f it other is = early_by t switch place item items f it other (fails t switch place item items f is)
+early_same t short_equals [] place f it other is = no_both t short_equals [] place f is (nil_can t short_equals place)
+early_same t short_equals (item ∷ items) place f it other is = early_by t short_equals place item items f it other (fails t short_equals place item items f is)
 
 abbrev NoOption : Table → Bool → Item → List Item → Type 0
-NoOption t switch it items = (place : Place) (f : Fault) → spelled_from t switch items place ≡ Err f → f.reason ≡ past_separator
-    → ¬ Can t switch (take f.index items ++ it ∷ []) place
+NoOption t short_equals it items = (place : Place) (f : Fault) → spelled_from t short_equals items place ≡ Err f → f.reason ≡ past_separator
+    → ¬ Can t short_equals (take f.index items ++ it ∷ []) place
 
-no_first : (t : Table) (switch : Bool) (place : Place) (item : Item) (items : List Item) (f : Fault) (it : Item) → is_positional it ≡ false → NoOption t switch it items
-    → spelled_from t switch (item ∷ items) place ≡ Err f → f.reason ≡ past_separator → Fails t switch place item items f
-    → ¬ Can t switch (take f.index (item ∷ items) ++ it ∷ []) place
-no_first t switch place item items f it other more is reason (here r err first) can =
+no_first : (t : Table) (short_equals : Bool) (place : Place) (item : Item) (items : List Item) (f : Fault) (it : Item) → is_positional it ≡ false → NoOption t short_equals it items
+    → spelled_from t short_equals (item ∷ items) place ≡ Err f → f.reason ≡ past_separator → Fails t short_equals place item items f
+    → ¬ Can t short_equals (take f.index (item ∷ items) ++ it ∷ []) place
+no_first t short_equals place item items f it other more is reason (here r err first) can =
     let x = separator_comes_too_early items in
     let y = separator_is_due items in
-    let at = separator_stands t switch item place r (here_reason t switch place item items f r err is ∙ reason) (why t switch x y place item r err) in
-    let one = subst (λ (n : ℕ). Can t switch (take n (item ∷ items) ++ it ∷ []) place) first can in
-    let s = can_split t switch ended it [] (subst (Can t switch (it ∷ [])) at one) in
-    option_ended t switch (separator_comes_too_early []) (separator_is_due []) it s.0 other s.1
-no_first t switch place item items f it other more is reason (later a g added_is rest_is index) can =
+    let at = separator_stands t short_equals item place r (here_reason t short_equals place item items f r err is ∙ reason) (why t short_equals x y place item r err) in
+    let one = subst (λ (n : ℕ). Can t short_equals (take n (item ∷ items) ++ it ∷ []) place) first can in
+    let s = can_split t short_equals ended it [] (subst (Can t short_equals (it ∷ [])) at one) in
+    option_ended t short_equals (separator_comes_too_early []) (separator_is_due []) it s.0 other s.1
+no_first t short_equals place item items f it other more is reason (later a g added_is rest_is index) can =
     let front = take g.index items ++ it ∷ [] in
-    let s = can_split t switch place item front (subst (λ (n : ℕ). Can t switch (take n (item ∷ items) ++ it ∷ []) place) index can) in
-    let same = ap (λ x. adds t switch x (separator_is_due front) place item) (early_same t switch items a.place g it other rest_is)
-    ∙ ap (λ y. adds t switch (separator_comes_too_early items) y place item) (due_same t switch items a.place g it other rest_is) in
-    more a.place g rest_is (later_reason t switch place item items f a g added_is rest_is is ∙ reason)
-    (subst (λ (b : Added). Can t switch front b.place) (same_added s.0 a _ s.1 (same ∙ added_is)) s.2)
+    let s = can_split t short_equals place item front (subst (λ (n : ℕ). Can t short_equals (take n (item ∷ items) ++ it ∷ []) place) index can) in
+    let same = ap (λ x. adds t short_equals x (separator_is_due front) place item) (early_same t short_equals items a.place g it other rest_is)
+    ∙ ap (λ y. adds t short_equals (separator_comes_too_early items) y place item) (due_same t short_equals items a.place g it other rest_is) in
+    more a.place g rest_is (later_reason t short_equals place item items f a g added_is rest_is is ∙ reason)
+    (subst (λ (b : Added). Can t short_equals front b.place) (same_added s.0 a _ s.1 (same ∙ added_is)) s.2)
 
-no_option : (t : Table) (switch : Bool) (it : Item) → is_positional it ≡ false → (items : List Item) → NoOption t switch it items
-no_option t switch it other [] = λ place f is reason can. no_both t switch [] place f is (nil_can t switch place)
-no_option t switch it other (item ∷ items) = λ place f is reason can.
-    no_first t switch place item items f it other (no_option t switch it other items) is reason (fails t switch place item items f is) can
+no_option : (t : Table) (short_equals : Bool) (it : Item) → is_positional it ≡ false → (items : List Item) → NoOption t short_equals it items
+no_option t short_equals it other [] = λ place f is reason can. no_both t short_equals [] place f is (nil_can t short_equals place)
+no_option t short_equals it other (item ∷ items) = λ place f is reason can.
+    no_first t short_equals place item items f it other (no_option t short_equals it other items) is reason (fails t short_equals place item items f is) can
 
-pub no_option_after : (t : Table) (switch : Bool) (l : List Item) (f : Fault) → spelled t switch l ≡ Err f → f.reason ≡ past_separator
-    → (it : Item) → is_positional it ≡ false → (words : List (List ℕ)) → Spells t switch words (take f.index l ++ it ∷ []) → ⊥
-no_option_after t switch l f is reason it other words spells =
-    no_option t switch it other l open_line f (from_words (spelled_from t switch l open_line) f is) reason
-    (spells_can t switch words (take f.index l ++ it ∷ []) spells)
+pub no_option_after : (t : Table) (short_equals : Bool) (l : List Item) (f : Fault) → spelled t short_equals l ≡ Err f → f.reason ≡ past_separator
+    → (it : Item) → is_positional it ≡ false → (words : List (List ℕ)) → Spells t short_equals words (take f.index l ++ it ∷ []) → ⊥
+no_option_after t short_equals l f is reason it other words spells =
+    no_option t short_equals it other l open_line f (from_words (spelled_from t short_equals l open_line) f is) reason
+    (spells_can t short_equals words (take f.index l ++ it ∷ []) spells)

@@ -1,4 +1,4 @@
--- Items that the same words spell under either setting of the switch have one form under both.
+-- Items that the same words spell under either setting of the short_equals have one form under both.
 use Rattle.std.proofs.Common.{◌≡◌, ◌≢◌, ℕ, ◌==◌, ◌||◌, not, Bool, true, false, List, [], ◌∷◌, ◌++◌, length, map, Option, Some, None, refl, sym, ap, subst, ◌∙◌, arith, true≢false}
 use Rattle.std.proofs.lemmas.Bool.{ne_eqb}
 use Rattle.std.proofs.lemmas.List.{append_cancel_left}
@@ -11,11 +11,13 @@ use Rattle.lexopt_spec.specs.UnreadLine.{dash, equals, BeginsWith, IsPlain, is_p
 use Rattle.lexopt_line_spec.specs.Table.{Name, short, long, Item, option, many, positional, Kind, flag, one, optional, several, kind, Table}
 use Rattle.lexopt_line_spec.specs.Spelling as spelling
 use Rattle.lexopt_line_spec.specs.Spelling.{exact, After, nothing, attached, joined, NoValue, no_value, OneValue, attached_value, joined_value, next_word, OptionalValue, no_optional, attached_optional, joined_optional, joined_several, attached_several, several_words, Completes, IsAfterLast, nothing_more, a_value, marked_value, Cluster, flag_first, last_option, IsLong, name_alone, name_and_value, Group, cluster, Line, no_words, plain_word, group, separator, Spells}
-use Rattle.lexopt_line_spec.specs.Speller.{Reason, Place, after_values, open_line, short_form, short_many_form, Added, short_added, adds, separator_comes_too_early, separator_is_due, with_rest, with_rests, spelled_from, words_or_fault, spelled}
+use Rattle.lexopt_line_spec.specs.Speller.{SpelledAs, Reason, Place, after_values, open_line}
+use Rattle.lexopt_line_spec.specs.SpellerTables.{short_form, short_many_form, Added, short_added, adds, separator_comes_too_early, separator_is_due, with_rest, with_rests, spelled_from, words_or_fault, spelled}
 use Rattle.lexopt_line_spec.proofs.Names.{spelled_shows}
 use Rattle.lexopt_line_spec.proofs.SpellerTests.{has_equals, none_passes, some_bytes}
 use Rattle.lexopt_line_spec.proofs.SpellerPlaces.{Can, can_split, ended_positional, words_place, short_through}
 use Rattle.lexopt_line_spec.proofs.SpellerComplete.{shown_can}
+use Rattle.lexopt_line_spec.proofs.SpellerAgrees.{are_words, words_are, shown_as}
 use Rattle.lexopt_line_spec.proofs.SpellerSound.{not_plain}
 
 -- ---- items whose values have one form
@@ -43,16 +45,16 @@ place_of (Err reason) = open_line
 place_of (Ok a) = a.place
 
 -- items before which the separator comes too early are not spelled after values in words
-none_early : {X : Type 0} (t : Table) (switch : Bool) (items : List Item) → separator_comes_too_early items ≡ true → Can t switch items after_values → X
-none_early t switch [] early can = absurd (true≢false (sym early))
-none_early t switch (option name value ∷ items) early can = absurd (true≢false (sym early))
-none_early t switch (many name values ∷ items) early can = absurd (true≢false (sym early))
-none_early t switch (positional w ∷ items) early can =
-    let s = can_split t switch after_values (positional w) items can in
-    let all = ended_positional t switch items (subst (Can t switch items) (sym (ap place_of s.1)) s.2) in
+none_early : {X : Type 0} (t : Table) (short_equals : Bool) (items : List Item) → separator_comes_too_early items ≡ true → Can t short_equals items after_values → X
+none_early t short_equals [] early can = absurd (true≢false (sym early))
+none_early t short_equals (option name value ∷ items) early can = absurd (true≢false (sym early))
+none_early t short_equals (many name values ∷ items) early can = absurd (true≢false (sym early))
+none_early t short_equals (positional w ∷ items) early can =
+    let s = can_split t short_equals after_values (positional w) items can in
+    let all = ended_positional t short_equals items (subst (Can t short_equals items) (sym (ap place_of s.1)) s.2) in
     absurd (true≢false (sym early ∙ ap not all))
 
--- so several values have one form, where the items after them are spelled with the switch off
+-- so several values have one form, where the items after them are spelled with the short_equals off
 many_form_same : (t : Table) (c : ℕ) (place : Place) (values : List (List ℕ)) (items : List Item) (a : Added) (k : Kind) (early : Bool)
     → separator_comes_too_early items ≡ early → short_added (scalar c) (c == dash) place c (short_many_form false k values) ≡ Ok a → Can t false items a.place
     → short_many_form early k values ≡ short_many_form false k values
@@ -152,15 +154,15 @@ some_none : (bytes : List ℕ) → bytes ≢ [] → is_none bytes ≡ false
 some_none [] some = absurd (some refl)
 some_none (b ∷ bs) some = refl
 
-bare_last : (switch : Bool) (bytes : List ℕ) (after : After) → IsAfterLast switch bytes after → is_bare after ≡ is_none bytes
-bare_last switch bytes after (nothing_more none b) = ap is_bare b ∙ sym (ap is_none none)
-bare_last switch bytes after (a_value some mark b) = ap is_bare b ∙ sym (some_none bytes some)
-bare_last switch bytes after (marked_value v on is b) = ap is_bare b ∙ sym (ap is_none is)
+bare_last : (short_equals : Bool) (bytes : List ℕ) (after : After) → IsAfterLast short_equals bytes after → is_bare after ≡ is_none bytes
+bare_last short_equals bytes after (nothing_more none b) = ap is_bare b ∙ sym (ap is_none none)
+bare_last short_equals bytes after (a_value some mark b) = ap is_bare b ∙ sym (some_none bytes some)
+bare_last short_equals bytes after (marked_value v on is b) = ap is_bare b ∙ sym (ap is_none is)
 
 not_longer : (b : ℕ) (bs : List ℕ) → bs ≢ b ∷ bs
 not_longer b bs is = let e : length bs ≡ length (b ∷ bs) = ap length is in omega arith
 
--- with the switch on, bytes that are all of a value do not begin with a mark
+-- with the short_equals on, bytes that are all of a value do not begin with a mark
 unmarked : (name : Name) (bytes : List ℕ) (after : After) (words left : List (List ℕ)) (item : Item) → bytes ≢ [] → item ≡ option name (Some bytes)
     → IsAfterLast true bytes after → OptionalValue name after words item left → ¬ BeginsWith equals bytes
 unmarked name bytes after words left item some is (nothing_more none b) h = absurd (some none)
@@ -211,20 +213,20 @@ last_same t c several bytes after other words left rest item k last last_off fir
 -- ---- clusters
 
 -- a cluster has bytes
-cluster_some : (t : Table) (switch : Bool) (words left : List (List ℕ)) (bytes : List ℕ) (items : List Item) → Cluster exact t switch words left bytes items → bytes ≢ []
-cluster_some t switch words left bytes items (flag_first c character others more letter k mark spelled) =
+cluster_some : (t : Table) (short_equals : Bool) (words left : List (List ℕ)) (bytes : List ℕ) (items : List Item) → Cluster exact t short_equals words left bytes items → bytes ≢ []
+cluster_some t short_equals words left bytes items (flag_first c character others more letter k mark spelled) =
     subst (λ (l : List ℕ). l ++ others ≢ []) (sym letter.1) (some_bytes c others letter.0)
-cluster_some t switch words left bytes items (last_option c character others after item letter last completes) =
+cluster_some t short_equals words left bytes items (last_option c character others after item letter last completes) =
     subst (λ (l : List ℕ). l ++ others ≢ []) (sym letter.1) (some_bytes c others letter.0)
 
 -- the last option of a cluster, after which more bytes stand, is no flag
-flag_alone : (t : Table) (switch : Bool) (c : ℕ) (bytes : List ℕ) (after : After) (words left : List (List ℕ)) (item : Item) → kind t (short c) ≡ flag → bytes ≢ []
-    → IsAfterLast switch bytes after → ¬ Completes (kind t (short c)) (short c) after words item left
-flag_alone t switch c bytes after words left item k some last completes =
+flag_alone : (t : Table) (short_equals : Bool) (c : ℕ) (bytes : List ℕ) (after : After) (words left : List (List ℕ)) (item : Item) → kind t (short c) ≡ flag → bytes ≢ []
+    → IsAfterLast short_equals bytes after → ¬ Completes (kind t (short c)) (short c) after words item left
+flag_alone t short_equals c bytes after words left item k some last completes =
     by (subst (λ (x : Kind). Completes x (short c) after words item left) k completes)
   where
     by : ¬ NoValue (short c) after words item left
-    by (no_value b i l) = true≢false (sym (ap is_bare b) ∙ bare_last switch bytes after last ∙ some_none bytes some)
+    by (no_value b i l) = true≢false (sym (ap is_bare b) ∙ bare_last short_equals bytes after last ∙ some_none bytes some)
 
 letters_same : (c d : ℕ) (character other after others : List ℕ) → exact.character c character after → exact.character d other others → character ++ after ≡ other ++ others
     → (c ≡ d) × (after ≡ others)
@@ -338,12 +340,12 @@ group_same t words words_off left rest front front_off items items_off
     (λ left_is. later left_is items_is))
 
 -- no plain word begins a group
-group_word : (t : Table) (switch : Bool) (all words left : List (List ℕ)) (w : List ℕ) (front : List Item) → Group exact t switch all front left → all ≡ w ∷ words → ¬ IsPlain false w
-group_word t switch all words left w front (cluster bytes others are other spelled) is plain =
+group_word : (t : Table) (short_equals : Bool) (all words left : List (List ℕ)) (w : List ℕ) (front : List Item) → Group exact t short_equals all front left → all ≡ w ∷ words → ¬ IsPlain false w
+group_word t short_equals all words left w front (cluster bytes others are other spelled) is plain =
     let e : w ∷ words ≡ (dash ∷ bytes) ∷ others = sym is ∙ are in
     let word_is : w ≡ dash ∷ bytes = cc in
-    not_plain bytes (cluster_some t switch others left bytes front spelled) (subst (IsPlain false) word_is plain)
-group_word t switch all words left w front (spelling.long_option text bytes name after item others are text_is none letters completes front_is) is plain =
+    not_plain bytes (cluster_some t short_equals others left bytes front spelled) (subst (IsPlain false) word_is plain)
+group_word t short_equals all words left w front (spelling.long_option text bytes name after item others are text_is none letters completes front_is) is plain =
     let e : w ∷ words ≡ (dash ∷ dash ∷ text) ∷ others = sym is ∙ are in
     let word_is : w ≡ dash ∷ dash ∷ text = cc in
     not_plain (dash ∷ text) (λ nil. let f : dash ∷ text ≡ [] = nil in cc) (subst (IsPlain false) word_is plain)
@@ -377,7 +379,10 @@ line_same t words words_off items items_off (group ws left front more first line
 
 -- ---- one form
 
-pub settings_same : (t : Table) (words : List (List ℕ)) (items : List Item) → Spells t true words items → Spells t false words items → spelled t true items ≡ spelled t false items
+pub settings_same : (t : Table) (words : List (List ℕ)) (items : List Item) → Spells t true words items → Spells t false words items
+    → (others : List (List ℕ)) × SpelledAs t true items others × SpelledAs t false items others
 settings_same t words items on off =
-    ap words_or_fault (from_same t items open_line (line_same t words words items items on off refl refl)
-    (shown_can t false words items (spelled_shows t false words items off)))
+    let shows = spelled_shows t false words items off in
+    let same = ap words_or_fault (from_same t items open_line (line_same t words words items items on off refl refl) (shown_can t false words items shows)) in
+    let some = shown_as t false words items shows in
+    (some.0, are_words t true items some.0 (same ∙ words_are t false items some.0 some.1), some.1)

@@ -21,7 +21,8 @@ ghost use Rattle.lexopt_line_spec.specs.Table.{Item, Table, flag, kind};
 ghost use Rattle.lexopt_line_spec.specs.Readings.{IsReading, start};
 ghost use Rattle.lexopt_line_spec.specs.Spelling.{HaveWholeNames, Shows, Spells};
 ghost use Rattle.lexopt_line_spec.specs.Speller.{Fault, IsAtFault, past_separator, is_of_the_place};
-ghost use Rattle.lexopt_line_spec.specs.Speller.{is_positional, spelled};
+ghost use Rattle.lexopt_line_spec.specs.Speller.{HasFault, SpelledAs, is_positional};
+ghost use Rattle.lexopt_line_spec.specs.SpellerTables.{spelled};
 ghost use Rattle.lexopt_laws.specs.OneValueSpelling.{OneValueShows, OneValueSpells, OneValueTable};
 ghost use Rattle.lexopt_laws.specs.OneValueSpelling.{widened};
 ghost use Rattle.lexopt_spec.specs.Views.{Stage, ValueItem, ValueItems, WordItems, at_end};
@@ -140,7 +141,7 @@ pub fn views_agree()
         → ValueItem at_start u None v now → ⊥ }
 {}
 
-/// Whatever is called, at either switch, and also where memory is wanted: each byte is in one
+/// Whatever is called, under either setting, and also where memory is wanted: each byte is in one
 /// segment or still unread, in order; what the replies hand out is what the segments show; the
 /// words left are a suffix.
 pub fn no_byte_is_lost()
@@ -207,64 +208,90 @@ pub fn clusters_are_read_by_pieces()
 /// words show something, there is a reading that says it, and every reading comes to the end and
 /// says it: so none ends in an error.
 pub fn readings_say_what_words_show()
-    ensures said { (t : Table) (switch : Bool) (words : List (List ℕ)) (l : List Item)
-        → IsReading t (start switch words) end l → Shows t switch words l }
-    ensures shown { (t : Table) (switch : Bool) (words : List (List ℕ)) (l m : List Item)
+    ensures said { (t : Table) (short_equals : Bool) (words : List (List ℕ)) (l : List Item)
+        → IsReading t (start short_equals words) end l → Shows t short_equals words l }
+    ensures shown { (t : Table) (short_equals : Bool) (words : List (List ℕ)) (l m : List Item)
         (final : Reply)
-        → Shows t switch words l → IsReading t (start switch words) final m → (final ≡ end)
-        × (l ≡ m) }
-    ensures read { (t : Table) (switch : Bool) (words : List (List ℕ)) (l : List Item)
-        → Shows t switch words l → IsReading t (start switch words) end l }
+        → Shows t short_equals words l → IsReading t (start short_equals words) final m
+        → (final ≡ end) × (l ≡ m) }
+    ensures read { (t : Table) (short_equals : Bool) (words : List (List ℕ)) (l : List Item)
+        → Shows t short_equals words l → IsReading t (start short_equals words) end l }
 {}
 
 /// Words show at most one list of items.
 pub fn words_show_one_list()
-    ensures { (t : Table) (switch : Bool) (words : List (List ℕ)) (l m : List Item)
-        → Shows t switch words l → Shows t switch words m → l ≡ m }
+    ensures { (t : Table) (short_equals : Bool) (words : List (List ℕ)) (l m : List Item)
+        → Shows t short_equals words l → Shows t short_equals words m → l ≡ m }
 {}
 
 /// What words spell they show; and what they show they spell, where no option has U+FFFD in its
 /// name.
 pub fn whole_names_are_spelled()
-    ensures shows { (t : Table) (switch : Bool) (words : List (List ℕ)) (l : List Item)
-        → Spells t switch words l → Shows t switch words l }
-    ensures spells { (t : Table) (switch : Bool) (words : List (List ℕ)) (l : List Item)
-        → Shows t switch words l → HaveWholeNames l → Spells t switch words l }
+    ensures shows { (t : Table) (short_equals : Bool) (words : List (List ℕ)) (l : List Item)
+        → Spells t short_equals words l → Shows t short_equals words l }
+    ensures spells { (t : Table) (short_equals : Bool) (words : List (List ℕ)) (l : List Item)
+        → Shows t short_equals words l → HaveWholeNames l → Spells t short_equals words l }
 {}
 
 /// Under a table with no options of optional or several values, the rules for such tables alone say
 /// the same.
 pub fn one_value_tables_agree()
-    ensures spelled { (t : OneValueTable) (switch : Bool) (words : List (List ℕ)) (l : List Item)
-        → (OneValueSpells t switch words l → Spells (widened t) switch words l)
-        × (Spells (widened t) switch words l → OneValueSpells t switch words l) }
-    ensures shown { (t : OneValueTable) (switch : Bool) (words : List (List ℕ)) (l : List Item)
-        → (OneValueShows t switch words l → Shows (widened t) switch words l)
-        × (Shows (widened t) switch words l → OneValueShows t switch words l) }
+    ensures spelled { (t : OneValueTable) (short_equals : Bool) (words : List (List ℕ))
+        (l : List Item)
+        → (OneValueSpells t short_equals words l → Spells (widened t) short_equals words l)
+        × (Spells (widened t) short_equals words l → OneValueSpells t short_equals words l) }
+    ensures shown { (t : OneValueTable) (short_equals : Bool) (words : List (List ℕ))
+        (l : List Item)
+        → (OneValueShows t short_equals words l → Shows (widened t) short_equals words l)
+        × (Shows (widened t) short_equals words l → OneValueShows t short_equals words l) }
+{}
+
+/// Each list of items has exactly one answer: words, or an item at fault and a reason.
+pub fn items_have_one_answer()
+    ensures some { (t : Table) (short_equals : Bool) (l : List Item)
+        → ((words : List (List ℕ)) × SpelledAs t short_equals l words)
+        ⊎ ((f : Fault) × HasFault t short_equals l f) }
+    ensures words { (t : Table) (short_equals : Bool) (l : List Item) (words others : List (List ℕ))
+        → SpelledAs t short_equals l words → SpelledAs t short_equals l others → words ≡ others }
+    ensures fault { (t : Table) (short_equals : Bool) (l : List Item) (f g : Fault)
+        → HasFault t short_equals l f → HasFault t short_equals l g → f ≡ g }
+    ensures not_both { (t : Table) (short_equals : Bool) (l : List Item) (words : List (List ℕ))
+        (f : Fault) → SpelledAs t short_equals l words → HasFault t short_equals l f → ⊥ }
+{}
+
+/// What the tables compute, as in the worked examples, is this answer.
+pub fn tables_compute_the_answer()
+    ensures words { (t : Table) (short_equals : Bool) (l : List Item) (words : List (List ℕ))
+        → (SpelledAs t short_equals l words → spelled t short_equals l ≡ Ok words)
+        × (spelled t short_equals l ≡ Ok words → SpelledAs t short_equals l words) }
+    ensures fault { (t : Table) (short_equals : Bool) (l : List Item) (f : Fault)
+        → (HasFault t short_equals l f → spelled t short_equals l ≡ Err f)
+        × (spelled t short_equals l ≡ Err f → HasFault t short_equals l f) }
 {}
 
 /// Items are spelled, where some words spell them; else one item is at fault, and no other: those
 /// before it can be spelled, and with it they cannot. What some words show, damage let in, can be
 /// spelled.
 pub fn items_are_spelled_or_one_is_at_fault()
-    ensures spells { (t : Table) (switch : Bool) (words : List (List ℕ)) (l : List Item)
-        → spelled t switch l ≡ Ok words → Spells t switch words l }
-    ensures shown { (t : Table) (switch : Bool) (words : List (List ℕ)) (l : List Item)
-        → Shows t switch words l
-        → (others : List (List ℕ)) × (spelled t switch l ≡ Ok others) × Spells t switch others l }
-    ensures fault { (t : Table) (switch : Bool) (l : List Item) (f : Fault)
-        → spelled t switch l ≡ Err f → IsAtFault t switch l f.index }
-    ensures one_fault { (t : Table) (switch : Bool) (l : List Item) (i j : ℕ)
-        → IsAtFault t switch l i → IsAtFault t switch l j → i ≡ j }
-    ensures none { (t : Table) (switch : Bool) (words : List (List ℕ)) (l : List Item) (i : ℕ)
-        → IsAtFault t switch l i → Spells t switch words l → ⊥ }
+    ensures spells { (t : Table) (short_equals : Bool) (words : List (List ℕ)) (l : List Item)
+        → SpelledAs t short_equals l words → Spells t short_equals words l }
+    ensures shown { (t : Table) (short_equals : Bool) (words : List (List ℕ)) (l : List Item)
+        → Shows t short_equals words l
+        → (others : List (List ℕ)) × SpelledAs t short_equals l others
+        × Spells t short_equals others l }
+    ensures fault { (t : Table) (short_equals : Bool) (l : List Item) (f : Fault)
+        → HasFault t short_equals l f → IsAtFault t short_equals l f.index }
+    ensures one_fault { (t : Table) (short_equals : Bool) (l : List Item) (i j : ℕ)
+        → IsAtFault t short_equals l i → IsAtFault t short_equals l j → i ≡ j }
+    ensures none { (t : Table) (short_equals : Bool) (words : List (List ℕ)) (l : List Item) (i : ℕ)
+        → IsAtFault t short_equals l i → Spells t short_equals words l → ⊥ }
 {}
 
-/// Where the same words spell the items under either setting of the switch, the answer is the same
-/// under either.
+/// Where the same words spell the items under either setting, the answer is the same under either.
 pub fn both_settings_have_one_form()
     ensures { (t : Table) (words : List (List ℕ)) (l : List Item) → Spells t true words l
-        → Spells t false words l → spelled t true l ≡ spelled t false l }
+        → Spells t false words l
+        → (others : List (List ℕ)) × SpelledAs t true l others × SpelledAs t false l others }
 {}
 
 /// What the reason says of an item at fault: it is of the item, and then no line has that item; or
@@ -272,19 +299,19 @@ pub fn both_settings_have_one_form()
 /// after it that item. Where the reason is the separator, no option at all can be spelled in its
 /// place.
 pub fn reasons_are_of_the_item_or_of_its_place()
-    ensures item { (t : Table) (switch : Bool) (l : List Item) (f : Fault) (it : Item)
-        (others : List Item) → spelled t switch l ≡ Err f
+    ensures item { (t : Table) (short_equals : Bool) (l : List Item) (f : Fault) (it : Item)
+        (others : List Item) → HasFault t short_equals l f
         → is_of_the_place f.reason ≡ false → drop f.index l ≡ it ∷ others
         → (words : List (List ℕ)) (before after : List Item)
-        → Spells t switch words (before ++ it ∷ after) → ⊥ }
-    ensures place { (t : Table) (switch : Bool) (l : List Item) (f : Fault) (it : Item)
-        (others : List Item) → spelled t switch l ≡ Err f
+        → Spells t short_equals words (before ++ it ∷ after) → ⊥ }
+    ensures place { (t : Table) (short_equals : Bool) (l : List Item) (f : Fault) (it : Item)
+        (others : List Item) → HasFault t short_equals l f
         → is_of_the_place f.reason ≡ true → drop f.index l ≡ it ∷ others
         → (c : ℕ) → IsScalar c → c ≢ dash → kind t (table.short c) ≡ flag
         → (words : List (List ℕ))
-        × Spells t switch words (table.option (table.short c) None ∷ it ∷ []) }
-    ensures past_separator { (t : Table) (switch : Bool) (l : List Item) (f : Fault)
-        → spelled t switch l ≡ Err f → f.reason ≡ past_separator
+        × Spells t short_equals words (table.option (table.short c) None ∷ it ∷ []) }
+    ensures past_separator { (t : Table) (short_equals : Bool) (l : List Item) (f : Fault)
+        → HasFault t short_equals l f → f.reason ≡ past_separator
         → (it : Item) → is_positional it ≡ false → (words : List (List ℕ))
-        → Spells t switch words (take f.index l ++ it ∷ []) → ⊥ }
+        → Spells t short_equals words (take f.index l ++ it ∷ []) → ⊥ }
 {}

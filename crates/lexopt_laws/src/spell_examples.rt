@@ -3,7 +3,8 @@ ghost use Rattle.std.specs.Prelude.{◌≡◌, [], ◌∷◌, true, false, Ok, E
 ghost use Rattle.lexopt_line_spec.specs.Table.{long, many, one_value, option, positional, short};
 ghost use Rattle.lexopt_line_spec.specs.Speller.{past_separator, dash_without_flag, empty_name};
 ghost use Rattle.lexopt_line_spec.specs.Speller.{empty_value, equals_in_name, missing_value};
-ghost use Rattle.lexopt_line_spec.specs.Speller.{not_many, option_among_values, spelled};
+ghost use Rattle.lexopt_line_spec.specs.Speller.{not_many, option_among_values};
+ghost use Rattle.lexopt_line_spec.specs.SpellerTables.{spelled};
 ghost use Rattle.lexopt_line_spec.specs.Speller.{unexpected_value, wants_many};
 
 #[test]

@@ -34,3 +34,5 @@ pub mod SpellerSound
 pub mod SpellerPlaces
 pub mod SpellerComplete
 pub mod SpellerFaults
+pub mod SpellerRows
+pub mod SpellerAgrees

@@ -2,7 +2,8 @@
 use Rattle.std.proofs.Common.{◌≡◌}
 use Rattle.std.proofs.lemmas.Result.{IfOk-at_ok}
 use Rattle.std.specs.Prelude.{Result, Ok, Err}
-use Rattle.lexopt_line_spec.specs.Speller.{Reason, Form, Added, Fault, Rest}
+use Rattle.lexopt_line_spec.specs.Speller.{Reason, Fault}
+use Rattle.lexopt_line_spec.specs.SpellerTables.{Form, Added, Rest}
 
 -- the values of an option have this form
 abbrev pub Formed : Result Form Reason → Form → Type 0

@@ -8,7 +8,8 @@ use Rattle.lexopt_spec.specs.Steps.{Reply, end}
 use Rattle.lexopt_line_spec.specs.Table.{Item, Table}
 use Rattle.lexopt_line_spec.specs.Readings.{IsReading, start}
 use Rattle.lexopt_line_spec.specs.Spelling.{Shows, Spells}
-use Rattle.lexopt_line_spec.specs.Speller.{Reason, Place, open_line, Added, adds, is_positional, separator_comes_too_early, separator_is_due, Fault, Rest, with_rest, with_rests, spelled_from, words_or_fault, spelled, IsAtFault}
+use Rattle.lexopt_line_spec.specs.Speller.{Reason, Place, open_line, is_positional, Fault, IsAtFault}
+use Rattle.lexopt_line_spec.specs.SpellerTables.{Added, adds, separator_comes_too_early, separator_is_due, Rest, with_rest, with_rests, spelled_from, words_or_fault, spelled}
 use Rattle.lexopt_line_spec.proofs.Names.{spelled_shows}
 use Rattle.lexopt_line_spec.proofs.WholeLines.{shown_said, shown_read}
 use Rattle.lexopt_line_spec.proofs.SpellerAnswers.{Adding, none_is}
@@ -24,8 +25,8 @@ Failing answer f = answer ≡ Err f
 abbrev Answering : Result (List (List ℕ)) Fault → Fault → Type 0
 Answering answer f = answer ≡ Err f
 
-pub no_both : {X : Type 0} (t : Table) (switch : Bool) (items : List Item) (place : Place) (f : Fault) → spelled_from t switch items place ≡ Err f → Can t switch items place → X
-no_both t switch items place f fails can = none_is f can.0 (sym fails ∙ can.1)
+pub no_both : {X : Type 0} (t : Table) (short_equals : Bool) (items : List Item) (place : Place) (f : Fault) → spelled_from t short_equals items place ≡ Err f → Can t short_equals items place → X
+no_both t short_equals items place f fails can = none_is f can.0 (sym fails ∙ can.1)
 
 no_added : {X : Type 0} (r : Reason) (a : Added) (answer : Result Added Reason) → answer ≡ Err r → answer ≡ Ok a → X
 no_added r a answer err ok = none_is r a (sym err ∙ ok)
@@ -34,21 +35,21 @@ pub same_added : (a b : Added) (answer : Result Added Reason) → answer ≡ Ok 
 same_added a b answer one two = let e : Adding (Ok a) b = sym one ∙ two in cc
 
 abbrev pub SomeWords : Table → Bool → List Item → Type 0
-SomeWords t switch items = (words : List (List ℕ)) × (spelled t switch items ≡ Ok words)
+SomeWords t short_equals items = (words : List (List ℕ)) × (spelled t short_equals items ≡ Ok words)
 
-pub can_words : (t : Table) (switch : Bool) (items : List Item) → Can t switch items open_line → SomeWords t switch items
-can_words t switch items can = (can.0.words, ap words_or_fault can.1)
+pub can_words : (t : Table) (short_equals : Bool) (items : List Item) → Can t short_equals items open_line → SomeWords t short_equals items
+can_words t short_equals items can = (can.0.words, ap words_or_fault can.1)
 
-pub shown_words : (t : Table) (switch : Bool) (words : List (List ℕ)) (items : List Item) → Shows t switch words items → SomeWords t switch items
-shown_words t switch words items shows = can_words t switch items (shown_can t switch words items shows)
+pub shown_words : (t : Table) (short_equals : Bool) (words : List (List ℕ)) (items : List Item) → Shows t short_equals words items → SomeWords t short_equals items
+shown_words t short_equals words items shows = can_words t short_equals items (shown_can t short_equals words items shows)
 
-pub shown_spelled : (t : Table) (switch : Bool) (words : List (List ℕ)) (items : List Item) → Shows t switch words items
-    → (others : List (List ℕ)) × Spells t switch others items
-shown_spelled t switch words items shows =
-    let some = shown_words t switch words items shows in (some.0, spelled_spells t switch items some.0 some.1)
+pub shown_spelled : (t : Table) (short_equals : Bool) (words : List (List ℕ)) (items : List Item) → Shows t short_equals words items
+    → (others : List (List ℕ)) × Spells t short_equals others items
+shown_spelled t short_equals words items shows =
+    let some = shown_words t short_equals words items shows in (some.0, spelled_spells t short_equals items some.0 some.1)
 
-pub spells_can : (t : Table) (switch : Bool) (words : List (List ℕ)) (items : List Item) → Spells t switch words items → Can t switch items open_line
-spells_can t switch words items spells = shown_can t switch words items (spelled_shows t switch words items spells)
+pub spells_can : (t : Table) (short_equals : Bool) (words : List (List ℕ)) (items : List Item) → Spells t short_equals words items → Can t short_equals items open_line
+spells_can t short_equals words items spells = shown_can t short_equals words items (spelled_shows t short_equals words items spells)
 
 -- ---- fronts of items
 
@@ -73,130 +74,130 @@ early_take (suc n) (item ∷ items) is =
     and_from (is_positional item) (not (list_all is_positional items)) parts.0 (not_all n items parts.1)
 
 -- a front of some items can be spelled where all can
-front_can : (t : Table) (switch : Bool) (items : List Item) (m n : ℕ) (place : Place) → m ≤ n → Can t switch (take n items) place → Can t switch (take m items) place
-front_can t switch items zero n place le can = nil_can t switch place
-front_can t switch items (suc m) zero place le can = absurd (omega arith)
-front_can t switch [] (suc m) (suc n) place le can = nil_can t switch place
-front_can t switch (item ∷ items) (suc m) (suc n) place le can =
-    let s = can_split t switch place item (take n items) can in
-    can_cons t switch (separator_comes_too_early (take n items)) (separator_is_due (take n items)) place item (take m items) s.0 s.1 (front_can t switch items m n s.0.place (omega arith) s.2)
+front_can : (t : Table) (short_equals : Bool) (items : List Item) (m n : ℕ) (place : Place) → m ≤ n → Can t short_equals (take n items) place → Can t short_equals (take m items) place
+front_can t short_equals items zero n place le can = nil_can t short_equals place
+front_can t short_equals items (suc m) zero place le can = absurd (omega arith)
+front_can t short_equals [] (suc m) (suc n) place le can = nil_can t short_equals place
+front_can t short_equals (item ∷ items) (suc m) (suc n) place le can =
+    let s = can_split t short_equals place item (take n items) can in
+    can_cons t short_equals (separator_comes_too_early (take n items)) (separator_is_due (take n items)) place item (take m items) s.0 s.1 (front_can t short_equals items m n s.0.place (omega arith) s.2)
 
 -- ---- the first item that is not spelled
 
-record AtFault (t : Table) (switch : Bool) (items : List Item) (place : Place) (i : ℕ) : Type 0 where
+record AtFault (t : Table) (short_equals : Bool) (items : List Item) (place : Place) (i : ℕ) : Type 0 where
   within : i < length items
-  before : Can t switch (take i items) place
-  none : ¬ Can t switch (take (suc i) items) place
+  before : Can t short_equals (take i items) place
+  none : ¬ Can t short_equals (take (suc i) items) place
 
-pub data Fails (t : Table) (switch : Bool) (place : Place) (item : Item) (items : List Item) (f : Fault) : Type 0 where
-  here : (r : Reason) → adds t switch (separator_comes_too_early items) (separator_is_due items) place item ≡ Err r → f.index ≡ 0 → Fails t switch place item items f
-  later : (a : Added) (g : Fault) → adds t switch (separator_comes_too_early items) (separator_is_due items) place item ≡ Ok a → spelled_from t switch items a.place ≡ Err g
-      → f.index ≡ suc g.index → Fails t switch place item items f
+pub data Fails (t : Table) (short_equals : Bool) (place : Place) (item : Item) (items : List Item) (f : Fault) : Type 0 where
+  here : (r : Reason) → adds t short_equals (separator_comes_too_early items) (separator_is_due items) place item ≡ Err r → f.index ≡ 0 → Fails t short_equals place item items f
+  later : (a : Added) (g : Fault) → adds t short_equals (separator_comes_too_early items) (separator_is_due items) place item ≡ Ok a → spelled_from t short_equals items a.place ≡ Err g
+      → f.index ≡ suc g.index → Fails t short_equals place item items f
 
-fails_later : (t : Table) (switch : Bool) (place : Place) (item : Item) (items : List Item) (f : Fault) (a : Added) (rest : Result Rest Fault)
-    → adds t switch (separator_comes_too_early items) (separator_is_due items) place item ≡ Ok a → spelled_from t switch items a.place ≡ rest → Failing (with_rest a rest) f
-    → Fails t switch place item items f
-fails_later t switch place item items f a (Ok r) added_is rest_is is = none_is f _ (sym is)
-fails_later t switch place item items f a (Err g) added_is rest_is is =
+fails_later : (t : Table) (short_equals : Bool) (place : Place) (item : Item) (items : List Item) (f : Fault) (a : Added) (rest : Result Rest Fault)
+    → adds t short_equals (separator_comes_too_early items) (separator_is_due items) place item ≡ Ok a → spelled_from t short_equals items a.place ≡ rest → Failing (with_rest a rest) f
+    → Fails t short_equals place item items f
+fails_later t short_equals place item items f a (Ok r) added_is rest_is is = none_is f _ (sym is)
+fails_later t short_equals place item items f a (Err g) added_is rest_is is =
     let e : record { index = suc g.index; reason = g.reason } ≡ f = (let h : Failing (Err (record { index = suc g.index; reason = g.reason })) f = is in cc) in
     later a g added_is rest_is (sym (ap (λ (x : Fault). x.index) e))
 
-fails_by : (t : Table) (switch : Bool) (place : Place) (item : Item) (items : List Item) (f : Fault) (o : Result Added Reason)
-    → adds t switch (separator_comes_too_early items) (separator_is_due items) place item ≡ o → Failing (with_rests o (spelled_from t switch items)) f → Fails t switch place item items f
-fails_by t switch place item items f (Err r) added_is is =
+fails_by : (t : Table) (short_equals : Bool) (place : Place) (item : Item) (items : List Item) (f : Fault) (o : Result Added Reason)
+    → adds t short_equals (separator_comes_too_early items) (separator_is_due items) place item ≡ o → Failing (with_rests o (spelled_from t short_equals items)) f → Fails t short_equals place item items f
+fails_by t short_equals place item items f (Err r) added_is is =
     let e : record { index = 0; reason = r } ≡ f = (let h : Failing (Err (record { index = 0; reason = r })) f = is in cc) in
     here r added_is (sym (ap (λ (x : Fault). x.index) e))
-fails_by t switch place item items f (Ok a) added_is is = fails_later t switch place item items f a (spelled_from t switch items a.place) added_is refl is
+fails_by t short_equals place item items f (Ok a) added_is is = fails_later t short_equals place item items f a (spelled_from t short_equals items a.place) added_is refl is
 
-pub fails : (t : Table) (switch : Bool) (place : Place) (item : Item) (items : List Item) (f : Fault) → spelled_from t switch (item ∷ items) place ≡ Err f
-    → Fails t switch place item items f
+pub fails : (t : Table) (short_equals : Bool) (place : Place) (item : Item) (items : List Item) (f : Fault) → spelled_from t short_equals (item ∷ items) place ≡ Err f
+    → Fails t short_equals place item items f
 unfolding spelled_from
-fails t switch place item items f is = fails_by t switch place item items f (adds t switch (separator_comes_too_early items) (separator_is_due items) place item) refl is
+fails t short_equals place item items f is = fails_by t short_equals place item items f (adds t short_equals (separator_comes_too_early items) (separator_is_due items) place item) refl is
 
 -- with fewer items after it, the item leads to a place from which no more can be spelled
-cannot : (t : Table) (switch : Bool) (place : Place) (item : Item) (items : List Item) (n : ℕ) (a : Added) → adds t switch (separator_comes_too_early items) (separator_is_due items) place item ≡ Ok a
-    → ¬ Can t switch (take n items) a.place → ¬ Can t switch (item ∷ take n items) place
-cannot t switch place item items n a is none can =
+cannot : (t : Table) (short_equals : Bool) (place : Place) (item : Item) (items : List Item) (n : ℕ) (a : Added) → adds t short_equals (separator_comes_too_early items) (separator_is_due items) place item ≡ Ok a
+    → ¬ Can t short_equals (take n items) a.place → ¬ Can t short_equals (item ∷ take n items) place
+cannot t short_equals place item items n a is none can =
     let front = take n items in
-    let s = can_split t switch place item front can in
+    let s = can_split t short_equals place item front can in
     let x = separator_comes_too_early front in
     let y = separator_comes_too_early items in
-    let too = adds_too t switch x y (separator_is_due front) (separator_is_due items) place item s.0 s.1 in
-    none (subst (λ (b : Added). Can t switch front b.place) (sym (same_added a too.0 _ is too.1))
-    (changed_can t switch (switch && x) (separator_is_due items) front (switch && y) s.0.place too.0.place
-    (λ on off. absurd (true≢false (sym (early_take n items (and_parts switch x on).1) ∙ not_joined switch x y on off)))
+    let too = adds_too t short_equals x y (separator_is_due front) (separator_is_due items) place item s.0 s.1 in
+    none (subst (λ (b : Added). Can t short_equals front b.place) (sym (same_added a too.0 _ is too.1))
+    (changed_can t short_equals (short_equals && x) (separator_is_due items) front (short_equals && y) s.0.place too.0.place
+    (λ on off. absurd (true≢false (sym (early_take n items (and_parts short_equals x on).1) ∙ not_joined short_equals x y on off)))
     (λ due. all_take is_positional n items (due_positional items due)) too.2 s.2))
 
 abbrev Faults : Table → Bool → List Item → Type 0
-Faults t switch items = (place : Place) (f : Fault) → spelled_from t switch items place ≡ Err f → AtFault t switch items place f.index
+Faults t short_equals items = (place : Place) (f : Fault) → spelled_from t short_equals items place ≡ Err f → AtFault t short_equals items place f.index
 
-first_fault : (t : Table) (switch : Bool) (place : Place) (item : Item) (items : List Item) (f : Fault) → Faults t switch items → Fails t switch place item items f
-    → AtFault t switch (item ∷ items) place f.index
-first_fault t switch place item items f later_too (here r err first) = subst (AtFault t switch (item ∷ items) place) (sym first) (record {
+first_fault : (t : Table) (short_equals : Bool) (place : Place) (item : Item) (items : List Item) (f : Fault) → Faults t short_equals items → Fails t short_equals place item items f
+    → AtFault t short_equals (item ∷ items) place f.index
+first_fault t short_equals place item items f later_too (here r err first) = subst (AtFault t short_equals (item ∷ items) place) (sym first) (record {
   within = omega arith;
-  before = nil_can t switch place;
+  before = nil_can t short_equals place;
   none = λ can.
-      let s = can_split t switch place item [] can in
-      let too = adds_too t switch false (separator_comes_too_early items) false (separator_is_due items) place item s.0 s.1 in no_added r too.0 _ err too.1;
+      let s = can_split t short_equals place item [] can in
+      let too = adds_too t short_equals false (separator_comes_too_early items) false (separator_is_due items) place item s.0 s.1 in no_added r too.0 _ err too.1;
 })
-first_fault t switch place item items f later_too (later a g added_is rest_is index) =
+first_fault t short_equals place item items f later_too (later a g added_is rest_is index) =
     let more = later_too a.place g rest_is in
-    subst (AtFault t switch (item ∷ items) place) (sym index) (record {
+    subst (AtFault t short_equals (item ∷ items) place) (sym index) (record {
       within = omega (arith, more.within);
-      before = can_cons t switch (separator_comes_too_early items) (separator_is_due items) place item (take g.index items) a added_is more.before;
-      none = cannot t switch place item items (suc g.index) a added_is more.none;
+      before = can_cons t short_equals (separator_comes_too_early items) (separator_is_due items) place item (take g.index items) a added_is more.before;
+      none = cannot t short_equals place item items (suc g.index) a added_is more.none;
     })
 
-faults : (t : Table) (switch : Bool) (items : List Item) → Faults t switch items
-faults t switch [] = λ place f is. no_both t switch [] place f is (nil_can t switch place)
-faults t switch (item ∷ items) = λ place f is. first_fault t switch place item items f (faults t switch items) (fails t switch place item items f is)
+faults : (t : Table) (short_equals : Bool) (items : List Item) → Faults t short_equals items
+faults t short_equals [] = λ place f is. no_both t short_equals [] place f is (nil_can t short_equals place)
+faults t short_equals (item ∷ items) = λ place f is. first_fault t short_equals place item items f (faults t short_equals items) (fails t short_equals place item items f is)
 
 pub from_words : (o : Result Rest Fault) (f : Fault) → Answering (words_or_fault o) f → Failing o f
 from_words (Err g) f is = let e : g ≡ f = cc in ap (λ (x : Fault). Err x) e
 from_words (Ok r) f is = none_is f r.words (sym is)
 
-pub named_at_fault : (t : Table) (switch : Bool) (items : List Item) (f : Fault) → spelled t switch items ≡ Err f → IsAtFault t switch items f.index
-named_at_fault t switch items f is =
-    let fault = faults t switch items open_line f (from_words (spelled_from t switch items open_line) f is) in
-    let front = can_words t switch (take f.index items) fault.before in
+pub named_at_fault : (t : Table) (short_equals : Bool) (items : List Item) (f : Fault) → spelled t short_equals items ≡ Err f → IsAtFault t short_equals items f.index
+named_at_fault t short_equals items f is =
+    let fault = faults t short_equals items open_line f (from_words (spelled_from t short_equals items open_line) f is) in
+    let front = can_words t short_equals (take f.index items) fault.before in
     record {
       within = fault.within;
-      before = (front.0, spelled_spells t switch (take f.index items) front.0 front.1);
-      none = λ words spells. fault.none (spells_can t switch words (take (suc f.index) items) spells);
+      before = (front.0, spelled_spells t short_equals (take f.index items) front.0 front.1);
+      none = λ words spells. fault.none (spells_can t short_equals words (take (suc f.index) items) spells);
     }
 
 -- ---- one is at fault, and then no words spell the items
 
-front_spells : (t : Table) (switch : Bool) (items : List Item) (m n : ℕ) (words : List (List ℕ)) → m ≤ n → Spells t switch words (take n items)
-    → (others : List (List ℕ)) × Spells t switch others (take m items)
-front_spells t switch items m n words le spells =
-    let some = can_words t switch (take m items) (front_can t switch items m n open_line le (spells_can t switch words (take n items) spells)) in
-    (some.0, spelled_spells t switch (take m items) some.0 some.1)
+front_spells : (t : Table) (short_equals : Bool) (items : List Item) (m n : ℕ) (words : List (List ℕ)) → m ≤ n → Spells t short_equals words (take n items)
+    → (others : List (List ℕ)) × Spells t short_equals others (take m items)
+front_spells t short_equals items m n words le spells =
+    let some = can_words t short_equals (take m items) (front_can t short_equals items m n open_line le (spells_can t short_equals words (take n items) spells)) in
+    (some.0, spelled_spells t short_equals (take m items) some.0 some.1)
 
-pub fault_none : (t : Table) (switch : Bool) (items : List Item) (i : ℕ) (words : List (List ℕ)) → IsAtFault t switch items i → ¬ Spells t switch words items
-fault_none t switch items i words fault spells =
+pub fault_none : (t : Table) (short_equals : Bool) (items : List Item) (i : ℕ) (words : List (List ℕ)) → IsAtFault t short_equals items i → ¬ Spells t short_equals words items
+fault_none t short_equals items i words fault spells =
     let within = fault.within in
-    let front = front_spells t switch items (suc i) (length items) words (omega arith) (subst (Spells t switch words) (sym (take-length items)) spells) in
+    let front = front_spells t short_equals items (suc i) (length items) words (omega arith) (subst (Spells t short_equals words) (sym (take-length items)) spells) in
     fault.none front.0 front.1
 
-no_later : (t : Table) (switch : Bool) (items : List Item) (i j : ℕ) → i < j → IsAtFault t switch items i → IsAtFault t switch items j → ⊥
-no_later t switch items i j lt first other =
-    let front = front_spells t switch items (suc i) j other.before.0 (omega arith) other.before.1 in first.none front.0 front.1
+no_later : (t : Table) (short_equals : Bool) (items : List Item) (i j : ℕ) → i < j → IsAtFault t short_equals items i → IsAtFault t short_equals items j → ⊥
+no_later t short_equals items i j lt first other =
+    let front = front_spells t short_equals items (suc i) j other.before.0 (omega arith) other.before.1 in first.none front.0 front.1
 
-pub same_fault : (t : Table) (switch : Bool) (items : List Item) (i j : ℕ) → IsAtFault t switch items i → IsAtFault t switch items j → i ≡ j
-same_fault t switch items i j first other = ⊎_elim
-    (λ (lt : i < j). absurd (no_later t switch items i j lt first other))
+pub same_fault : (t : Table) (short_equals : Bool) (items : List Item) (i j : ℕ) → IsAtFault t short_equals items i → IsAtFault t short_equals items j → i ≡ j
+same_fault t short_equals items i j first other = ⊎_elim
+    (λ (lt : i < j). absurd (no_later t short_equals items i j lt first other))
     (λ (ge : j ≤ i). ⊎_elim
-    (λ (lt : j < i). absurd (no_later t switch items j i lt other first))
+    (λ (lt : j < i). absurd (no_later t short_equals items j i lt other first))
     (λ (le : i ≤ j). omega arith)
     (cases_lt j i))
     (cases_lt i j)
 
 -- ---- what is spelled is read
 
-pub words_read : (t : Table) (switch : Bool) (words : List (List ℕ)) (items : List Item) → Spells t switch words items → IsReading t (start switch words) end items
-words_read t switch words items spells = shown_read t switch words items (spelled_shows t switch words items spells)
+pub words_read : (t : Table) (short_equals : Bool) (words : List (List ℕ)) (items : List Item) → Spells t short_equals words items → IsReading t (start short_equals words) end items
+words_read t short_equals words items spells = shown_read t short_equals words items (spelled_shows t short_equals words items spells)
 
-pub words_said : (t : Table) (switch : Bool) (words : List (List ℕ)) (items m : List Item) (final : Reply) → Spells t switch words items
-    → IsReading t (start switch words) final m → (final ≡ end) × (items ≡ m)
-words_said t switch words items m final spells reading = shown_said t switch words items m final (spelled_shows t switch words items spells) reading
+pub words_said : (t : Table) (short_equals : Bool) (words : List (List ℕ)) (items m : List Item) (final : Reply) → Spells t short_equals words items
+    → IsReading t (start short_equals words) final m → (final ≡ end) × (items ≡ m)
+words_said t short_equals words items m final spells reading = shown_said t short_equals words items m final (spelled_shows t short_equals words items spells) reading

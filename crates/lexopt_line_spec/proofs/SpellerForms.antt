@@ -7,7 +7,8 @@ use Rattle.std.specs.List.{list_all}
 use Rattle.lexopt_spec.specs.UnreadLine.{dash, equals, BeginsWith, is_plain, IsNormalIn}
 use Rattle.lexopt_line_spec.specs.Table.{Name, Item, option, many, Kind, flag, one, optional, several}
 use Rattle.lexopt_line_spec.specs.Spelling.{After, nothing, attached, joined, no_value, joined_value, next_word, no_optional, attached_optional, joined_optional, joined_several, attached_several, several_words, Completes, BeginsWithMark, IsAfterLast, nothing_more, a_value, marked_value}
-use Rattle.lexopt_line_spec.specs.Speller.{Place, open_line, in_cluster, after_values, Form, name_only, in_word, attached_form, short_form, long_form, words_form, short_words_form, short_many_form, long_many_form, after_bytes}
+use Rattle.lexopt_line_spec.specs.Speller.{Place, open_line, in_cluster, after_values, after_bytes}
+use Rattle.lexopt_line_spec.specs.SpellerTables.{Form, name_only, in_word, attached_form, short_form, long_form, words_form, short_words_form, short_many_form, long_many_form}
 use Rattle.lexopt_line_spec.proofs.SpellerAnswers.{Formed, none_is}
 use Rattle.lexopt_line_spec.proofs.SpellerTests.{all_plain, dashed}
 
@@ -17,9 +18,9 @@ pub record Holds (flagged : Place) (k : Kind) (name : Name) (item : Item) (f : F
   pub place : (f.place ≡ open_line) ⊎ ((f.place ≡ after_values) ⊎ ((k ≡ flag) × (item ≡ option name None) × (f ≡ name_only flagged)))
 
 -- after a character
-pub record HoldsShort (switch : Bool) (k : Kind) (name : Name) (item : Item) (f : Form) : Type 0 where
+pub record HoldsShort (short_equals : Bool) (k : Kind) (name : Name) (item : Item) (f : Form) : Type 0 where
   pub holds : Holds in_cluster k name item f
-  pub after : IsAfterLast switch (after_bytes f.after) f.after
+  pub after : IsAfterLast short_equals (after_bytes f.after) f.after
 
 abbrev pub NotAttached : After → Type 0
 NotAttached nothing = Unit {0}
@@ -38,16 +39,16 @@ off_mark : (bytes : List ℕ) → ¬ BeginsWithMark false bytes
 off_mark bytes mark = true≢false (sym mark.0)
 
 -- a word that is no plain one does not begin with `=`, and has bytes
-dashed_after : (switch : Bool) (v : List ℕ) → BeginsWith dash v → IsAfterLast switch v (attached v)
-dashed_after switch [] begins = absurd begins
-dashed_after switch (b ∷ bs) begins = a_value (nil_some b bs) (λ mark. let e : equals ≡ dash = sym mark.1 ∙ begins in absurd (omega arith)) refl
+dashed_after : (short_equals : Bool) (v : List ℕ) → BeginsWith dash v → IsAfterLast short_equals v (attached v)
+dashed_after short_equals [] begins = absurd begins
+dashed_after short_equals (b ∷ bs) begins = a_value (nil_some b bs) (λ mark. let e : equals ≡ dash = sym mark.1 ∙ begins in absurd (omega arith)) refl
 
 -- ---- one value or none
 
 alone_holds : (flagged : Place) (name : Name) → Holds flagged flag name (option name None) (name_only flagged)
 alone_holds flagged name = record { completes = λ left none. no_value refl refl refl; place = inr (inr (refl, refl, refl)) }
 
-attached_holds : (switch : Bool) (name : Name) (v : List ℕ) (f : Form) → attached_form switch v ≡ Ok f → HoldsShort switch optional name (option name (Some v)) f
+attached_holds : (short_equals : Bool) (name : Name) (v : List ℕ) (f : Form) → attached_form short_equals v ≡ Ok f → HoldsShort short_equals optional name (option name (Some v)) f
 attached_holds true name [] f is = IfOk-at_ok (HoldsShort true optional name (option name (Some []))) is (record {
   holds = record { completes = λ left none. joined_optional [] refl refl refl; place = inl refl };
   after = marked_value [] refl refl refl;
@@ -71,22 +72,22 @@ attached_holds false name (b ∷ bs) f is = IfOk-at_ok (HoldsShort false optiona
   after = a_value (nil_some b bs) (off_mark (b ∷ bs)) refl;
 })
 
-pub short_holds : (switch : Bool) (k : Kind) (name : Name) (value : Option (List ℕ)) (f : Form) → short_form switch k value ≡ Ok f
-    → HoldsShort switch k name (option name value) f
-short_holds switch flag name None f is = IfOk-at_ok (HoldsShort switch flag name (option name None)) is
+pub short_holds : (short_equals : Bool) (k : Kind) (name : Name) (value : Option (List ℕ)) (f : Form) → short_form short_equals k value ≡ Ok f
+    → HoldsShort short_equals k name (option name value) f
+short_holds short_equals flag name None f is = IfOk-at_ok (HoldsShort short_equals flag name (option name None)) is
     (record { holds = alone_holds in_cluster name; after = nothing_more refl refl })
-short_holds switch flag name (Some v) f is = none_is _ f is
-short_holds switch one name None f is = none_is _ f is
-short_holds switch one name (Some v) f is = IfOk-at_ok (HoldsShort switch one name (option name (Some v))) is (record {
+short_holds short_equals flag name (Some v) f is = none_is _ f is
+short_holds short_equals one name None f is = none_is _ f is
+short_holds short_equals one name (Some v) f is = IfOk-at_ok (HoldsShort short_equals one name (option name (Some v))) is (record {
   holds = record { completes = λ left none. next_word v refl refl refl; place = inl refl };
   after = nothing_more refl refl;
 })
-short_holds switch optional name None f is = IfOk-at_ok (HoldsShort switch optional name (option name None)) is (record {
+short_holds short_equals optional name None f is = IfOk-at_ok (HoldsShort short_equals optional name (option name None)) is (record {
   holds = record { completes = λ left none. no_optional refl refl refl; place = inl refl };
   after = nothing_more refl refl;
 })
-short_holds switch optional name (Some v) f is = attached_holds switch name v f is
-short_holds switch several name value f is = none_is _ f is
+short_holds short_equals optional name (Some v) f is = attached_holds short_equals name v f is
+short_holds short_equals several name value f is = none_is _ f is
 
 pub long_holds : (k : Kind) (name : Name) (value : Option (List ℕ)) (f : Form) → long_form k value ≡ Ok f → HoldsLong k name (option name value) f
 long_holds flag name None f is = IfOk-at_ok (HoldsLong flag name (option name None)) is (record { holds = alone_holds open_line name; unattached = tt })
@@ -116,35 +117,35 @@ words_hold flagged name v vs plain = record {
   place = inr (inl refl);
 }
 
-short_words_hold : (switch p ps : Bool) (name : Name) (v : List ℕ) (vs : List (List ℕ)) (f : Form) → is_plain false v ≡ p → list_all (is_plain false) vs ≡ ps
-    → short_words_form p ps v vs ≡ Ok f → HoldsShort switch several name (many name (v ∷ vs)) f
-short_words_hold switch true true name v vs f first others is = IfOk-at_ok (HoldsShort switch several name (many name (v ∷ vs))) is (record {
+short_words_hold : (short_equals p ps : Bool) (name : Name) (v : List ℕ) (vs : List (List ℕ)) (f : Form) → is_plain false v ≡ p → list_all (is_plain false) vs ≡ ps
+    → short_words_form p ps v vs ≡ Ok f → HoldsShort short_equals several name (many name (v ∷ vs)) f
+short_words_hold short_equals true true name v vs f first others is = IfOk-at_ok (HoldsShort short_equals several name (many name (v ∷ vs))) is (record {
   holds = words_hold in_cluster name v vs (and_from _ _ first others);
   after = nothing_more refl refl;
 })
-short_words_hold switch true false name v vs f first others is = none_is _ f is
-short_words_hold switch false true name v vs f first others is = IfOk-at_ok (HoldsShort switch several name (many name (v ∷ vs))) is (record {
+short_words_hold short_equals true false name v vs f first others is = none_is _ f is
+short_words_hold short_equals false true name v vs f first others is = IfOk-at_ok (HoldsShort short_equals several name (many name (v ∷ vs))) is (record {
   holds = record {
     completes = λ left none. attached_several v vs refl (record { words_are = refl; plain = all_plain vs others; longest = none refl }) refl;
     place = inr (inl refl);
   };
-  after = dashed_after switch v (dashed v first);
+  after = dashed_after short_equals v (dashed v first);
 })
-short_words_hold switch false false name v vs f first others is = none_is _ f is
+short_words_hold short_equals false false name v vs f first others is = none_is _ f is
 
-pub short_many_holds : (switch joins : Bool) (k : Kind) (name : Name) (values : List (List ℕ)) (f : Form) → (joins ≡ true → switch ≡ true)
-    → short_many_form joins k values ≡ Ok f → HoldsShort switch k name (many name values) f
-short_many_holds switch joins flag name values f may is = none_is _ f is
-short_many_holds switch joins one name values f may is = none_is _ f is
-short_many_holds switch joins optional name values f may is = none_is _ f is
-short_many_holds switch joins several name [] f may is = none_is _ f is
-short_many_holds switch true several name (v ∷ []) f may is = IfOk-at_ok (HoldsShort switch several name (many name (v ∷ []))) is (record {
+pub short_many_holds : (short_equals joins : Bool) (k : Kind) (name : Name) (values : List (List ℕ)) (f : Form) → (joins ≡ true → short_equals ≡ true)
+    → short_many_form joins k values ≡ Ok f → HoldsShort short_equals k name (many name values) f
+short_many_holds short_equals joins flag name values f may is = none_is _ f is
+short_many_holds short_equals joins one name values f may is = none_is _ f is
+short_many_holds short_equals joins optional name values f may is = none_is _ f is
+short_many_holds short_equals joins several name [] f may is = none_is _ f is
+short_many_holds short_equals true several name (v ∷ []) f may is = IfOk-at_ok (HoldsShort short_equals several name (many name (v ∷ []))) is (record {
   holds = record { completes = λ left none. joined_several v refl refl refl; place = inl refl };
   after = marked_value v (may refl) refl refl;
 })
-short_many_holds switch false several name (v ∷ []) f may is = short_words_hold switch (is_plain false v) true name v [] f refl refl is
-short_many_holds switch joins several name (v ∷ w ∷ vs) f may is =
-    short_words_hold switch (is_plain false v) (list_all (is_plain false) (w ∷ vs)) name v (w ∷ vs) f refl refl is
+short_many_holds short_equals false several name (v ∷ []) f may is = short_words_hold short_equals (is_plain false v) true name v [] f refl refl is
+short_many_holds short_equals joins several name (v ∷ w ∷ vs) f may is =
+    short_words_hold short_equals (is_plain false v) (list_all (is_plain false) (w ∷ vs)) name v (w ∷ vs) f refl refl is
 
 long_words_hold : (p : Bool) (name : Name) (v : List ℕ) (vs : List (List ℕ)) (f : Form) → list_all (is_plain false) (v ∷ vs) ≡ p → words_form p (v ∷ vs) ≡ Ok f
     → HoldsLong several name (many name (v ∷ vs)) f

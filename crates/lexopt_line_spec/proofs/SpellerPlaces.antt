@@ -8,52 +8,53 @@ use Rattle.std.specs.Str.{is_utf8}
 use lib.Utf8.{scalar}
 use Rattle.lexopt_spec.specs.UnreadLine.{dash, is_plain}
 use Rattle.lexopt_line_spec.specs.Table.{short, long, Item, option, many, positional, Kind, flag, one, optional, several, kind, Table}
-use Rattle.lexopt_line_spec.specs.Speller.{Reason, Place, open_line, in_cluster, after_values, after_positional, ended, Form, short_form, long_form, short_words_form, short_many_form, long_many_form, Added, short_added, is_named, long_placed, long_added, stands, positional_added, adds, is_positional, separator_comes_too_early, is_plain_item, separator_is_due, Fault, Rest, with_rest, with_rests, spelled_from}
+use Rattle.lexopt_line_spec.specs.Speller.{Reason, Place, open_line, in_cluster, after_values, after_positional, ended, is_positional, Fault}
+use Rattle.lexopt_line_spec.specs.SpellerTables.{Form, short_form, long_form, short_words_form, short_many_form, long_many_form, Added, short_added, is_named, long_placed, long_added, stands, positional_added, adds, separator_comes_too_early, is_plain_item, separator_is_due, Rest, with_rest, with_rests, spelled_from}
 use Rattle.lexopt_line_spec.proofs.SpellerAnswers.{Formed, Adding, Going, none_is}
 use Rattle.lexopt_line_spec.proofs.SpellerTests.{has_equals}
 
 -- some words are spelled from this place on
 abbrev pub Can : Table → Bool → List Item → Place → Type 0
-Can t switch items place = (r : Rest) × (spelled_from t switch items place ≡ Ok r)
+Can t short_equals items place = (r : Rest) × (spelled_from t short_equals items place ≡ Ok r)
 
-pub nil_can : (t : Table) (switch : Bool) (place : Place) → Can t switch [] place
+pub nil_can : (t : Table) (short_equals : Bool) (place : Place) → Can t short_equals [] place
 unfolding spelled_from
-nil_can t switch place = (_, refl)
+nil_can t short_equals place = (_, refl)
 
-pub cons_can : (t : Table) (switch : Bool) (place : Place) (item : Item) (items : List Item) (a : Added) → adds t switch (separator_comes_too_early items) (separator_is_due items) place item ≡ Ok a
-    → Can t switch items a.place → Can t switch (item ∷ items) place
+pub cons_can : (t : Table) (short_equals : Bool) (place : Place) (item : Item) (items : List Item) (a : Added) → adds t short_equals (separator_comes_too_early items) (separator_is_due items) place item ≡ Ok a
+    → Can t short_equals items a.place → Can t short_equals (item ∷ items) place
 unfolding spelled_from
-cons_can t switch place item items a is can =
-    (_, ap (λ o. with_rests o (spelled_from t switch items)) is ∙ ap (with_rest a) can.1)
+cons_can t short_equals place item items a is can =
+    (_, ap (λ o. with_rests o (spelled_from t short_equals items)) is ∙ ap (with_rest a) can.1)
 
 -- ---- an item that is spelled
 
 abbrev First : Table → Bool → Place → Item → List Item → Type 0
-First t switch place item items = (a : Added) × (adds t switch (separator_comes_too_early items) (separator_is_due items) place item ≡ Ok a) × Can t switch items a.place
+First t short_equals place item items = (a : Added) × (adds t short_equals (separator_comes_too_early items) (separator_is_due items) place item ≡ Ok a) × Can t short_equals items a.place
 
-later_can : (t : Table) (switch : Bool) (items : List Item) (a : Added) (rest : Result Rest Fault) (r : Rest) → spelled_from t switch items a.place ≡ rest
-    → Going (with_rest a rest) r → Can t switch items a.place
-later_can t switch items a (Err fault) r rest_is is = none_is _ r is
-later_can t switch items a (Ok s) r rest_is is = (s, rest_is)
+later_can : (t : Table) (short_equals : Bool) (items : List Item) (a : Added) (rest : Result Rest Fault) (r : Rest) → spelled_from t short_equals items a.place ≡ rest
+    → Going (with_rest a rest) r → Can t short_equals items a.place
+later_can t short_equals items a (Err fault) r rest_is is = none_is _ r is
+later_can t short_equals items a (Ok s) r rest_is is = (s, rest_is)
 
-first_can : (t : Table) (switch : Bool) (place : Place) (item : Item) (items : List Item) (o : Result Added Reason) (r : Rest)
-    → adds t switch (separator_comes_too_early items) (separator_is_due items) place item ≡ o → Going (with_rests o (spelled_from t switch items)) r → First t switch place item items
-first_can t switch place item items (Err reason) r added_is is = none_is _ r is
-first_can t switch place item items (Ok a) r added_is is = (a, added_is, later_can t switch items a (spelled_from t switch items a.place) r refl is)
+first_can : (t : Table) (short_equals : Bool) (place : Place) (item : Item) (items : List Item) (o : Result Added Reason) (r : Rest)
+    → adds t short_equals (separator_comes_too_early items) (separator_is_due items) place item ≡ o → Going (with_rests o (spelled_from t short_equals items)) r → First t short_equals place item items
+first_can t short_equals place item items (Err reason) r added_is is = none_is _ r is
+first_can t short_equals place item items (Ok a) r added_is is = (a, added_is, later_can t short_equals items a (spelled_from t short_equals items a.place) r refl is)
 
-pub can_split : (t : Table) (switch : Bool) (place : Place) (item : Item) (items : List Item) → Can t switch (item ∷ items) place → First t switch place item items
+pub can_split : (t : Table) (short_equals : Bool) (place : Place) (item : Item) (items : List Item) → Can t short_equals (item ∷ items) place → First t short_equals place item items
 unfolding spelled_from
-can_split t switch place item items can =
-    first_can t switch place item items (adds t switch (separator_comes_too_early items) (separator_is_due items) place item) can.0 refl can.1
+can_split t short_equals place item items can =
+    first_can t short_equals place item items (adds t short_equals (separator_comes_too_early items) (separator_is_due items) place item) can.0 refl can.1
 
 -- ---- positionals
 
-pub positionals_can : (t : Table) (switch : Bool) (words : List (List ℕ)) (place : Place) → Can t switch (map positional words) place
-positionals_can t switch [] place = nil_can t switch place
-positionals_can t switch (w ∷ ws) place =
+pub positionals_can : (t : Table) (short_equals : Bool) (words : List (List ℕ)) (place : Place) → Can t short_equals (map positional words) place
+positionals_can t short_equals [] place = nil_can t short_equals place
+positionals_can t short_equals (w ∷ ws) place =
     let alone = stands (is_plain false w) (separator_is_due (map positional ws)) place in
-    cons_can t switch place (positional w) (map positional ws) (positional_added alone place w) refl
-    (positionals_can t switch ws (positional_added alone place w).place)
+    cons_can t short_equals place (positional w) (map positional ws) (positional_added alone place w) refl
+    (positionals_can t short_equals ws (positional_added alone place w).place)
 
 abbrev pub AllPositional : List Item → Type 0
 AllPositional items = (words : List (List ℕ)) × (items ≡ map positional words)
@@ -64,8 +65,8 @@ all_positional (option name value ∷ items) are = absurd (true≢false (sym are
 all_positional (many name values ∷ items) are = absurd (true≢false (sym are))
 all_positional (positional w ∷ items) are = let more = all_positional items are in (w ∷ more.0, ap (λ l. positional w ∷ l) more.1)
 
-pub all_can : (t : Table) (switch : Bool) (items : List Item) (place : Place) → AllPositional items → Can t switch items place
-all_can t switch items place all = subst (λ (l : List Item). Can t switch l place) (sym all.1) (positionals_can t switch all.0 place)
+pub all_can : (t : Table) (short_equals : Bool) (items : List Item) (place : Place) → AllPositional items → Can t short_equals items place
+all_can t short_equals items place all = subst (λ (l : List Item). Can t short_equals l place) (sym all.1) (positionals_can t short_equals all.0 place)
 
 -- after the separator there are no options
 short_ended : {X : Type 0} (s d : Bool) (c : ℕ) (form : Result Form Reason) (a : Added) → Adding (short_added s d ended c form) a → X
@@ -83,24 +84,24 @@ long_ended true true name form a is = none_is _ a is
 long_ended true false name (Err reason) a is = none_is _ a is
 long_ended true false name (Ok f) a is = placed_ended (is_named name f.after) name f a is
 
-pub option_ended : {X : Type 0} (t : Table) (switch joins due : Bool) (item : Item) (a : Added) → is_positional item ≡ false → adds t switch joins due ended item ≡ Ok a → X
-option_ended t switch joins due (option (short c) value) a other is = short_ended (scalar c) (c == dash) c (short_form switch (kind t (short c)) value) a is
-option_ended t switch joins due (many (short c) values) a other is = short_ended (scalar c) (c == dash) c (short_many_form (switch && joins) (kind t (short c)) values) a is
-option_ended t switch joins due (option (long name) value) a other is = long_ended (is_utf8 name) (has_equals name) name (long_form (kind t (long name)) value) a is
-option_ended t switch joins due (many (long name) values) a other is = long_ended (is_utf8 name) (has_equals name) name (long_many_form (kind t (long name)) values) a is
-option_ended t switch joins due (positional w) a other is = absurd (true≢false other)
+pub option_ended : {X : Type 0} (t : Table) (short_equals joins due : Bool) (item : Item) (a : Added) → is_positional item ≡ false → adds t short_equals joins due ended item ≡ Ok a → X
+option_ended t short_equals joins due (option (short c) value) a other is = short_ended (scalar c) (c == dash) c (short_form short_equals (kind t (short c)) value) a is
+option_ended t short_equals joins due (many (short c) values) a other is = short_ended (scalar c) (c == dash) c (short_many_form (short_equals && joins) (kind t (short c)) values) a is
+option_ended t short_equals joins due (option (long name) value) a other is = long_ended (is_utf8 name) (has_equals name) name (long_form (kind t (long name)) value) a is
+option_ended t short_equals joins due (many (long name) values) a other is = long_ended (is_utf8 name) (has_equals name) name (long_many_form (kind t (long name)) values) a is
+option_ended t short_equals joins due (positional w) a other is = absurd (true≢false other)
 
-pub ended_positional : (t : Table) (switch : Bool) (items : List Item) → Can t switch items ended → list_all is_positional items ≡ true
-ended_positional t switch [] can = refl
-ended_positional t switch (option name value ∷ items) can =
-    let s = can_split t switch ended (option name value) items can in
-    option_ended t switch (separator_comes_too_early items) (separator_is_due items) (option name value) s.0 refl s.1
-ended_positional t switch (many name values ∷ items) can =
-    let s = can_split t switch ended (many name values) items can in
-    option_ended t switch (separator_comes_too_early items) (separator_is_due items) (many name values) s.0 refl s.1
-ended_positional t switch (positional w ∷ items) can =
-    let s = can_split t switch ended (positional w) items can in
-    ended_positional t switch items (IfOk-at_ok (λ (a : Added). Can t switch items a.place → Can t switch items ended) s.1 (λ h. h) s.2)
+pub ended_positional : (t : Table) (short_equals : Bool) (items : List Item) → Can t short_equals items ended → list_all is_positional items ≡ true
+ended_positional t short_equals [] can = refl
+ended_positional t short_equals (option name value ∷ items) can =
+    let s = can_split t short_equals ended (option name value) items can in
+    option_ended t short_equals (separator_comes_too_early items) (separator_is_due items) (option name value) s.0 refl s.1
+ended_positional t short_equals (many name values ∷ items) can =
+    let s = can_split t short_equals ended (many name values) items can in
+    option_ended t short_equals (separator_comes_too_early items) (separator_is_due items) (many name values) s.0 refl s.1
+ended_positional t short_equals (positional w ∷ items) can =
+    let s = can_split t short_equals ended (positional w) items can in
+    ended_positional t short_equals items (IfOk-at_ok (λ (a : Added). Can t short_equals items a.place → Can t short_equals items ended) s.1 (λ h. h) s.2)
 
 -- ---- after values, and after nothing
 
@@ -120,35 +121,35 @@ long_same true true name form = refl
 long_same true false name (Err reason) = refl
 long_same true false name (Ok f) = placed_same (is_named name f.after) name f
 
-option_same : (t : Table) (switch joins due : Bool) (item : Item) → is_positional item ≡ false → adds t switch joins due open_line item ≡ adds t switch joins due after_values item
-option_same t switch joins due (option (short c) value) other = short_same (scalar c) (c == dash) c (short_form switch (kind t (short c)) value)
-option_same t switch joins due (many (short c) values) other = short_same (scalar c) (c == dash) c (short_many_form (switch && joins) (kind t (short c)) values)
-option_same t switch joins due (option (long name) value) other = long_same (is_utf8 name) (has_equals name) name (long_form (kind t (long name)) value)
-option_same t switch joins due (many (long name) values) other = long_same (is_utf8 name) (has_equals name) name (long_many_form (kind t (long name)) values)
-option_same t switch joins due (positional w) other = absurd (true≢false other)
+option_same : (t : Table) (short_equals joins due : Bool) (item : Item) → is_positional item ≡ false → adds t short_equals joins due open_line item ≡ adds t short_equals joins due after_values item
+option_same t short_equals joins due (option (short c) value) other = short_same (scalar c) (c == dash) c (short_form short_equals (kind t (short c)) value)
+option_same t short_equals joins due (many (short c) values) other = short_same (scalar c) (c == dash) c (short_many_form (short_equals && joins) (kind t (short c)) values)
+option_same t short_equals joins due (option (long name) value) other = long_same (is_utf8 name) (has_equals name) name (long_form (kind t (long name)) value)
+option_same t short_equals joins due (many (long name) values) other = long_same (is_utf8 name) (has_equals name) name (long_many_form (kind t (long name)) values)
+option_same t short_equals joins due (positional w) other = absurd (true≢false other)
 
-options_same : (t : Table) (switch : Bool) (item : Item) (items : List Item) → is_positional item ≡ false
-    → spelled_from t switch (item ∷ items) open_line ≡ spelled_from t switch (item ∷ items) after_values
+options_same : (t : Table) (short_equals : Bool) (item : Item) (items : List Item) → is_positional item ≡ false
+    → spelled_from t short_equals (item ∷ items) open_line ≡ spelled_from t short_equals (item ∷ items) after_values
 unfolding spelled_from
-options_same t switch item items other = ap (λ o. with_rests o (spelled_from t switch items)) (option_same t switch (separator_comes_too_early items) (separator_is_due items) item other)
+options_same t short_equals item items other = ap (λ o. with_rests o (spelled_from t short_equals items)) (option_same t short_equals (separator_comes_too_early items) (separator_is_due items) item other)
 
 -- from after nothing to after values, unless the separator would come too early
-pub closed : (t : Table) (switch : Bool) (items : List Item) → separator_comes_too_early items ≡ false → Can t switch items open_line → Can t switch items after_values
-closed t switch [] early can = nil_can t switch after_values
-closed t switch (option name value ∷ items) early can = (can.0, sym (options_same t switch (option name value) items refl) ∙ can.1)
-closed t switch (many name values ∷ items) early can = (can.0, sym (options_same t switch (many name values) items refl) ∙ can.1)
-closed t switch (positional w ∷ items) early can =
-    all_can t switch (positional w ∷ items) after_values (all_positional (positional w ∷ items) (not-false (list_all is_positional items) early))
+pub closed : (t : Table) (short_equals : Bool) (items : List Item) → separator_comes_too_early items ≡ false → Can t short_equals items open_line → Can t short_equals items after_values
+closed t short_equals [] early can = nil_can t short_equals after_values
+closed t short_equals (option name value ∷ items) early can = (can.0, sym (options_same t short_equals (option name value) items refl) ∙ can.1)
+closed t short_equals (many name values ∷ items) early can = (can.0, sym (options_same t short_equals (many name values) items refl) ∙ can.1)
+closed t short_equals (positional w ∷ items) early can =
+    all_can t short_equals (positional w ∷ items) after_values (all_positional (positional w ∷ items) (not-false (list_all is_positional items) early))
 
 -- and back
-pub opened : (t : Table) (switch : Bool) (items : List Item) → Can t switch items after_values → Can t switch items open_line
-opened t switch [] can = nil_can t switch open_line
-opened t switch (option name value ∷ items) can = (can.0, options_same t switch (option name value) items refl ∙ can.1)
-opened t switch (many name values ∷ items) can = (can.0, options_same t switch (many name values) items refl ∙ can.1)
-opened t switch (positional w ∷ items) can =
-    let s = can_split t switch after_values (positional w) items can in
-    all_can t switch (positional w ∷ items) open_line
-    (all_positional (positional w ∷ items) (ended_positional t switch items (IfOk-at_ok (λ (a : Added). Can t switch items a.place → Can t switch items ended) s.1 (λ h. h) s.2)))
+pub opened : (t : Table) (short_equals : Bool) (items : List Item) → Can t short_equals items after_values → Can t short_equals items open_line
+opened t short_equals [] can = nil_can t short_equals open_line
+opened t short_equals (option name value ∷ items) can = (can.0, options_same t short_equals (option name value) items refl ∙ can.1)
+opened t short_equals (many name values ∷ items) can = (can.0, options_same t short_equals (many name values) items refl ∙ can.1)
+opened t short_equals (positional w ∷ items) can =
+    let s = can_split t short_equals after_values (positional w) items can in
+    all_can t short_equals (positional w ∷ items) open_line
+    (all_positional (positional w ∷ items) (ended_positional t short_equals items (IfOk-at_ok (λ (a : Added). Can t short_equals items a.place → Can t short_equals items ended) s.1 (λ h. h) s.2)))
 
 -- ---- one of several values, joined or not
 
@@ -224,19 +225,19 @@ pub data Changed (x y due : Bool) (before after : Place) : Type 0 where
   ended_too : Ended due before after → Changed x y due before after
 
 abbrev pub AddsToo : Table → Bool → Bool → Bool → Bool → Place → Item → Added → Type 0
-AddsToo t switch x y e place item a = (b : Added) × (adds t switch y e place item ≡ Ok b) × Changed (switch && x) (switch && y) e a.place b.place
+AddsToo t short_equals x y e place item a = (b : Added) × (adds t short_equals y e place item ≡ Ok b) × Changed (short_equals && x) (short_equals && y) e a.place b.place
 
-many_too : (t : Table) (switch x y d e : Bool) (place : Place) (c : ℕ) (values : List (List ℕ)) (a : Added)
-    → Adding (adds t switch x d place (many (short c) values)) a → AddsToo t switch x y e place (many (short c) values) a
-many_too t switch x y d e place c values a is =
+many_too : (t : Table) (short_equals x y d e : Bool) (place : Place) (c : ℕ) (values : List (List ℕ)) (a : Added)
+    → Adding (adds t short_equals x d place (many (short c) values)) a → AddsToo t short_equals x y e place (many (short c) values) a
+many_too t short_equals x y d e place c values a is =
     let k = kind t (short c) in
-    let th = short_through (scalar c) (c == dash) place c (short_many_form (switch && x) k values) a is in
-    let o = form_joined (switch && x) (switch && y) k values th.formed th.is in
+    let th = short_through (scalar c) (c == dash) place c (short_many_form (short_equals && x) k values) a is in
+    let o = form_joined (short_equals && x) (short_equals && y) k values th.formed th.is in
     let b = th.other o.0 in (
       b.0,
       ap (short_added (scalar c) (c == dash) place c) o.1 ∙ b.1,
-      moved (subst (λ (p : Place). Moved (switch && x) (switch && y) p b.0.place) (sym th.leads)
-          (subst (λ (p : Place). Moved (switch && x) (switch && y) th.formed.place p) (sym b.2) o.2)),
+      moved (subst (λ (p : Place). Moved (short_equals && x) (short_equals && y) p b.0.place) (sym th.leads)
+          (subst (λ (p : Place). Moved (short_equals && x) (short_equals && y) th.formed.place p) (sym b.2) o.2)),
     )
 
 positional_ends : (plain d e : Bool) (w : List ℕ) (place : Place)
@@ -256,19 +257,19 @@ positional_ends plain d e w after_positional = as_before refl
 positional_ends plain d e w ended = as_before refl
 
 -- whether one of several values is joined or not, and the separator is due or not, the item is added, or it is not
-pub adds_too : (t : Table) (switch x y d e : Bool) (place : Place) (item : Item) (a : Added) → adds t switch x d place item ≡ Ok a → AddsToo t switch x y e place item a
-adds_too t switch x y d e place (option (short c) value) a is = (a, is, moved (stays refl))
-adds_too t switch x y d e place (option (long name) value) a is = (a, is, moved (stays refl))
-adds_too t switch x y d e place (many (short c) values) a is = many_too t switch x y d e place c values a is
-adds_too t switch x y d e place (many (long name) values) a is = (a, is, moved (stays refl))
-adds_too t switch x y d e place (positional w) a is = (
+pub adds_too : (t : Table) (short_equals x y d e : Bool) (place : Place) (item : Item) (a : Added) → adds t short_equals x d place item ≡ Ok a → AddsToo t short_equals x y e place item a
+adds_too t short_equals x y d e place (option (short c) value) a is = (a, is, moved (stays refl))
+adds_too t short_equals x y d e place (option (long name) value) a is = (a, is, moved (stays refl))
+adds_too t short_equals x y d e place (many (short c) values) a is = many_too t short_equals x y d e place c values a is
+adds_too t short_equals x y d e place (many (long name) values) a is = (a, is, moved (stays refl))
+adds_too t short_equals x y d e place (positional w) a is = (
   _,
   refl,
-  IfOk-at_ok (λ (b : Added). Changed (switch && x) (switch && y) e b.place (positional_added (stands (is_plain false w) e place) place w).place) is
+  IfOk-at_ok (λ (b : Added). Changed (short_equals && x) (short_equals && y) e b.place (positional_added (stands (is_plain false w) e place) place w).place) is
       (ended_too (positional_ends (is_plain false w) d e w place)),
 )
 
-pub not_joined : (switch x y : Bool) → (switch && x) ≡ true → (switch && y) ≡ false → y ≡ false
+pub not_joined : (short_equals x y : Bool) → (short_equals && x) ≡ true → (short_equals && y) ≡ false → y ≡ false
 not_joined true x y on off = off
 not_joined false x y on off = absurd (true≢false (sym on))
 
@@ -277,23 +278,23 @@ pub due_positional : (items : List Item) → separator_is_due items ≡ true →
 due_positional items due = (and_parts (list_all is_positional items) (not (list_all is_plain_item items)) due).0
 
 -- from one place to the other
-pub changed_can : (t : Table) (switch x e : Bool) (items : List Item) (y : Bool) (before after : Place) → (x ≡ true → y ≡ false → separator_comes_too_early items ≡ false)
-    → (e ≡ true → list_all is_positional items ≡ true) → Changed x y e before after → Can t switch items before → Can t switch items after
-changed_can t switch x e items y before after early due (moved (stays same)) can = subst (Can t switch items) (sym same) can
-changed_can t switch x e items y before after early due (moved (opens was is_now)) can =
-    subst (Can t switch items) (sym is_now) (opened t switch items (subst (Can t switch items) was can))
-changed_can t switch x e items y before after early due (moved (closes was is_now on off)) can =
-    subst (Can t switch items) (sym is_now) (closed t switch items (early on off) (subst (Can t switch items) was can))
-changed_can t switch x e items y before after early due (ended_too (as_before same)) can = subst (Can t switch items) (sym same) can
-changed_can t switch x e items y before after early due (ended_too (ends was is_now is_due)) can = all_can t switch items after (all_positional items (due is_due))
-changed_can t switch x e items y before after early due (ended_too (ends_later was is_now)) can =
-    all_can t switch items after (all_positional items (ended_positional t switch items (subst (Can t switch items) was can)))
+pub changed_can : (t : Table) (short_equals x e : Bool) (items : List Item) (y : Bool) (before after : Place) → (x ≡ true → y ≡ false → separator_comes_too_early items ≡ false)
+    → (e ≡ true → list_all is_positional items ≡ true) → Changed x y e before after → Can t short_equals items before → Can t short_equals items after
+changed_can t short_equals x e items y before after early due (moved (stays same)) can = subst (Can t short_equals items) (sym same) can
+changed_can t short_equals x e items y before after early due (moved (opens was is_now)) can =
+    subst (Can t short_equals items) (sym is_now) (opened t short_equals items (subst (Can t short_equals items) was can))
+changed_can t short_equals x e items y before after early due (moved (closes was is_now on off)) can =
+    subst (Can t short_equals items) (sym is_now) (closed t short_equals items (early on off) (subst (Can t short_equals items) was can))
+changed_can t short_equals x e items y before after early due (ended_too (as_before same)) can = subst (Can t short_equals items) (sym same) can
+changed_can t short_equals x e items y before after early due (ended_too (ends was is_now is_due)) can = all_can t short_equals items after (all_positional items (due is_due))
+changed_can t short_equals x e items y before after early due (ended_too (ends_later was is_now)) can =
+    all_can t short_equals items after (all_positional items (ended_positional t short_equals items (subst (Can t short_equals items) was can)))
 
 -- what can be spelled after an item, can be with it
-pub can_cons : (t : Table) (switch joins due : Bool) (place : Place) (item : Item) (items : List Item) (a : Added) → adds t switch joins due place item ≡ Ok a
-    → Can t switch items a.place → Can t switch (item ∷ items) place
-can_cons t switch joins due place item items a is can =
-    let too = adds_too t switch joins (separator_comes_too_early items) due (separator_is_due items) place item a is in
-    cons_can t switch place item items too.0 too.1
-    (changed_can t switch (switch && joins) (separator_is_due items) items (switch && separator_comes_too_early items) a.place too.0.place
-    (not_joined switch joins (separator_comes_too_early items)) (due_positional items) too.2 can)
+pub can_cons : (t : Table) (short_equals joins due : Bool) (place : Place) (item : Item) (items : List Item) (a : Added) → adds t short_equals joins due place item ≡ Ok a
+    → Can t short_equals items a.place → Can t short_equals (item ∷ items) place
+can_cons t short_equals joins due place item items a is can =
+    let too = adds_too t short_equals joins (separator_comes_too_early items) due (separator_is_due items) place item a is in
+    cons_can t short_equals place item items too.0 too.1
+    (changed_can t short_equals (short_equals && joins) (separator_is_due items) items (short_equals && separator_comes_too_early items) a.place too.0.place
+    (not_joined short_equals joins (separator_comes_too_early items)) (due_positional items) too.2 can)

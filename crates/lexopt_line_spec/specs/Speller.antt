@@ -1,15 +1,15 @@
 -- Words that spell what a line is to say, where some do: from items to words. The source is
 -- `docs/behaviour.md`, "From items back to words", after the POSIX Utility Syntax Guidelines and
--- GNU's long options.
-use Rattle.std.specs.Prelude.{ℕ, suc, Bool, true, false, ◌==◌, ◌&&◌, ◌<◌, not, List, [], ◌∷◌, ◌++◌}
-use Rattle.std.specs.Prelude.{length, take, Option, Some, None, Result, Ok, Err, encode_utf8}
-use Rattle.std.specs.Prelude.{if◌then◌else◌}
-use Rattle.std.specs.List.{list_any, list_all}
-use Rattle.std.specs.Str.{is_utf8}
-use lib.Utf8.{scalar}
-use Rattle.lexopt_spec.specs.UnreadLine.{dash, equals, is_plain}
-use Rattle.lexopt_line_spec.specs.Table.{short, long, Item, option, many, positional, Kind, flag}
-use Rattle.lexopt_line_spec.specs.Table.{one, optional, several, kind, Table}
+-- GNU's long options. Each row of the tables there is a constructor here. `SpellerTables` computes
+-- the same.
+use Rattle.std.specs.Prelude.{◌≡◌, ◌≢◌, ◌⊎◌, ℕ, suc, Bool, true, false, ◌<◌, List, [], ◌∷◌, ◌++◌}
+use Rattle.std.specs.Prelude.{length, take, map, Contains, Option, Some, None, encode_utf8}
+use Rattle.std.specs.Char.{IsScalar}
+use Rattle.std.specs.List.{All}
+use Rattle.std.specs.Str.{IsUtf8}
+use Rattle.lexopt_spec.specs.UnreadLine.{dash, equals, BeginsWith, IsPlain}
+use Rattle.lexopt_line_spec.specs.Table.{Name, short, long, Item, option, many, positional, Kind}
+use Rattle.lexopt_line_spec.specs.Table.{flag, one, optional, several, kind, Table}
 use Rattle.lexopt_line_spec.specs.Spelling.{After, nothing, attached, joined, Spells}
 
 -- why an item cannot be spelled after those before it
@@ -51,258 +51,281 @@ pub data Place : Type 0 where
   -- the separator, and perhaps positionals
   ended : Place
 
--- ---- the values of an option
-
--- what stands after an option's name in its word, the words after that word, and what the next item
--- follows then
-pub record Form : Type 0 where
-  pub after : After
-  pub words : List (List ℕ)
-  pub place : Place
-
--- nothing but the name
-abbrev pub name_only : Place → Form
-name_only place = record { after = nothing; words = []; place = place }
-
--- all in one word
-abbrev pub in_word : After → Form
-in_word after = record { after = after; words = []; place = open_line }
-
--- a value right after a character; after `=` where it is empty or begins with a mark, if the switch
--- is on
-abbrev pub attached_form : Bool → List ℕ → Result Form Reason
-attached_form true [] = Ok (in_word (joined []))
-attached_form false [] = Err empty_value
-attached_form true (b ∷ bs) = if b == equals then Ok (in_word (joined (b ∷ bs)))
-    else Ok (in_word (attached (b ∷ bs)))
-attached_form false (b ∷ bs) = Ok (in_word (attached (b ∷ bs)))
-
--- a short option with one value or none
-abbrev pub short_form : Bool → Kind → Option (List ℕ) → Result Form Reason
-short_form switch flag None = Ok (name_only in_cluster)
-short_form switch flag (Some v) = Err unexpected_value
-short_form switch one None = Err missing_value
-short_form switch one (Some v) = Ok (record { after = nothing; words = v ∷ []; place = open_line })
-short_form switch optional None = Ok (name_only open_line)
-short_form switch optional (Some v) = attached_form switch v
-short_form switch several value = Err wants_many
-
--- a long option with one value or none
-abbrev pub long_form : Kind → Option (List ℕ) → Result Form Reason
-long_form flag None = Ok (name_only open_line)
-long_form flag (Some v) = Err unexpected_value
-long_form one None = Err missing_value
-long_form one (Some v) = Ok (in_word (joined v))
-long_form optional None = Ok (name_only open_line)
-long_form optional (Some v) = Ok (in_word (joined v))
-long_form several value = Err wants_many
-
--- values in words of their own, which are all plain, or not
-abbrev pub words_form : Bool → List (List ℕ) → Result Form Reason
-words_form true values = Ok (record { after = nothing; words = values; place = after_values })
-words_form false values = Err option_among_values
-
--- the same after a character: a first value that would be an option stands in its word. Whether the
--- first is plain, and the others
-abbrev pub short_words_form : Bool → Bool → List ℕ → List (List ℕ) → Result Form Reason
-short_words_form true others v vs = words_form others (v ∷ vs)
-short_words_form false true v vs =
-    Ok (record { after = attached v; words = vs; place = after_values })
-short_words_form false false v vs = Err option_among_values
-
--- a short option with several values: one value may have to be joined by `=`
-abbrev pub short_many_form : Bool → Kind → List (List ℕ) → Result Form Reason
-short_many_form joins several [] = Err missing_value
-short_many_form true several (v ∷ []) = Ok (in_word (joined v))
-short_many_form false several (v ∷ []) = short_words_form (is_plain false v) true v []
-short_many_form joins several (v ∷ w ∷ vs) =
-    short_words_form (is_plain false v) (list_all (is_plain false) (w ∷ vs)) v (w ∷ vs)
-short_many_form joins flag values = Err not_many
-short_many_form joins one values = Err not_many
-short_many_form joins optional values = Err not_many
-
--- a long option with several values
-abbrev pub long_many_form : Kind → List (List ℕ) → Result Form Reason
-long_many_form several [] = Err missing_value
-long_many_form several (v ∷ []) = Ok (in_word (joined v))
-long_many_form several (v ∷ w ∷ vs) =
-    words_form (list_all (is_plain false) (v ∷ w ∷ vs)) (v ∷ w ∷ vs)
-long_many_form flag values = Err not_many
-long_many_form one values = Err not_many
-long_many_form optional values = Err not_many
-
--- ---- one item
-
--- what an item adds: a word, which may go on with the word before it, and more words; and what the
--- next item follows then
-pub record Added : Type 0 where
-  pub goes_on : Bool
-  pub word : List ℕ
-  pub words : List (List ℕ)
-  pub place : Place
-
-abbrev pub after_bytes : After → List ℕ
-after_bytes nothing = []
-after_bytes (attached v) = v
-after_bytes (joined v) = equals ∷ v
-
--- an option by its name, with its dashes if it does not go on
-abbrev pub with_form : Bool → List ℕ → Form → Added
-with_form goes_on name f = record {
-  goes_on = goes_on;
-  word = name ++ after_bytes f.after;
-  words = f.words;
-  place = f.place;
-}
-
--- a short option: whether it is a character, and `-`
-abbrev pub short_added : Bool → Bool → Place → ℕ → Result Form Reason → Result Added Reason
-short_added false is_dash place c form = Err no_name
-short_added true is_dash place c (Err reason) = Err reason
-short_added true is_dash ended c (Ok f) = Err past_separator
-short_added true false open_line c (Ok f) = Ok (with_form false (dash ∷ encode_utf8 c) f)
-short_added true false in_cluster c (Ok f) = Ok (with_form false (dash ∷ encode_utf8 c) f)
-short_added true false after_values c (Ok f) = Ok (with_form false (dash ∷ encode_utf8 c) f)
-short_added true false after_positional c (Ok f) = Ok (with_form false (dash ∷ encode_utf8 c) f)
-short_added true true in_cluster c (Ok f) = Ok (with_form true (encode_utf8 c) f)
-short_added true true open_line c (Ok f) = Err dash_without_flag
-short_added true true after_values c (Ok f) = Err dash_without_flag
-short_added true true after_positional c (Ok f) = Err dash_without_flag
-
--- a name has bytes, or a value after `=`
-abbrev pub is_named : List ℕ → After → Bool
-is_named [] nothing = false
-is_named [] (attached v) = false
-is_named [] (joined v) = true
-is_named (b ∷ bs) after = true
-
--- a long option that is named, or not
-abbrev pub long_placed : Bool → Place → List ℕ → Form → Result Added Reason
-long_placed false place name f = Err empty_name
-long_placed true ended name f = Err past_separator
-long_placed true open_line name f = Ok (with_form false (dash ∷ dash ∷ name) f)
-long_placed true in_cluster name f = Ok (with_form false (dash ∷ dash ∷ name) f)
-long_placed true after_values name f = Ok (with_form false (dash ∷ dash ∷ name) f)
-long_placed true after_positional name f = Ok (with_form false (dash ∷ dash ∷ name) f)
-
--- a long option: whether it is a text, and has an `=`
-abbrev pub long_added : Bool → Bool → Place → List ℕ → Result Form Reason → Result Added Reason
-long_added false has_equals place name form = Err no_name
-long_added true true place name form = Err equals_in_name
-long_added true false place name (Err reason) = Err reason
-long_added true false place name (Ok f) = long_placed (is_named name f.after) place name f
-
--- a positional stands by itself where it is plain, unless it begins a row before which the
--- separator is to stand
-abbrev pub stands : Bool → Bool → Place → Bool
-stands plain due open_line = plain && not due
-stands plain due in_cluster = plain && not due
-stands plain due after_values = plain
-stands plain due after_positional = plain
-stands plain due ended = plain
-
--- a positional: whether it stands by itself. After values the separator keeps it from being one
--- more of them
-abbrev pub positional_added : Bool → Place → List ℕ → Added
-positional_added alone ended w = record { goes_on = false; word = w; words = []; place = ended }
-positional_added alone after_values w =
-    record { goes_on = false; word = dash ∷ dash ∷ []; words = w ∷ []; place = ended }
-positional_added false open_line w =
-    record { goes_on = false; word = dash ∷ dash ∷ []; words = w ∷ []; place = ended }
-positional_added false in_cluster w =
-    record { goes_on = false; word = dash ∷ dash ∷ []; words = w ∷ []; place = ended }
-positional_added false after_positional w =
-    record { goes_on = false; word = dash ∷ dash ∷ []; words = w ∷ []; place = ended }
-positional_added true open_line w =
-    record { goes_on = false; word = w; words = []; place = after_positional }
-positional_added true in_cluster w =
-    record { goes_on = false; word = w; words = []; place = after_positional }
-positional_added true after_positional w =
-    record { goes_on = false; word = w; words = []; place = after_positional }
-
--- an item at this place; whether one of several values is to be joined, where it can be, and
--- whether the separator is to stand before a row of positionals that begins here
-abbrev pub adds : Table → Bool → Bool → Bool → Place → Item → Result Added Reason
-adds t switch joins due place (option (short c) value) =
-    short_added (scalar c) (c == dash) place c (short_form switch (kind t (short c)) value)
-adds t switch joins due place (many (short c) values) =
-    short_added (scalar c) (c == dash) place c
-    (short_many_form (switch && joins) (kind t (short c)) values)
-adds t switch joins due place (option (long name) value) =
-    long_added (is_utf8 name) (list_any (λ b. b == equals) name) place name
-    (long_form (kind t (long name)) value)
-adds t switch joins due place (many (long name) values) =
-    long_added (is_utf8 name) (list_any (λ b. b == equals) name) place name
-    (long_many_form (kind t (long name)) values)
-adds t switch joins due place (positional w) =
-    Ok (positional_added (stands (is_plain false w) due place) place w)
-
--- ---- all items
+-- ---- the items after an item
 
 abbrev pub is_positional : Item → Bool
 is_positional (option name value) = false
 is_positional (many name values) = false
 is_positional (positional w) = true
 
--- these items are a positional and, after it, an option among others. After a value in a word the
--- separator would have to stand before that positional, and so before that option
-abbrev pub separator_comes_too_early : List Item → Bool
-separator_comes_too_early [] = false
-separator_comes_too_early (item ∷ items) = is_positional item && not (list_all is_positional items)
+-- only positionals are left
+abbrev pub ArePositionals : List Item → Type 0
+ArePositionals items = (words : List (List ℕ)) × (items ≡ map positional words)
 
-abbrev pub is_plain_item : Item → Bool
-is_plain_item (option name value) = true
-is_plain_item (many name values) = true
-is_plain_item (positional w) = is_plain false w
+-- a positional stands first, and an option somewhere after it
+abbrev pub ArePositionalThenOption : List Item → Type 0
+ArePositionalThenOption items = (w : List ℕ) × (others : List Item)
+    × (items ≡ positional w ∷ others) × ¬ ArePositionals others
 
--- these items are positionals, and one of them would be an option: so the separator is to stand
--- before all that are left. A program that stops at the first positional reads it there alone
-abbrev pub separator_is_due : List Item → Bool
-separator_is_due items = list_all is_positional items && not (list_all is_plain_item items)
+-- only positionals are left, and one of them is not plain
+abbrev pub NeedSeparator : List Item → Type 0
+NeedSeparator items = (words : List (List ℕ)) × (items ≡ map positional words)
+    × ¬ All (IsPlain false) words
+
+-- ---- an option and its values
+
+-- this is the only value, a positional stands right after the option, and an option somewhere after
+-- that; and the setting is on
+abbrev pub IsLoneAndJoined : Bool → List Item → List (List ℕ) → Type 0
+IsLoneAndJoined short_equals later values = (length values ≡ 1) × (short_equals ≡ true)
+    × ArePositionalThenOption later
+
+-- An option of this kind and name, as this item, before these items: what stands after its name in
+-- its word, which words stand after that word, and what the next item follows then.
+--
+-- In the comments v is a flag, o and out have one value, c and color one or none, d and cmd
+-- several.
+pub data HasForm (short_equals : Bool) (later : List Item)
+    : Kind → Name → Item → After → List (List ℕ) → Place → Type 0 where
+  -- v: `-v`, which the option `-` may go on with
+  short_flag : (c : ℕ) → HasForm short_equals later flag (short c) (option (short c) None)
+      nothing [] in_cluster
+  -- verbose: `--verbose`
+  long_flag : (name : List ℕ) → HasForm short_equals later flag (long name)
+      (option (long name) None) nothing [] open_line
+  -- o "x": `-o` `x`, whatever the value is
+  short_one : (c : ℕ) (v : List ℕ) → HasForm short_equals later one (short c)
+      (option (short c) (Some v)) nothing (v ∷ []) open_line
+  -- out "x": `--out=x`, whatever the value is
+  long_one : (name v : List ℕ) → HasForm short_equals later one (long name)
+      (option (long name) (Some v)) (joined v) [] open_line
+  -- c and color: `-c` and `--color`
+  left_out : (name : Name) → HasForm short_equals later optional name (option name None)
+      nothing [] open_line
+  -- c "x": `-cx`, where the value is not empty, and does not begin with `=`
+  right_after : (c : ℕ) (v : List ℕ) → v ≢ [] → ¬ BeginsWith equals v
+      → HasForm short_equals later optional (short c) (option (short c) (Some v))
+      (attached v) [] open_line
+  -- c "=x": `-c==x`, where the setting is on
+  equals_on : (c : ℕ) (v : List ℕ) → BeginsWith equals v → short_equals ≡ true
+      → HasForm short_equals later optional (short c) (option (short c) (Some v))
+      (joined v) [] open_line
+  -- c "=x": `-c=x`, where the setting is off
+  equals_off : (c : ℕ) (v : List ℕ) → BeginsWith equals v → short_equals ≡ false
+      → HasForm short_equals later optional (short c) (option (short c) (Some v))
+      (attached v) [] open_line
+  -- c "": `-c=`, where the setting is on
+  empty_on : (c : ℕ) → short_equals ≡ true
+      → HasForm short_equals later optional (short c) (option (short c) (Some []))
+      (joined []) [] open_line
+  -- color "x": `--color=x`, whatever the value is
+  long_optional : (name v : List ℕ) → HasForm short_equals later optional (long name)
+      (option (long name) (Some v)) (joined v) [] open_line
+  -- d "1": `-d=1`, where the separator would otherwise stand before an option
+  lone_joined : (c : ℕ) (v : List ℕ) → IsLoneAndJoined short_equals later (v ∷ [])
+      → HasForm short_equals later several (short c) (many (short c) (v ∷ []))
+      (joined v) [] open_line
+  -- d "1" "2": `-d` `1` `2`, else, where all values are plain
+  short_words : (c : ℕ) (v : List ℕ) (vs : List (List ℕ))
+      → ¬ IsLoneAndJoined short_equals later (v ∷ vs) → All (IsPlain false) (v ∷ vs)
+      → HasForm short_equals later several (short c) (many (short c) (v ∷ vs))
+      nothing (v ∷ vs) after_values
+  -- d "-1" "2": `-d-1` `2`, else, where the first value is not plain, and all others are
+  first_attached : (c : ℕ) (v : List ℕ) (vs : List (List ℕ))
+      → ¬ IsLoneAndJoined short_equals later (v ∷ vs) → ¬ IsPlain false v → All (IsPlain false) vs
+      → HasForm short_equals later several (short c) (many (short c) (v ∷ vs))
+      (attached v) vs after_values
+  -- cmd "a": `--cmd=a`, whatever the value is
+  long_lone : (name v : List ℕ) → HasForm short_equals later several (long name)
+      (many (long name) (v ∷ [])) (joined v) [] open_line
+  -- cmd "a" "b": `--cmd` `a` `b`, where all values are plain
+  long_words : (name v w : List ℕ) (vs : List (List ℕ)) → All (IsPlain false) (v ∷ w ∷ vs)
+      → HasForm short_equals later several (long name) (many (long name) (v ∷ w ∷ vs))
+      nothing (v ∷ w ∷ vs) after_values
+
+-- an option of this kind and name, as this item, has no form, and this is why
+pub data HasNoForm (short_equals : Bool) : Kind → Name → Item → Reason → Type 0 where
+  -- d "1", given with no list
+  no_list : (name : Name) (value : Option (List ℕ))
+      → HasNoForm short_equals several name (option name value) wants_many
+  -- o "1", given with a list
+  with_list : (k : Kind) (name : Name) (values : List (List ℕ)) → k ≢ several
+      → HasNoForm short_equals k name (many name values) not_many
+  -- v "1"
+  flag_with_value : (name : Name) (v : List ℕ)
+      → HasNoForm short_equals flag name (option name (Some v)) unexpected_value
+  -- o, given no value
+  no_value_given : (name : Name) → HasNoForm short_equals one name (option name None) missing_value
+  -- d, given an empty list
+  no_values_given : (name : Name) → HasNoForm short_equals several name (many name []) missing_value
+  -- c "", where the setting is off
+  empty_off : (c : ℕ) → short_equals ≡ false
+      → HasNoForm short_equals optional (short c) (option (short c) (Some [])) empty_value
+  -- d "1" "-x": a value is not plain, and is not the first
+  short_among : (c : ℕ) (v : List ℕ) (vs : List (List ℕ)) → ¬ All (IsPlain false) vs
+      → HasNoForm short_equals several (short c) (many (short c) (v ∷ vs)) option_among_values
+  -- cmd "-x" "a": one of two or more values is not plain
+  long_among : (name v w : List ℕ) (vs : List (List ℕ)) → ¬ All (IsPlain false) (v ∷ w ∷ vs)
+      → HasNoForm short_equals several (long name) (many (long name) (v ∷ w ∷ vs))
+      option_among_values
+
+-- ---- one item
+
+abbrev pub after_bytes : After → List ℕ
+after_bytes nothing = []
+after_bytes (attached v) = v
+after_bytes (joined v) = equals ∷ v
+
+-- a positional here is the first of a row of positionals
+pub data BeginsRow : Place → Type 0 where
+  row_at_open : BeginsRow open_line
+  row_at_cluster : BeginsRow in_cluster
+
+-- At this place, and before these items, an item adds a word, and more words; and the next item
+-- follows this place.
+pub data Adds (t : Table) (short_equals : Bool) (later : List Item)
+    : Place → Item → List ℕ → List (List ℕ) → Place → Type 0 where
+  -- an option of one character that is not `-`: `-v`, with its value
+  short_option : (c : ℕ) (place next : Place) (item : Item) (after : After) (words : List (List ℕ))
+      → IsScalar c → c ≢ dash → place ≢ ended
+      → HasForm short_equals later (kind t (short c)) (short c) item after words next
+      → Adds t short_equals later place item (dash ∷ encode_utf8 c ++ after_bytes after) words next
+  -- an option with a name: `--name`, with its value
+  long_option : (name : List ℕ) (place next : Place) (item : Item) (after : After)
+      (words : List (List ℕ)) → IsUtf8 name → ¬ Contains name equals
+      → (name ≢ []) ⊎ (after ≢ nothing) → place ≢ ended
+      → HasForm short_equals later (kind t (long name)) (long name) item after words next
+      → Adds t short_equals later place item (dash ∷ dash ∷ name ++ after_bytes after) words next
+  -- a positional after the separator: the word
+  after_separator : (w : List ℕ) → Adds t short_equals later ended (positional w) w [] ended
+  -- right after values that are words: `--` and the word
+  separator_after_values : (w : List ℕ)
+      → Adds t short_equals later after_values (positional w) (dash ∷ dash ∷ []) (w ∷ []) ended
+  -- else, where it begins a row, only positionals are left, and one of them is not plain: `--` and
+  -- the word
+  separator_before_row : (w : List ℕ) (place : Place) → BeginsRow place
+      → NeedSeparator (positional w ∷ later)
+      → Adds t short_equals later place (positional w) (dash ∷ dash ∷ []) (w ∷ []) ended
+  -- else, where it is not plain: `--` and the word
+  separator_before_word : (w : List ℕ) (place : Place) → place ≢ ended → ¬ IsPlain false w
+      → Adds t short_equals later place (positional w) (dash ∷ dash ∷ []) (w ∷ []) ended
+  -- else: the word
+  first_of_row : (w : List ℕ) (place : Place) → BeginsRow place → IsPlain false w
+      → ¬ NeedSeparator (positional w ∷ later)
+      → Adds t short_equals later place (positional w) w [] after_positional
+  next_of_row : (w : List ℕ) → IsPlain false w
+      → Adds t short_equals later after_positional (positional w) w [] after_positional
+
+-- The same of an item that goes on with the word before it: these bytes, and more words.
+pub data GoesOn (t : Table) (short_equals : Bool) (later : List Item)
+    : Place → Item → List ℕ → List (List ℕ) → Place → Type 0 where
+  -- `-` as an option of one character, right after a flag of one character: the second `-` of `-v-`
+  dash_option : (next : Place) (item : Item) (after : After) (words : List (List ℕ))
+      → HasForm short_equals later (kind t (short dash)) (short dash) item after words next
+      → GoesOn t short_equals later in_cluster item (dash ∷ after_bytes after) words next
+
+-- the item is of the option of this name
+abbrev pub IsOf : Name → Item → Type 0
+IsOf name (option other value) = other ≡ name
+IsOf name (many other values) = other ≡ name
+IsOf name (positional w) = ⊥
+
+-- At this place, and before these items, an item cannot be spelled, and this is why.
+pub data CannotBeSpelled (t : Table) (short_equals : Bool) (later : List Item)
+    : Place → Item → Reason → Type 0 where
+  -- a number that is no character, which no `char` is
+  no_character : (c : ℕ) (place : Place) (item : Item) → ¬ IsScalar c → IsOf (short c) item
+      → CannotBeSpelled t short_equals later place item no_name
+  -- bytes that are no text, as those of each `String` are
+  no_text : (name : List ℕ) (place : Place) (item : Item) → ¬ IsUtf8 name → IsOf (long name) item
+      → CannotBeSpelled t short_equals later place item no_name
+  -- a long option has `=` in its name
+  with_equals : (name : List ℕ) (place : Place) (item : Item) → IsUtf8 name → Contains name equals
+      → IsOf (long name) item → CannotBeSpelled t short_equals later place item equals_in_name
+  -- an option of one character has no form
+  no_short_form : (c : ℕ) (place : Place) (item : Item) (reason : Reason) → IsScalar c
+      → HasNoForm short_equals (kind t (short c)) (short c) item reason
+      → CannotBeSpelled t short_equals later place item reason
+  -- a long option has no form
+  no_long_form : (name : List ℕ) (place : Place) (item : Item) (reason : Reason) → IsUtf8 name
+      → ¬ Contains name equals → HasNoForm short_equals (kind t (long name)) (long name) item reason
+      → CannotBeSpelled t short_equals later place item reason
+  -- a long option has the empty name, and no value after `=`
+  empty_long : (place next : Place) (item : Item) (words : List (List ℕ))
+      → HasForm short_equals later (kind t (long [])) (long []) item nothing words next
+      → CannotBeSpelled t short_equals later place item empty_name
+  -- an option of one character stands after the separator
+  short_past_separator : (c : ℕ) (next : Place) (item : Item) (after : After)
+      (words : List (List ℕ)) → IsScalar c
+      → HasForm short_equals later (kind t (short c)) (short c) item after words next
+      → CannotBeSpelled t short_equals later ended item past_separator
+  -- a long option stands after the separator
+  long_past_separator : (name : List ℕ) (next : Place) (item : Item) (after : After)
+      (words : List (List ℕ)) → IsUtf8 name → ¬ Contains name equals
+      → (name ≢ []) ⊎ (after ≢ nothing)
+      → HasForm short_equals later (kind t (long name)) (long name) item after words next
+      → CannotBeSpelled t short_equals later ended item past_separator
+  -- `-`, as an option of one character, has no flag of one character right before it
+  dash_alone : (place next : Place) (item : Item) (after : After) (words : List (List ℕ))
+      → place ≢ in_cluster → place ≢ ended
+      → HasForm short_equals later (kind t (short dash)) (short dash) item after words next
+      → CannotBeSpelled t short_equals later place item dash_without_flag
+
+-- ---- all items
+
+-- From this place on, the items are spelled by these bytes, which go on with the word before them,
+-- and these words.
+pub data SpelledFrom (t : Table) (short_equals : Bool)
+    : Place → List Item → List ℕ → List (List ℕ) → Type 0 where
+  no_items : (place : Place) → SpelledFrom t short_equals place [] [] []
+  new_word : (place next : Place) (item : Item) (later : List Item) (word bytes : List ℕ)
+      (more words : List (List ℕ)) → Adds t short_equals later place item word more next
+      → SpelledFrom t short_equals next later bytes words
+      → SpelledFrom t short_equals place (item ∷ later) [] ((word ++ bytes) ∷ more ++ words)
+  same_word : (place next : Place) (item : Item) (later : List Item) (word bytes : List ℕ)
+      (more words : List (List ℕ)) → GoesOn t short_equals later place item word more next
+      → SpelledFrom t short_equals next later bytes words
+      → SpelledFrom t short_equals place (item ∷ later) (word ++ bytes) (more ++ words)
+
+-- of the words that spell the items, the rules choose these
+abbrev pub SpelledAs : Table → Bool → List Item → List (List ℕ) → Type 0
+SpelledAs t short_equals items words = SpelledFrom t short_equals open_line items [] words
+
+-- From this place on, the item of this index, counted from 0, is the first that cannot be spelled,
+-- and this is why.
+pub data FaultFrom (t : Table) (short_equals : Bool)
+    : Place → List Item → ℕ → Reason → Type 0 where
+  here : (place : Place) (item : Item) (later : List Item) (reason : Reason)
+      → CannotBeSpelled t short_equals later place item reason
+      → FaultFrom t short_equals place (item ∷ later) 0 reason
+  after_new_word : (place next : Place) (item : Item) (later : List Item) (word : List ℕ)
+      (more : List (List ℕ)) (index : ℕ) (reason : Reason)
+      → Adds t short_equals later place item word more next
+      → FaultFrom t short_equals next later index reason
+      → FaultFrom t short_equals place (item ∷ later) (suc index) reason
+  after_same_word : (place next : Place) (item : Item) (later : List Item) (word : List ℕ)
+      (more : List (List ℕ)) (index : ℕ) (reason : Reason)
+      → GoesOn t short_equals later place item word more next
+      → FaultFrom t short_equals next later index reason
+      → FaultFrom t short_equals place (item ∷ later) (suc index) reason
 
 -- which item cannot be spelled, counted from 0, and why
 pub record Fault : Type 0 where
   pub index : ℕ
   pub reason : Reason
 
--- what is spelled from some place on: bytes that go on with the word before, and words
-pub record Rest : Type 0 where
-  pub first : List ℕ
-  pub words : List (List ℕ)
-
-abbrev pub put_in_front : Bool → List ℕ → List (List ℕ) → Rest
-put_in_front true word words = record { first = word; words = words }
-put_in_front false word words = record { first = []; words = word ∷ words }
-
-abbrev pub with_rest : Added → Result Rest Fault → Result Rest Fault
-with_rest a (Err fault) = Err (record { index = suc fault.index; reason = fault.reason })
-with_rest a (Ok r) = Ok (put_in_front a.goes_on (a.word ++ r.first) (a.words ++ r.words))
-
-abbrev pub with_rests : Result Added Reason → (Place → Result Rest Fault) → Result Rest Fault
-with_rests (Err reason) rest = Err (record { index = 0; reason = reason })
-with_rests (Ok a) rest = with_rest a (rest a.place)
-
-unfoldable pub spelled_from : Table → Bool → List Item → Place → Result Rest Fault
-spelled_from t switch [] place = Ok (record { first = []; words = [] })
-spelled_from t switch (item ∷ items) place =
-    with_rests (adds t switch (separator_comes_too_early items) (separator_is_due items) place item)
-    (spelled_from t switch items)
-
-abbrev pub words_or_fault : Result Rest Fault → Result (List (List ℕ)) Fault
-words_or_fault (Err fault) = Err fault
-words_or_fault (Ok r) = Ok r.words
-
--- the words that spell the items, or the first item that no words can spell after those before it
-abbrev pub spelled : Table → Bool → List Item → Result (List (List ℕ)) Fault
-spelled t switch items = words_or_fault (spelled_from t switch items open_line)
+-- the first of the items that cannot be spelled after those before it, and why
+abbrev pub HasFault : Table → Bool → List Item → Fault → Type 0
+HasFault t short_equals items fault =
+    FaultFrom t short_equals open_line items fault.index fault.reason
 
 -- ---- which item is at fault
 
 -- the items before this one can be spelled, and with it they cannot
-pub record IsAtFault (t : Table) (switch : Bool) (items : List Item) (i : ℕ) : Type 0 where
+pub record IsAtFault (t : Table) (short_equals : Bool) (items : List Item) (i : ℕ) : Type 0 where
   pub within : i < length items
-  pub before : (words : List (List ℕ)) × Spells t switch words (take i items)
-  pub none : (words : List (List ℕ)) → ¬ Spells t switch words (take (suc i) items)
+  pub before : (words : List (List ℕ)) × Spells t short_equals words (take i items)
+  pub none : (words : List (List ℕ)) → ¬ Spells t short_equals words (take (suc i) items)
 
 -- ---- what a reason is of
 

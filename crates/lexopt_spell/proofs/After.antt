@@ -4,7 +4,8 @@ use Rattle.std.specs.List.{list_all}
 use Rattle.std.proofs.Math.Seq.{drop-cons, take-length}
 use Rattle.std.proofs.lemmas.List.Folds.{list_all-map}
 use Rattle.lexopt_line_spec.specs.Table.{Item}
-use Rattle.lexopt_line_spec.specs.Speller.{is_positional, is_plain_item, separator_comes_too_early, separator_is_due}
+use Rattle.lexopt_line_spec.specs.Speller.{is_positional}
+use Rattle.lexopt_line_spec.specs.SpellerTables.{is_plain_item, separator_comes_too_early, separator_is_due}
 
 -- a list from a place on, as the code cuts it
 abbrev pub from_on : {X : Type 0} → ℕ → List X → List X

@@ -1,12 +1,11 @@
 -- Where an item is named, no words show the items.
-use Rattle.std.proofs.Common.{◌≡◌, ℕ, Bool, List, sym, ◌∙◌}
-use Rattle.std.specs.Prelude.{Err}
+use Rattle.std.proofs.Common.{ℕ, Bool, List}
 use Rattle.lexopt_line_spec.specs.Table.{Item, Table}
 use Rattle.lexopt_line_spec.specs.Spelling.{Shows}
-use Rattle.lexopt_line_spec.specs.Speller.{Fault, spelled}
-use Rattle.lexopt_line_spec.proofs.SpellerAnswers.{none_is}
-use Rattle.lexopt_line_spec.proofs.SpellerFaults.{shown_words}
+use Rattle.lexopt_line_spec.specs.Speller.{Fault, HasFault}
+use Rattle.lexopt_line_spec.proofs.SpellerAgrees.{shown_as, not_both}
 
-pub none_shown : {X : Type 0} (t : Table) (switch : Bool) (words : List (List ℕ)) (items : List Item) (f : Fault) → spelled t switch items ≡ Err f → Shows t switch words items → X
-none_shown t switch words items f is shows =
-    let some = shown_words t switch words items shows in none_is f some.0 (sym is ∙ some.1)
+pub none_shown : {X : Type 0} (t : Table) (short_equals : Bool) (words : List (List ℕ)) (items : List Item) (f : Fault) → HasFault t short_equals items f
+    → Shows t short_equals words items → X
+none_shown t short_equals words items f is shows =
+    let some = shown_as t short_equals words items shows in not_both t short_equals items some.0 f some.1 is

@@ -8,7 +8,8 @@ use lib.Utf8.{scalar}
 use Rattle.lexopt_spec.specs.UnreadLine.{dash, equals, is_plain}
 use Rattle.lexopt_line_spec.specs.Table.{short, long, Item, option, many, positional, Kind, flag, one, optional, several, kind, Table}
 use Rattle.lexopt_line_spec.specs.Spelling.{attached, joined}
-use Rattle.lexopt_line_spec.specs.Speller.{Reason, Place, open_line, in_cluster, after_values, after_positional, ended, Form, in_word, attached_form, short_form, long_form, words_form, short_words_form, short_many_form, long_many_form, Added, is_named, short_added, long_placed, long_added, stands, positional_added, adds, separator_comes_too_early, separator_is_due, Fault, Rest, put_in_front, with_rest, with_rests, spelled_from, words_or_fault, spelled}
+use Rattle.lexopt_line_spec.specs.Speller.{Reason, Place, open_line, in_cluster, after_values, after_positional, ended, Fault}
+use Rattle.lexopt_line_spec.specs.SpellerTables.{Form, in_word, attached_form, short_form, long_form, words_form, short_words_form, short_many_form, long_many_form, Added, is_named, short_added, long_placed, long_added, stands, positional_added, adds, separator_comes_too_early, separator_is_due, Rest, put_in_front, with_rest, with_rests, spelled_from, words_or_fault, spelled}
 use Rattle.lexopt_line_spec.proofs.SpellerAnswers.{none_is}
 use Rattle.lexopt_spell.specs.Words.{onto_last, pushed}
 use Rattle.lexopt_spell.proofs.After.{from_on, from_on_is, at_item}
@@ -38,20 +39,20 @@ marked_calm : (mark : Bool) (v : List ℕ) (f : Form) → cond mark (given (in_w
 marked_calm true v f is = IfOk-at_ok FormIsCalm is (open_calm _)
 marked_calm false v f is = IfOk-at_ok FormIsCalm is (open_calm _)
 
-attached_calm : (switch : Bool) (v : List ℕ) (f : Form) → attached_form switch v ≡ Ok f → FormIsCalm f
+attached_calm : (short_equals : Bool) (v : List ℕ) (f : Form) → attached_form short_equals v ≡ Ok f → FormIsCalm f
 attached_calm true [] f is = IfOk-at_ok FormIsCalm is (open_calm _)
 attached_calm false [] f is = none_is _ f is
 attached_calm true (b ∷ bs) f is = marked_calm (b == equals) (b ∷ bs) f is
 attached_calm false (b ∷ bs) f is = IfOk-at_ok FormIsCalm is (open_calm _)
 
-short_form_calm : (switch : Bool) (k : Kind) (value : Option (List ℕ)) (f : Form) → short_form switch k value ≡ Ok f → FormIsCalm f
-short_form_calm switch flag None f is = IfOk-at_ok FormIsCalm is (λ at. refl)
-short_form_calm switch flag (Some v) f is = none_is _ f is
-short_form_calm switch one None f is = none_is _ f is
-short_form_calm switch one (Some v) f is = IfOk-at_ok FormIsCalm is (open_calm _)
-short_form_calm switch optional None f is = IfOk-at_ok FormIsCalm is (open_calm _)
-short_form_calm switch optional (Some v) f is = attached_calm switch v f is
-short_form_calm switch several value f is = none_is _ f is
+short_form_calm : (short_equals : Bool) (k : Kind) (value : Option (List ℕ)) (f : Form) → short_form short_equals k value ≡ Ok f → FormIsCalm f
+short_form_calm short_equals flag None f is = IfOk-at_ok FormIsCalm is (λ at. refl)
+short_form_calm short_equals flag (Some v) f is = none_is _ f is
+short_form_calm short_equals one None f is = none_is _ f is
+short_form_calm short_equals one (Some v) f is = IfOk-at_ok FormIsCalm is (open_calm _)
+short_form_calm short_equals optional None f is = IfOk-at_ok FormIsCalm is (open_calm _)
+short_form_calm short_equals optional (Some v) f is = attached_calm short_equals v f is
+short_form_calm short_equals several value f is = none_is _ f is
 
 long_form_calm : (k : Kind) (value : Option (List ℕ)) (f : Form) → long_form k value ≡ Ok f → FormIsCalm f
 long_form_calm flag None f is = IfOk-at_ok FormIsCalm is (open_calm _)
@@ -127,19 +128,19 @@ positional_calm true open_line w = (λ h. refl, λ h. off h)
 positional_calm true in_cluster w = (λ h. refl, λ h. off h)
 positional_calm true after_positional w = (λ h. refl, λ h. off h)
 
-adds_calm : (t : Table) (switch joins due : Bool) (place : Place) (item : Item) (a : Added) → adds t switch joins due place item ≡ Ok a → IsCalm place a
-adds_calm t switch joins due place (option (short c) value) a is =
-    short_calm (scalar c) (c == dash) place c (short_form switch (kind t (short c)) value) a (λ f found. short_form_calm switch (kind t (short c)) value f found) is
-adds_calm t switch joins due place (many (short c) values) a is =
-    short_calm (scalar c) (c == dash) place c (short_many_form (switch && joins) (kind t (short c)) values) a
-    (λ f found. short_many_calm (switch && joins) (kind t (short c)) values f found) is
-adds_calm t switch joins due place (option (long name) value) a is =
+adds_calm : (t : Table) (short_equals joins due : Bool) (place : Place) (item : Item) (a : Added) → adds t short_equals joins due place item ≡ Ok a → IsCalm place a
+adds_calm t short_equals joins due place (option (short c) value) a is =
+    short_calm (scalar c) (c == dash) place c (short_form short_equals (kind t (short c)) value) a (λ f found. short_form_calm short_equals (kind t (short c)) value f found) is
+adds_calm t short_equals joins due place (many (short c) values) a is =
+    short_calm (scalar c) (c == dash) place c (short_many_form (short_equals && joins) (kind t (short c)) values) a
+    (λ f found. short_many_calm (short_equals && joins) (kind t (short c)) values f found) is
+adds_calm t short_equals joins due place (option (long name) value) a is =
     long_calm (is_utf8 name) (list_any (λ b. b == equals) name) place name (long_form (kind t (long name)) value) a
     (λ f found. long_form_calm (kind t (long name)) value f found) is
-adds_calm t switch joins due place (many (long name) values) a is =
+adds_calm t short_equals joins due place (many (long name) values) a is =
     long_calm (is_utf8 name) (list_any (λ b. b == equals) name) place name (long_many_form (kind t (long name)) values) a
     (λ f found. long_many_calm (kind t (long name)) values f found) is
-adds_calm t switch joins due place (positional w) a is =
+adds_calm t short_equals joins due place (positional w) a is =
     IfOk-at_ok (IsCalm place) is (positional_calm (stands (is_plain false w) due place) place w)
 
 -- ---- where no cluster is open, no bytes go on
@@ -159,12 +160,12 @@ none_goes_on : (place : Place) (o : Result Added Reason) (rest : Place → Resul
 none_goes_on place (Err reason) rest r calm other is = none_is _ r is
 none_goes_on place (Ok a) rest r calm other is = with_first a (rest a.place) r (λ on. other ((calm a refl).1 on)) is
 
-rest_first : (t : Table) (switch : Bool) (items : List Item) (place : Place) (r : Rest) → spelled_from t switch items place ≡ Ok r → place ≢ in_cluster → r.first ≡ []
+rest_first : (t : Table) (short_equals : Bool) (items : List Item) (place : Place) (r : Rest) → spelled_from t short_equals items place ≡ Ok r → place ≢ in_cluster → r.first ≡ []
 unfolding spelled_from
-rest_first t switch [] place r is other = let e : record { first = []; words = [] } ≡ r = cc in ap (λ (x : Rest). x.first) (sym e)
-rest_first t switch (item ∷ items) place r is other =
-    none_goes_on place (adds t switch (separator_comes_too_early items) (separator_is_due items) place item) (spelled_from t switch items) r
-    (λ a found. adds_calm t switch (separator_comes_too_early items) (separator_is_due items) place item a found) other is
+rest_first t short_equals [] place r is other = let e : record { first = []; words = [] } ≡ r = cc in ap (λ (x : Rest). x.first) (sym e)
+rest_first t short_equals (item ∷ items) place r is other =
+    none_goes_on place (adds t short_equals (separator_comes_too_early items) (separator_is_due items) place item) (spelled_from t short_equals items) r
+    (λ a found. adds_calm t short_equals (separator_comes_too_early items) (separator_is_due items) place item a found) other is
 
 -- ---- words so far
 
@@ -253,13 +254,13 @@ glued_joined after_values false words word more at = refl
 glued_joined after_positional false words word more at = refl
 glued_joined ended false words word more at = refl
 
-rest_joined : (t : Table) (switch : Bool) (i : ℕ) (place : Place) (words : List (List ℕ)) (a : Added) (items : List Item) (o : Result Rest Fault) → IsCalm place a
-    → spelled_from t switch items a.place ≡ o → resumed i place words (with_rest a o) ≡ resumed (suc i) a.place (pushed a.goes_on words a.word a.words) o
-rest_joined t switch i place words a items (Err fault) calm is =
+rest_joined : (t : Table) (short_equals : Bool) (i : ℕ) (place : Place) (words : List (List ℕ)) (a : Added) (items : List Item) (o : Result Rest Fault) → IsCalm place a
+    → spelled_from t short_equals items a.place ≡ o → resumed i place words (with_rest a o) ≡ resumed (suc i) a.place (pushed a.goes_on words a.word a.words) o
+rest_joined t short_equals i place words a items (Err fault) calm is =
     let same : i + suc fault.index ≡ suc i + fault.index = omega arith in ap (λ n. Err (record { index = n; reason = fault.reason })) same
-rest_joined t switch i place words a items (Ok r) calm is =
+rest_joined t short_equals i place words a items (Ok r) calm is =
     ap (λ l. Ok l) (glued_joined place a.goes_on words (a.word ++ r.first) (a.words ++ r.words) calm.1
-    ∙ pushed_joined a.goes_on a.place words a.word a.words r calm.0 (rest_first t switch items a.place r is))
+    ∙ pushed_joined a.goes_on a.place words a.word a.words r calm.0 (rest_first t short_equals items a.place r is))
 
 -- ---- the steps of the loop
 
@@ -274,49 +275,49 @@ none_after after_values words = append-nil words
 none_after after_positional words = append-nil words
 none_after ended words = append-nil words
 
-pub none_spelled : (t : Table) (switch : Bool) (l : List Item) → spelled t switch l ≡ resumed 0 open_line [] (spelled_from t switch l open_line)
-none_spelled t switch l = all_first (spelled_from t switch l open_line)
+pub none_spelled : (t : Table) (short_equals : Bool) (l : List Item) → spelled t short_equals l ≡ resumed 0 open_line [] (spelled_from t short_equals l open_line)
+none_spelled t short_equals l = all_first (spelled_from t short_equals l open_line)
 
-pub more_spelled : (t : Table) (switch : Bool) (i : ℕ) (place : Place) (words : List (List ℕ)) (item : Item) (items : List Item) (a : Added)
-    → adds t switch (separator_comes_too_early items) (separator_is_due items) place item ≡ Ok a
-    → resumed i place words (spelled_from t switch (item ∷ items) place) ≡ resumed (suc i) a.place (pushed a.goes_on words a.word a.words) (spelled_from t switch items a.place)
+pub more_spelled : (t : Table) (short_equals : Bool) (i : ℕ) (place : Place) (words : List (List ℕ)) (item : Item) (items : List Item) (a : Added)
+    → adds t short_equals (separator_comes_too_early items) (separator_is_due items) place item ≡ Ok a
+    → resumed i place words (spelled_from t short_equals (item ∷ items) place) ≡ resumed (suc i) a.place (pushed a.goes_on words a.word a.words) (spelled_from t short_equals items a.place)
 unfolding spelled_from
-more_spelled t switch i place words item items a is =
-    ap (λ o. resumed i place words (with_rests o (spelled_from t switch items))) is
-    ∙ rest_joined t switch i place words a items (spelled_from t switch items a.place) (adds_calm t switch (separator_comes_too_early items) (separator_is_due items) place item a is) refl
+more_spelled t short_equals i place words item items a is =
+    ap (λ o. resumed i place words (with_rests o (spelled_from t short_equals items))) is
+    ∙ rest_joined t short_equals i place words a items (spelled_from t short_equals items a.place) (adds_calm t short_equals (separator_comes_too_early items) (separator_is_due items) place item a is) refl
 
-pub fault_found : (t : Table) (switch : Bool) (i : ℕ) (place : Place) (words : List (List ℕ)) (item : Item) (items : List Item) (reason : Reason)
-    → adds t switch (separator_comes_too_early items) (separator_is_due items) place item ≡ Err reason
-    → resumed i place words (spelled_from t switch (item ∷ items) place) ≡ Err (record { index = i; reason = reason })
+pub fault_found : (t : Table) (short_equals : Bool) (i : ℕ) (place : Place) (words : List (List ℕ)) (item : Item) (items : List Item) (reason : Reason)
+    → adds t short_equals (separator_comes_too_early items) (separator_is_due items) place item ≡ Err reason
+    → resumed i place words (spelled_from t short_equals (item ∷ items) place) ≡ Err (record { index = i; reason = reason })
 unfolding spelled_from
-fault_found t switch i place words item items reason is =
-    ap (λ o. resumed i place words (with_rests o (spelled_from t switch items))) is ∙ ap (λ n. Err (record { index = n; reason = reason })) (add-zero i)
+fault_found t short_equals i place words item items reason is =
+    ap (λ o. resumed i place words (with_rests o (spelled_from t short_equals items))) is ∙ ap (λ n. Err (record { index = n; reason = reason })) (add-zero i)
 
-pub all_spelled : (t : Table) (switch : Bool) (i : ℕ) (place : Place) (words : List (List ℕ)) → resumed i place words (spelled_from t switch [] place) ≡ Ok words
+pub all_spelled : (t : Table) (short_equals : Bool) (i : ℕ) (place : Place) (words : List (List ℕ)) → resumed i place words (spelled_from t short_equals [] place) ≡ Ok words
 unfolding spelled_from
-all_spelled t switch i place words = ap (λ l. Ok l) (none_after place words)
+all_spelled t short_equals i place words = ap (λ l. Ok l) (none_after place words)
 
 -- ---- the same of items as the code has them
 
-pub item_at_fault : {X : Type 0} (f : X → Item) (t : Table) (switch : Bool) (xs : List X) (i : ℕ) (x : X) (place : Place) (words : List (List ℕ)) (reason : Reason)
-    (answer : Result (List (List ℕ)) Fault) → i < length xs → x ≡ get_or xs i x → adds t switch (separator_comes_too_early (map f (from_on (i + 1) xs))) (separator_is_due (map f (from_on (i + 1) xs))) place (f x) ≡ Err reason
-    → answer ≡ resumed i place words (spelled_from t switch (map f (drop i xs)) place) → answer ≡ Err (record { index = i; reason = reason })
-item_at_fault f t switch xs i x place words reason answer within is refused so_far =
-    so_far ∙ ap (λ l. resumed i place words (spelled_from t switch l place)) (at_item f xs i x within is)
-    ∙ fault_found t switch i place words (f x) (map f (from_on (i + 1) xs)) reason refused
+pub item_at_fault : {X : Type 0} (f : X → Item) (t : Table) (short_equals : Bool) (xs : List X) (i : ℕ) (x : X) (place : Place) (words : List (List ℕ)) (reason : Reason)
+    (answer : Result (List (List ℕ)) Fault) → i < length xs → x ≡ get_or xs i x → adds t short_equals (separator_comes_too_early (map f (from_on (i + 1) xs))) (separator_is_due (map f (from_on (i + 1) xs))) place (f x) ≡ Err reason
+    → answer ≡ resumed i place words (spelled_from t short_equals (map f (drop i xs)) place) → answer ≡ Err (record { index = i; reason = reason })
+item_at_fault f t short_equals xs i x place words reason answer within is refused so_far =
+    so_far ∙ ap (λ l. resumed i place words (spelled_from t short_equals l place)) (at_item f xs i x within is)
+    ∙ fault_found t short_equals i place words (f x) (map f (from_on (i + 1) xs)) reason refused
 
-pub item_spelled : {X : Type 0} (f : X → Item) (t : Table) (switch : Bool) (xs : List X) (i : ℕ) (x : X) (place : Place) (words new : List (List ℕ)) (a : Added)
-    (answer : Result (List (List ℕ)) Fault) → i < length xs → x ≡ get_or xs i x → adds t switch (separator_comes_too_early (map f (from_on (i + 1) xs))) (separator_is_due (map f (from_on (i + 1) xs))) place (f x) ≡ Ok a
-    → new ≡ pushed a.goes_on words a.word a.words → answer ≡ resumed i place words (spelled_from t switch (map f (drop i xs)) place)
-    → answer ≡ resumed (i + 1) a.place new (spelled_from t switch (map f (drop (i + 1) xs)) a.place)
-item_spelled f t switch xs i x place words new a answer within is added now so_far =
-    so_far ∙ ap (λ l. resumed i place words (spelled_from t switch l place)) (at_item f xs i x within is)
-    ∙ more_spelled t switch i place words (f x) (map f (from_on (i + 1) xs)) a added
-    ∙ ap (λ n. resumed n a.place (pushed a.goes_on words a.word a.words) (spelled_from t switch (map f (from_on (i + 1) xs)) a.place)) (sym (add-one i))
-    ∙ ap (λ l. resumed (i + 1) a.place (pushed a.goes_on words a.word a.words) (spelled_from t switch (map f l) a.place)) (from_on_is (i + 1) xs)
-    ∙ ap (λ ws. resumed (i + 1) a.place ws (spelled_from t switch (map f (drop (i + 1) xs)) a.place)) (sym now)
+pub item_spelled : {X : Type 0} (f : X → Item) (t : Table) (short_equals : Bool) (xs : List X) (i : ℕ) (x : X) (place : Place) (words new : List (List ℕ)) (a : Added)
+    (answer : Result (List (List ℕ)) Fault) → i < length xs → x ≡ get_or xs i x → adds t short_equals (separator_comes_too_early (map f (from_on (i + 1) xs))) (separator_is_due (map f (from_on (i + 1) xs))) place (f x) ≡ Ok a
+    → new ≡ pushed a.goes_on words a.word a.words → answer ≡ resumed i place words (spelled_from t short_equals (map f (drop i xs)) place)
+    → answer ≡ resumed (i + 1) a.place new (spelled_from t short_equals (map f (drop (i + 1) xs)) a.place)
+item_spelled f t short_equals xs i x place words new a answer within is added now so_far =
+    so_far ∙ ap (λ l. resumed i place words (spelled_from t short_equals l place)) (at_item f xs i x within is)
+    ∙ more_spelled t short_equals i place words (f x) (map f (from_on (i + 1) xs)) a added
+    ∙ ap (λ n. resumed n a.place (pushed a.goes_on words a.word a.words) (spelled_from t short_equals (map f (from_on (i + 1) xs)) a.place)) (sym (add-one i))
+    ∙ ap (λ l. resumed (i + 1) a.place (pushed a.goes_on words a.word a.words) (spelled_from t short_equals (map f l) a.place)) (from_on_is (i + 1) xs)
+    ∙ ap (λ ws. resumed (i + 1) a.place ws (spelled_from t short_equals (map f (drop (i + 1) xs)) a.place)) (sym now)
 
-pub items_spelled : {X : Type 0} (f : X → Item) (t : Table) (switch : Bool) (xs : List X) (i : ℕ) (place : Place) (words : List (List ℕ)) (answer : Result (List (List ℕ)) Fault)
-    → length xs ≤ i → answer ≡ resumed i place words (spelled_from t switch (map f (drop i xs)) place) → answer ≡ Ok words
-items_spelled f t switch xs i place words answer ends so_far =
-    so_far ∙ ap (λ l. resumed i place words (spelled_from t switch (map f l) place)) (drop_all i xs ends) ∙ all_spelled t switch i place words
+pub items_spelled : {X : Type 0} (f : X → Item) (t : Table) (short_equals : Bool) (xs : List X) (i : ℕ) (place : Place) (words : List (List ℕ)) (answer : Result (List (List ℕ)) Fault)
+    → length xs ≤ i → answer ≡ resumed i place words (spelled_from t short_equals (map f (drop i xs)) place) → answer ≡ Ok words
+items_spelled f t short_equals xs i place words answer ends so_far =
+    so_far ∙ ap (λ l. resumed i place words (spelled_from t short_equals (map f l) place)) (drop_all i xs ends) ∙ all_spelled t short_equals i place words

@@ -1,11 +1,11 @@
 -- What `spell` tells of a whole line, over a table and items of Rust. `short_equals` is the setting
--- of the switch.
-use Rattle.std.specs.Prelude.{◌≡◌, ℕ, Bool, List, map, Ok}
+-- of the short_equals.
+use Rattle.std.specs.Prelude.{◌≡◌, ℕ, Bool, List, map}
 use Rattle.lexopt_spec.specs.Steps as steps
 use Rattle.lexopt_spec.specs.Steps.{Reply}
 use Rattle.lexopt_line_spec.specs.Readings.{IsReading, start}
 use Rattle.lexopt_line_spec.specs.Speller as spec
-use Rattle.lexopt_line_spec.specs.Speller.{spelled}
+use Rattle.lexopt_line_spec.specs.Speller.{SpelledAs}
 use Rattle.lexopt_line_spec.specs.Table as table_spec
 use Rattle.lexopt_items.specs.Items.{item_view, table_view}
 use Rattle.lexopt_items.specs.Lines.{LineShows}
@@ -17,12 +17,12 @@ use Rattle.lexopt_spell.specs.declared.spell.SpellError.{SpellError}
 -- of the words that spell the items, the rules choose these
 abbrev pub HaveWords : Table → Bool → List Item → List (List ℕ) → Type 0
 HaveWords table short_equals items words =
-    spelled (table_view table) short_equals (map item_view items) ≡ Ok words
+    SpelledAs (table_view table) short_equals (map item_view items) words
 
 -- by the rules the items have the fault that the error names. `OutOfMemory` says nothing of them
 abbrev pub HaveFault : Table → Bool → List Item → SpellError → Type 0
 HaveFault table short_equals items e =
-    views.IsFault (spelled (table_view table) short_equals (map item_view items)) e
+    views.HasFault (table_view table) short_equals (map item_view items) e
 
 -- every reading of the words comes to the end of the line, and says these items
 abbrev pub LineSaysNothingElse : Table → Bool → List (List ℕ) → List Item → Type 0

@@ -1,10 +1,11 @@
 -- What the speller's functions answer, as contracts see it.
-use Rattle.std.specs.Prelude.{◌≡◌, ℕ, Bool, true, false, List, ◌∷◌, [], ◌++◌, Result, Ok, Err}
+use Rattle.std.specs.Prelude.{ℕ, Bool, true, false, List, ◌∷◌, [], ◌++◌, Result, Ok, Err}
 use Rattle.std.specs.Prelude.{encode_utf8, string_bytes}
 use Rattle.lexopt_spec.specs.UnreadLine.{dash}
 use Rattle.lexopt_line_spec.specs.Table.{Item, Table}
 use Rattle.lexopt_line_spec.specs.Spelling as how
 use Rattle.lexopt_line_spec.specs.Speller as spec
+use Rattle.lexopt_line_spec.specs.SpellerTables as tables
 use Rattle.lexopt_line_spec.specs.Speller.{after_bytes}
 use Rattle.lexopt_spell.specs.declared.forms.Place.{Place}
 use Rattle.lexopt_spell.specs.declared.forms.Place.TheVariants.{Open, InCluster, AfterValues}
@@ -38,16 +39,17 @@ reason_view EmptyName = spec.empty_name
 reason_view PastSeparator = spec.past_separator
 reason_view DashWithoutFlag = spec.dash_without_flag
 
--- the error says which item is at fault, and why. It says nothing where memory is refused
-abbrev pub IsFault : Result (List (List ℕ)) spec.Fault → SpellError → Type 0
-IsFault answer (AtFault index reason) =
-    answer ≡ Err (record { index = index; reason = reason_view reason })
-IsFault answer OutOfMemory = Unit {0}
+-- the items have the fault that the error names. `OutOfMemory` says nothing of them
+abbrev pub HasFault : Table → Bool → List Item → SpellError → Type 0
+HasFault t short_equals items (AtFault index reason) =
+    spec.HasFault t short_equals items (record { index = index; reason = reason_view reason })
+HasFault t short_equals items OutOfMemory = Unit {0}
 
 -- those before the item that the error names can be spelled, and with it they cannot
 abbrev pub NamesItemAtFault : Table → Bool → List Item → SpellError → Type 0
-NamesItemAtFault t switch items (AtFault index reason) = spec.IsAtFault t switch items index
-NamesItemAtFault t switch items OutOfMemory = Unit {0}
+NamesItemAtFault t short_equals items (AtFault index reason) =
+    spec.IsAtFault t short_equals items index
+NamesItemAtFault t short_equals items OutOfMemory = Unit {0}
 
 abbrev pub place_view : Place → spec.Place
 place_view Open = spec.open_line
@@ -61,10 +63,10 @@ after_view Nothing = how.nothing
 after_view (Attached value) = how.attached value.now
 after_view (Joined value) = how.joined value.now
 
-abbrev pub form_view : Form → spec.Form
+abbrev pub form_view : Form → tables.Form
 form_view f = record { after = after_view f.after; words = f.words.now; place = place_view f.place }
 
-abbrev pub form_answer : Result Form Reason → Result spec.Form spec.Reason
+abbrev pub form_answer : Result Form Reason → Result tables.Form spec.Reason
 form_answer (Ok f) = Ok (form_view f)
 form_answer (Err reason) = Err (reason_view reason)
 
@@ -84,7 +86,7 @@ goes_on (Long name after) = false
 goes_on Separator = false
 goes_on (Positional word) = false
 
-abbrev pub added_view : Added → spec.Added
+abbrev pub added_view : Added → tables.Added
 added_view a = record {
   goes_on = goes_on a.word;
   word = word_bytes a.word;
@@ -92,6 +94,6 @@ added_view a = record {
   place = place_view a.place;
 }
 
-abbrev pub added_answer : Result Added Reason → Result spec.Added spec.Reason
+abbrev pub added_answer : Result Added Reason → Result tables.Added spec.Reason
 added_answer (Ok a) = Ok (added_view a)
 added_answer (Err reason) = Err (reason_view reason)

@@ -3,6 +3,7 @@ ghost use Rattle.std.specs.Prelude.{◌≡◌, ◌==◌, false, true, Ok, map, s
 ghost use Rattle.std.specs.List.{list_all, list_any};
 ghost use Rattle.lexopt_spec.specs.UnreadLine as line;
 ghost use Rattle.lexopt_line_spec.specs.Speller as spec;
+ghost use Rattle.lexopt_line_spec.specs.SpellerTables as tables;
 ghost use Rattle.lexopt_items.specs.Items.{item_view, table_view};
 ghost use Rattle.lexopt_spell.specs.Models.{added_answer, added_view, after_view, form_answer};
 ghost use Rattle.lexopt_spell.specs.Models.{form_view, place_view};
@@ -28,7 +29,7 @@ pub struct Added<'a> {
 // An option of one character, with this after its name.
 fn short_added(place: Place, option: char, form: Form<'_>) -> Result<Added<'_>, Reason>
     ensures { added_answer result
-        ≡ spec.short_added true (option == line.dash) (place_view place) option
+        ≡ tables.short_added true (option == line.dash) (place_view place) option
         (Ok (form_view form.entry)) }
 {
     let word = match place {
@@ -49,7 +50,7 @@ fn short_added(place: Place, option: char, form: Form<'_>) -> Result<Added<'_>, 
 // An option whose name has no `=`, with this after it.
 fn long_placed<'a>(place: Place, name: &'a String, form: Form<'a>) -> Result<Added<'a>, Reason>
     ensures { added_answer result
-        ≡ spec.long_placed (spec.is_named (string_bytes name.now) (after_view form.entry.after))
+        ≡ tables.long_placed (tables.is_named (string_bytes name.now) (after_view form.entry.after))
         (place_view place) (string_bytes name.now) (form_view form.entry) }
 {
     if name.is_empty() && !matches!(form.after, After::Joined(_)) {
@@ -72,7 +73,7 @@ fn long_added<'a>(
     form: Result<Form<'a>, Reason>,
 ) -> Result<Added<'a>, Reason>
     ensures { added_answer result
-        ≡ spec.long_added true (list_any (λ b. b == line.equals) (string_bytes name.now))
+        ≡ tables.long_added true (list_any (λ b. b == line.equals) (string_bytes name.now))
         (place_view place) (string_bytes name.now) (form_answer form.entry) }
 {
     if name.as_bytes().contains(&b'=') {
@@ -100,7 +101,7 @@ fn are_no_options(items: &[Item]) -> bool
 // It reads on to the first option, and is asked after options alone: it reads each item of a line
 // once at most.
 fn separator_comes_too_early(items: &[Item]) -> bool
-    ensures { result ≡ spec.separator_comes_too_early (map item_view items.now) }
+    ensures { result ≡ tables.separator_comes_too_early (map item_view items.now) }
 {
     match items {
         [] => false,
@@ -110,7 +111,7 @@ fn separator_comes_too_early(items: &[Item]) -> bool
 
 // Whether an item is no positional that would be an option.
 fn is_plain_item(item: &Item) -> bool
-    ensures { result ≡ spec.is_plain_item (item_view item.now) }
+    ensures { result ≡ tables.is_plain_item (item_view item.now) }
 {
     match item {
         Item::Positional(word) => is_plain(word),
@@ -120,7 +121,7 @@ fn is_plain_item(item: &Item) -> bool
 
 // Whether no item is a positional that would be an option.
 fn are_plain(items: &[Item]) -> bool
-    ensures { result ≡ list_all (λ item. spec.is_plain_item (item_view item)) items.now }
+    ensures { result ≡ list_all (λ item. tables.is_plain_item (item_view item)) items.now }
 {
     items.iter().all(|item| is_plain_item(item))
 }
@@ -130,7 +131,7 @@ fn are_plain(items: &[Item]) -> bool
 // It reads on to the first option, and is asked at the first positional of a row alone: it reads
 // each item of a line twice at most.
 fn separator_is_due(items: &[Item]) -> bool
-    ensures { result ≡ spec.separator_is_due (map item_view items.now) }
+    ensures { result ≡ tables.separator_is_due (map item_view items.now) }
 {
     are_no_options(items) && !are_plain(items)
 }
@@ -139,8 +140,8 @@ fn separator_is_due(items: &[Item]) -> bool
 // of them.
 fn positional_added<'a>(place: Place, word: &'a OsString, after: &[Item]) -> Added<'a>
     ensures { added_view result
-        ≡ spec.positional_added (spec.stands (line.is_plain false word.now)
-        (spec.separator_is_due (map item_view after.now)) (place_view place)) (place_view place)
+        ≡ tables.positional_added (tables.stands (line.is_plain false word.now)
+        (tables.separator_is_due (map item_view after.now)) (place_view place)) (place_view place)
         word.now }
 {
     let stands = match place {
@@ -175,9 +176,9 @@ pub fn adds<'a>(
     table: &Table,
 ) -> Result<Added<'a>, Reason>
     ensures { added_answer result
-        ≡ spec.adds (table_view table.now) short_equals
-        (spec.separator_comes_too_early (map item_view after.now))
-        (spec.separator_is_due (map item_view after.now))
+        ≡ tables.adds (table_view table.now) short_equals
+        (tables.separator_comes_too_early (map item_view after.now))
+        (tables.separator_is_due (map item_view after.now))
         (place_view place) (item_view item.now) }
 {
     match item {

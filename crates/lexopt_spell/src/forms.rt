@@ -1,7 +1,7 @@
 //! Where the values of an option stand: after its name in its word, or in words of their own.
 ghost use Rattle.std.specs.Prelude.{◌≡◌, false};
 ghost use Rattle.std.specs.List.{list_all};
-ghost use Rattle.lexopt_line_spec.specs.Speller as spec;
+ghost use Rattle.lexopt_line_spec.specs.SpellerTables as tables;
 ghost use Rattle.lexopt_spec.specs.UnreadLine as line;
 ghost use Rattle.lexopt_items.specs.Items.{kind_view};
 ghost use Rattle.lexopt_spell.specs.Models.{after_view, form_answer, form_view, place_view};
@@ -48,7 +48,7 @@ pub struct Form<'a> {
 
 // Nothing but the name.
 fn name_only<'a>(place: Place) -> Form<'a>
-    ensures { form_view result ≡ spec.name_only (place_view place) }
+    ensures { form_view result ≡ tables.name_only (place_view place) }
 {
     Form {
         after: After::Nothing,
@@ -59,7 +59,7 @@ fn name_only<'a>(place: Place) -> Form<'a>
 
 // All in one word.
 fn in_word(after: After<'_>) -> Form<'_>
-    ensures { form_view result ≡ spec.in_word (after_view after.entry) }
+    ensures { form_view result ≡ tables.in_word (after_view after.entry) }
 {
     Form {
         after,
@@ -71,7 +71,7 @@ fn in_word(after: After<'_>) -> Form<'_>
 // A value right after a character. It stands after `=` where it would be lost, or begins with `=`,
 // if the switch is on.
 fn attached_form(short_equals: bool, value: &OsString) -> Result<Form<'_>, Reason>
-    ensures { form_answer result ≡ spec.attached_form short_equals value.now }
+    ensures { form_answer result ≡ tables.attached_form short_equals value.now }
 {
     match value.as_bytes() {
         [] => {
@@ -97,7 +97,7 @@ pub fn short_form(
     kind: Kind,
     value: &Option<OsString>,
 ) -> Result<Form<'_>, Reason>
-    ensures { form_answer result ≡ spec.short_form short_equals (kind_view kind) value.now }
+    ensures { form_answer result ≡ tables.short_form short_equals (kind_view kind) value.now }
 {
     match (kind, value) {
         (Kind::Flag, None) => Ok(name_only(Place::InCluster)),
@@ -116,7 +116,7 @@ pub fn short_form(
 
 /// The form of a long option with one value or none.
 pub fn long_form(kind: Kind, value: &Option<OsString>) -> Result<Form<'_>, Reason>
-    ensures { form_answer result ≡ spec.long_form (kind_view kind) value.now }
+    ensures { form_answer result ≡ tables.long_form (kind_view kind) value.now }
 {
     match (kind, value) {
         (Kind::Flag, None) => Ok(name_only(Place::Open)),
@@ -146,7 +146,7 @@ fn all_plain(words: &[OsString]) -> bool
 // Values in words of their own.
 fn words_form(values: &[OsString]) -> Result<Form<'_>, Reason>
     ensures { form_answer result
-        ≡ spec.words_form (list_all (line.is_plain false) values.now) values.now }
+        ≡ tables.words_form (list_all (line.is_plain false) values.now) values.now }
 {
     if !all_plain(values) {
         return Err(Reason::OptionAmongValues);
@@ -162,7 +162,7 @@ fn words_form(values: &[OsString]) -> Result<Form<'_>, Reason>
 // own.
 fn attached_words_form<'a>(first: &'a OsString, others: &'a [OsString]) -> Result<Form<'a>, Reason>
     ensures { form_answer result
-        ≡ spec.short_words_form false (list_all (line.is_plain false) others.now) first.now
+        ≡ tables.short_words_form false (list_all (line.is_plain false) others.now) first.now
         others.now }
 {
     if !all_plain(others) {
@@ -177,7 +177,7 @@ fn attached_words_form<'a>(first: &'a OsString, others: &'a [OsString]) -> Resul
 
 /// The form of a short option with several values. A lone one may have to be joined.
 pub fn short_many_form(joins: bool, kind: Kind, values: &[OsString]) -> Result<Form<'_>, Reason>
-    ensures { form_answer result ≡ spec.short_many_form joins (kind_view kind) values.now }
+    ensures { form_answer result ≡ tables.short_many_form joins (kind_view kind) values.now }
 {
     let Kind::Several = kind else {
         return Err(Reason::NotMany);
@@ -192,7 +192,7 @@ pub fn short_many_form(joins: bool, kind: Kind, values: &[OsString]) -> Result<F
 
 /// The form of a long option with several values.
 pub fn long_many_form(kind: Kind, values: &[OsString]) -> Result<Form<'_>, Reason>
-    ensures { form_answer result ≡ spec.long_many_form (kind_view kind) values.now }
+    ensures { form_answer result ≡ tables.long_many_form (kind_view kind) values.now }
 {
     let Kind::Several = kind else {
         return Err(Reason::NotMany);

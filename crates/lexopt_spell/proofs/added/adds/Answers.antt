@@ -4,8 +4,9 @@ use Rattle.std.specs.Str.{is_utf8}
 use Rattle.std.proofs.lemmas.Str.{IsUtf8-string_bytes, is_utf8-from_IsUtf8}
 use Rattle.lexopt_spec.specs.UnreadLine.{equals}
 use Rattle.lexopt_line_spec.specs.Table.{Kind, kind, long}
-use Rattle.lexopt_line_spec.specs.Speller as spec
-use Rattle.lexopt_line_spec.specs.Speller.{Form, Reason}
+use Rattle.lexopt_line_spec.specs.SpellerTables as tables
+use Rattle.lexopt_line_spec.specs.Speller.{Reason}
+use Rattle.lexopt_line_spec.specs.SpellerTables.{Form}
 use Rattle.lexopt_items.specs.Items.{item_view, table_view}
 use Rattle.lexopt_spell.specs.Models.{form_answer, place_view}
 use Rattle.lexopt_spell.proofs.added.adds.Goals as goal
@@ -15,24 +16,24 @@ returns-in-Long c =
     let name = string_bytes c.in-Long.name in
     let has = list_any (λ b. b == equals) name in
     let place = place_view c.args.place in
-    let joins = spec.separator_comes_too_early (map item_view c.args.after.now) in
-    let due = spec.separator_is_due (map item_view c.args.after.now) in
+    let joins = tables.separator_comes_too_early (map item_view c.args.after.now) in
+    let due = tables.separator_is_due (map item_view c.args.after.now) in
     c.long_added.ensures
-    ∙ ap (λ (u : Bool). spec.long_added u has place name (form_answer c.long_form.result)) (sym (is_utf8-from_IsUtf8 name (IsUtf8-string_bytes c.in-Long.name)))
-    ∙ ap (λ (f : Result Form Reason). spec.long_added (is_utf8 name) has place name f)
-    (c.long_form.ensures ∙ ap (λ (k : Kind). spec.long_form k c.in-Long.value) c.kind_of_long-kind.ensures)
-    ∙ ap (λ i. spec.adds (table_view c.args.table.now) c.args.short_equals joins due place (item_view i)) (sym c.in-Long.is)
+    ∙ ap (λ (u : Bool). tables.long_added u has place name (form_answer c.long_form.result)) (sym (is_utf8-from_IsUtf8 name (IsUtf8-string_bytes c.in-Long.name)))
+    ∙ ap (λ (f : Result Form Reason). tables.long_added (is_utf8 name) has place name f)
+    (c.long_form.ensures ∙ ap (λ (k : Kind). tables.long_form k c.in-Long.value) c.kind_of_long-kind.ensures)
+    ∙ ap (λ i. tables.adds (table_view c.args.table.now) c.args.short_equals joins due place (item_view i)) (sym c.in-Long.is)
 
 pub returns-in-LongMany : goal.returns-in-LongMany
 returns-in-LongMany c =
     let name = string_bytes c.in-LongMany.name in
     let has = list_any (λ b. b == equals) name in
     let place = place_view c.args.place in
-    let joins = spec.separator_comes_too_early (map item_view c.args.after.now) in
-    let due = spec.separator_is_due (map item_view c.args.after.now) in
+    let joins = tables.separator_comes_too_early (map item_view c.args.after.now) in
+    let due = tables.separator_is_due (map item_view c.args.after.now) in
     c.long_added-in-LongMany.ensures
-    ∙ ap (λ (u : Bool). spec.long_added u has place name (form_answer c.long_many_form.result)) (sym (is_utf8-from_IsUtf8 name (IsUtf8-string_bytes c.in-LongMany.name)))
-    ∙ ap (λ (f : Result Form Reason). spec.long_added (is_utf8 name) has place name f)
-    (c.long_many_form.ensures ∙ ap (λ (k : Kind). spec.long_many_form k c.deref-in-LongMany.result.now) c.kind_of_long-kind-in-LongMany.ensures
-    ∙ ap (λ vs. spec.long_many_form (kind (table_view c.args.table.now) (long name)) vs) c.deref-in-LongMany.ensures.value)
-    ∙ ap (λ i. spec.adds (table_view c.args.table.now) c.args.short_equals joins due place (item_view i)) (sym c.in-LongMany.is)
+    ∙ ap (λ (u : Bool). tables.long_added u has place name (form_answer c.long_many_form.result)) (sym (is_utf8-from_IsUtf8 name (IsUtf8-string_bytes c.in-LongMany.name)))
+    ∙ ap (λ (f : Result Form Reason). tables.long_added (is_utf8 name) has place name f)
+    (c.long_many_form.ensures ∙ ap (λ (k : Kind). tables.long_many_form k c.deref-in-LongMany.result.now) c.kind_of_long-kind-in-LongMany.ensures
+    ∙ ap (λ vs. tables.long_many_form (kind (table_view c.args.table.now) (long name)) vs) c.deref-in-LongMany.ensures.value)
+    ∙ ap (λ i. tables.adds (table_view c.args.table.now) c.args.short_equals joins due place (item_view i)) (sym c.in-LongMany.is)

@@ -1,5 +1,5 @@
 use Rattle.std.proofs.Common.{◌≡◌, drop, map}
-use Rattle.lexopt_line_spec.specs.Speller.{spelled, spelled_from}
+use Rattle.lexopt_line_spec.specs.SpellerTables.{spelled, spelled_from}
 use Rattle.lexopt_items.specs.Items.{item_view, table_view}
 use Rattle.lexopt_spell.specs.Models.{place_view}
 use Rattle.lexopt_spell.proofs.Resumed.{resumed}

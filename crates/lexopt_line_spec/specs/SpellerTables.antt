@@ -1,0 +1,249 @@
+-- The words that the relations of `Speller` choose, and the faults that they name, as functions:
+-- what an item adds, by the place that it stands at.
+use Rattle.std.specs.Prelude.{ℕ, suc, Bool, true, false, ◌==◌, ◌&&◌, not, List, [], ◌∷◌, ◌++◌}
+use Rattle.std.specs.Prelude.{Option, Some, None, Result, Ok, Err, encode_utf8, if◌then◌else◌}
+use Rattle.std.specs.List.{list_any, list_all}
+use Rattle.std.specs.Str.{is_utf8}
+use lib.Utf8.{scalar}
+use Rattle.lexopt_spec.specs.UnreadLine.{dash, equals, is_plain}
+use Rattle.lexopt_line_spec.specs.Table.{short, long, Item, option, many, positional, Kind, flag}
+use Rattle.lexopt_line_spec.specs.Table.{one, optional, several, kind, Table}
+use Rattle.lexopt_line_spec.specs.Spelling.{After, nothing, attached, joined}
+use Rattle.lexopt_line_spec.specs.Speller.{Reason, no_name, equals_in_name, unexpected_value}
+use Rattle.lexopt_line_spec.specs.Speller.{missing_value, wants_many, not_many, empty_value}
+use Rattle.lexopt_line_spec.specs.Speller.{option_among_values, empty_name, past_separator}
+use Rattle.lexopt_line_spec.specs.Speller.{dash_without_flag, Place, open_line, in_cluster}
+use Rattle.lexopt_line_spec.specs.Speller.{after_values, after_positional, ended, after_bytes}
+use Rattle.lexopt_line_spec.specs.Speller.{is_positional, Fault}
+
+-- ---- the values of an option
+
+-- what stands after an option's name in its word, the words after that word, and what the next item
+-- follows then
+pub record Form : Type 0 where
+  pub after : After
+  pub words : List (List ℕ)
+  pub place : Place
+
+-- nothing but the name
+abbrev pub name_only : Place → Form
+name_only place = record { after = nothing; words = []; place = place }
+
+-- all in one word
+abbrev pub in_word : After → Form
+in_word after = record { after = after; words = []; place = open_line }
+
+-- a value right after a character; after `=` where it is empty or begins with a mark, if the
+-- setting is on
+abbrev pub attached_form : Bool → List ℕ → Result Form Reason
+attached_form true [] = Ok (in_word (joined []))
+attached_form false [] = Err empty_value
+attached_form true (b ∷ bs) = if b == equals then Ok (in_word (joined (b ∷ bs)))
+    else Ok (in_word (attached (b ∷ bs)))
+attached_form false (b ∷ bs) = Ok (in_word (attached (b ∷ bs)))
+
+-- a short option with one value or none
+abbrev pub short_form : Bool → Kind → Option (List ℕ) → Result Form Reason
+short_form short_equals flag None = Ok (name_only in_cluster)
+short_form short_equals flag (Some v) = Err unexpected_value
+short_form short_equals one None = Err missing_value
+short_form short_equals one (Some v) =
+    Ok (record { after = nothing; words = v ∷ []; place = open_line })
+short_form short_equals optional None = Ok (name_only open_line)
+short_form short_equals optional (Some v) = attached_form short_equals v
+short_form short_equals several value = Err wants_many
+
+-- a long option with one value or none
+abbrev pub long_form : Kind → Option (List ℕ) → Result Form Reason
+long_form flag None = Ok (name_only open_line)
+long_form flag (Some v) = Err unexpected_value
+long_form one None = Err missing_value
+long_form one (Some v) = Ok (in_word (joined v))
+long_form optional None = Ok (name_only open_line)
+long_form optional (Some v) = Ok (in_word (joined v))
+long_form several value = Err wants_many
+
+-- values in words of their own, which are all plain, or not
+abbrev pub words_form : Bool → List (List ℕ) → Result Form Reason
+words_form true values = Ok (record { after = nothing; words = values; place = after_values })
+words_form false values = Err option_among_values
+
+-- the same after a character: a first value that would be an option stands in its word. Whether the
+-- first is plain, and the others
+abbrev pub short_words_form : Bool → Bool → List ℕ → List (List ℕ) → Result Form Reason
+short_words_form true others v vs = words_form others (v ∷ vs)
+short_words_form false true v vs =
+    Ok (record { after = attached v; words = vs; place = after_values })
+short_words_form false false v vs = Err option_among_values
+
+-- a short option with several values: one value may have to be joined by `=`
+abbrev pub short_many_form : Bool → Kind → List (List ℕ) → Result Form Reason
+short_many_form joins several [] = Err missing_value
+short_many_form true several (v ∷ []) = Ok (in_word (joined v))
+short_many_form false several (v ∷ []) = short_words_form (is_plain false v) true v []
+short_many_form joins several (v ∷ w ∷ vs) =
+    short_words_form (is_plain false v) (list_all (is_plain false) (w ∷ vs)) v (w ∷ vs)
+short_many_form joins flag values = Err not_many
+short_many_form joins one values = Err not_many
+short_many_form joins optional values = Err not_many
+
+-- a long option with several values
+abbrev pub long_many_form : Kind → List (List ℕ) → Result Form Reason
+long_many_form several [] = Err missing_value
+long_many_form several (v ∷ []) = Ok (in_word (joined v))
+long_many_form several (v ∷ w ∷ vs) =
+    words_form (list_all (is_plain false) (v ∷ w ∷ vs)) (v ∷ w ∷ vs)
+long_many_form flag values = Err not_many
+long_many_form one values = Err not_many
+long_many_form optional values = Err not_many
+
+-- ---- one item
+
+-- what an item adds: a word, which may go on with the word before it, and more words; and what the
+-- next item follows then
+pub record Added : Type 0 where
+  pub goes_on : Bool
+  pub word : List ℕ
+  pub words : List (List ℕ)
+  pub place : Place
+
+-- an option by its name, with its dashes if it does not go on
+abbrev pub with_form : Bool → List ℕ → Form → Added
+with_form goes_on name f = record {
+  goes_on = goes_on;
+  word = name ++ after_bytes f.after;
+  words = f.words;
+  place = f.place;
+}
+
+-- a short option: whether it is a character, and `-`
+abbrev pub short_added : Bool → Bool → Place → ℕ → Result Form Reason → Result Added Reason
+short_added false is_dash place c form = Err no_name
+short_added true is_dash place c (Err reason) = Err reason
+short_added true is_dash ended c (Ok f) = Err past_separator
+short_added true false open_line c (Ok f) = Ok (with_form false (dash ∷ encode_utf8 c) f)
+short_added true false in_cluster c (Ok f) = Ok (with_form false (dash ∷ encode_utf8 c) f)
+short_added true false after_values c (Ok f) = Ok (with_form false (dash ∷ encode_utf8 c) f)
+short_added true false after_positional c (Ok f) = Ok (with_form false (dash ∷ encode_utf8 c) f)
+short_added true true in_cluster c (Ok f) = Ok (with_form true (encode_utf8 c) f)
+short_added true true open_line c (Ok f) = Err dash_without_flag
+short_added true true after_values c (Ok f) = Err dash_without_flag
+short_added true true after_positional c (Ok f) = Err dash_without_flag
+
+-- a name has bytes, or a value after `=`
+abbrev pub is_named : List ℕ → After → Bool
+is_named [] nothing = false
+is_named [] (attached v) = false
+is_named [] (joined v) = true
+is_named (b ∷ bs) after = true
+
+-- a long option that is named, or not
+abbrev pub long_placed : Bool → Place → List ℕ → Form → Result Added Reason
+long_placed false place name f = Err empty_name
+long_placed true ended name f = Err past_separator
+long_placed true open_line name f = Ok (with_form false (dash ∷ dash ∷ name) f)
+long_placed true in_cluster name f = Ok (with_form false (dash ∷ dash ∷ name) f)
+long_placed true after_values name f = Ok (with_form false (dash ∷ dash ∷ name) f)
+long_placed true after_positional name f = Ok (with_form false (dash ∷ dash ∷ name) f)
+
+-- a long option: whether it is a text, and has an `=`
+abbrev pub long_added : Bool → Bool → Place → List ℕ → Result Form Reason → Result Added Reason
+long_added false has_equals place name form = Err no_name
+long_added true true place name form = Err equals_in_name
+long_added true false place name (Err reason) = Err reason
+long_added true false place name (Ok f) = long_placed (is_named name f.after) place name f
+
+-- a positional stands by itself where it is plain, unless it begins a row before which the
+-- separator is to stand
+abbrev pub stands : Bool → Bool → Place → Bool
+stands plain due open_line = plain && not due
+stands plain due in_cluster = plain && not due
+stands plain due after_values = plain
+stands plain due after_positional = plain
+stands plain due ended = plain
+
+-- a positional: whether it stands by itself. After values the separator keeps it from being one
+-- more of them
+abbrev pub positional_added : Bool → Place → List ℕ → Added
+positional_added alone ended w = record { goes_on = false; word = w; words = []; place = ended }
+positional_added alone after_values w =
+    record { goes_on = false; word = dash ∷ dash ∷ []; words = w ∷ []; place = ended }
+positional_added false open_line w =
+    record { goes_on = false; word = dash ∷ dash ∷ []; words = w ∷ []; place = ended }
+positional_added false in_cluster w =
+    record { goes_on = false; word = dash ∷ dash ∷ []; words = w ∷ []; place = ended }
+positional_added false after_positional w =
+    record { goes_on = false; word = dash ∷ dash ∷ []; words = w ∷ []; place = ended }
+positional_added true open_line w =
+    record { goes_on = false; word = w; words = []; place = after_positional }
+positional_added true in_cluster w =
+    record { goes_on = false; word = w; words = []; place = after_positional }
+positional_added true after_positional w =
+    record { goes_on = false; word = w; words = []; place = after_positional }
+
+-- an item at this place; whether one of several values is to be joined, where it can be, and
+-- whether the separator is to stand before a row of positionals that begins here
+abbrev pub adds : Table → Bool → Bool → Bool → Place → Item → Result Added Reason
+adds t short_equals joins due place (option (short c) value) =
+    short_added (scalar c) (c == dash) place c (short_form short_equals (kind t (short c)) value)
+adds t short_equals joins due place (many (short c) values) =
+    short_added (scalar c) (c == dash) place c
+    (short_many_form (short_equals && joins) (kind t (short c)) values)
+adds t short_equals joins due place (option (long name) value) =
+    long_added (is_utf8 name) (list_any (λ b. b == equals) name) place name
+    (long_form (kind t (long name)) value)
+adds t short_equals joins due place (many (long name) values) =
+    long_added (is_utf8 name) (list_any (λ b. b == equals) name) place name
+    (long_many_form (kind t (long name)) values)
+adds t short_equals joins due place (positional w) =
+    Ok (positional_added (stands (is_plain false w) due place) place w)
+
+-- ---- all items
+
+-- these items are a positional and, after it, an option among others. After a value in a word the
+-- separator would have to stand before that positional, and so before that option
+abbrev pub separator_comes_too_early : List Item → Bool
+separator_comes_too_early [] = false
+separator_comes_too_early (item ∷ items) = is_positional item && not (list_all is_positional items)
+
+abbrev pub is_plain_item : Item → Bool
+is_plain_item (option name value) = true
+is_plain_item (many name values) = true
+is_plain_item (positional w) = is_plain false w
+
+-- these items are positionals, and one of them would be an option: so the separator is to stand
+-- before all that are left. A program that stops at the first positional reads it there alone
+abbrev pub separator_is_due : List Item → Bool
+separator_is_due items = list_all is_positional items && not (list_all is_plain_item items)
+
+-- what is spelled from some place on: bytes that go on with the word before, and words
+pub record Rest : Type 0 where
+  pub first : List ℕ
+  pub words : List (List ℕ)
+
+abbrev pub put_in_front : Bool → List ℕ → List (List ℕ) → Rest
+put_in_front true word words = record { first = word; words = words }
+put_in_front false word words = record { first = []; words = word ∷ words }
+
+abbrev pub with_rest : Added → Result Rest Fault → Result Rest Fault
+with_rest a (Err fault) = Err (record { index = suc fault.index; reason = fault.reason })
+with_rest a (Ok r) = Ok (put_in_front a.goes_on (a.word ++ r.first) (a.words ++ r.words))
+
+abbrev pub with_rests : Result Added Reason → (Place → Result Rest Fault) → Result Rest Fault
+with_rests (Err reason) rest = Err (record { index = 0; reason = reason })
+with_rests (Ok a) rest = with_rest a (rest a.place)
+
+unfoldable pub spelled_from : Table → Bool → List Item → Place → Result Rest Fault
+spelled_from t short_equals [] place = Ok (record { first = []; words = [] })
+spelled_from t short_equals (item ∷ items) place =
+    with_rests
+    (adds t short_equals (separator_comes_too_early items) (separator_is_due items) place item)
+    (spelled_from t short_equals items)
+
+abbrev pub words_or_fault : Result Rest Fault → Result (List (List ℕ)) Fault
+words_or_fault (Err fault) = Err fault
+words_or_fault (Ok r) = Ok r.words
+
+-- the words that spell the items, or the first item that no words can spell after those before it
+abbrev pub spelled : Table → Bool → List Item → Result (List (List ℕ)) Fault
+spelled t short_equals items = words_or_fault (spelled_from t short_equals items open_line)
