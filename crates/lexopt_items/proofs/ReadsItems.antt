@@ -10,7 +10,7 @@ use Rattle.lexopt_line_spec.specs.Table.{Name, short, long, Item, option, positi
 use Rattle.lexopt_line_spec.specs.Readings.{IsDue, IsReading, SaysUpTo, start}
 use Rattle.lexopt_line_spec.specs.Bound.{bound}
 use Rattle.lexopt_line_spec.proofs.Bounds.{given_falls, step_bound}
-use Rattle.lexopt_line_spec.proofs.Rounds.{option_reply, says_flag, says_value, says_optional, says_several, says_positional, reads_last, reads_refused}
+use Rattle.lexopt_line_spec.proofs.ReadingSteps.{option_reply, says_flag, says_value, says_optional, says_several, says_positional, reads_last, reads_refused}
 use Rattle.lexopt_line_spec.specs.Spelling.{Shows}
 use Rattle.lexopt_line_spec.proofs.WholeLines.{shown_said}
 use Rattle.lexopt_base.specs.Replies.{RepliesWith, error_reply}

@@ -56,47 +56,47 @@ is_flag : (k : ValueKind) → same_as k ≡ flag → k ≡ bare
 is_flag bare h = refl
 is_flag valued h = absurd (let e : one ≡ flag = h in cc)
 
-cluster_forth : (letters : Letters) (t : OneValueTable) (switch : Bool) (words left : List (List ℕ)) (bytes : List ℕ) (items : List Item)
-    → small.OneValueCluster letters t switch words left bytes items → large.Cluster letters (widened t) switch words left bytes items
-cluster_forth letters t switch words left bytes items (small.flag_first c character others more letter k no_mark spelled) =
-    large.flag_first c character others more letter (same_kind t (short c) ∙ ap same_as k) no_mark (cluster_forth letters t switch words left others more spelled)
-cluster_forth letters t switch words left bytes items (small.last_option c character others after item letter ends completes) =
+cluster_forth : (letters : Letters) (t : OneValueTable) (short_equals : Bool) (words left : List (List ℕ)) (bytes : List ℕ) (items : List Item)
+    → small.OneValueCluster letters t short_equals words left bytes items → large.Cluster letters (widened t) short_equals words left bytes items
+cluster_forth letters t short_equals words left bytes items (small.flag_first c character others more letter k no_mark spelled) =
+    large.flag_first c character others more letter (same_kind t (short c) ∙ ap same_as k) no_mark (cluster_forth letters t short_equals words left others more spelled)
+cluster_forth letters t short_equals words left bytes items (small.last_option c character others after item letter ends completes) =
     large.last_option c character others after item letter ends (forth t (short c) after words item left completes)
 
-cluster_back : (letters : Letters) (t : OneValueTable) (switch : Bool) (words left : List (List ℕ)) (bytes : List ℕ) (items : List Item)
-    → large.Cluster letters (widened t) switch words left bytes items → small.OneValueCluster letters t switch words left bytes items
-cluster_back letters t switch words left bytes items (large.flag_first c character others more letter k no_mark spelled) =
+cluster_back : (letters : Letters) (t : OneValueTable) (short_equals : Bool) (words left : List (List ℕ)) (bytes : List ℕ) (items : List Item)
+    → large.Cluster letters (widened t) short_equals words left bytes items → small.OneValueCluster letters t short_equals words left bytes items
+cluster_back letters t short_equals words left bytes items (large.flag_first c character others more letter k no_mark spelled) =
     small.flag_first c character others more letter (is_flag (value_kind t (short c)) (sym (same_kind t (short c)) ∙ k)) no_mark
-    (cluster_back letters t switch words left others more spelled)
-cluster_back letters t switch words left bytes items (large.last_option c character others after item letter ends completes) =
+    (cluster_back letters t short_equals words left others more spelled)
+cluster_back letters t short_equals words left bytes items (large.last_option c character others after item letter ends completes) =
     small.last_option c character others after item letter ends (back t (short c) after words item left completes)
 
-group_forth : (letters : Letters) (t : OneValueTable) (switch : Bool) (words : List (List ℕ)) (items : List Item) (left : List (List ℕ))
-    → small.OneValueGroup letters t switch words items left → large.Group letters (widened t) switch words items left
-group_forth letters t switch words items left (small.cluster bytes others are other spelled) =
-    large.cluster bytes others are other (cluster_forth letters t switch others left bytes items spelled)
-group_forth letters t switch words items left (small.long_option text bytes name after item others are is none letter completes item_is) =
+group_forth : (letters : Letters) (t : OneValueTable) (short_equals : Bool) (words : List (List ℕ)) (items : List Item) (left : List (List ℕ))
+    → small.OneValueGroup letters t short_equals words items left → large.Group letters (widened t) short_equals words items left
+group_forth letters t short_equals words items left (small.cluster bytes others are other spelled) =
+    large.cluster bytes others are other (cluster_forth letters t short_equals others left bytes items spelled)
+group_forth letters t short_equals words items left (small.long_option text bytes name after item others are is none letter completes item_is) =
     large.long_option text bytes name after item others are is none letter (forth t (long name) after others item left completes) item_is
 
-group_back : (letters : Letters) (t : OneValueTable) (switch : Bool) (words : List (List ℕ)) (items : List Item) (left : List (List ℕ))
-    → large.Group letters (widened t) switch words items left → small.OneValueGroup letters t switch words items left
-group_back letters t switch words items left (large.cluster bytes others are other spelled) =
-    small.cluster bytes others are other (cluster_back letters t switch others left bytes items spelled)
-group_back letters t switch words items left (large.long_option text bytes name after item others are is none letter completes item_is) =
+group_back : (letters : Letters) (t : OneValueTable) (short_equals : Bool) (words : List (List ℕ)) (items : List Item) (left : List (List ℕ))
+    → large.Group letters (widened t) short_equals words items left → small.OneValueGroup letters t short_equals words items left
+group_back letters t short_equals words items left (large.cluster bytes others are other spelled) =
+    small.cluster bytes others are other (cluster_back letters t short_equals others left bytes items spelled)
+group_back letters t short_equals words items left (large.long_option text bytes name after item others are is none letter completes item_is) =
     small.long_option text bytes name after item others are is none letter (back t (long name) after others item left completes) item_is
 
-pub line_forth : (letters : Letters) (t : OneValueTable) (switch : Bool) (words : List (List ℕ)) (items : List Item)
-    → small.OneValueLine letters t switch words items → large.Line letters (widened t) switch words items
-line_forth letters t switch words items small.no_words = large.no_words
-line_forth letters t switch words items (small.plain_word w ws more plain line) = large.plain_word w ws more plain (line_forth letters t switch ws more line)
-line_forth letters t switch words items (small.group ws left front more first line) =
-    large.group ws left front more (group_forth letters t switch ws front left first) (line_forth letters t switch left more line)
-line_forth letters t switch words items (small.separator ws) = large.separator ws
+pub line_forth : (letters : Letters) (t : OneValueTable) (short_equals : Bool) (words : List (List ℕ)) (items : List Item)
+    → small.OneValueLine letters t short_equals words items → large.Line letters (widened t) short_equals words items
+line_forth letters t short_equals words items small.no_words = large.no_words
+line_forth letters t short_equals words items (small.plain_word w ws more plain line) = large.plain_word w ws more plain (line_forth letters t short_equals ws more line)
+line_forth letters t short_equals words items (small.group ws left front more first line) =
+    large.group ws left front more (group_forth letters t short_equals ws front left first) (line_forth letters t short_equals left more line)
+line_forth letters t short_equals words items (small.separator ws) = large.separator ws
 
-pub line_back : (letters : Letters) (t : OneValueTable) (switch : Bool) (words : List (List ℕ)) (items : List Item)
-    → large.Line letters (widened t) switch words items → small.OneValueLine letters t switch words items
-line_back letters t switch words items large.no_words = small.no_words
-line_back letters t switch words items (large.plain_word w ws more plain line) = small.plain_word w ws more plain (line_back letters t switch ws more line)
-line_back letters t switch words items (large.group ws left front more first line) =
-    small.group ws left front more (group_back letters t switch ws front left first) (line_back letters t switch left more line)
-line_back letters t switch words items (large.separator ws) = small.separator ws
+pub line_back : (letters : Letters) (t : OneValueTable) (short_equals : Bool) (words : List (List ℕ)) (items : List Item)
+    → large.Line letters (widened t) short_equals words items → small.OneValueLine letters t short_equals words items
+line_back letters t short_equals words items large.no_words = small.no_words
+line_back letters t short_equals words items (large.plain_word w ws more plain line) = small.plain_word w ws more plain (line_back letters t short_equals ws more line)
+line_back letters t short_equals words items (large.group ws left front more first line) =
+    small.group ws left front more (group_back letters t short_equals ws front left first) (line_back letters t short_equals left more line)
+line_back letters t short_equals words items (large.separator ws) = small.separator ws

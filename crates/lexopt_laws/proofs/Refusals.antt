@@ -1,4 +1,4 @@
--- Calls that never want memory.
+-- Calls that are never out of memory.
 use Rattle.std.proofs.Common.{◌≡◌, ◌≢◌, ◌⊎◌, ℕ, Bool, true, List, [], Some, None, refl, sym, subst, inl, inr}
 use Rattle.lexopt_spec.specs.UnreadLine.{UnreadLine, pending}
 use Rattle.lexopt_spec.specs.Steps.{Reply, long, missing, unexpected, no_memory, TakesMemory, Answers, ReadsPositional, no_word_left, word_left, ReadsWord, no_word, reads_separator, reads_long, reads_cluster, reads_positional, NextStep, joined_value, equals_value, next_in_cluster, after_separator, next_word, ValueStep, pending_value, takes_word, nothing_to_take, OptionalStep, optional_pending, optional_none, SwitchStep}
@@ -6,7 +6,7 @@ use Rattle.lexopt_spec.specs.Views.{available, ValuesStep, no_values, some_value
 use Rattle.lexopt_spec.specs.Runs.{Call, next, value, optional, values, raw, try_raw, raw_if, switch, StepWithMemory, Step}
 use Rattle.lexopt_line_spec.proofs.Calls.{both_pending}
 
--- the reply takes no memory, and is no want of memory
+-- the reply takes no memory, and is not `no_memory`
 abbrev Modest : Reply → Type 0
 Modest no_memory = ⊥
 Modest r = TakesMemory r → ⊥
@@ -119,10 +119,10 @@ known (try_raw n) u r v step = modest_is_known r (try_raw_modest n u r v step)
 known (raw_if word) u r v step = raw_known (TakesWordIf word) u r v (λ t. modest_is_known r (word_if_modest word u r v t)) step
 known (switch on) u r v step = subst IsKnown (sym step.reply_is) tt
 
-pub ample_known : (call : Call) (u : UnreadLine) (r : Reply) (v : UnreadLine) → StepWithMemory call u r v → r ≢ no_memory
-ample_known call u r v step = known_other r (known call u r v step)
+pub known_with_memory : (call : Call) (u : UnreadLine) (r : Reply) (v : UnreadLine) → StepWithMemory call u r v → r ≢ no_memory
+known_with_memory call u r v step = known_other r (known call u r v step)
 
--- ---- where memory is wanted
+-- ---- where memory runs out
 
 -- the reply is a long option, or an error that names an option
 abbrev pub HoldsText : Reply → Type 0
@@ -136,7 +136,7 @@ holds_text (unexpected option word) takes = inr (inr (option, word, refl))
 holds_text r takes = absurd takes
 
 pub refused_only : (call : Call) (u v : UnreadLine) → Step call u no_memory v → (v ≡ u) × ((r : Reply) × (w : UnreadLine) × StepWithMemory call u r w × HoldsText r)
-refused_only call u v (inl step) = absurd (ample_known call u no_memory v step refl)
+refused_only call u v (inl step) = absurd (known_with_memory call u no_memory v step refl)
 refused_only call u v (inr refused) =
     let wanted = refused.in_place_of in
     (refused.after_is, (wanted.0, wanted.1, wanted.2, holds_text wanted.0 wanted.3))

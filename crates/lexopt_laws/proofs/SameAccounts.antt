@@ -4,7 +4,7 @@ use Rattle.lexopt_spec.specs.Pieces.{first_piece, pieces}
 use Rattle.lexopt_spec.specs.UnreadLine.{dash, equals, no_tail, joined, rest, UnreadLine, BeginsWith}
 use Rattle.lexopt_spec.specs.Steps.{Reply, IsLongOption, ReadsPositional, no_word_left, word_left, ReadsWord, no_word, reads_separator, reads_long, reads_cluster, reads_positional, NextStep, joined_value, equals_value, next_in_cluster, after_separator, next_word}
 use Rattle.lexopt_spec.specs.Account.{given, mark, piece_segment, name_end, handing, handed_items, positional_account, word_account, next_account}
-use Rattle.lexopt_spec.specs.Runs.{Call, next, value, optional, values, raw, try_raw, raw_if, switch, StepWithMemory, ample_account}
+use Rattle.lexopt_spec.specs.Runs.{Call, next, value, optional, values, raw, try_raw, raw_if, switch, StepWithMemory, account_with_memory}
 use Rattle.lexopt_line_spec.proofs.Exact.{others_of, no_option_plain, head_same, tail_same, no_head, separator_long, two_dashes_cluster, two_dashes, in_tail, rest_bytes, joined_bytes, same_option}
 use Rattle.lexopt_line_spec.proofs.Calls.{call_same}
 
@@ -95,7 +95,7 @@ next_accounts u r s v w (next_word a e p) (after_separator c d f) = absurd (true
 next_accounts u r s v w (next_word a e p) (next_word c d f) = word_accounts u r s v w p f
 
 pub call_accounts : (call : Call) (u : UnreadLine) (r s : Reply) (v w : UnreadLine) (one : StepWithMemory call u r v) (other : StepWithMemory call u s w)
-    → ample_account call u r v one ≡ ample_account call u s w other
+    → account_with_memory call u r v one ≡ account_with_memory call u s w other
 call_accounts next u r s v w one other = next_accounts u r s v w one other
 call_accounts value u r s v w one other = ap (λ x. handing u (handed_items x)) (call_same value u r s v w one other).0
 call_accounts optional u r s v w one other = ap (λ x. handing u (handed_items x)) (call_same optional u r s v w one other).0

@@ -37,7 +37,7 @@ pub not_begins : (b : ℕ) (bs : List ℕ) → begins b bs ≡ false → ¬ Begi
 not_begins b [] is = λ h. h
 not_begins b (c ∷ cs) is = λ h. true≢false (sym (eq-eqb c b h) ∙ is)
 
-pub not_mark : (switch : Bool) (bs : List ℕ) → switch && begins equals bs ≡ false → ¬ BeginsWithMark switch bs
+pub not_mark : (short_equals : Bool) (bs : List ℕ) → short_equals && begins equals bs ≡ false → ¬ BeginsWithMark short_equals bs
 not_mark false bs is = λ mark. true≢false (sym mark.0)
 not_mark true bs is = λ mark. not_begins equals bs is mark.1
 
@@ -76,44 +76,44 @@ plain_front_is {ended = ended} front left plain longest = record { words_are = r
 -- ---- from items to words
 
 -- a flag of a cluster, and more of it
-pub flag_of : {t : Table} {switch : Bool} {words left : List (List ℕ)} {items : List Item} (c : ℕ) (others : List ℕ) → IsScalar c → kind t (short c) ≡ flag
-    → switch && begins equals others ≡ false → Cluster exact t switch words left others items
-    → Cluster exact t switch words left (encode_utf8 c ++ others) (option (short c) None ∷ items)
-flag_of {t = t} {switch = switch} {words = words} {left = left} {items = items} c others scalar is none spelled =
-    flag_first c (encode_utf8 c) others items (scalar, refl) is (not_mark switch others none) spelled
+pub flag_of : {t : Table} {short_equals : Bool} {words left : List (List ℕ)} {items : List Item} (c : ℕ) (others : List ℕ) → IsScalar c → kind t (short c) ≡ flag
+    → short_equals && begins equals others ≡ false → Cluster exact t short_equals words left others items
+    → Cluster exact t short_equals words left (encode_utf8 c ++ others) (option (short c) None ∷ items)
+flag_of {t = t} {short_equals = short_equals} {words = words} {left = left} {items = items} c others scalar is none spelled =
+    flag_first c (encode_utf8 c) others items (scalar, refl) is (not_mark short_equals others none) spelled
 
 -- the last option of a cluster
-pub last_of : {t : Table} {switch : Bool} {words left : List (List ℕ)} (c : ℕ) (others : List ℕ) (after : After) (item : Item) → IsScalar c
-    → IsAfterLast switch others after → Completes (kind t (short c)) (short c) after words item left
-    → Cluster exact t switch words left (encode_utf8 c ++ others) (item ∷ [])
+pub last_of : {t : Table} {short_equals : Bool} {words left : List (List ℕ)} (c : ℕ) (others : List ℕ) (after : After) (item : Item) → IsScalar c
+    → IsAfterLast short_equals others after → Completes (kind t (short c)) (short c) after words item left
+    → Cluster exact t short_equals words left (encode_utf8 c ++ others) (item ∷ [])
 last_of c others after item scalar ends completes = last_option c (encode_utf8 c) others after item (scalar, refl) ends completes
 
-pub value_after : {switch : Bool} (b : ℕ) (bs : List ℕ) → switch && b == equals ≡ false → IsAfterLast switch (b ∷ bs) (attached (b ∷ bs))
-value_after {switch = switch} b bs none = a_value (some b bs) (not_mark switch (b ∷ bs) none) refl
+pub value_after : {short_equals : Bool} (b : ℕ) (bs : List ℕ) → short_equals && b == equals ≡ false → IsAfterLast short_equals (b ∷ bs) (attached (b ∷ bs))
+value_after {short_equals = short_equals} b bs none = a_value (some b bs) (not_mark short_equals (b ∷ bs) none) refl
 
-pub cluster_line : {t : Table} {switch : Bool} {others left : List (List ℕ)} {items : List Item} (bytes : List ℕ) (front : List Item) → begins dash bytes ≡ false
-    → Cluster exact t switch others left bytes front → Line exact t switch left items → Line exact t switch ((dash ∷ bytes) ∷ others) (front ++ items)
+pub cluster_line : {t : Table} {short_equals : Bool} {others left : List (List ℕ)} {items : List Item} (bytes : List ℕ) (front : List Item) → begins dash bytes ≡ false
+    → Cluster exact t short_equals others left bytes front → Line exact t short_equals left items → Line exact t short_equals ((dash ∷ bytes) ∷ others) (front ++ items)
 cluster_line {others = others} {left = left} {items = items} bytes front other spelled line =
     group ((dash ∷ bytes) ∷ others) left front items (cluster bytes others refl (not_begins dash bytes other) spelled) line
 
 -- `--name`, where the name is not empty
-pub name_line : {t : Table} {switch : Bool} {others left : List (List ℕ)} {items : List Item} (b : ℕ) (bs : List ℕ) (item : Item) → free (b ∷ bs) ≡ true → IsUtf8 (b ∷ bs)
-    → Completes (kind t (long (b ∷ bs))) (long (b ∷ bs)) nothing others item left → Line exact t switch left items
-    → Line exact t switch ((dash ∷ dash ∷ b ∷ bs) ∷ others) (item ∷ items)
+pub name_line : {t : Table} {short_equals : Bool} {others left : List (List ℕ)} {items : List Item} (b : ℕ) (bs : List ℕ) (item : Item) → free (b ∷ bs) ≡ true → IsUtf8 (b ∷ bs)
+    → Completes (kind t (long (b ∷ bs))) (long (b ∷ bs)) nothing others item left → Line exact t short_equals left items
+    → Line exact t short_equals ((dash ∷ dash ∷ b ∷ bs) ∷ others) (item ∷ items)
 name_line {others = others} {left = left} {items = items} b bs item none utf8 completes line =
     group ((dash ∷ dash ∷ b ∷ bs) ∷ others) left (item ∷ []) items
     (lines.long_option (b ∷ bs) (b ∷ bs) (b ∷ bs) nothing item others refl (name_alone (some b bs) refl refl) (not_contains (b ∷ bs) none) (utf8, refl) completes refl) line
 
 -- `--name=value`
-pub joined_line : {t : Table} {switch : Bool} {others left : List (List ℕ)} {items : List Item} (name value : List ℕ) (item : Item) → free name ≡ true → IsUtf8 name
-    → Completes (kind t (long name)) (long name) (joined value) others item left → Line exact t switch left items
-    → Line exact t switch ((dash ∷ dash ∷ (name ++ equals ∷ value)) ∷ others) (item ∷ items)
+pub joined_line : {t : Table} {short_equals : Bool} {others left : List (List ℕ)} {items : List Item} (name value : List ℕ) (item : Item) → free name ≡ true → IsUtf8 name
+    → Completes (kind t (long name)) (long name) (joined value) others item left → Line exact t short_equals left items
+    → Line exact t short_equals ((dash ∷ dash ∷ (name ++ equals ∷ value)) ∷ others) (item ∷ items)
 joined_line {others = others} {left = left} {items = items} name value item none utf8 completes line =
     group ((dash ∷ dash ∷ (name ++ equals ∷ value)) ∷ others) left (item ∷ []) items
     (lines.long_option (name ++ equals ∷ value) name name (joined value) item others refl (name_and_value value refl refl) (not_contains name none) (utf8, refl) completes refl) line
 
-pub plain_line : {t : Table} {switch : Bool} {words : List (List ℕ)} {items : List Item} (w : List ℕ) → is_plain false w ≡ true → Line exact t switch words items
-    → Line exact t switch (w ∷ words) (positional w ∷ items)
+pub plain_line : {t : Table} {short_equals : Bool} {words : List (List ℕ)} {items : List Item} (w : List ℕ) → is_plain false w ≡ true → Line exact t short_equals words items
+    → Line exact t short_equals (w ∷ words) (positional w ∷ items)
 plain_line {words = words} {items = items} w is line = plain_word w words items (plain_holds false w is) line
 
 -- ---- calls
@@ -158,7 +158,7 @@ misses_values n u none stop = no_values
     (ap (λ p. available_with p (plain_front u.ended u.words)) none ∙ front-none u.ended u.words (not_normal u.ended u.words stop)) refl refl
 
 -- a reading that ends in an error: the words show no list
-pub none_shown : (t : Table) (switch : Bool) (words : List (List ℕ)) (calls : List Call) (replies : List Reply) (final : Reply) (after : UnreadLine)
-    → Run (start switch words) calls replies after → Asked t calls replies final → final ≢ steps.end → (l : List Item) → Shows t switch words l → ⊥
-none_shown t switch words calls replies final after run asked error l shows =
-    error (shown_said t switch words l _ final shows (record { calls = calls; replies = replies; after = after; run = run; asked = asked; items_are = refl })).0
+pub none_shown : (t : Table) (short_equals : Bool) (words : List (List ℕ)) (calls : List Call) (replies : List Reply) (final : Reply) (after : UnreadLine)
+    → Run (start short_equals words) calls replies after → Asked t calls replies final → final ≢ steps.end → (l : List Item) → Shows t short_equals words l → ⊥
+none_shown t short_equals words calls replies final after run asked error l shows =
+    error (shown_said t short_equals words l _ final shows (record { calls = calls; replies = replies; after = after; run = run; asked = asked; items_are = refl })).0

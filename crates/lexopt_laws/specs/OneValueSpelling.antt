@@ -31,47 +31,49 @@ widened t = one_value t.shorts t.longs
 -- ---- clusters
 
 -- these bytes of a cluster, with the words after it, spell the items, and the words are left
-pub data OneValueCluster (letters : Letters) (t : OneValueTable) (switch : Bool)
+pub data OneValueCluster (letters : Letters) (t : OneValueTable) (short_equals : Bool)
     (words left : List (List ℕ)) : List ℕ → List Item → Type 0 where
   -- a flag, and more characters, the first of which is no `=` that is a mark
   flag_first : (c : ℕ) (character others : List ℕ) (items : List Item)
       → letters.character c character others → value_kind t (short c) ≡ bare
-      → ¬ BeginsWithMark switch others → OneValueCluster letters t switch words left others items
-      → OneValueCluster letters t switch words left (character ++ others)
+      → ¬ BeginsWithMark short_equals others
+      → OneValueCluster letters t short_equals words left others items
+      → OneValueCluster letters t short_equals words left (character ++ others)
       (option (short c) None ∷ items)
   last_option : (c : ℕ) (character others : List ℕ) (after : After) (item : Item)
       → letters.character c character others
-      → IsAfterLast switch others after
+      → IsAfterLast short_equals others after
       → CompletesValue (value_kind t (short c)) (short c) after words item left
-      → OneValueCluster letters t switch words left (character ++ others) (item ∷ [])
+      → OneValueCluster letters t short_equals words left (character ++ others) (item ∷ [])
 
 -- ---- a whole line
 
 -- the first of these words spell the items, and the words are left
-pub data OneValueGroup (letters : Letters) (t : OneValueTable) (switch : Bool)
+pub data OneValueGroup (letters : Letters) (t : OneValueTable) (short_equals : Bool)
     (words : List (List ℕ)) (items : List Item) (left : List (List ℕ)) : Type 0 where
   cluster : (bytes : List ℕ) (others : List (List ℕ)) → words ≡ (dash ∷ bytes) ∷ others
       → ¬ BeginsWith dash bytes
-      → OneValueCluster letters t switch others left bytes items
-      → OneValueGroup letters t switch words items left
+      → OneValueCluster letters t short_equals others left bytes items
+      → OneValueGroup letters t short_equals words items left
   long_option : (text bytes name : List ℕ) (after : After) (item : Item) (others : List (List ℕ))
       → words ≡ (dash ∷ dash ∷ text) ∷ others
       → IsLong text bytes after → ¬ Contains bytes equals → letters.name name bytes
       → CompletesValue (value_kind t (long name)) (long name) after others item left
-      → items ≡ item ∷ [] → OneValueGroup letters t switch words items left
+      → items ≡ item ∷ [] → OneValueGroup letters t short_equals words items left
 
 pub data OneValueLine (letters : Letters) (t : OneValueTable)
-    (switch : Bool) : List (List ℕ) → List Item → Type 0 where
-  no_words : OneValueLine letters t switch [] []
+    (short_equals : Bool) : List (List ℕ) → List Item → Type 0 where
+  no_words : OneValueLine letters t short_equals [] []
   plain_word : (w : List ℕ) (words : List (List ℕ)) (items : List Item) → IsPlain false w
-      → OneValueLine letters t switch words items
-      → OneValueLine letters t switch (w ∷ words) (positional w ∷ items)
+      → OneValueLine letters t short_equals words items
+      → OneValueLine letters t short_equals (w ∷ words) (positional w ∷ items)
   group : (words left : List (List ℕ)) (front items : List Item)
-      → OneValueGroup letters t switch words front left → OneValueLine letters t switch left items
-      → OneValueLine letters t switch words (front ++ items)
+      → OneValueGroup letters t short_equals words front left
+      → OneValueLine letters t short_equals left items
+      → OneValueLine letters t short_equals words (front ++ items)
   -- `--`: each word after it is a positional
   separator : (words : List (List ℕ))
-      → OneValueLine letters t switch ((dash ∷ dash ∷ []) ∷ words) (map positional words)
+      → OneValueLine letters t short_equals ((dash ∷ dash ∷ []) ∷ words) (map positional words)
 
 -- the words legally spell the items
 abbrev pub OneValueSpells : OneValueTable → Bool → List (List ℕ) → List Item → Type 0

@@ -9,7 +9,8 @@ ghost use Rattle.lexopt_spec.specs.Account.{bytes_handed_out, handed_items, show
 ghost use Rattle.lexopt_line_spec.specs.Bound.{bound, replies_count};
 ghost use Rattle.lexopt_spec.specs.Pieces.{IsFirstPiece, after_first_piece, first_piece};
 ghost use Rattle.lexopt_spec.specs.Pieces.{lossy_characters, pieces};
-ghost use Rattle.lexopt_spec.specs.Runs.{StepWithMemory, Call, Part, account, ample_account, Run};
+ghost use Rattle.lexopt_spec.specs.Runs.{StepWithMemory, Call, Part, Run, account};
+ghost use Rattle.lexopt_spec.specs.Runs.{account_with_memory};
 ghost use Rattle.lexopt_spec.specs.Runs.{Step, next, optional, raw, raw_if, segments, switch};
 ghost use Rattle.lexopt_spec.specs.Runs.{try_raw, up_to, values};
 ghost use Rattle.lexopt_spec.specs.Steps.{Reply, busy, end, items, long, maybe, missing, no_memory};
@@ -78,7 +79,7 @@ pub fn some_calls_are_never_refused()
 {}
 
 /// A tail stands only with a last option and never after the separator: so it is at the start, and
-/// so it stays, whatever is called, and also where memory is wanted.
+/// so it stays, whatever is called, and also where memory runs out.
 pub fn lines_stay_lines()
     ensures start { (words : List (List ℕ)) → IsLine (fresh words) }
     ensures step { (call : Call) (u v : UnreadLine) (r : Reply) → IsLine u → Step call u r v
@@ -141,7 +142,7 @@ pub fn views_agree()
         → ValueItem at_start u None v now → ⊥ }
 {}
 
-/// Whatever is called, under either setting, and also where memory is wanted: each byte is in one
+/// Whatever is called, under either setting, and also where memory runs out: each byte is in one
 /// segment or still unread, in order; what the replies hand out is what the segments show; the
 /// words left are a suffix.
 pub fn no_byte_is_lost()
@@ -156,7 +157,7 @@ pub fn no_byte_is_lost()
         → given_of (account call u r v step) ≡ handed_items r }
     ensures one_account { (call : Call) (u v w : UnreadLine) (r s : Reply)
         (one : StepWithMemory call u r v) (other : StepWithMemory call u s w)
-        → ample_account call u r v one ≡ ample_account call u s w other }
+        → account_with_memory call u r v one ≡ account_with_memory call u s w other }
     ensures words { (u v : UnreadLine) (calls : List Call) (replies : List Reply)
         → Run u calls replies v
         → (gone : List (List ℕ)) × (u.words ≡ gone ++ v.words) }
@@ -181,7 +182,7 @@ pub fn calls_cut_short_are_a_part()
         × (u.words ≡ gone ++ v.words) }
 {}
 
-/// What a run answers is bounded by the words: so `next` comes to the end, unless memory is wanted.
+/// What a run answers is bounded by the words: so `next` comes to the end, unless memory runs out.
 pub fn replies_are_bounded()
     ensures bounded { (u v : UnreadLine) (calls : List Call) (replies : List Reply)
         → Run u calls replies v
@@ -192,7 +193,7 @@ pub fn replies_are_bounded()
 {}
 
 /// A cluster with no `=` between an option and its value, read to its end by one call of `next` for
-/// each of its pieces: each is answered with its lossy character, and memory is never wanted.
+/// each of its pieces: each is answered with its lossy character, and memory never runs out.
 pub fn clusters_are_read_by_pieces()
     ensures run { (u v : UnreadLine) (b : ℕ) (bs : List ℕ) (words : List (List ℕ))
         (replies : List Reply)

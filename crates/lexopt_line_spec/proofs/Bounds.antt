@@ -11,7 +11,7 @@ use Rattle.lexopt_spec.specs.Views.{TakesWords, TakesWordIf}
 use Rattle.lexopt_spec.specs.Account.{handed_items}
 use Rattle.lexopt_line_spec.specs.Bound.{word_bound, tail_bound, bound, reply_count, replies_count}
 use Rattle.lexopt_spec.specs.Runs.{Call, next, value, optional, values, raw, try_raw, raw_if, switch, StepWithMemory, Step, Run}
-use Rattle.lexopt_line_spec.proofs.Hands.{Hands, hands_nothing, hands_words, hands_pending, value_hands, optional_hands, values_hands, raw_hands, words_hands, word_if_hands, try_raw_hands}
+use Rattle.lexopt_line_spec.proofs.HandedItems.{HandedItems, hands_nothing, hands_words, hands_pending, value_hands, optional_hands, values_hands, raw_hands, words_hands, word_if_hands, try_raw_hands}
 use Rattle.lexopt_line_spec.proofs.NoOption.{NoOption, no_option_count, value_no_option, optional_no_option, values_no_option, words_no_option, word_if_no_option, raw_no_option, try_raw_no_option}
 
 -- the reply and the line after it together keep within the line
@@ -37,7 +37,7 @@ rest_some on (joined v) x is = omega arith
 rest_some on (rest []) x is = absurd (let e : None ≡ Some x = is in cc)
 rest_some on (rest (b ∷ bs)) x is = omega arith
 
-hands_bound : (u : UnreadLine) (l : List (List ℕ)) (v : UnreadLine) → Hands u l v → Within u (length l) v
+hands_bound : (u : UnreadLine) (l : List (List ℕ)) (v : UnreadLine) → HandedItems u l v → Within u (length l) v
 hands_bound u l v (hands_nothing none after) = rw (none, after) (omega arith)
 hands_bound u l v (hands_words left p words after) = let few = words_bound u.words l left words in rw after (omega arith)
 hands_bound u l v (hands_pending x by_equals front left p is words after) =
@@ -46,7 +46,7 @@ hands_bound u l v (hands_pending x by_equals front left p is words after) =
     let count : length l ≡ suc (length front) = ap length is in
     rw after (omega arith)
 
-items_bound : (u : UnreadLine) (r : Reply) (v : UnreadLine) → NoOption r → Hands u (handed_items r) v → Within u (reply_count r) v
+items_bound : (u : UnreadLine) (r : Reply) (v : UnreadLine) → NoOption r → HandedItems u (handed_items r) v → Within u (reply_count r) v
 items_bound u r v other hands = rw (no_option_count r other) (hands_bound u (handed_items r) v hands)
 
 -- ---- `next`
@@ -104,21 +104,21 @@ next_bound u r v (next_word is ended reads) = word_bounded u r v reads
 
 -- ---- lists of calls
 
-ample_bound : (call : Call) (u : UnreadLine) (r : Reply) (v : UnreadLine) → StepWithMemory call u r v → Within u (reply_count r) v
-ample_bound next u r v step = next_bound u r v step
-ample_bound value u r v step = items_bound u r v (value_no_option u r v step) (value_hands u r v step)
-ample_bound optional u r v step = items_bound u r v (optional_no_option u r v step) (optional_hands u r v step)
-ample_bound (values n) u r v step = items_bound u r v (values_no_option n u r v step) (values_hands n u r v step)
-ample_bound (raw n) u r v step =
+bound_with_memory : (call : Call) (u : UnreadLine) (r : Reply) (v : UnreadLine) → StepWithMemory call u r v → Within u (reply_count r) v
+bound_with_memory next u r v step = next_bound u r v step
+bound_with_memory value u r v step = items_bound u r v (value_no_option u r v step) (value_hands u r v step)
+bound_with_memory optional u r v step = items_bound u r v (optional_no_option u r v step) (optional_hands u r v step)
+bound_with_memory (values n) u r v step = items_bound u r v (values_no_option n u r v step) (values_hands n u r v step)
+bound_with_memory (raw n) u r v step =
     items_bound u r v (raw_no_option (TakesWords n) u r v (λ t. words_no_option n u r v t) step) (raw_hands (TakesWords n) u r v (λ p t. words_hands n u r v p t) step)
-ample_bound (try_raw n) u r v step = items_bound u r v (try_raw_no_option n u r v step) (try_raw_hands n u r v step)
-ample_bound (raw_if word) u r v step =
+bound_with_memory (try_raw n) u r v step = items_bound u r v (try_raw_no_option n u r v step) (try_raw_hands n u r v step)
+bound_with_memory (raw_if word) u r v step =
     items_bound u r v (raw_no_option (TakesWordIf word) u r v (λ t. word_if_no_option word u r v t) step)
     (raw_hands (TakesWordIf word) u r v (λ p t. word_if_hands word u r v p t) step)
-ample_bound (switch on) u r v step = rw (step.reply_is, step.after_is) (omega arith)
+bound_with_memory (switch on) u r v step = rw (step.reply_is, step.after_is) (omega arith)
 
 pub step_bound : (call : Call) (u : UnreadLine) (r : Reply) (v : UnreadLine) → Step call u r v → reply_count r + bound v ≤ bound u
-step_bound call u r v (inl step) = ample_bound call u r v step
+step_bound call u r v (inl step) = bound_with_memory call u r v step
 step_bound call u r v (inr refused) = rw (refused.reply_is, refused.after_is) (omega arith)
 
 pub run_bound : (u : UnreadLine) (calls : List Call) (replies : List Reply) (v : UnreadLine) → Run u calls replies v → replies_count replies + bound v ≤ bound u

@@ -76,7 +76,7 @@ call_same (switch on) u r s v w a b = (a.reply_is ∙ sym b.reply_is, a.after_is
 
 -- ---- some answer
 
-pending_spelled : (tail : Tail) (last : LastOption) (ended switch : Bool) (x : List ℕ × Bool) → TailStands tail last ended → pending_in switch tail ≡ Some x
+pending_spelled : (tail : Tail) (last : LastOption) (ended short_equals : Bool) (x : List ℕ × Bool) → TailStands tail last ended → pending_in short_equals tail ≡ Some x
     → (option : List ℕ) × (spelling last ≡ Some option)
 pending_spelled no_tail last ended on x stands is = absurd (let e : None ≡ Some x = is in cc)
 pending_spelled (joined v) last ended on x stands is = spelled last stands.0

@@ -12,7 +12,7 @@ use Rattle.lexopt_spec.proofs.PieceSteps.{pieces-step}
 
 -- no `=` stands between an option and its value in these bytes
 abbrev pub IsFree : Bool → List ℕ → Type 0
-IsFree switch bytes = (switch ≡ false) ⊎ ¬ Contains bytes equals
+IsFree short_equals bytes = (short_equals ≡ false) ⊎ ¬ Contains bytes equals
 
 contains_drop : (n : ℕ) (bs : List ℕ) → Contains (drop n bs) equals → Contains bs equals
 contains_drop zero bs has = has
@@ -23,19 +23,19 @@ contains_after : (n : ℕ) (b : ℕ) (bs : List ℕ) → 0 < n → Contains (dro
 contains_after zero b bs some has = absurd (omega arith)
 contains_after (suc n) b bs some has = contains_drop n bs has
 
-free_after : (switch : Bool) (b : ℕ) (bs : List ℕ) → IsFree switch bs → IsFree switch (after_first_piece (b ∷ bs))
-free_after switch b bs (inl off) = inl off
-free_after switch b bs (inr none) =
+free_after : (short_equals : Bool) (b : ℕ) (bs : List ℕ) → IsFree short_equals bs → IsFree short_equals (after_first_piece (b ∷ bs))
+free_after short_equals b bs (inl off) = inl off
+free_after short_equals b bs (inr none) =
     let bounds = piece-bounds (b ∷ bs) (let some : 0 < length (b ∷ bs) = omega arith in some) in
     inr (λ has. none (contains_after (decoded (b ∷ bs)).size b bs bounds.0 has))
 
-free_tail : (switch : Bool) (b : ℕ) (bs : List ℕ) → IsFree switch (b ∷ bs) → IsFree switch bs
-free_tail switch b bs (inl off) = inl off
-free_tail switch b bs (inr none) = inr (λ has. none (contains_more b bs has))
+free_tail : (short_equals : Bool) (b : ℕ) (bs : List ℕ) → IsFree short_equals (b ∷ bs) → IsFree short_equals bs
+free_tail short_equals b bs (inl off) = inl off
+free_tail short_equals b bs (inr none) = inr (λ has. none (contains_more b bs has))
 
-free_first : (switch : Bool) (b : ℕ) (bs : List ℕ) → IsFree switch (b ∷ bs) → (switch ≡ true) × BeginsWith equals (b ∷ bs) → ⊥
-free_first switch b bs (inl off) h = true≢false (sym h.0 ∙ off)
-free_first switch b bs (inr none) h = none (subst (λ (x : ℕ). Contains (x ∷ bs) equals) (sym h.1) (contains_first bs))
+free_first : (short_equals : Bool) (b : ℕ) (bs : List ℕ) → IsFree short_equals (b ∷ bs) → (short_equals ≡ true) × BeginsWith equals (b ∷ bs) → ⊥
+free_first short_equals b bs (inl off) h = true≢false (sym h.0 ∙ off)
+free_first short_equals b bs (inr none) h = none (subst (λ (x : ℕ). Contains (x ∷ bs) equals) (sym h.1) (contains_first bs))
 
 -- where the answer takes no memory, there is no other
 next_answers : (u : UnreadLine) (r s : Reply) (v w : UnreadLine) → NextStep u s w → (TakesMemory s → ⊥) → Step next u r v → (r ≡ s) × (v ≡ w)

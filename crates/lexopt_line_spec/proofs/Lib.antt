@@ -5,7 +5,7 @@ pub mod Exact
 pub mod Lines
 pub mod Total
 pub mod Accounts
-pub mod Hands
+pub mod HandedItems
 pub mod NoOption
 pub mod RunAccounts
 pub mod Calls
@@ -21,11 +21,11 @@ pub mod SeveralLaw
 pub mod ClusterLaw
 pub mod NextLaw
 pub mod ReplyKinds
-pub mod DueSteps
+pub mod StepsAfterOptions
 pub mod Readings
 pub mod Existence
 pub mod WholeLines
-pub mod Rounds
+pub mod ReadingSteps
 pub mod Names
 pub mod SpellerTests
 pub mod SpellerAnswers

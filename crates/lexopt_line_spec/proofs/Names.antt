@@ -116,20 +116,20 @@ completes_named P several name after words left item others (joined_several v b 
 completes_named P several name after words left item others (attached_several v f b g i) have = (subst (λ (x : Item). HaveNames P (x ∷ others)) i have).0
 completes_named P several name after words left item others (several_words f b g some i) have = (subst (λ (x : Item). HaveNames P (x ∷ others)) i have).0
 
-cluster_carried : (A B : Letters) (P : Name → Type 0) → Carries A B P → (t : Table) (switch : Bool) (words left : List (List ℕ)) (bytes : List ℕ) (items : List Item)
-    → Cluster A t switch words left bytes items → HaveNames P items → Cluster B t switch words left bytes items
-cluster_carried A B P carries t switch words left bytes items (flag_first c character others more letter k no_mark spelled) have =
+cluster_carried : (A B : Letters) (P : Name → Type 0) → Carries A B P → (t : Table) (short_equals : Bool) (words left : List (List ℕ)) (bytes : List ℕ) (items : List Item)
+    → Cluster A t short_equals words left bytes items → HaveNames P items → Cluster B t short_equals words left bytes items
+cluster_carried A B P carries t short_equals words left bytes items (flag_first c character others more letter k no_mark spelled) have =
     flag_first c character others more (carries.characters c character others have.0 letter) k no_mark
-    (cluster_carried A B P carries t switch words left others more spelled have.1)
-cluster_carried A B P carries t switch words left bytes items (last_option c character others after item letter ends completes) have =
+    (cluster_carried A B P carries t short_equals words left others more spelled have.1)
+cluster_carried A B P carries t short_equals words left bytes items (last_option c character others after item letter ends completes) have =
     last_option c character others after item
     (carries.characters c character others (completes_named P (kind t (short c)) (short c) after words left item [] completes have) letter) ends completes
 
-group_carried : (A B : Letters) (P : Name → Type 0) → Carries A B P → (t : Table) (switch : Bool) (words : List (List ℕ)) (items : List Item) (left : List (List ℕ))
-    → Group A t switch words items left → HaveNames P items → Group B t switch words items left
-group_carried A B P carries t switch words items left (cluster bytes others are other spelled) have =
-    cluster bytes others are other (cluster_carried A B P carries t switch others left bytes items spelled have)
-group_carried A B P carries t switch words items left (spelling.long_option text bytes name after item others are is none letters completes item_is) have =
+group_carried : (A B : Letters) (P : Name → Type 0) → Carries A B P → (t : Table) (short_equals : Bool) (words : List (List ℕ)) (items : List Item) (left : List (List ℕ))
+    → Group A t short_equals words items left → HaveNames P items → Group B t short_equals words items left
+group_carried A B P carries t short_equals words items left (cluster bytes others are other spelled) have =
+    cluster bytes others are other (cluster_carried A B P carries t short_equals others left bytes items spelled have)
+group_carried A B P carries t short_equals words items left (spelling.long_option text bytes name after item others are is none letters completes item_is) have =
     spelling.long_option text bytes name after item others are is none
     (carries.names name bytes (completes_named P (kind t (long name)) (long name) after others left item [] completes (subst (HaveNames P) item_is have)) letters) completes item_is
 
@@ -139,25 +139,25 @@ names_split P (option name value ∷ xs) ys have = let more = names_split P xs y
 names_split P (many name values ∷ xs) ys have = let more = names_split P xs ys have.1 in ((have.0, more.0), more.1)
 names_split P (positional word ∷ xs) ys have = names_split P xs ys have
 
-line_carried : (A B : Letters) (P : Name → Type 0) → Carries A B P → (t : Table) (switch : Bool) (words : List (List ℕ)) (items : List Item)
-    → Line A t switch words items → HaveNames P items → Line B t switch words items
-line_carried A B P carries t switch words items no_words have = no_words
-line_carried A B P carries t switch words items (plain_word w ws others plain line) have =
-    plain_word w ws others plain (line_carried A B P carries t switch ws others line have)
-line_carried A B P carries t switch words items (group ws left front others first line) have =
+line_carried : (A B : Letters) (P : Name → Type 0) → Carries A B P → (t : Table) (short_equals : Bool) (words : List (List ℕ)) (items : List Item)
+    → Line A t short_equals words items → HaveNames P items → Line B t short_equals words items
+line_carried A B P carries t short_equals words items no_words have = no_words
+line_carried A B P carries t short_equals words items (plain_word w ws others plain line) have =
+    plain_word w ws others plain (line_carried A B P carries t short_equals ws others line have)
+line_carried A B P carries t short_equals words items (group ws left front others first line) have =
     let names = names_split P front others have in
-    group ws left front others (group_carried A B P carries t switch ws front left first names.0) (line_carried A B P carries t switch left others line names.1)
-line_carried A B P carries t switch words items (separator ws) have = separator ws
+    group ws left front others (group_carried A B P carries t short_equals ws front left first names.0) (line_carried A B P carries t short_equals left others line names.1)
+line_carried A B P carries t short_equals words items (separator ws) have = separator ws
 
 -- ---- what is shown, under whole names, is spelled; and what is spelled is shown
 
-pub shown_spells : (t : Table) (switch : Bool) (words : List (List ℕ)) (items : List Item) → Shows t switch words items → HaveWholeNames items → Spells t switch words items
-shown_spells t switch words items shows whole = line_carried damaged exact IsWholeName
+pub shown_spells : (t : Table) (short_equals : Bool) (words : List (List ℕ)) (items : List Item) → Shows t short_equals words items → HaveWholeNames items → Spells t short_equals words items
+shown_spells t short_equals words items shows whole = line_carried damaged exact IsWholeName
     (record {
       characters = λ c bytes after other letter. ⊎_elim (λ is. is) (λ is. absurd (other is.0)) letter;
       names = λ name bytes none is. name_exact name bytes is none;
     })
-    t switch words items shows whole
+    t short_equals words items shows whole
 
 any_names : (items : List Item) → HaveNames (λ name. Unit {0}) items
 any_names [] = tt
@@ -165,7 +165,7 @@ any_names (option name value ∷ items) = (tt, any_names items)
 any_names (many name values ∷ items) = (tt, any_names items)
 any_names (positional word ∷ items) = any_names items
 
-pub spelled_shows : (t : Table) (switch : Bool) (words : List (List ℕ)) (items : List Item) → Spells t switch words items → Shows t switch words items
-spelled_shows t switch words items spells = line_carried exact damaged (λ name. Unit {0})
+pub spelled_shows : (t : Table) (short_equals : Bool) (words : List (List ℕ)) (items : List Item) → Spells t short_equals words items → Shows t short_equals words items
+spelled_shows t short_equals words items spells = line_carried exact damaged (λ name. Unit {0})
     (record { characters = λ c bytes after any is. inl is; names = λ name bytes any is. name_damaged name bytes is.0 is.1 })
-    t switch words items spells (any_names items)
+    t short_equals words items spells (any_names items)

@@ -14,7 +14,7 @@ use Rattle.lexopt_spec.proofs.LineLemmas.{plain_short, long_exists}
 use Rattle.lexopt_line_spec.proofs.Exact.{next_same}
 use Rattle.lexopt_line_spec.proofs.Total.{spelled}
 use Rattle.lexopt_line_spec.proofs.Unread.{PartsShow, ShowsFrom, GoesOnShowing, NextShows}
-use Rattle.lexopt_line_spec.proofs.ClusterLaw.{line_of, completed, cluster_reads, cluster_built}
+use Rattle.lexopt_line_spec.proofs.ClusterLaw.{line_with, completed, cluster_reads, cluster_built}
 
 -- ---- from items to the step
 
@@ -22,64 +22,64 @@ abbrev Read : (UnreadLine → Reply → UnreadLine → Type 0) → Table → Unr
 Read Step t u items = (r : Reply) × (v : UnreadLine) × Step u r v × NextShows t r v items
 
 -- after the separator
-ended_reads : (t : Table) (words : List (List ℕ)) (last : LastOption) (bin : Option (List ℕ)) (switch : Bool) (items : List Item) → items ≡ map positional words
-    → Read ReadsPositional t (line_of no_tail words true last switch bin) items
-ended_reads t [] last bin switch items is = (_, _, no_word_left refl refl refl, is)
-ended_reads t (w ∷ ws) last bin switch items is =
+ended_reads : (t : Table) (words : List (List ℕ)) (last : LastOption) (bin : Option (List ℕ)) (short_equals : Bool) (items : List Item) → items ≡ map positional words
+    → Read ReadsPositional t (line_with no_tail words true last short_equals bin) items
+ended_reads t [] last bin short_equals items is = (_, _, no_word_left refl refl refl, is)
+ended_reads t (w ∷ ws) last bin short_equals items is =
     (_, _, word_left w ws refl refl refl, record { others = map positional ws; shows = refl; items_are = is })
 
 cut_some : (bytes v : List ℕ) → bytes ++ equals ∷ v ≢ []
 cut_some [] v is = let e : equals ∷ v ≡ [] = is in cc
 cut_some (b ∷ bs) v is = let e : b ∷ (bs ++ equals ∷ v) ≡ [] = is in cc
 
-long_reads : (t : Table) (words others left : List (List ℕ)) (last : LastOption) (bin : Option (List ℕ)) (switch : Bool) (text bytes name : List ℕ) (after : After) (item : Item) (items : List Item)
+long_reads : (t : Table) (words others left : List (List ℕ)) (last : LastOption) (bin : Option (List ℕ)) (short_equals : Bool) (text bytes name : List ℕ) (after : After) (item : Item) (items : List Item)
     → words ≡ (dash ∷ dash ∷ text) ∷ others → IsLong text bytes after → ¬ Contains bytes equals → lossy bytes ≡ name
-    → Completes (kind t (long name)) (long name) after others item left → Shows t switch left items → Read ReadsWord t (line_of no_tail words false last switch bin) (item ∷ items)
-long_reads t words others left last bin switch text bytes name after item items are (name_alone some is b) none shows completes line = (
+    → Completes (kind t (long name)) (long name) after others item left → Shows t short_equals left items → Read ReadsWord t (line_with no_tail words false last short_equals bin) (item ∷ items)
+long_reads t words others left last bin short_equals text bytes name after item items are (name_alone some is b) none shows completes line = (
   _,
   _,
   reads_long text bytes no_tail others are (λ nil. some (sym is ∙ nil)) (alone none is) refl refl,
-  subst (λ (n : List ℕ). GoesOnShowing t (kind t (long n)) (long n) (line_of no_tail others false (unread.long_option (lossy bytes)) switch bin) (item ∷ items)) (sym shows)
-      (completed t (long name) (kind t (long name)) no_tail others left (unread.long_option (lossy bytes)) bin switch after item items refl b (λ h. refl) completes line),
+  subst (λ (n : List ℕ). GoesOnShowing t (kind t (long n)) (long n) (line_with no_tail others false (unread.long_option (lossy bytes)) short_equals bin) (item ∷ items)) (sym shows)
+      (completed t (long name) (kind t (long name)) no_tail others left (unread.long_option (lossy bytes)) bin short_equals after item items refl b (λ h. refl) completes line),
 )
-long_reads t words others left last bin switch text bytes name after item items are (name_and_value v is b) none shows completes line = (
+long_reads t words others left last bin short_equals text bytes name after item items are (name_and_value v is b) none shows completes line = (
   _,
   _,
   reads_long text bytes (joined v) others are (λ nil. cut_some bytes v (sym is ∙ nil)) (with_value v none is) refl refl,
-  subst (λ (n : List ℕ). GoesOnShowing t (kind t (long n)) (long n) (line_of (joined v) others false (unread.long_option (lossy bytes)) switch bin) (item ∷ items)) (sym shows)
-      (completed t (long name) (kind t (long name)) (joined v) others left (unread.long_option (lossy bytes)) bin switch after item items refl b
+  subst (λ (n : List ℕ). GoesOnShowing t (kind t (long n)) (long n) (line_with (joined v) others false (unread.long_option (lossy bytes)) short_equals bin) (item ∷ items)) (sym shows)
+      (completed t (long name) (kind t (long name)) (joined v) others left (unread.long_option (lossy bytes)) bin short_equals after item items refl b
       (λ h. absurd (let e : nothing ≡ spelling.joined v = h in cc)) completes line),
 )
 
-group_reads : (t : Table) (words left : List (List ℕ)) (last : LastOption) (bin : Option (List ℕ)) (switch : Bool) (front items : List Item) → Group damaged t switch words front left
-    → Shows t switch left items → Read ReadsWord t (line_of no_tail words false last switch bin) (front ++ items)
-group_reads t words left last bin switch front items (cluster bytes others are other spelled) line =
-    let a = cluster_reads t switch others left bytes front no_tail last bin items spelled line in
+group_reads : (t : Table) (words left : List (List ℕ)) (last : LastOption) (bin : Option (List ℕ)) (short_equals : Bool) (front items : List Item) → Group damaged t short_equals words front left
+    → Shows t short_equals left items → Read ReadsWord t (line_with no_tail words false last short_equals bin) (front ++ items)
+group_reads t words left last bin short_equals front items (cluster bytes others are other spelled) line =
+    let a = cluster_reads t short_equals others left bytes front no_tail last bin items spelled line in
     (a.0, a.1, reads_cluster bytes others are other a.2, a.3)
-group_reads t words left last bin switch front items (spelling.long_option text bytes name after item others are is none shows completes item_is) line =
-    subst (λ (l : List Item). Read ReadsWord t (line_of no_tail words false last switch bin) (l ++ items)) (sym item_is)
-    (long_reads t words others left last bin switch text bytes name after item items are is none shows completes line)
+group_reads t words left last bin short_equals front items (spelling.long_option text bytes name after item others are is none shows completes item_is) line =
+    subst (λ (l : List Item). Read ReadsWord t (line_with no_tail words false last short_equals bin) (l ++ items)) (sym item_is)
+    (long_reads t words others left last bin short_equals text bytes name after item items are is none shows completes line)
 
-words_read : (t : Table) (words : List (List ℕ)) (last : LastOption) (bin : Option (List ℕ)) (switch : Bool) (items : List Item) → Shows t switch words items
-    → Read ReadsWord t (line_of no_tail words false last switch bin) items
-words_read t words last bin switch items no_words = (_, _, no_word refl refl refl, refl)
-words_read t words last bin switch items (plain_word w ws others plain line) =
+words_read : (t : Table) (words : List (List ℕ)) (last : LastOption) (bin : Option (List ℕ)) (short_equals : Bool) (items : List Item) → Shows t short_equals words items
+    → Read ReadsWord t (line_with no_tail words false last short_equals bin) items
+words_read t words last bin short_equals items no_words = (_, _, no_word refl refl refl, refl)
+words_read t words last bin short_equals items (plain_word w ws others plain line) =
     (_, _, reads_positional w ws refl plain refl refl, record { others = others; shows = line; items_are = refl })
-words_read t words last bin switch items (group ws left front others first line) = group_reads t words left last bin switch front others first line
-words_read t words last bin switch items (separator ws) =
-    let a = ended_reads t ws last bin switch (map positional ws) refl in (a.0, a.1, reads_separator ws refl a.2, a.3)
+words_read t words last bin short_equals items (group ws left front others first line) = group_reads t words left last bin short_equals front others first line
+words_read t words last bin short_equals items (separator ws) =
+    let a = ended_reads t ws last bin short_equals (map positional ws) refl in (a.0, a.1, reads_separator ws refl a.2, a.3)
 
-parts_read : (t : Table) (tail : Tail) (words : List (List ℕ)) (ended : Bool) (last : LastOption) (bin : Option (List ℕ)) (switch : Bool) (items : List Item)
-    → TailStands tail last ended → PartsShow t switch tail ended words items → Read NextStep t (line_of tail words ended last switch bin) items
-parts_read t no_tail words false last bin switch items stands shows =
-    let a = words_read t words last bin switch items shows in (a.0, a.1, steps.next_word refl refl a.2, a.3)
-parts_read t no_tail words true last bin switch items stands shows =
-    let a = ended_reads t words last bin switch items shows in (a.0, a.1, after_separator refl refl a.2, a.3)
-parts_read t (joined value) words ended last bin switch items stands shows = absurd shows
-parts_read t (rest bytes) words true last bin switch items stands shows = absurd (let e = stands.1 in cc)
-parts_read t (rest bytes) words false last bin switch items stands shows =
+parts_read : (t : Table) (tail : Tail) (words : List (List ℕ)) (ended : Bool) (last : LastOption) (bin : Option (List ℕ)) (short_equals : Bool) (items : List Item)
+    → TailStands tail last ended → PartsShow t short_equals tail ended words items → Read NextStep t (line_with tail words ended last short_equals bin) items
+parts_read t no_tail words false last bin short_equals items stands shows =
+    let a = words_read t words last bin short_equals items shows in (a.0, a.1, steps.next_word refl refl a.2, a.3)
+parts_read t no_tail words true last bin short_equals items stands shows =
+    let a = ended_reads t words last bin short_equals items shows in (a.0, a.1, after_separator refl refl a.2, a.3)
+parts_read t (joined value) words ended last bin short_equals items stands shows = absurd shows
+parts_read t (rest bytes) words true last bin short_equals items stands shows = absurd (let e = stands.1 in cc)
+parts_read t (rest bytes) words false last bin short_equals items stands shows =
     let s = shows.1 in
-    let a = cluster_reads t switch words s.left bytes s.front (rest bytes) last bin s.others s.cluster s.line in
+    let a = cluster_reads t short_equals words s.left bytes s.front (rest bytes) last bin s.others s.cluster s.line in
     (a.0, a.1, next_in_cluster bytes refl shows.0 a.2, subst (NextShows t a.0 a.1) (sym s.items_are) a.3)
 
 -- ---- from the step to items
@@ -87,105 +87,105 @@ parts_read t (rest bytes) words false last bin switch items stands shows =
 abbrev Built : (UnreadLine → Reply → UnreadLine → Type 0) → Table → UnreadLine → (List Item → Type 0) → Type 0
 Built Step t u Shown = (r : Reply) × (v : UnreadLine) × Step u r v × ((items : List Item) → NextShows t r v items → Shown items)
 
-ended_built : (t : Table) (words : List (List ℕ)) (last : LastOption) (bin : Option (List ℕ)) (switch : Bool)
-    → Built ReadsPositional t (line_of no_tail words true last switch bin) (λ items. items ≡ map positional words)
-ended_built t [] last bin switch = (_, _, no_word_left refl refl refl, λ items is. is)
-ended_built t (w ∷ ws) last bin switch =
+ended_built : (t : Table) (words : List (List ℕ)) (last : LastOption) (bin : Option (List ℕ)) (short_equals : Bool)
+    → Built ReadsPositional t (line_with no_tail words true last short_equals bin) (λ items. items ≡ map positional words)
+ended_built t [] last bin short_equals = (_, _, no_word_left refl refl refl, λ items is. is)
+ended_built t (w ∷ ws) last bin short_equals =
     (_, _, word_left w ws refl refl refl, λ items leads. leads.items_are ∙ ap (λ l. positional w ∷ l) leads.shows)
 
 -- a group, and what the words after it show
-grouped : (t : Table) (switch : Bool) (words left : List (List ℕ)) (front others items : List Item) → Group damaged t switch words front left
-    → Shows t switch left others → items ≡ front ++ others → Shows t switch words items
-grouped t switch words left front others items first line is = subst (Shows t switch words) (sym is) (group words left front others first line)
+grouped : (t : Table) (short_equals : Bool) (words left : List (List ℕ)) (front others items : List Item) → Group damaged t short_equals words front left
+    → Shows t short_equals left others → items ≡ front ++ others → Shows t short_equals words items
+grouped t short_equals words left front others items first line is = subst (Shows t short_equals words) (sym is) (group words left front others first line)
 
-long_built : (t : Table) (switch : Bool) (text name : List ℕ) (tail : Tail) (ws : List (List ℕ)) (last : LastOption) (bin : Option (List ℕ)) (items : List Item) (k : Kind) → text ≢ []
-    → IsLongOption text name tail → kind t (long (lossy name)) ≡ k → GoesOnShowing t k (long (lossy name)) (line_of tail ws false last switch bin) items
-    → Shows t switch ((dash ∷ dash ∷ text) ∷ ws) items
-long_built t switch text name no_tail ws last bin items flag some (alone none is) k leads =
-    grouped t switch ((dash ∷ dash ∷ text) ∷ ws) ws (option (long (lossy name)) None ∷ []) leads.others items
+long_built : (t : Table) (short_equals : Bool) (text name : List ℕ) (tail : Tail) (ws : List (List ℕ)) (last : LastOption) (bin : Option (List ℕ)) (items : List Item) (k : Kind) → text ≢ []
+    → IsLongOption text name tail → kind t (long (lossy name)) ≡ k → GoesOnShowing t k (long (lossy name)) (line_with tail ws false last short_equals bin) items
+    → Shows t short_equals ((dash ∷ dash ∷ text) ∷ ws) items
+long_built t short_equals text name no_tail ws last bin items flag some (alone none is) k leads =
+    grouped t short_equals ((dash ∷ dash ∷ text) ∷ ws) ws (option (long (lossy name)) None ∷ []) leads.others items
     (spelling.long_option text name (lossy name) nothing (option (long (lossy name)) None) ws refl (name_alone (λ nil. some (is ∙ nil)) is refl) none refl
     (subst (λ (x : Kind). Completes x (long (lossy name)) nothing ws (option (long (lossy name)) None) ws) (sym k) (no_value refl refl refl)) refl) leads.shows leads.items_are
-long_built t switch text name no_tail ws last bin items value_kind some (alone none is) k shows =
-    grouped t switch ((dash ∷ dash ∷ text) ∷ ws) shows.left (shows.item ∷ []) shows.others items
+long_built t short_equals text name no_tail ws last bin items value_kind some (alone none is) k shows =
+    grouped t short_equals ((dash ∷ dash ∷ text) ∷ ws) shows.left (shows.item ∷ []) shows.others items
     (spelling.long_option text name (lossy name) nothing shows.item ws refl (name_alone (λ nil. some (is ∙ nil)) is refl) none refl shows.completes refl)
     shows.line shows.items_are
-long_built t switch text name (joined _) ws last bin items flag some (with_value v none is) k leads = absurd leads.shows
-long_built t switch text name (joined _) ws last bin items value_kind some (with_value v none is) k shows =
-    grouped t switch ((dash ∷ dash ∷ text) ∷ ws) shows.left (shows.item ∷ []) shows.others items
+long_built t short_equals text name (joined _) ws last bin items flag some (with_value v none is) k leads = absurd leads.shows
+long_built t short_equals text name (joined _) ws last bin items value_kind some (with_value v none is) k shows =
+    grouped t short_equals ((dash ∷ dash ∷ text) ∷ ws) shows.left (shows.item ∷ []) shows.others items
     (spelling.long_option text name (lossy name) (spelling.joined v) shows.item ws refl (name_and_value v is refl) none refl shows.completes refl)
     shows.line shows.items_are
-long_built t switch text name (rest bytes) ws last bin items k some h is shows = elim h [ ]
+long_built t short_equals text name (rest bytes) ws last bin items k some h is shows = elim h [ ]
 
 abbrev WordBuilt : Table → Bool → LastOption → Option (List ℕ) → List (List ℕ) → Type 0
-WordBuilt t switch last bin words = Built ReadsWord t (line_of no_tail words false last switch bin) (Shows t switch words)
+WordBuilt t short_equals last bin words = Built ReadsWord t (line_with no_tail words false last short_equals bin) (Shows t short_equals words)
 
-two_dashes : (t : Table) (switch : Bool) (last : LastOption) (bin : Option (List ℕ)) (text : List ℕ) (ws : List (List ℕ)) → WordBuilt t switch last bin ((dash ∷ dash ∷ text) ∷ ws)
-two_dashes t switch last bin [] ws =
-    let a = ended_built t ws last bin switch in
-    (a.0, a.1, reads_separator ws refl a.2, λ items shows. subst (Shows t switch ((dash ∷ dash ∷ []) ∷ ws)) (sym (a.3 items shows)) (separator ws))
-two_dashes t switch last bin (b ∷ bs) ws =
+two_dashes : (t : Table) (short_equals : Bool) (last : LastOption) (bin : Option (List ℕ)) (text : List ℕ) (ws : List (List ℕ)) → WordBuilt t short_equals last bin ((dash ∷ dash ∷ text) ∷ ws)
+two_dashes t short_equals last bin [] ws =
+    let a = ended_built t ws last bin short_equals in
+    (a.0, a.1, reads_separator ws refl a.2, λ items shows. subst (Shows t short_equals ((dash ∷ dash ∷ []) ∷ ws)) (sym (a.3 items shows)) (separator ws))
+two_dashes t short_equals last bin (b ∷ bs) ws =
     let o = long_exists (b ∷ bs) in
     let some : b ∷ bs ≢ [] = λ none. let e : b ∷ bs ≡ [] = none in cc in (
       _,
       _,
       reads_long (b ∷ bs) o.0 o.1 ws refl some o.2 refl refl,
-      λ items shows. long_built t switch (b ∷ bs) o.0 o.1 ws (unread.long_option (lossy o.0)) bin items (kind t (long (lossy o.0))) some o.2 refl shows,
+      λ items shows. long_built t short_equals (b ∷ bs) o.0 o.1 ws (unread.long_option (lossy o.0)) bin items (kind t (long (lossy o.0))) some o.2 refl shows,
     )
 
-one_dash : (t : Table) (switch : Bool) (last : LastOption) (bin : Option (List ℕ)) (c : ℕ) (cs : List ℕ) (ws : List (List ℕ)) → c ≢ dash → WordBuilt t switch last bin ((dash ∷ c ∷ cs) ∷ ws)
-one_dash t switch last bin c cs ws other =
-    let a = cluster_built t switch c cs ws no_tail last bin in (
+one_dash : (t : Table) (short_equals : Bool) (last : LastOption) (bin : Option (List ℕ)) (c : ℕ) (cs : List ℕ) (ws : List (List ℕ)) → c ≢ dash → WordBuilt t short_equals last bin ((dash ∷ c ∷ cs) ∷ ws)
+one_dash t short_equals last bin c cs ws other =
+    let a = cluster_built t short_equals c cs ws no_tail last bin in (
       a.0,
       a.1,
       reads_cluster (c ∷ cs) ws refl other a.2,
       λ items shows.
           let s = a.3 items shows in
-          grouped t switch ((dash ∷ c ∷ cs) ∷ ws) s.left s.front s.others items (cluster (c ∷ cs) ws refl other s.cluster) s.line s.items_are,
+          grouped t short_equals ((dash ∷ c ∷ cs) ∷ ws) s.left s.front s.others items (cluster (c ∷ cs) ws refl other s.cluster) s.line s.items_are,
     )
 
-plain_built : (t : Table) (switch : Bool) (last : LastOption) (bin : Option (List ℕ)) (w : List ℕ) (ws : List (List ℕ)) → IsPlain false w → WordBuilt t switch last bin (w ∷ ws)
-plain_built t switch last bin w ws plain = (
+plain_built : (t : Table) (short_equals : Bool) (last : LastOption) (bin : Option (List ℕ)) (w : List ℕ) (ws : List (List ℕ)) → IsPlain false w → WordBuilt t short_equals last bin (w ∷ ws)
+plain_built t short_equals last bin w ws plain = (
   _,
   _,
   reads_positional w ws refl plain refl refl,
   λ items leads.
-      subst (Shows t switch (w ∷ ws)) (sym leads.items_are) (plain_word w ws leads.others plain leads.shows),
+      subst (Shows t short_equals (w ∷ ws)) (sym leads.items_are) (plain_word w ws leads.others plain leads.shows),
 )
 
-word_built : (t : Table) (switch : Bool) (last : LastOption) (bin : Option (List ℕ)) (words : List (List ℕ)) → WordBuilt t switch last bin words
-word_built t switch last bin [] = (_, _, no_word refl refl refl, λ items none. subst (Shows t switch []) (sym none) no_words)
-word_built t switch last bin ([] ∷ ws) = plain_built t switch last bin [] ws (plain_short [] (omega arith))
-word_built t switch last bin ((b ∷ []) ∷ ws) = plain_built t switch last bin (b ∷ []) ws (plain_short (b ∷ []) (omega arith))
-word_built t switch last bin ((b ∷ c ∷ cs) ∷ ws) = ⊎_elim
-    (λ (one : b ≡ dash). subst (λ (x : ℕ). WordBuilt t switch last bin ((x ∷ c ∷ cs) ∷ ws)) (sym one) (⊎_elim
-    (λ (two : c ≡ dash). subst (λ (x : ℕ). WordBuilt t switch last bin ((dash ∷ x ∷ cs) ∷ ws)) (sym two) (two_dashes t switch last bin cs ws))
-    (λ (other : c ≢ dash). one_dash t switch last bin c cs ws other)
+word_built : (t : Table) (short_equals : Bool) (last : LastOption) (bin : Option (List ℕ)) (words : List (List ℕ)) → WordBuilt t short_equals last bin words
+word_built t short_equals last bin [] = (_, _, no_word refl refl refl, λ items none. subst (Shows t short_equals []) (sym none) no_words)
+word_built t short_equals last bin ([] ∷ ws) = plain_built t short_equals last bin [] ws (plain_short [] (omega arith))
+word_built t short_equals last bin ((b ∷ []) ∷ ws) = plain_built t short_equals last bin (b ∷ []) ws (plain_short (b ∷ []) (omega arith))
+word_built t short_equals last bin ((b ∷ c ∷ cs) ∷ ws) = ⊎_elim
+    (λ (one : b ≡ dash). subst (λ (x : ℕ). WordBuilt t short_equals last bin ((x ∷ c ∷ cs) ∷ ws)) (sym one) (⊎_elim
+    (λ (two : c ≡ dash). subst (λ (x : ℕ). WordBuilt t short_equals last bin ((dash ∷ x ∷ cs) ∷ ws)) (sym two) (two_dashes t short_equals last bin cs ws))
+    (λ (other : c ≢ dash). one_dash t short_equals last bin c cs ws other)
     (cases_eq c dash)))
-    (λ (other : b ≢ dash). plain_built t switch last bin (b ∷ c ∷ cs) ws (inr (inr other)))
+    (λ (other : b ≢ dash). plain_built t short_equals last bin (b ∷ c ∷ cs) ws (inr (inr other)))
     (cases_eq b dash)
 
 abbrev NextBuilt : Table → UnreadLine → Type 0
 NextBuilt t u = Built NextStep t u (ShowsFrom t u)
 
-goes_on_built : (t : Table) (b : ℕ) (bs : List ℕ) (words : List (List ℕ)) (last : LastOption) (bin : Option (List ℕ)) (switch : Bool) → ¬ BeginsWithMark switch (b ∷ bs)
-    → NextBuilt t (line_of (rest (b ∷ bs)) words false last switch bin)
-goes_on_built t b bs words last bin switch no_mark =
-    let a = cluster_built t switch b bs words (rest (b ∷ bs)) last bin in
+goes_on_built : (t : Table) (b : ℕ) (bs : List ℕ) (words : List (List ℕ)) (last : LastOption) (bin : Option (List ℕ)) (short_equals : Bool) → ¬ BeginsWithMark short_equals (b ∷ bs)
+    → NextBuilt t (line_with (rest (b ∷ bs)) words false last short_equals bin)
+goes_on_built t b bs words last bin short_equals no_mark =
+    let a = cluster_built t short_equals b bs words (rest (b ∷ bs)) last bin in
     (a.0, a.1, next_in_cluster (b ∷ bs) refl no_mark a.2, λ items shows. (no_mark, a.3 items shows))
 
-parts_built : (t : Table) (tail : Tail) (words : List (List ℕ)) (ended : Bool) (last : LastOption) (bin : Option (List ℕ)) (switch : Bool) → TailStands tail last ended
-    → NextBuilt t (line_of tail words ended last switch bin)
-parts_built t no_tail words false last bin switch stands = let a = word_built t switch last bin words in (a.0, a.1, steps.next_word refl refl a.2, a.3)
-parts_built t no_tail words true last bin switch stands = let a = ended_built t words last bin switch in (a.0, a.1, after_separator refl refl a.2, a.3)
-parts_built t (joined value) words ended last bin switch stands =
+parts_built : (t : Table) (tail : Tail) (words : List (List ℕ)) (ended : Bool) (last : LastOption) (bin : Option (List ℕ)) (short_equals : Bool) → TailStands tail last ended
+    → NextBuilt t (line_with tail words ended last short_equals bin)
+parts_built t no_tail words false last bin short_equals stands = let a = word_built t short_equals last bin words in (a.0, a.1, steps.next_word refl refl a.2, a.3)
+parts_built t no_tail words true last bin short_equals stands = let a = ended_built t words last bin short_equals in (a.0, a.1, after_separator refl refl a.2, a.3)
+parts_built t (joined value) words ended last bin short_equals stands =
     let option = spelled last stands.0 in (_, _, steps.joined_value value option.0 refl option.1 refl refl, λ items shows. absurd shows)
-parts_built t (rest bytes) words true last bin switch stands = absurd (let e = stands.1 in cc)
-parts_built t (rest []) words false last bin switch stands = absurd (stands.2 refl)
+parts_built t (rest bytes) words true last bin short_equals stands = absurd (let e = stands.1 in cc)
+parts_built t (rest []) words false last bin short_equals stands = absurd (stands.2 refl)
 parts_built t (rest (b ∷ bs)) words false last bin false stands = goes_on_built t b bs words last bin false (λ mark. let e : false ≡ true = mark.0 in cc)
 parts_built t (rest (b ∷ bs)) words false last bin true stands = ⊎_elim
     (λ (same : b ≡ equals).
     let option = spelled last stands.0 in
-    subst (λ (x : ℕ). NextBuilt t (line_of (rest (x ∷ bs)) words false last true bin)) (sym same)
+    subst (λ (x : ℕ). NextBuilt t (line_with (rest (x ∷ bs)) words false last true bin)) (sym same)
     (_, _, equals_value bs option.0 refl refl option.1 refl refl, λ items shows. absurd shows))
     (λ (other : b ≢ equals). goes_on_built t b bs words last bin true (λ mark. other mark.1))
     (cases_eq b equals)

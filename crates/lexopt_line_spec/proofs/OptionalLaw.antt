@@ -5,15 +5,15 @@ use Rattle.lexopt_spec.specs.Steps.{Reply, OptionalStep, optional_pending, optio
 use Rattle.lexopt_line_spec.specs.Table.{Name, Item, option, Kind, optional, kind, Table}
 use Rattle.lexopt_line_spec.specs.Spelling as spelling
 use Rattle.lexopt_line_spec.specs.Spelling.{After, nothing, attached, Completes, OptionalValue, no_optional, attached_optional, joined_optional}
-use Rattle.lexopt_line_spec.proofs.Hands.{is_some_rest}
+use Rattle.lexopt_line_spec.proofs.HandedItems.{is_some_rest}
 use Rattle.lexopt_line_spec.proofs.Unread.{PartsShow, after_of, ShowsAfter, Leads, ValueShows}
 
 -- where nothing is pending, nothing is left of a word
-pub none_tail : (switch : Bool) (tail : Tail) (last : LastOption) (ended : Bool) → TailStands tail last ended → pending_in switch tail ≡ None → tail ≡ no_tail
-none_tail switch no_tail last ended stands is = refl
-none_tail switch (joined v) last ended stands is = absurd (let e : Some (v, true) ≡ None = is in cc)
-none_tail switch (rest []) last ended stands is = absurd (stands.2 refl)
-none_tail switch (rest (b ∷ bs)) last ended stands is = absurd (is_some_rest switch b bs is)
+pub none_tail : (short_equals : Bool) (tail : Tail) (last : LastOption) (ended : Bool) → TailStands tail last ended → pending_in short_equals tail ≡ None → tail ≡ no_tail
+none_tail short_equals no_tail last ended stands is = refl
+none_tail short_equals (joined v) last ended stands is = absurd (let e : Some (v, true) ≡ None = is in cc)
+none_tail short_equals (rest []) last ended stands is = absurd (stands.2 refl)
+none_tail short_equals (rest (b ∷ bs)) last ended stands is = absurd (is_some_rest short_equals b bs is)
 
 value_of : Option (List ℕ × Bool) → Option (List ℕ)
 value_of None = None

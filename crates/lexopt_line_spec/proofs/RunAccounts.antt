@@ -5,28 +5,28 @@ use Rattle.lexopt_spec.specs.UnreadLine.{UnreadLine, IsLine}
 use Rattle.lexopt_spec.specs.Steps.{Reply}
 use Rattle.lexopt_spec.specs.Views.{TakesWords, TakesWordIf}
 use Rattle.lexopt_spec.specs.Account.{bytes_of, flat, handing, handed_items, bytes_handed_out, segment_bytes, segment_shown, shown_of}
-use Rattle.lexopt_spec.specs.Runs.{Call, next, value, optional, values, raw, try_raw, raw_if, switch, StepWithMemory, Step, Run, ample_account, account, segments}
+use Rattle.lexopt_spec.specs.Runs.{Call, next, value, optional, values, raw, try_raw, raw_if, switch, StepWithMemory, Step, Run, account_with_memory, account, segments}
 use Rattle.lexopt_line_spec.proofs.Accounts.{next_keeps, next_shown, next_suffix, IsSuffix, words_after}
-use Rattle.lexopt_line_spec.proofs.Hands.{value_hands, optional_hands, values_hands, raw_hands, words_hands, word_if_hands, try_raw_hands, hands_keep, hands_suffix, hands_line, handing_shown}
+use Rattle.lexopt_line_spec.proofs.HandedItems.{value_hands, optional_hands, values_hands, raw_hands, words_hands, word_if_hands, try_raw_hands, hands_keep, hands_suffix, hands_line, handing_shown}
 use Rattle.lexopt_line_spec.proofs.NoOption.{NoOption, no_option_handed, value_no_option, optional_no_option, values_no_option, words_no_option, word_if_no_option, raw_no_option, try_raw_no_option}
 use Rattle.lexopt_line_spec.proofs.Lines.{next_line}
 
 -- ---- no byte is lost
 
-ample_keeps : (call : Call) (u : UnreadLine) (r : Reply) (v : UnreadLine) (step : StepWithMemory call u r v)
-    → flat u ≡ bytes_of (ample_account call u r v step) ++ flat v
-ample_keeps next u r v step = next_keeps u r v step
-ample_keeps value u r v step = hands_keep u (handed_items r) v (value_hands u r v step)
-ample_keeps optional u r v step = hands_keep u (handed_items r) v (optional_hands u r v step)
-ample_keeps (values n) u r v step = hands_keep u (handed_items r) v (values_hands n u r v step)
-ample_keeps (raw n) u r v step = hands_keep u (handed_items r) v (raw_hands (TakesWords n) u r v (λ p t. words_hands n u r v p t) step)
-ample_keeps (try_raw n) u r v step = hands_keep u (handed_items r) v (try_raw_hands n u r v step)
-ample_keeps (raw_if word) u r v step = hands_keep u (handed_items r) v (raw_hands (TakesWordIf word) u r v (λ p t. word_if_hands word u r v p t) step)
-ample_keeps (switch on) u r v step = ap flat (sym step.after_is)
+keeps_with_memory : (call : Call) (u : UnreadLine) (r : Reply) (v : UnreadLine) (step : StepWithMemory call u r v)
+    → flat u ≡ bytes_of (account_with_memory call u r v step) ++ flat v
+keeps_with_memory next u r v step = next_keeps u r v step
+keeps_with_memory value u r v step = hands_keep u (handed_items r) v (value_hands u r v step)
+keeps_with_memory optional u r v step = hands_keep u (handed_items r) v (optional_hands u r v step)
+keeps_with_memory (values n) u r v step = hands_keep u (handed_items r) v (values_hands n u r v step)
+keeps_with_memory (raw n) u r v step = hands_keep u (handed_items r) v (raw_hands (TakesWords n) u r v (λ p t. words_hands n u r v p t) step)
+keeps_with_memory (try_raw n) u r v step = hands_keep u (handed_items r) v (try_raw_hands n u r v step)
+keeps_with_memory (raw_if word) u r v step = hands_keep u (handed_items r) v (raw_hands (TakesWordIf word) u r v (λ p t. word_if_hands word u r v p t) step)
+keeps_with_memory (switch on) u r v step = ap flat (sym step.after_is)
 
 step_keeps : (call : Call) (u : UnreadLine) (r : Reply) (v : UnreadLine) (step : Step call u r v)
     → flat u ≡ bytes_of (account call u r v step) ++ flat v
-step_keeps call u r v (inl step) = ample_keeps call u r v step
+step_keeps call u r v (inl step) = keeps_with_memory call u r v step
 step_keeps call u r v (inr refused) = ap flat (sym refused.after_is)
 
 pub run_keeps : (u : UnreadLine) (calls : List Call) (replies : List Reply) (v : UnreadLine) (run : Run u calls replies v)
@@ -48,20 +48,20 @@ run_keeps u (c ∷ cs) (r ∷ rs) v run =
 items_shown : (u : UnreadLine) (r : Reply) → NoOption r → bytes_handed_out r ≡ shown_of (handing u (handed_items r))
 items_shown u r other = no_option_handed r other ∙ sym (handing_shown u (handed_items r))
 
-ample_shown : (call : Call) (u : UnreadLine) (r : Reply) (v : UnreadLine) (step : StepWithMemory call u r v)
-    → bytes_handed_out r ≡ shown_of (ample_account call u r v step)
-ample_shown next u r v step = next_shown u r v step
-ample_shown value u r v step = items_shown u r (value_no_option u r v step)
-ample_shown optional u r v step = items_shown u r (optional_no_option u r v step)
-ample_shown (values n) u r v step = items_shown u r (values_no_option n u r v step)
-ample_shown (raw n) u r v step = items_shown u r (raw_no_option (TakesWords n) u r v (λ t. words_no_option n u r v t) step)
-ample_shown (try_raw n) u r v step = items_shown u r (try_raw_no_option n u r v step)
-ample_shown (raw_if word) u r v step = items_shown u r (raw_no_option (TakesWordIf word) u r v (λ t. word_if_no_option word u r v t) step)
-ample_shown (switch on) u r v step = ap bytes_handed_out step.reply_is
+shown_with_memory : (call : Call) (u : UnreadLine) (r : Reply) (v : UnreadLine) (step : StepWithMemory call u r v)
+    → bytes_handed_out r ≡ shown_of (account_with_memory call u r v step)
+shown_with_memory next u r v step = next_shown u r v step
+shown_with_memory value u r v step = items_shown u r (value_no_option u r v step)
+shown_with_memory optional u r v step = items_shown u r (optional_no_option u r v step)
+shown_with_memory (values n) u r v step = items_shown u r (values_no_option n u r v step)
+shown_with_memory (raw n) u r v step = items_shown u r (raw_no_option (TakesWords n) u r v (λ t. words_no_option n u r v t) step)
+shown_with_memory (try_raw n) u r v step = items_shown u r (try_raw_no_option n u r v step)
+shown_with_memory (raw_if word) u r v step = items_shown u r (raw_no_option (TakesWordIf word) u r v (λ t. word_if_no_option word u r v t) step)
+shown_with_memory (switch on) u r v step = ap bytes_handed_out step.reply_is
 
 pub step_shown : (call : Call) (u : UnreadLine) (r : Reply) (v : UnreadLine) (step : Step call u r v)
     → bytes_handed_out r ≡ shown_of (account call u r v step)
-step_shown call u r v (inl step) = ample_shown call u r v step
+step_shown call u r v (inl step) = shown_with_memory call u r v step
 step_shown call u r v (inr refused) = ap bytes_handed_out refused.reply_is
 
 pub run_shown : (u : UnreadLine) (calls : List Call) (replies : List Reply) (v : UnreadLine) (run : Run u calls replies v)
@@ -76,18 +76,18 @@ run_shown u (c ∷ cs) (r ∷ rs) v run =
 
 -- ---- the words left are a suffix
 
-ample_suffix : (call : Call) (u : UnreadLine) (r : Reply) (v : UnreadLine) → StepWithMemory call u r v → IsSuffix u v
-ample_suffix next u r v step = next_suffix u r v step
-ample_suffix value u r v step = hands_suffix u (handed_items r) v (value_hands u r v step)
-ample_suffix optional u r v step = hands_suffix u (handed_items r) v (optional_hands u r v step)
-ample_suffix (values n) u r v step = hands_suffix u (handed_items r) v (values_hands n u r v step)
-ample_suffix (raw n) u r v step = hands_suffix u (handed_items r) v (raw_hands (TakesWords n) u r v (λ p t. words_hands n u r v p t) step)
-ample_suffix (try_raw n) u r v step = hands_suffix u (handed_items r) v (try_raw_hands n u r v step)
-ample_suffix (raw_if word) u r v step = hands_suffix u (handed_items r) v (raw_hands (TakesWordIf word) u r v (λ p t. word_if_hands word u r v p t) step)
-ample_suffix (switch on) u r v step = ([], words_after v _ step.after_is)
+suffix_with_memory : (call : Call) (u : UnreadLine) (r : Reply) (v : UnreadLine) → StepWithMemory call u r v → IsSuffix u v
+suffix_with_memory next u r v step = next_suffix u r v step
+suffix_with_memory value u r v step = hands_suffix u (handed_items r) v (value_hands u r v step)
+suffix_with_memory optional u r v step = hands_suffix u (handed_items r) v (optional_hands u r v step)
+suffix_with_memory (values n) u r v step = hands_suffix u (handed_items r) v (values_hands n u r v step)
+suffix_with_memory (raw n) u r v step = hands_suffix u (handed_items r) v (raw_hands (TakesWords n) u r v (λ p t. words_hands n u r v p t) step)
+suffix_with_memory (try_raw n) u r v step = hands_suffix u (handed_items r) v (try_raw_hands n u r v step)
+suffix_with_memory (raw_if word) u r v step = hands_suffix u (handed_items r) v (raw_hands (TakesWordIf word) u r v (λ p t. word_if_hands word u r v p t) step)
+suffix_with_memory (switch on) u r v step = ([], words_after v _ step.after_is)
 
 pub step_suffix : (call : Call) (u : UnreadLine) (r : Reply) (v : UnreadLine) → Step call u r v → IsSuffix u v
-step_suffix call u r v (inl step) = ample_suffix call u r v step
+step_suffix call u r v (inl step) = suffix_with_memory call u r v step
 step_suffix call u r v (inr refused) = ([], words_after v _ refused.after_is)
 
 pub run_suffix : (u : UnreadLine) (calls : List Call) (replies : List Reply) (v : UnreadLine) → Run u calls replies v → IsSuffix u v
@@ -101,18 +101,18 @@ run_suffix u (c ∷ cs) (r ∷ rs) v run =
 
 -- ---- a line stays one
 
-ample_line : (call : Call) (u : UnreadLine) (r : Reply) (v : UnreadLine) → IsLine u → StepWithMemory call u r v → IsLine v
-ample_line next u r v is step = next_line u v r is step
-ample_line value u r v is step = hands_line u (handed_items r) v is (value_hands u r v step)
-ample_line optional u r v is step = hands_line u (handed_items r) v is (optional_hands u r v step)
-ample_line (values n) u r v is step = hands_line u (handed_items r) v is (values_hands n u r v step)
-ample_line (raw n) u r v is step = hands_line u (handed_items r) v is (raw_hands (TakesWords n) u r v (λ p t. words_hands n u r v p t) step)
-ample_line (try_raw n) u r v is step = hands_line u (handed_items r) v is (try_raw_hands n u r v step)
-ample_line (raw_if word) u r v is step = hands_line u (handed_items r) v is (raw_hands (TakesWordIf word) u r v (λ p t. word_if_hands word u r v p t) step)
-ample_line (switch on) u r v is step = subst IsLine (sym step.after_is) is
+line_with_memory : (call : Call) (u : UnreadLine) (r : Reply) (v : UnreadLine) → IsLine u → StepWithMemory call u r v → IsLine v
+line_with_memory next u r v is step = next_line u v r is step
+line_with_memory value u r v is step = hands_line u (handed_items r) v is (value_hands u r v step)
+line_with_memory optional u r v is step = hands_line u (handed_items r) v is (optional_hands u r v step)
+line_with_memory (values n) u r v is step = hands_line u (handed_items r) v is (values_hands n u r v step)
+line_with_memory (raw n) u r v is step = hands_line u (handed_items r) v is (raw_hands (TakesWords n) u r v (λ p t. words_hands n u r v p t) step)
+line_with_memory (try_raw n) u r v is step = hands_line u (handed_items r) v is (try_raw_hands n u r v step)
+line_with_memory (raw_if word) u r v is step = hands_line u (handed_items r) v is (raw_hands (TakesWordIf word) u r v (λ p t. word_if_hands word u r v p t) step)
+line_with_memory (switch on) u r v is step = subst IsLine (sym step.after_is) is
 
 pub step_line : (call : Call) (u : UnreadLine) (r : Reply) (v : UnreadLine) → IsLine u → Step call u r v → IsLine v
-step_line call u r v is (inl step) = ample_line call u r v is step
+step_line call u r v is (inl step) = line_with_memory call u r v is step
 step_line call u r v is (inr refused) = subst IsLine (sym refused.after_is) is
 
 pub run_line : (u : UnreadLine) (calls : List Call) (replies : List Reply) (v : UnreadLine) → IsLine u → Run u calls replies v → IsLine v

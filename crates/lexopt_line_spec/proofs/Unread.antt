@@ -10,19 +10,19 @@ use Rattle.lexopt_line_spec.specs.Spelling.{damaged, After, nothing, attached, C
 -- ---- what an unread line shows
 
 -- the bytes of a cluster, with the words after it, show these items
-pub record ClusterShows (t : Table) (switch : Bool) (bytes : List ℕ) (words : List (List ℕ)) (items : List Item) : Type 0 where
+pub record ClusterShows (t : Table) (short_equals : Bool) (bytes : List ℕ) (words : List (List ℕ)) (items : List Item) : Type 0 where
   pub left : List (List ℕ)
   pub front : List Item
   pub others : List Item
-  pub cluster : Cluster damaged t switch words left bytes front
-  pub line : Shows t switch left others
+  pub cluster : Cluster damaged t short_equals words left bytes front
+  pub line : Shows t short_equals left others
   pub items_are : items ≡ front ++ others
 
 abbrev pub PartsShow : Table → Bool → Tail → Bool → List (List ℕ) → List Item → Type 0
-PartsShow t switch no_tail false words items = Shows t switch words items
-PartsShow t switch no_tail true words items = items ≡ map positional words
-PartsShow t switch (joined value) ended words items = ⊥
-PartsShow t switch (rest bytes) ended words items = (¬ BeginsWithMark switch bytes) × ClusterShows t switch bytes words items
+PartsShow t short_equals no_tail false words items = Shows t short_equals words items
+PartsShow t short_equals no_tail true words items = items ≡ map positional words
+PartsShow t short_equals (joined value) ended words items = ⊥
+PartsShow t short_equals (rest bytes) ended words items = (¬ BeginsWithMark short_equals bytes) × ClusterShows t short_equals bytes words items
 
 -- read from here on by `next`, the line shows these items
 abbrev pub ShowsFrom : Table → UnreadLine → List Item → Type 0

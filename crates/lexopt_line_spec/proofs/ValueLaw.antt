@@ -5,7 +5,7 @@ use Rattle.lexopt_spec.specs.Steps.{Reply, taken, missing, ValueStep, pending_va
 use Rattle.lexopt_line_spec.specs.Table.{Name, Item, option, Kind, one, kind, Table}
 use Rattle.lexopt_line_spec.specs.Spelling as spelling
 use Rattle.lexopt_line_spec.specs.Spelling.{After, nothing, attached, Completes, OneValue, attached_value, joined_value, next_word}
-use Rattle.lexopt_line_spec.proofs.Hands.{is_some_rest}
+use Rattle.lexopt_line_spec.proofs.HandedItems.{is_some_rest}
 use Rattle.lexopt_line_spec.proofs.Unread.{PartsShow, after_of, ShowsAfter, ValueShows}
 use Rattle.lexopt_line_spec.proofs.Exact.{value_same}
 
@@ -71,17 +71,17 @@ own_law t name u value by k is items = (
   },
 )
 
-word_law : (t : Table) (name : Name) (ended : Bool) (last : LastOption) (switch : Bool) (bin : Option (List ℕ)) (w : List ℕ) (ws : List (List ℕ)) → kind t name ≡ one
-    → ValueLaw t name (record { tail = no_tail; words = w ∷ ws; ended = ended; last = last; short_equals = switch; bin_name = bin }) (taken w)
-    (record { tail = no_tail; words = ws; ended = ended; last = last; short_equals = switch; bin_name = bin })
-word_law t name ended last switch bin w ws k items = (
+word_law : (t : Table) (name : Name) (ended : Bool) (last : LastOption) (short_equals : Bool) (bin : Option (List ℕ)) (w : List ℕ) (ws : List (List ℕ)) → kind t name ≡ one
+    → ValueLaw t name (record { tail = no_tail; words = w ∷ ws; ended = ended; last = last; short_equals = short_equals; bin_name = bin }) (taken w)
+    (record { tail = no_tail; words = ws; ended = ended; last = last; short_equals = short_equals; bin_name = bin })
+word_law t name ended last short_equals bin w ws k items = (
   λ s.
       let other = other_value name (w ∷ ws) s.left s.item (is_one t name nothing (w ∷ ws) s.item s.left k s.completes) in
       let word : other.0 ≡ w = let e = other.2 in cc in
       let words : s.left ≡ ws = let e = other.2 in cc in
       record {
         others = s.others;
-        shows = subst (λ (l : List (List ℕ)). PartsShow t switch no_tail ended l s.others) words s.line;
+        shows = subst (λ (l : List (List ℕ)). PartsShow t short_equals no_tail ended l s.others) words s.line;
         items_are = s.items_are ∙ ap (λ x. x ∷ s.others) (other.1 ∙ ap (λ x. option name (Some x)) word);
       },
   λ l. record {
@@ -94,23 +94,23 @@ word_law t name ended last switch bin w ws k items = (
   },
 )
 
-none_law : (t : Table) (name : Name) (ended : Bool) (last : LastOption) (switch : Bool) (bin : Option (List ℕ)) → kind t name ≡ one
-    → let u : UnreadLine = record { tail = no_tail; words = []; ended = ended; last = last; short_equals = switch; bin_name = bin } in
+none_law : (t : Table) (name : Name) (ended : Bool) (last : LastOption) (short_equals : Bool) (bin : Option (List ℕ)) → kind t name ≡ one
+    → let u : UnreadLine = record { tail = no_tail; words = []; ended = ended; last = last; short_equals = short_equals; bin_name = bin } in
     ValueLaw t name u (missing (spelling last)) u
-none_law t name ended last switch bin k items =
+none_law t name ended last short_equals bin k items =
     (λ s. let e = (other_value name [] s.left s.item (is_one t name nothing [] s.item s.left k s.completes)).2 in cc, λ l. absurd l)
 
-parts_answer : (t : Table) (name : Name) (p : Option (List ℕ × Bool)) (tail : Tail) (words : List (List ℕ)) (ended : Bool) (last : LastOption) (switch : Bool) (bin : Option (List ℕ))
-    → kind t name ≡ one → pending (record { tail = tail; words = words; ended = ended; last = last; short_equals = switch; bin_name = bin }) ≡ p
-    → TailStands tail last ended → Answer t name (record { tail = tail; words = words; ended = ended; last = last; short_equals = switch; bin_name = bin })
-parts_answer t name (Some value) tail words ended last switch bin k is stands =
-    let u : UnreadLine = record { tail = tail; words = words; ended = ended; last = last; short_equals = switch; bin_name = bin } in
+parts_answer : (t : Table) (name : Name) (p : Option (List ℕ × Bool)) (tail : Tail) (words : List (List ℕ)) (ended : Bool) (last : LastOption) (short_equals : Bool) (bin : Option (List ℕ))
+    → kind t name ≡ one → pending (record { tail = tail; words = words; ended = ended; last = last; short_equals = short_equals; bin_name = bin }) ≡ p
+    → TailStands tail last ended → Answer t name (record { tail = tail; words = words; ended = ended; last = last; short_equals = short_equals; bin_name = bin })
+parts_answer t name (Some value) tail words ended last short_equals bin k is stands =
+    let u : UnreadLine = record { tail = tail; words = words; ended = ended; last = last; short_equals = short_equals; bin_name = bin } in
     (_, _, pending_value value.0 value.1 is refl refl, own_law t name u value.0 value.1 k is)
-parts_answer t name None no_tail [] ended last switch bin k is stands = (_, _, nothing_to_take refl refl refl refl, none_law t name ended last switch bin k)
-parts_answer t name None no_tail (w ∷ ws) ended last switch bin k is stands = (_, _, takes_word w ws refl refl refl refl, word_law t name ended last switch bin w ws k)
-parts_answer t name None (joined value) words ended last switch bin k is stands = absurd (let e : Some (value, true) ≡ None = is in cc)
-parts_answer t name None (rest []) words ended last switch bin k is stands = absurd (stands.2 refl)
-parts_answer t name None (rest (b ∷ bs)) words ended last switch bin k is stands = absurd (is_some_rest switch b bs is)
+parts_answer t name None no_tail [] ended last short_equals bin k is stands = (_, _, nothing_to_take refl refl refl refl, none_law t name ended last short_equals bin k)
+parts_answer t name None no_tail (w ∷ ws) ended last short_equals bin k is stands = (_, _, takes_word w ws refl refl refl refl, word_law t name ended last short_equals bin w ws k)
+parts_answer t name None (joined value) words ended last short_equals bin k is stands = absurd (let e : Some (value, true) ≡ None = is in cc)
+parts_answer t name None (rest []) words ended last short_equals bin k is stands = absurd (stands.2 refl)
+parts_answer t name None (rest (b ∷ bs)) words ended last short_equals bin k is stands = absurd (is_some_rest short_equals b bs is)
 
 -- ---- each answer
 

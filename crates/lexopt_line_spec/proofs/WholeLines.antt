@@ -7,24 +7,24 @@ use Rattle.lexopt_line_spec.specs.Spelling.{Shows}
 use Rattle.lexopt_line_spec.proofs.Readings.{sound, complete, no_option_after}
 use Rattle.lexopt_line_spec.proofs.Existence.{reads}
 
-pub said_shows : (t : Table) (switch : Bool) (words : List (List ℕ)) (l : List Item) → IsReading t (start switch words) end l → Shows t switch words l
-said_shows t switch words l r = subst (Shows t switch words) (sym r.items_are)
-    (sound t flag (long []) (start switch words) r.after r.calls r.replies (no_option_after t (long []) (start switch words)) tt r.asked r.run)
+pub said_shows : (t : Table) (short_equals : Bool) (words : List (List ℕ)) (l : List Item) → IsReading t (start short_equals words) end l → Shows t short_equals words l
+said_shows t short_equals words l r = subst (Shows t short_equals words) (sym r.items_are)
+    (sound t flag (long []) (start short_equals words) r.after r.calls r.replies (no_option_after t (long []) (start short_equals words)) tt r.asked r.run)
 
-pub shown_said : (t : Table) (switch : Bool) (words : List (List ℕ)) (l m : List Item) (final : Reply) → Shows t switch words l
-    → IsReading t (start switch words) final m → (final ≡ end) × (l ≡ m)
-shown_said t switch words l m final shows r =
-    let all = complete t final flag (long []) (start switch words) r.after r.calls r.replies l (no_option_after t (long []) (start switch words)) tt r.asked r.run shows in
+pub shown_said : (t : Table) (short_equals : Bool) (words : List (List ℕ)) (l m : List Item) (final : Reply) → Shows t short_equals words l
+    → IsReading t (start short_equals words) final m → (final ≡ end) × (l ≡ m)
+shown_said t short_equals words l m final shows r =
+    let all = complete t final flag (long []) (start short_equals words) r.after r.calls r.replies l (no_option_after t (long []) (start short_equals words)) tt r.asked r.run shows in
     (all.0, all.1 ∙ sym r.items_are)
 
-pub shown_read : (t : Table) (switch : Bool) (words : List (List ℕ)) (l : List Item) → Shows t switch words l → IsReading t (start switch words) end l
-shown_read t switch words l shows =
-    let a = reads t l (start switch words) tt shows in
+pub shown_read : (t : Table) (short_equals : Bool) (words : List (List ℕ)) (l : List Item) → Shows t short_equals words l → IsReading t (start short_equals words) end l
+shown_read t short_equals words l shows =
+    let a = reads t l (start short_equals words) tt shows in
     record {
       calls = a.calls;
       replies = a.replies;
       after = a.after;
       run = a.run;
       asked = a.asked;
-      items_are = (complete t end flag (long []) (start switch words) a.after a.calls a.replies l (no_option_after t (long []) (start switch words)) tt a.asked a.run shows).1;
+      items_are = (complete t end flag (long []) (start short_equals words) a.after a.calls a.replies l (no_option_after t (long []) (start short_equals words)) tt a.asked a.run shows).1;
     }

@@ -9,9 +9,9 @@ use Rattle.lexopt_spec.specs.Runs.{Call, next, value, Run}
 use Rattle.lexopt_line_spec.specs.Table.{Name, short, long, Item, option, positional, Kind, flag}
 use Rattle.lexopt_line_spec.specs.Table.{one, optional, several, many, kind, Table}
 
--- the line of these words, of which none was read, under this switch
+-- the line of these words, of which none was read, under this setting
 abbrev pub start : Bool → List (List ℕ) → UnreadLine
-start switch words = record (fresh words) { short_equals = switch }
+start short_equals words = record (fresh words) { short_equals = short_equals }
 
 -- the call that is made after an option of this kind. Where no option was read last, it is that
 -- after a flag

@@ -166,7 +166,7 @@ meaning line = if pointwise ◌==◌ line (codes "items") then command whole_lin
 abbrev pub most_bytes : ℕ
 most_bytes = 1048576
 
--- the call reads the line: the switch alone does not
+-- the call reads the line: `set_short_equals` alone does not
 abbrev pub reads_line : Call → Bool
 reads_line (switch on) = false
 reads_line c = true
@@ -298,13 +298,13 @@ pub data WholeLineText (t : Table) (on : Bool) (words : List (List ℕ)) (text :
       → WholeLineText t on words text
   memory_refused : text ≡ reply_text no_memory → WholeLineText t on words text
 
--- the switch after a call
+-- the setting after a call
 abbrev pub switched : Bool → Call → Bool
 switched on (switch now) = now
 switched on c = on
 
 -- a line for each command, in order: that of the reply to a call, or that of the whole line under
--- the switch as last set
+-- the setting as it stands then
 abbrev pub Written : Table → List (List ℕ) → Bool → List Command → List Reply → List ℕ → Type 0
 Written t words on [] [] text = text ≡ []
 Written t words on [] (reply ∷ replies) text = ⊥

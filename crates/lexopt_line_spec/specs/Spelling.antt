@@ -91,31 +91,33 @@ Completes several = SeveralValues
 
 -- ---- clusters, as `-abc`
 
--- `=` stands first in these bytes, and the switch makes it a mark
+-- `=` stands first in these bytes, and the setting makes it a mark
 abbrev pub BeginsWithMark : Bool → List ℕ → Type 0
-BeginsWithMark switch bytes = (switch ≡ true) × BeginsWith equals bytes
+BeginsWithMark short_equals bytes = (short_equals ≡ true) × BeginsWith equals bytes
 
 -- these bytes stand after the last character of a cluster
-pub data IsAfterLast (switch : Bool) (bytes : List ℕ) (after : After) : Type 0 where
-  nothing_more : bytes ≡ [] → after ≡ nothing → IsAfterLast switch bytes after
-  a_value : bytes ≢ [] → ¬ BeginsWithMark switch bytes → after ≡ attached bytes
-      → IsAfterLast switch bytes after
-  marked_value : (v : List ℕ) → switch ≡ true → bytes ≡ equals ∷ v → after ≡ joined v
-      → IsAfterLast switch bytes after
+pub data IsAfterLast (short_equals : Bool) (bytes : List ℕ) (after : After) : Type 0 where
+  nothing_more : bytes ≡ [] → after ≡ nothing → IsAfterLast short_equals bytes after
+  a_value : bytes ≢ [] → ¬ BeginsWithMark short_equals bytes → after ≡ attached bytes
+      → IsAfterLast short_equals bytes after
+  marked_value : (v : List ℕ) → short_equals ≡ true → bytes ≡ equals ∷ v → after ≡ joined v
+      → IsAfterLast short_equals bytes after
 
 -- these bytes of a cluster, with the words after it, spell the items, and the words are left
-pub data Cluster (letters : Letters) (t : Table) (switch : Bool)
+pub data Cluster (letters : Letters) (t : Table) (short_equals : Bool)
     (words left : List (List ℕ)) : List ℕ → List Item → Type 0 where
   -- a flag, and more characters, the first of which is no `=` that is a mark
   flag_first : (c : ℕ) (character others : List ℕ) (items : List Item)
       → letters.character c character others → kind t (short c) ≡ flag
-      → ¬ BeginsWithMark switch others → Cluster letters t switch words left others items
-      → Cluster letters t switch words left (character ++ others) (option (short c) None ∷ items)
+      → ¬ BeginsWithMark short_equals others
+      → Cluster letters t short_equals words left others items
+      → Cluster letters t short_equals words left (character ++ others)
+      (option (short c) None ∷ items)
   last_option : (c : ℕ) (character others : List ℕ) (after : After) (item : Item)
       → letters.character c character others
-      → IsAfterLast switch others after
+      → IsAfterLast short_equals others after
       → Completes (kind t (short c)) (short c) after words item left
-      → Cluster letters t switch words left (character ++ others) (item ∷ [])
+      → Cluster letters t short_equals words left (character ++ others) (item ∷ [])
 
 -- ---- long options, as `--name` and `--name=value`
 
@@ -128,29 +130,30 @@ pub data IsLong (text bytes : List ℕ) (after : After) : Type 0 where
 -- ---- a whole line
 
 -- the first of these words spell the items, and the words are left
-pub data Group (letters : Letters) (t : Table) (switch : Bool) (words : List (List ℕ))
+pub data Group (letters : Letters) (t : Table) (short_equals : Bool) (words : List (List ℕ))
     (items : List Item) (left : List (List ℕ)) : Type 0 where
   cluster : (bytes : List ℕ) (others : List (List ℕ)) → words ≡ (dash ∷ bytes) ∷ others
       → ¬ BeginsWith dash bytes
-      → Cluster letters t switch others left bytes items → Group letters t switch words items left
+      → Cluster letters t short_equals others left bytes items
+      → Group letters t short_equals words items left
   long_option : (text bytes name : List ℕ) (after : After) (item : Item) (others : List (List ℕ))
       → words ≡ (dash ∷ dash ∷ text) ∷ others
       → IsLong text bytes after → ¬ Contains bytes equals → letters.name name bytes
       → Completes (kind t (long name)) (long name) after others item left
-      → items ≡ item ∷ [] → Group letters t switch words items left
+      → items ≡ item ∷ [] → Group letters t short_equals words items left
 
 pub data Line (letters : Letters) (t : Table)
-    (switch : Bool) : List (List ℕ) → List Item → Type 0 where
-  no_words : Line letters t switch [] []
+    (short_equals : Bool) : List (List ℕ) → List Item → Type 0 where
+  no_words : Line letters t short_equals [] []
   plain_word : (w : List ℕ) (words : List (List ℕ)) (items : List Item) → IsPlain false w
-      → Line letters t switch words items
-      → Line letters t switch (w ∷ words) (positional w ∷ items)
+      → Line letters t short_equals words items
+      → Line letters t short_equals (w ∷ words) (positional w ∷ items)
   group : (words left : List (List ℕ)) (front items : List Item)
-      → Group letters t switch words front left → Line letters t switch left items
-      → Line letters t switch words (front ++ items)
+      → Group letters t short_equals words front left → Line letters t short_equals left items
+      → Line letters t short_equals words (front ++ items)
   -- `--`: each word after it is a positional
   separator : (words : List (List ℕ))
-      → Line letters t switch ((dash ∷ dash ∷ []) ∷ words) (map positional words)
+      → Line letters t short_equals ((dash ∷ dash ∷ []) ∷ words) (map positional words)
 
 -- the words legally spell the items
 abbrev pub Spells : Table → Bool → List (List ℕ) → List Item → Type 0

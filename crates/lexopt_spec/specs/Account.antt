@@ -57,10 +57,11 @@ name_end (rest bytes) = []
 
 -- the `=` of a cluster that is dropped before the value that is pending
 abbrev pub dropped_in : Bool → Tail → List Segment
-dropped_in switch no_tail = []
-dropped_in switch (joined value) = []
-dropped_in switch (rest []) = []
-dropped_in switch (rest (b ∷ bs)) = if switch && b == equals then mark (equals ∷ []) ∷ [] else []
+dropped_in short_equals no_tail = []
+dropped_in short_equals (joined value) = []
+dropped_in short_equals (rest []) = []
+dropped_in short_equals (rest (b ∷ bs)) =
+    if short_equals && b == equals then mark (equals ∷ []) ∷ [] else []
 
 -- what the line hands out, where its items are asked
 abbrev pub handing : UnreadLine → List (List ℕ) → List Segment

@@ -45,20 +45,20 @@ Run u (call ∷ calls) (reply ∷ replies) after = (between : UnreadLine) × Ste
 -- ---- the account of bytes
 
 -- the segments of what a call reads: every call but `next` hands out items alone
-abbrev pub ample_account : (call : Call) (u : UnreadLine) (reply : Reply) (after : UnreadLine)
+abbrev pub account_with_memory : (call : Call) (u : UnreadLine) (reply : Reply) (after : UnreadLine)
     → StepWithMemory call u reply after → List Segment
-ample_account next u reply after step = next_account u reply after step
-ample_account value u reply after step = handing u (handed_items reply)
-ample_account optional u reply after step = handing u (handed_items reply)
-ample_account (values n) u reply after step = handing u (handed_items reply)
-ample_account (raw n) u reply after step = handing u (handed_items reply)
-ample_account (try_raw n) u reply after step = handing u (handed_items reply)
-ample_account (raw_if word) u reply after step = handing u (handed_items reply)
-ample_account (switch on) u reply after step = []
+account_with_memory next u reply after step = next_account u reply after step
+account_with_memory value u reply after step = handing u (handed_items reply)
+account_with_memory optional u reply after step = handing u (handed_items reply)
+account_with_memory (values n) u reply after step = handing u (handed_items reply)
+account_with_memory (raw n) u reply after step = handing u (handed_items reply)
+account_with_memory (try_raw n) u reply after step = handing u (handed_items reply)
+account_with_memory (raw_if word) u reply after step = handing u (handed_items reply)
+account_with_memory (switch on) u reply after step = []
 
 abbrev pub account : (call : Call) (u : UnreadLine) (reply : Reply) (after : UnreadLine)
     → Step call u reply after → List Segment
-account call u reply after (inl step) = ample_account call u reply after step
+account call u reply after (inl step) = account_with_memory call u reply after step
 account call u reply after (inr refused) = []
 
 -- the segments of a list of calls, in order

@@ -79,10 +79,10 @@ rest_of (b ∷ bs) = rest (b ∷ bs)
 
 -- the value that belongs to the last option, and whether it is joined to it by `=`
 abbrev pub pending_in : Bool → Tail → Option (List ℕ × Bool)
-pending_in switch no_tail = None
-pending_in switch (joined value) = Some (value, true)
-pending_in switch (rest []) = None
-pending_in switch (rest (b ∷ bs)) = if switch && b == equals then Some (bs, true)
+pending_in short_equals no_tail = None
+pending_in short_equals (joined value) = Some (value, true)
+pending_in short_equals (rest []) = None
+pending_in short_equals (rest (b ∷ bs)) = if short_equals && b == equals then Some (bs, true)
     else Some (b ∷ bs, false)
 
 abbrev pub pending : UnreadLine → Option (List ℕ × Bool)

@@ -69,7 +69,7 @@ fn in_word(after: After<'_>) -> Form<'_>
 }
 
 // A value right after a character. It stands after `=` where it would be lost, or begins with `=`,
-// if the switch is on.
+// if `short_equals` is on.
 fn attached_form(short_equals: bool, value: &OsString) -> Result<Form<'_>, Reason>
     ensures { form_answer result ≡ tables.attached_form short_equals value.now }
 {

@@ -28,7 +28,7 @@ pub enum Reason {
     /// An option that does not have several values by the table is given as `ShortMany` or
     /// `LongMany`.
     NotMany,
-    /// A short option whose value may be left out is given an empty one, and the switch is off:
+    /// A short option whose value may be left out is given an empty one, and `short_equals` is off:
     /// with it on, `-c=` has one.
     EmptyValue,
     /// One of several values would be an option: `-x` after `1` in `--dim 1 -x`. A first one may
@@ -126,10 +126,10 @@ impl From<AllocError> for SpellError {
 /// The separator stands only where a positional needs it, which would be an option, or one more of
 /// several values; and then before the first of the positionals that end the line. Where it would
 /// stand before an option too, a lone value of a short option of several is joined to it, as
-/// `-d=1`, if the switch is on.
+/// `-d=1`, if `short_equals` is on.
 ///
-/// The switch says whether `=` in a cluster stands between an option and its value, and is to be
-/// the one that the words are read under. Items that no words spell, as an option after a
+/// `short_equals` says whether `=` in a cluster stands between an option and its value. It is to be
+/// the setting that the words are read under. Items that no words spell, as an option after a
 /// positional `-f`, are refused.
 pub fn spell(
     alloc: Global,

@@ -2,10 +2,10 @@ use Rattle.lexopt_line_spec.proofs.WholeLines.{said_shows, shown_said, shown_rea
 use Rattle.lexopt_laws.proofs.laws.readings_say_what_words_show.Goals as goal
 
 pub returns-clause-said : goal.returns-clause-said
-returns-clause-said c = λ t switch words l reading. said_shows t switch words l reading
+returns-clause-said c = λ t short_equals words l reading. said_shows t short_equals words l reading
 
 pub returns-clause-shown : goal.returns-clause-shown
-returns-clause-shown c = λ t switch words l m final shows reading. shown_said t switch words l m final shows reading
+returns-clause-shown c = λ t short_equals words l m final shows reading. shown_said t short_equals words l m final shows reading
 
 pub returns-clause-read : goal.returns-clause-read
-returns-clause-read c = λ t switch words l shows. shown_read t switch words l shows
+returns-clause-read c = λ t short_equals words l shows. shown_read t short_equals words l shows

@@ -1,4 +1,4 @@
--- Every call but `next` and the switch hands out items: what is pending, words, or nothing.
+-- Every call but `next` and `set_short_equals` hands out items: what is pending, words, or nothing.
 use Rattle.std.proofs.Common.{◌≡◌, ◌≢◌, ℕ, zero, suc, ◌==◌, Bool, true, false, List, [], ◌∷◌, ◌++◌, length, take, drop, map, Option, Some, None, refl, sym, ap, subst, ◌∙◌, ⊎_elim, append_assoc, cond}
 use Rattle.std.proofs.lemmas.Bool.{cases_eq, eq-eqb, ne_eqb}
 use Rattle.std.proofs.lemmas.Grind.{flat_map-append}
@@ -12,20 +12,20 @@ use Rattle.lexopt_spec.specs.Views.{plain_front, available_with, without, Values
 use Rattle.lexopt_spec.specs.Account.{given, mark, segment_bytes, bytes_of, tail_bytes, flat, dropped_in, handing, handed_items, segment_shown, shown_of}
 
 -- these items, in order, are what lies between the two lines
-pub data Hands (u : UnreadLine) (handed : List (List ℕ)) (v : UnreadLine) : Type 0 where
-  hands_nothing : handed ≡ [] → v ≡ u → Hands u handed v
-  hands_words : (left : List (List ℕ)) → pending u ≡ None → u.words ≡ handed ++ left → v ≡ record u { words = left } → Hands u handed v
+pub data HandedItems (u : UnreadLine) (handed : List (List ℕ)) (v : UnreadLine) : Type 0 where
+  hands_nothing : handed ≡ [] → v ≡ u → HandedItems u handed v
+  hands_words : (left : List (List ℕ)) → pending u ≡ None → u.words ≡ handed ++ left → v ≡ record u { words = left } → HandedItems u handed v
   hands_pending : (found : List ℕ) (by_equals : Bool) (front left : List (List ℕ)) → pending u ≡ Some (found, by_equals)
-      → handed ≡ found ∷ front → u.words ≡ front ++ left → v ≡ record u { tail = no_tail; words = left } → Hands u handed v
+      → handed ≡ found ∷ front → u.words ≡ front ++ left → v ≡ record u { tail = no_tail; words = left } → HandedItems u handed v
 
 -- ---- each call
 
-pub value_hands : (u : UnreadLine) (r : Reply) (v : UnreadLine) → ValueStep u r v → Hands u (handed_items r) v
+pub value_hands : (u : UnreadLine) (r : Reply) (v : UnreadLine) → ValueStep u r v → HandedItems u (handed_items r) v
 value_hands u r v (pending_value x by_equals p is after) = hands_pending x by_equals [] u.words p (ap handed_items is) refl after
 value_hands u r v (takes_word w ws p words is after) = hands_words ws p (words ∙ ap (λ q. handed_items q ++ ws) (sym is)) after
 value_hands u r v (nothing_to_take p words is after) = hands_nothing (ap handed_items is) after
 
-pub optional_hands : (u : UnreadLine) (r : Reply) (v : UnreadLine) → OptionalStep u r v → Hands u (handed_items r) v
+pub optional_hands : (u : UnreadLine) (r : Reply) (v : UnreadLine) → OptionalStep u r v → HandedItems u (handed_items r) v
 optional_hands u r v (optional_pending x by_equals p is after) = hands_pending x by_equals [] u.words p (ap handed_items is) refl after
 optional_hands u r v (optional_none p is after) = hands_nothing (ap handed_items is) after
 
@@ -40,7 +40,7 @@ without_none zero u = refl
 without_none (suc n) u = refl
 
 values_at : (n : ℕ) (u : UnreadLine) (p : Option (List ℕ × Bool)) (l : List (List ℕ)) (v : UnreadLine) → pending u ≡ p
-    → l ≡ take n (available_with p (plain_front u.ended u.words)) → v ≡ without p (length (take n (available_with p (plain_front u.ended u.words)))) u → Hands u l v
+    → l ≡ take n (available_with p (plain_front u.ended u.words)) → v ≡ without p (length (take n (available_with p (plain_front u.ended u.words)))) u → HandedItems u l v
 values_at n u None l v p is after =
     let front = take n (plain_front u.ended u.words) in
     hands_words (drop (length front) u.words) p
@@ -54,25 +54,25 @@ values_at (suc n) u (Some (x, false)) l v p is after =
     let front = take n (plain_front u.ended u.words) in
     hands_pending x false front (drop (length front) u.words) p is (taken_front n (prefix_len (λ word. is_plain u.ended word) u.words) u.words) after
 
-pub values_hands : (n : ℕ) (u : UnreadLine) (r : Reply) (v : UnreadLine) → ValuesStep n u r v → Hands u (handed_items r) v
+pub values_hands : (n : ℕ) (u : UnreadLine) (r : Reply) (v : UnreadLine) → ValuesStep n u r v → HandedItems u (handed_items r) v
 values_hands n u r v (no_values none is after) = hands_nothing (ap handed_items is) after
 values_hands n u r v (some_values some is after) = values_at n u (pending u) (handed_items r) v refl (ap handed_items is) after
 
-pub words_hands : (n : ℕ) (u : UnreadLine) (r : Reply) (v : UnreadLine) → pending u ≡ None → TakesWords n u r v → Hands u (handed_items r) v
+pub words_hands : (n : ℕ) (u : UnreadLine) (r : Reply) (v : UnreadLine) → pending u ≡ None → TakesWords n u r v → HandedItems u (handed_items r) v
 words_hands n u r v p taken =
     hands_words (drop n u.words) p (sym (take-append-drop n u.words) ∙ ap (λ q. handed_items q ++ drop n u.words) (sym taken.reply_is)) taken.after_is
 
-pub word_if_hands : (word : List ℕ) (u : UnreadLine) (r : Reply) (v : UnreadLine) → pending u ≡ None → TakesWordIf word u r v → Hands u (handed_items r) v
+pub word_if_hands : (word : List ℕ) (u : UnreadLine) (r : Reply) (v : UnreadLine) → pending u ≡ None → TakesWordIf word u r v → HandedItems u (handed_items r) v
 word_if_hands word u r v p (is_next ws words is after) = hands_words ws p (words ∙ ap (λ q. handed_items q ++ ws) (sym is)) after
 word_if_hands word u r v p (is_not_next other is after) = hands_nothing (ap handed_items is) after
 
 pub raw_hands : (Taken : UnreadLine → Reply → UnreadLine → Type 0) (u : UnreadLine) (r : Reply) (v : UnreadLine)
-    → (pending u ≡ None → Taken u r v → Hands u (handed_items r) v) → RawStep Taken u r v → Hands u (handed_items r) v
+    → (pending u ≡ None → Taken u r v → HandedItems u (handed_items r) v) → RawStep Taken u r v → HandedItems u (handed_items r) v
 raw_hands Taken u r v lends (refuses_pending x option by_equals p spelled is after) =
     hands_pending x by_equals [] u.words p (ap handed_items is) refl after
 raw_hands Taken u r v lends (lends_words p taken) = lends p taken
 
-pub try_raw_hands : (n : ℕ) (u : UnreadLine) (r : Reply) (v : UnreadLine) → TryRawStep n u r v → Hands u (handed_items r) v
+pub try_raw_hands : (n : ℕ) (u : UnreadLine) (r : Reply) (v : UnreadLine) → TryRawStep n u r v → HandedItems u (handed_items r) v
 try_raw_hands n u r v (leaves_pending x by_equals p is after) = hands_nothing (ap handed_items is) after
 try_raw_hands n u r v (try_lends_words p taken) = words_hands n u r v p taken
 
@@ -82,8 +82,8 @@ value_in : Option (List ℕ × Bool) → List ℕ
 value_in None = []
 value_in (Some p) = p.0
 
-pending_rest : (switch : Bool) (b : ℕ) (bs x : List ℕ) (by_equals : Bool) → pending_in switch (rest (b ∷ bs)) ≡ Some (x, by_equals)
-    → b ∷ bs ≡ bytes_of (dropped_in switch (rest (b ∷ bs))) ++ x
+pending_rest : (short_equals : Bool) (b : ℕ) (bs x : List ℕ) (by_equals : Bool) → pending_in short_equals (rest (b ∷ bs)) ≡ Some (x, by_equals)
+    → b ∷ bs ≡ bytes_of (dropped_in short_equals (rest (b ∷ bs))) ++ x
 unfolding value_in
 pending_rest false b bs x by_equals is = ap value_in is
 pending_rest true b bs x by_equals is = ⊎_elim
@@ -97,13 +97,13 @@ pending_rest true b bs x by_equals is = ⊎_elim
     ap value_in (sym picked ∙ is) ∙ ap (λ l. bytes_of l ++ x) (sym dropped))
     (cases_eq b equals)
 
-pending_bytes : (switch : Bool) (tail : Tail) (x : List ℕ) (by_equals : Bool) → pending_in switch tail ≡ Some (x, by_equals)
-    → tail_bytes tail ≡ bytes_of (dropped_in switch tail) ++ x
+pending_bytes : (short_equals : Bool) (tail : Tail) (x : List ℕ) (by_equals : Bool) → pending_in short_equals tail ≡ Some (x, by_equals)
+    → tail_bytes tail ≡ bytes_of (dropped_in short_equals tail) ++ x
 unfolding value_in
-pending_bytes switch no_tail x by_equals is = absurd (let e : None ≡ Some (x, by_equals) = is in cc)
-pending_bytes switch (joined w) x by_equals is = ap value_in is
-pending_bytes switch (rest []) x by_equals is = absurd (let e : None ≡ Some (x, by_equals) = is in cc)
-pending_bytes switch (rest (b ∷ bs)) x by_equals is = pending_rest switch b bs x by_equals is
+pending_bytes short_equals no_tail x by_equals is = absurd (let e : None ≡ Some (x, by_equals) = is in cc)
+pending_bytes short_equals (joined w) x by_equals is = ap value_in is
+pending_bytes short_equals (rest []) x by_equals is = absurd (let e : None ≡ Some (x, by_equals) = is in cc)
+pending_bytes short_equals (rest (b ∷ bs)) x by_equals is = pending_rest short_equals b bs x by_equals is
 
 some_none : (x : List ℕ × Bool) → Some x ≡ None → ⊥
 some_none x is = cc
@@ -112,16 +112,16 @@ picks_some : (t : Bool) (x y : List ℕ × Bool) → cond t (Some x) (Some y) �
 picks_some true x y is = some_none x is
 picks_some false x y is = some_none y is
 
-pub is_some_rest : (switch : Bool) (b : ℕ) (bs : List ℕ) → pending_in switch (rest (b ∷ bs)) ≡ None → ⊥
+pub is_some_rest : (short_equals : Bool) (b : ℕ) (bs : List ℕ) → pending_in short_equals (rest (b ∷ bs)) ≡ None → ⊥
 is_some_rest false b bs is = some_none (b ∷ bs, false) is
 is_some_rest true b bs is = picks_some (b == equals) (bs, true) (b ∷ bs, false) is
 
 -- where nothing is pending, no byte of the tail is left
-pub pending_none : (switch : Bool) (tail : Tail) → pending_in switch tail ≡ None → (tail_bytes tail ≡ []) × (dropped_in switch tail ≡ [])
-pending_none switch no_tail is = (refl, refl)
-pending_none switch (joined w) is = absurd (some_none (w, true) is)
-pending_none switch (rest []) is = (refl, refl)
-pending_none switch (rest (b ∷ bs)) is = absurd (is_some_rest switch b bs is)
+pub pending_none : (short_equals : Bool) (tail : Tail) → pending_in short_equals tail ≡ None → (tail_bytes tail ≡ []) × (dropped_in short_equals tail ≡ [])
+pending_none short_equals no_tail is = (refl, refl)
+pending_none short_equals (joined w) is = absurd (some_none (w, true) is)
+pending_none short_equals (rest []) is = (refl, refl)
+pending_none short_equals (rest (b ∷ bs)) is = absurd (is_some_rest short_equals b bs is)
 
 -- ---- the account
 
@@ -133,10 +133,10 @@ given_shown : (l : List (List ℕ)) → shown_of (map given l) ≡ concat l
 given_shown [] = refl
 given_shown (x ∷ xs) = ap (λ k. x ++ k) (given_shown xs)
 
-dropped_shown : (switch : Bool) (tail : Tail) → shown_of (dropped_in switch tail) ≡ []
-dropped_shown switch no_tail = refl
-dropped_shown switch (joined w) = refl
-dropped_shown switch (rest []) = refl
+dropped_shown : (short_equals : Bool) (tail : Tail) → shown_of (dropped_in short_equals tail) ≡ []
+dropped_shown short_equals no_tail = refl
+dropped_shown short_equals (joined w) = refl
+dropped_shown short_equals (rest []) = refl
 dropped_shown false (rest (b ∷ bs)) = refl
 dropped_shown true (rest (b ∷ bs)) = elim (b == equals) as (λ t. shown_of (cond t (mark (equals ∷ []) ∷ []) []) ≡ []) [ true ↦ refl | false ↦ refl ]
 
@@ -162,7 +162,7 @@ handing_pending u x by_equals xs p =
     ∙ ap (λ k. k ++ concat xs) (sym (pending_bytes u.short_equals u.tail x by_equals p))
 
 -- no byte is lost
-pub hands_keep : (u : UnreadLine) (l : List (List ℕ)) (v : UnreadLine) → Hands u l v → flat u ≡ bytes_of (handing u l) ++ flat v
+pub hands_keep : (u : UnreadLine) (l : List (List ℕ)) (v : UnreadLine) → HandedItems u l v → flat u ≡ bytes_of (handing u l) ++ flat v
 hands_keep u l v (hands_nothing none after) = rw (none, after) refl
 hands_keep u l v (hands_words left p words after) =
     let no_bytes = (pending_none u.short_equals u.tail p).0 in
@@ -178,13 +178,13 @@ hands_keep u l v (hands_pending x by_equals front left p is words after) =
     ∙ ap (λ k. bytes_of (handing u l) ++ flat k) (sym after)
 
 -- the words left are a suffix
-pub hands_suffix : (u : UnreadLine) (l : List (List ℕ)) (v : UnreadLine) → Hands u l v → (gone : List (List ℕ)) × (u.words ≡ gone ++ v.words)
+pub hands_suffix : (u : UnreadLine) (l : List (List ℕ)) (v : UnreadLine) → HandedItems u l v → (gone : List (List ℕ)) × (u.words ≡ gone ++ v.words)
 hands_suffix u l v (hands_nothing none after) = ([], ap (λ (k : UnreadLine). k.words) (sym after))
 hands_suffix u l v (hands_words left p words after) = (l, words ∙ ap (λ (k : UnreadLine). l ++ k.words) (sym after))
 hands_suffix u l v (hands_pending x by_equals front left p is words after) = (front, words ∙ ap (λ (k : UnreadLine). front ++ k.words) (sym after))
 
 -- a line stays one
-pub hands_line : (u : UnreadLine) (l : List (List ℕ)) (v : UnreadLine) → IsLine u → Hands u l v → IsLine v
+pub hands_line : (u : UnreadLine) (l : List (List ℕ)) (v : UnreadLine) → IsLine u → HandedItems u l v → IsLine v
 hands_line u l v is (hands_nothing none after) = subst IsLine (sym after) is
 hands_line u l v is (hands_words left p words after) = subst IsLine (sym after) is
 hands_line u l v is (hands_pending x by_equals front left p same words after) = subst IsLine (sym after) tt
