@@ -1,6 +1,8 @@
-//! Lists of calls and scripts: `replay` makes calls on a parser, and `run` reads a script, does
-//! what it says, and writes a line for each reply and for each whole line.
+//! Lists of calls, whole lines and scripts: `replay` makes calls on a parser, `read_items` reads a
+//! whole line by a table, and `run` reads a script, does what it says, and writes a line for each
+//! reply and for each whole line.
 
 pub use lexopt_calls::replay::replay;
 pub use lexopt_calls::reply::{Call, Reply};
+pub use lexopt_items::items::{Item, Table, read_items};
 pub use lexopt_script::run::{RunError, run};

@@ -24,7 +24,7 @@ use crate::refusal::Refusal;
 use bstr::ByteSlice;
 use lexopt_words::codepoint::{codepoint_at, lossy_text};
 use lexopt_words::error::{Arg, Error};
-use lexopt_words::os_string::OsString;
+use lexopt_words::os_string::{OsString, arguments};
 use lexopt_words::word::{WordKind, is_positional, kind_of};
 use std::alloc::{AllocError, AllocGlobal, Global};
 use std::env;
@@ -154,9 +154,10 @@ impl Parser {
     /// A parser of the words that the program was called with, of which none is read. The first is
     /// the binary name.
     ///
-    /// The words come as text, by `std::env::args`. A word that is no UTF-8 is a `Custom` error
-    /// that says `arguments unavailable`, and so is any other failure of that call but want of
-    /// memory, which is `OutOfMemory`. `from_iter` takes words of any bytes.
+    /// The words come as text, by `std::env::args`. Where one is no UTF-8, as a file name may be,
+    /// the error is a `Custom` one that says `arguments unavailable`; so is any other failure of
+    /// that call but want of memory, which is `OutOfMemory`. A program that takes file names calls
+    /// `from_env_os`.
     pub fn from_env<R: Env + AllocGlobal>(rt: &R, alloc: Global) -> Result<Parser, Error>
         ensures ok { IfOk result (λ parser. (words : List (List ℕ)) × (parser ≡ invoked words)) }
         ensures err { IfErr result (λ e. (e ≡ Error.OutOfMemory)
@@ -167,6 +168,18 @@ impl Parser {
             Err(error) if error.kind() == ErrorKind::OutOfMemory => Err(Error::OutOfMemory),
             Err(_) => Err(Error::from("arguments unavailable")),
         }
+    }
+
+    /// A parser of the words that the program was called with, of any bytes and any length, of
+    /// which none is read. The first is the binary name.
+    ///
+    /// They are the words that `os_string::arguments` gives. The only error is `OutOfMemory`.
+    pub fn from_env_os<R: Env>(rt: &R, alloc: Global) -> Result<Parser, Error>
+        ensures ok { IfOk result (λ parser. (words : List (List ℕ)) × (parser ≡ invoked words)) }
+        ensures err { IfErr result (λ e. e ≡ Error.OutOfMemory) }
+    {
+        let words = arguments(rt, alloc)?;
+        Ok(Parser::invoked(alloc, words)?)
     }
 
     /// The binary name that `from_iter` and `from_env` keep: the first word as text, in which each

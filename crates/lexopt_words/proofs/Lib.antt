@@ -2,3 +2,4 @@ pub mod Hex
 pub mod QuotedPieces
 pub mod Texts
 pub mod Errors
+pub mod Answered

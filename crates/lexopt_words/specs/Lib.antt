@@ -1,5 +1,6 @@
 pub mod Codepoint
 pub mod Message
 pub mod Arguments
+pub mod Answered
 pub mod WordKinds
 pub mod Conversions

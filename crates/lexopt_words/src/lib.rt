@@ -2,6 +2,7 @@
 //! and their messages, and the conversions of values.
 #![tactic(auto)]
 
+mod arguments;
 pub mod codepoint;
 pub mod error;
 pub mod message;

@@ -5,6 +5,7 @@
 ghost use Rattle.std.specs.Prelude.{◌≡◌, ◌↔◌, ◌≤◌, ℕ, List, [], drop, length, string_bytes, IfOk};
 ghost use Rattle.std.specs.Prelude.{IfSome, IsOk, IsSome, IsTrue, IsUtf8, MatchResult, vec_len};
 
+pub use crate::arguments::arguments;
 pub use crate::quoted::Quoted;
 use std::alloc::{AllocError, Global};
 use std::cmp::Ordering;
