@@ -291,25 +291,22 @@ impl Parser {
     fn advance(&mut self) -> Result<Found, Refusal>
         ensures { RepliesWith Next self.old (found_reply self.new.last result) self.new }
     {
-        match self.state {
-            State::Ready => self.read_word(),
-            State::FinishedOpts => Ok(self.read_positional()),
-            State::PendingValue(position) => {
-                let count = self.words.tail(position).len();
-                Err(self.refuse(count))
-            }
-            State::Shorts(position) => {
-                let pending = pending_in_cluster(self.words.tail(position), self.short_equals);
-                if pending.is_joined {
-                    let count = pending.value.len();
-                    return Err(self.refuse(count));
-                }
-                let (option, state) = read_short(self.words.current(), position);
-                self.last_option = LastOption::Short(option);
-                self.state = state;
-                Ok(Found::Short(option))
-            }
+        let Some(pending) = self.pending() else {
+            return if self.is_ended() {
+                Ok(self.read_positional())
+            } else {
+                self.read_word()
+            };
+        };
+        let count = pending.value.len();
+        if pending.is_joined {
+            return Err(self.refuse(count));
         }
+        let word = self.words.current();
+        let (option, state) = read_short(word, word.len() - count);
+        self.last_option = LastOption::Short(option);
+        self.state = state;
+        Ok(Found::Short(option))
     }
 
     // Reads a word before the separator. A long option is consumed once nothing can fail any more.
@@ -423,14 +420,21 @@ impl Parser {
         self.words.left()
     }
 
+    // Whether the separator was read.
+    #[inline(always)]
+    fn is_ended(&self) -> bool
+        ensures { result ≡ self.now.ended }
+    {
+        matches!(self.state, State::FinishedOpts)
+    }
+
     // Whether the next word can be one of several values.
     #[inline(always)]
     pub(crate) fn has_plain_word(&self) -> bool
         ensures { IsTrue result ↔ IsNormalIn self.now.ended self.now.words }
     {
         match self.words.first() {
-            Some(word) => matches!(self.state, State::FinishedOpts)
-                || is_positional(word.as_bytes()),
+            Some(word) => self.is_ended() || is_positional(word.as_bytes()),
             None => false,
         }
     }
@@ -448,12 +452,12 @@ impl Parser {
         requires option { IsSome (spelling self.old.last) }
         ensures { RefusesPending self.old result self.new }
     {
-        match self.spelling() {
-            Ok(option) => Refusal::UnexpectedValue {
-                option: option.unwrap(),
-                value: self.take_value(count),
-            },
-            Err(_) => Refusal::OutOfMemory,
+        let Ok(Some(option)) = self.spelling() else {
+            return Refusal::OutOfMemory;
+        };
+        Refusal::UnexpectedValue {
+            option,
+            value: self.take_value(count),
         }
     }
 
