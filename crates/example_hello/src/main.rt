@@ -1,4 +1,5 @@
-//! Greets a thing: `example_hello [-n|--number=NUM] [--shout] THING`.
+//! Greets a thing: `example_hello [-n|--number=NUM] [--shout] THING`. The thing is a text; a word
+//! that is no UTF-8 is refused with a message that shows it.
 //!
 //! The exit status is 0, or 2 where the command line, or memory to read it, was refused, or 1 where
 //! a line could not be made or printed; then standard error says why.
@@ -10,6 +11,12 @@ use std::alloc::Global;
 use std::env::Env;
 use std::io;
 use std::process::ExitCode;
+
+const HELP: &str = "Usage: example_hello [-n|--number=NUM] [--shout] THING
+
+  -n, --number=NUM  greet so many times
+      --shout       greet in capital letters
+  -h, --help        print this and end";
 
 // What to print, and how many times.
 #[derive(Drop)]
@@ -35,7 +42,7 @@ fn read_request(alloc: Global, parser: &mut Parser) -> Result<Request, Error> {
         match parser.next()? {
             Some(Short('n') | Long("number")) => number = parser.value()?.parse()?,
             Some(Long("shout")) => shout = true,
-            Some(Long("help")) => return Ok(Request::Help),
+            Some(Short('h') | Long("help")) => return Ok(Request::Help),
             Some(Value(word)) if thing.is_none() => thing = Some(word.string()?),
             Some(argument) => return Err(argument.unexpected(alloc)),
             None => break,
@@ -53,7 +60,7 @@ fn read_request(alloc: Global, parser: &mut Parser) -> Result<Request, Error> {
 
 // What the program was asked for.
 fn own_request(rt: &(impl Env + AllocGlobal)) -> Result<Request, Error> {
-    let mut parser = Parser::from_env(rt, rt.alloc())?;
+    let mut parser = Parser::from_env_os(rt, rt.alloc())?;
     read_request(rt.alloc(), &mut parser)
 }
 
@@ -72,16 +79,18 @@ fn greet(rt: &(impl Print + AllocGlobal), greeting: Greeting) -> io::Result<()> 
     Ok(())
 }
 
+// Says what is wrong with the command line, and where help is.
+fn refuse(rt: &impl Eprint, error: &Error) -> ExitCode {
+    let _ = eprintln!(rt; "example_hello: {error}");
+    let _ = eprintln!(rt; "Try 'example_hello --help' for more information.");
+    ExitCode::from(2)
+}
+
 fn main(rt: HostRuntime) -> ExitCode {
     let printed = match own_request(&rt) {
         Ok(Request::Greet(greeting)) => greet(&rt, greeting),
-        Ok(Request::Help) => {
-            println!(rt; "usage: example_hello [-n|--number=NUM] [--shout] THING")
-        }
-        Err(error) => {
-            let _ = eprintln!(rt; "example_hello: {error}");
-            return ExitCode::from(2);
-        }
+        Ok(Request::Help) => rt.println(HELP),
+        Err(error) => return refuse(&rt, &error),
     };
     match printed {
         Ok(()) => ExitCode::SUCCESS,
