@@ -14,11 +14,24 @@ use std::env::Env;
 use std::io;
 use std::process::ExitCode;
 
+const HELP: &str = "Usage: example_head [-NUM] [-n|--lines=NUM] [--number]
+
+  -NUM, -n, --lines=NUM  print so many lines; 10 where it is not told
+        --number         print its number before each line
+  -h,   --help           print this and end";
+
 // How many lines to print, and whether each has its number before it.
 #[derive(Clone, Copy)]
 struct Options {
     lines: usize,
     is_numbered: bool,
+}
+
+// What a command line asks for.
+#[derive(Clone, Copy)]
+enum Request {
+    Help,
+    Print(Options),
 }
 
 // The number of a word that is a dash and digits.
@@ -41,7 +54,7 @@ fn take_dash_number(parser: &mut Parser) -> Option<usize> {
 
 // No positional argument is wanted. A program that wants some stops looking for `-NUM` at the first
 // of them: it may stand after `--`, where `-10` is a positional argument too.
-fn read_options(alloc: Global, parser: &mut Parser) -> Result<Options, Error> {
+fn read_request(alloc: Global, parser: &mut Parser) -> Result<Request, Error> {
     let mut options = Options {
         lines: 10,
         is_numbered: false,
@@ -54,16 +67,17 @@ fn read_options(alloc: Global, parser: &mut Parser) -> Result<Options, Error> {
         match parser.next()? {
             Some(Short('n') | Long("lines")) => options.lines = parser.value()?.parse()?,
             Some(Long("number")) => options.is_numbered = true,
+            Some(Short('h') | Long("help")) => return Ok(Request::Help),
             Some(argument) => return Err(argument.unexpected(alloc)),
             None => break,
         }
     }
-    Ok(options)
+    Ok(Request::Print(options))
 }
 
-fn own_options(rt: &(impl Env + AllocGlobal)) -> Result<Options, Error> {
-    let mut parser = Parser::from_env(rt, rt.alloc())?;
-    read_options(rt.alloc(), &mut parser)
+fn own_request(rt: &(impl Env + AllocGlobal)) -> Result<Request, Error> {
+    let mut parser = Parser::from_env_os(rt, rt.alloc())?;
+    read_request(rt.alloc(), &mut parser)
 }
 
 fn print_lines(rt: &(impl Input + Print + AllocGlobal), options: Options) -> io::Result<()> {
@@ -80,13 +94,18 @@ fn print_lines(rt: &(impl Input + Print + AllocGlobal), options: Options) -> io:
     Ok(())
 }
 
+// Says what is wrong with the command line, and where help is.
+fn refuse(rt: &impl Eprint, error: &Error) -> ExitCode {
+    let _ = eprintln!(rt; "example_head: {error}");
+    let _ = eprintln!(rt; "Try 'example_head --help' for more information.");
+    ExitCode::from(2)
+}
+
 fn main(rt: HostRuntime) -> ExitCode {
-    let printed = match own_options(&rt) {
-        Ok(options) => print_lines(&rt, options),
-        Err(error) => {
-            let _ = eprintln!(rt; "example_head: {error}");
-            return ExitCode::from(2);
-        }
+    let printed = match own_request(&rt) {
+        Ok(Request::Print(options)) => print_lines(&rt, options),
+        Ok(Request::Help) => rt.println(HELP),
+        Err(error) => return refuse(&rt, &error),
     };
     match printed {
         Ok(()) => ExitCode::SUCCESS,
