@@ -10,12 +10,16 @@
 
 use lexopt_base::prelude::{Long, Short, Value, ValueExt};
 use lexopt_base::{Error, OsString, Parser, Quoted};
-use std::env::{Env, FillError};
+use std::alloc::Global;
+use std::env::Env;
 use std::io;
 use std::process::ExitCode;
 
-// No argument of a program on x86-64 Linux is longer.
-const LONGEST_WORD: usize = 131_072;
+const HELP: &str = "Usage: example_timeout [OPTION].. SECONDS COMMAND [ARG]..
+
+  -s, --signal=NAME         the signal that ends the command
+  -k, --kill-after=SECONDS  kill it, so many seconds later
+  -h, --help                print this and end";
 
 // What stands before the command.
 #[derive(Drop)]
@@ -32,53 +36,52 @@ struct Plan {
     command: Vec<OsString>,
 }
 
-// Reads up to the first positional argument, which is the number of seconds.
-fn read_limits(rt: &impl AllocGlobal, parser: &mut Parser) -> Result<Limits, Error> {
+// What a command line asks for.
+#[derive(Drop)]
+enum Request {
+    Help,
+    Run(Plan),
+}
+
+// Reads up to the first positional argument, which is the number of seconds; none where help is
+// asked for.
+fn read_limits(alloc: Global, parser: &mut Parser) -> Result<Option<Limits>, Error> {
     let mut signal = None;
     let mut kill_after = None;
     for _ in 0..u64::MAX {
         match parser.next()? {
             Some(Short('s') | Long("signal")) => signal = Some(parser.value()?),
             Some(Short('k') | Long("kill-after")) => kill_after = Some(parser.value()?.parse()?),
+            Some(Short('h') | Long("help")) => return Ok(None),
             Some(Value(word)) => {
-                return Ok(Limits {
+                return Ok(Some(Limits {
                     signal,
                     kill_after,
                     seconds: word.parse()?,
-                });
+                }));
             }
-            Some(argument) => return Err(argument.unexpected(rt.alloc())),
+            Some(argument) => return Err(argument.unexpected(alloc)),
             None => break,
         }
     }
     Err(Error::from("missing argument SECONDS"))
 }
 
-// The words that the program was called with, of any bytes. The first is its name.
-// `Parser::from_env` takes text alone.
-fn own_words(rt: &(impl Env + AllocGlobal)) -> Result<Vec<OsString>, Error> {
-    let alloc = rt.alloc();
-    let mut words = Vec::new(alloc);
-    let mut buffer = vec![in alloc; 0u8; LONGEST_WORD]?;
-    for place in 0..usize::MAX {
-        match rt.arg(place, &mut buffer) {
-            Ok(length) => words.push(OsString::from_bytes(alloc, &buffer[..length])?)?,
-            Err(FillError::NotPresent) => break,
-            Err(FillError::TooLong) => return Err(Error::from("an argument is too long")),
-        }
-    }
-    Ok(words)
-}
-
 // After the number of seconds no word is read as an option: each one is the command's own.
-fn read_plan(rt: &(impl Env + AllocGlobal)) -> Result<Plan, Error> {
-    let mut parser = Parser::from_iter(rt.alloc(), own_words(rt)?)?;
-    let limits = read_limits(rt, &mut parser)?;
-    let command: Vec<OsString> = parser.raw_args()?.collect(rt.alloc())?;
+fn read_request(alloc: Global, parser: &mut Parser) -> Result<Request, Error> {
+    let Some(limits) = read_limits(alloc, parser)? else {
+        return Ok(Request::Help);
+    };
+    let command: Vec<OsString> = parser.raw_args()?.collect(alloc)?;
     if command.is_empty() {
         return Err(Error::from("missing argument COMMAND"));
     }
-    Ok(Plan { limits, command })
+    Ok(Request::Run(Plan { limits, command }))
+}
+
+fn own_request(rt: &(impl Env + AllocGlobal)) -> Result<Request, Error> {
+    let mut parser = Parser::from_env_os(rt, rt.alloc())?;
+    read_request(rt.alloc(), &mut parser)
 }
 
 fn print_word(rt: &impl Print, name: &str, word: &OsString) -> io::Result<()> {
@@ -102,13 +105,18 @@ fn print_plan(rt: &impl Print, plan: &Plan) -> io::Result<()> {
     Ok(())
 }
 
+// Says what is wrong with the command line, and where help is.
+fn refuse(rt: &impl Eprint, error: &Error) -> ExitCode {
+    let _ = eprintln!(rt; "example_timeout: {error}");
+    let _ = eprintln!(rt; "Try 'example_timeout --help' for more information.");
+    ExitCode::from(2)
+}
+
 fn main(rt: HostRuntime) -> ExitCode {
-    let printed = match read_plan(&rt) {
-        Ok(plan) => print_plan(&rt, &plan),
-        Err(error) => {
-            let _ = eprintln!(rt; "example_timeout: {error}");
-            return ExitCode::from(2);
-        }
+    let printed = match own_request(&rt) {
+        Ok(Request::Run(plan)) => print_plan(&rt, &plan),
+        Ok(Request::Help) => rt.println(HELP),
+        Err(error) => return refuse(&rt, &error),
     };
     match printed {
         Ok(()) => ExitCode::SUCCESS,
