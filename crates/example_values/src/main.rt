@@ -1,7 +1,7 @@
 //! Options with a value that may be left out, and an option with several values:
 //! `example_values [--color[=WHEN]] [-i[SUFFIX]|--in-place[=SUFFIX]] [--files FILE..]`.
 //!
-//! It prints what it has read. Words come as text here; `example_timeout` takes words of any bytes.
+//! It prints what it has read, quoted. A word may be of any bytes.
 //!
 //! The exit status is 0, or 2 where the command line, or memory to read it, was refused, or 1 where
 //! a line could not be printed; then standard error says why.
@@ -14,6 +14,14 @@ use std::alloc::Global;
 use std::env::Env;
 use std::io;
 use std::process::ExitCode;
+
+const HELP: &str = "Usage: example_values [OPTION]..
+
+      --color[=WHEN]  when to colour: always, auto or never
+  -i[SUFFIX], --in-place[=SUFFIX]
+                      change files in place, and keep each with this suffix
+      --files FILE..  the files, up to the next option
+  -h, --help          print this and end";
 
 #[derive(Clone, Copy)]
 enum Color {
@@ -34,6 +42,13 @@ struct Options {
     color: Color,
     in_place: Option<InPlace>,
     files: Vec<OsString>,
+}
+
+// What a command line asks for.
+#[derive(Drop)]
+enum Request {
+    Help,
+    Print(Options),
 }
 
 impl Color {
@@ -79,7 +94,7 @@ fn read_files(parser: &mut Parser, files: &mut Vec<OsString>) -> Result<(), Erro
     Ok(())
 }
 
-fn read_options(alloc: Global, parser: &mut Parser) -> Result<Options, Error> {
+fn read_request(alloc: Global, parser: &mut Parser) -> Result<Request, Error> {
     let mut options = Options {
         color: Color::Auto,
         in_place: None,
@@ -90,16 +105,17 @@ fn read_options(alloc: Global, parser: &mut Parser) -> Result<Options, Error> {
             Some(Long("color")) => options.color = read_color(parser)?,
             Some(Short('i') | Long("in-place")) => options.in_place = Some(read_in_place(parser)),
             Some(Long("files")) => read_files(parser, &mut options.files)?,
+            Some(Short('h') | Long("help")) => return Ok(Request::Help),
             Some(argument) => return Err(argument.unexpected(alloc)),
             None => break,
         }
     }
-    Ok(options)
+    Ok(Request::Print(options))
 }
 
-fn own_options(rt: &(impl Env + AllocGlobal)) -> Result<Options, Error> {
-    let mut parser = Parser::from_env(rt, rt.alloc())?;
-    read_options(rt.alloc(), &mut parser)
+fn own_request(rt: &(impl Env + AllocGlobal)) -> Result<Request, Error> {
+    let mut parser = Parser::from_env_os(rt, rt.alloc())?;
+    read_request(rt.alloc(), &mut parser)
 }
 
 fn print_options(rt: &impl Print, options: &Options) -> io::Result<()> {
@@ -120,13 +136,18 @@ fn print_options(rt: &impl Print, options: &Options) -> io::Result<()> {
     Ok(())
 }
 
+// Says what is wrong with the command line, and where help is.
+fn refuse(rt: &impl Eprint, error: &Error) -> ExitCode {
+    let _ = eprintln!(rt; "example_values: {error}");
+    let _ = eprintln!(rt; "Try 'example_values --help' for more information.");
+    ExitCode::from(2)
+}
+
 fn main(rt: HostRuntime) -> ExitCode {
-    let printed = match own_options(&rt) {
-        Ok(options) => print_options(&rt, &options),
-        Err(error) => {
-            let _ = eprintln!(rt; "example_values: {error}");
-            return ExitCode::from(2);
-        }
+    let printed = match own_request(&rt) {
+        Ok(Request::Print(options)) => print_options(&rt, &options),
+        Ok(Request::Help) => rt.println(HELP),
+        Err(error) => return refuse(&rt, &error),
     };
     match printed {
         Ok(()) => ExitCode::SUCCESS,
