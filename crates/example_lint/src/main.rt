@@ -1,19 +1,34 @@
 //! Checks a command line, and reads on after an error:
 //! `example_lint [-v|--verbose] [-j|--jobs=NUM] [-o|--output=FILE] [FILE]..`.
 //!
-//! It prints the message of each error on a line of its own. The exit status is 0 where there was
-//! none, 2 where there was one, and 1 where a line could not be printed, memory was refused, or a
-//! word is no UTF-8 (`example_timeout` takes words of any bytes); then standard error says why.
+//! It prints the message of each error on a line of its own. A word may be of any bytes.
+//!
+//! The exit status is 0 where there was no error, or 2 where there was one, or memory to read the
+//! line was refused, or 1 where a line could not be printed; then standard error says why.
 #![tactic(auto)]
 
 use lexopt_base::prelude::{Long, Short, Value, ValueExt};
 use lexopt_base::{Error, Parser};
-use std::alloc::{AllocError, Global};
+use std::alloc::Global;
 use std::io;
 use std::process::ExitCode;
 
-// Reads one option with its value, or one positional argument; false at the end of the line.
-fn read_argument(alloc: Global, parser: &mut Parser) -> Result<bool, Error> {
+const HELP: &str = "Usage: example_lint [-v|--verbose] [-j|--jobs=NUM] [-o|--output=FILE] [FILE]..
+
+Print what is wrong with these words.
+
+  -h, --help  print this and end";
+
+// What is read at once.
+#[derive(Clone, Copy)]
+enum Found {
+    Argument,
+    Help,
+    End,
+}
+
+// Reads one option with its value, or one positional argument.
+fn read_argument(alloc: Global, parser: &mut Parser) -> Result<Found, Error> {
     match parser.next()? {
         Some(Short('v') | Long("verbose")) => {}
         Some(Short('j') | Long("jobs")) => {
@@ -22,6 +37,7 @@ fn read_argument(alloc: Global, parser: &mut Parser) -> Result<bool, Error> {
         Some(Short('o') | Long("output")) => {
             let _output = parser.value()?;
         }
+        Some(Short('h') | Long("help")) => return Ok(Found::Help),
         Some(Value(_file)) => {}
         Some(Long(name)) => {
             let error = Long(name).unexpected(alloc);
@@ -31,9 +47,9 @@ fn read_argument(alloc: Global, parser: &mut Parser) -> Result<bool, Error> {
             return Err(error);
         }
         Some(argument) => return Err(argument.unexpected(alloc)),
-        None => return Ok(false),
+        None => return Ok(Found::End),
     }
-    Ok(true)
+    Ok(Found::Argument)
 }
 
 // Prints each error of the line, and says how many there are.
@@ -41,13 +57,19 @@ fn print_errors(rt: &(impl Print + AllocGlobal), parser: &mut Parser) -> io::Res
     let mut errors = 0u32;
     for _ in 0..u64::MAX {
         match read_argument(rt.alloc(), parser) {
-            Ok(true) => {}
-            Ok(false) => break,
-            // The line may be as it was, so that the same call would be refused again.
-            Err(Error::OutOfMemory) => return Err(io::Error::from(AllocError)),
+            Ok(Found::Argument) => {}
+            Ok(Found::Help) => {
+                rt.println(HELP)?;
+                break;
+            }
+            Ok(Found::End) => break,
             Err(error) => {
-                println!(rt; "{error}")?;
+                println!(rt; "example_lint: {error}")?;
                 errors = errors.saturating_add(1);
+                // The line may be as it was, so that the same call would be refused again.
+                if matches!(error, Error::OutOfMemory) {
+                    break;
+                }
             }
         }
     }
@@ -55,16 +77,19 @@ fn print_errors(rt: &(impl Print + AllocGlobal), parser: &mut Parser) -> io::Res
 }
 
 fn main(rt: HostRuntime) -> ExitCode {
-    let errors = match Parser::from_env(&rt, rt.alloc()) {
+    let errors = match Parser::from_env_os(&rt, rt.alloc()) {
         Ok(mut parser) => print_errors(&rt, &mut parser),
         Err(error) => {
             let _ = eprintln!(rt; "example_lint: {error}");
-            return ExitCode::FAILURE;
+            return ExitCode::from(2);
         }
     };
     match errors {
         Ok(0) => ExitCode::SUCCESS,
-        Ok(_) => ExitCode::from(2),
+        Ok(_) => {
+            let _ = eprintln!(rt; "Try 'example_lint --help' for more information.");
+            ExitCode::from(2)
+        }
         Err(error) => {
             let _ = eprintln!(rt; "example_lint: {error}");
             ExitCode::FAILURE
