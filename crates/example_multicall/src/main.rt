@@ -3,17 +3,30 @@
 //! The name that the program is called by says which tool it is. Where that is none of them, the
 //! first argument does: `example_multicall echo a b`.
 //!
+//! A word may be of any bytes, and goes out byte for byte.
+//!
 //! The exit status is 0, or 2 where the command line, or memory to read it, was refused, or 1 where
-//! a line could not be printed; then standard error says why.
+//! a line could not be printed; then standard error says why, after the name that the program is
+//! called by.
 #![tactic(auto)]
 
-use lexopt_base::prelude::{Short, Value, ValueExt};
+use lexopt_base::prelude::{Long, Short, Value};
 use lexopt_base::{Error, OsString, Parser};
 use std::alloc::Global;
 use std::env::Env;
 use std::io;
 use std::io::Write;
 use std::process::ExitCode;
+
+// Its name where it is called by none.
+const NAME: &str = "example_multicall";
+
+const HELP: &str = "Usage: example_multicall TOOL [ARGUMENT]..
+       echo [-n] [WORD]..
+       basename NAME
+
+  -n          end with no newline
+  -h, --help  print this and end";
 
 #[derive(Clone, Copy)]
 enum Tool {
@@ -24,28 +37,39 @@ enum Tool {
 // What a command line asks for.
 #[derive(Drop)]
 enum Request {
+    Help,
     Echo { words: Vec<OsString>, newline: bool },
-    Basename(String),
+    Basename(OsString),
 }
 
 impl Tool {
     // The tool of this name, which may have a path before it.
-    fn of_name(name: &str) -> Option<Tool> {
+    fn of_name(name: &[u8]) -> Option<Tool> {
         match last_part(name) {
-            "echo" => Some(Tool::Echo),
-            "basename" => Some(Tool::Basename),
+            b"echo" => Some(Tool::Echo),
+            b"basename" => Some(Tool::Basename),
             _ => None,
         }
     }
 }
 
-fn read_tool(alloc: Global, parser: &mut Parser) -> Result<Tool, Error> {
-    if let Some(tool) = parser.bin_name().and_then(Tool::of_name) {
-        return Ok(tool);
+// The last part of a path.
+fn last_part(path: &[u8]) -> &[u8] {
+    path.rsplit(|byte| *byte == b'/').next().unwrap_or(path)
+}
+
+// The tool that the program is called by, or else the first argument; none where help is asked for.
+fn read_tool(alloc: Global, parser: &mut Parser) -> Result<Option<Tool>, Error> {
+    if let Some(tool) = parser
+        .bin_name()
+        .and_then(|name| Tool::of_name(name.as_bytes()))
+    {
+        return Ok(Some(tool));
     }
     match parser.next()? {
-        Some(Value(word)) => match word.to_str().and_then(Tool::of_name) {
-            Some(tool) => Ok(tool),
+        Some(Short('h') | Long("help")) => Ok(None),
+        Some(Value(word)) => match Tool::of_name(word.as_bytes()) {
+            Some(tool) => Ok(Some(tool)),
             None => Err(Error::from("the tool is echo or basename")),
         },
         Some(argument) => Err(argument.unexpected(alloc)),
@@ -58,6 +82,7 @@ fn read_echo(alloc: Global, parser: &mut Parser) -> Result<Request, Error> {
     let mut newline = true;
     for _ in 0..u64::MAX {
         match parser.next()? {
+            Some(Short('h') | Long("help")) => return Ok(Request::Help),
             Some(Short('n')) => newline = false,
             Some(Value(word)) => words.push(word)?,
             Some(argument) => return Err(argument.unexpected(alloc)),
@@ -71,7 +96,8 @@ fn read_basename(alloc: Global, parser: &mut Parser) -> Result<Request, Error> {
     let mut name = None;
     for _ in 0..u64::MAX {
         match parser.next()? {
-            Some(Value(word)) if name.is_none() => name = Some(word.string()?),
+            Some(Short('h') | Long("help")) => return Ok(Request::Help),
+            Some(Value(word)) if name.is_none() => name = Some(word),
             Some(argument) => return Err(argument.unexpected(alloc)),
             None => break,
         }
@@ -82,15 +108,14 @@ fn read_basename(alloc: Global, parser: &mut Parser) -> Result<Request, Error> {
     }
 }
 
-fn read_request(rt: &(impl Env + AllocGlobal)) -> Result<Request, Error> {
-    let mut parser = Parser::from_env(rt, rt.alloc())?;
-    match read_tool(rt.alloc(), &mut parser)? {
-        Tool::Echo => read_echo(rt.alloc(), &mut parser),
-        Tool::Basename => read_basename(rt.alloc(), &mut parser),
+fn read_request(alloc: Global, parser: &mut Parser) -> Result<Request, Error> {
+    match read_tool(alloc, parser)? {
+        Some(Tool::Echo) => read_echo(alloc, parser),
+        Some(Tool::Basename) => read_basename(alloc, parser),
+        None => Ok(Request::Help),
     }
 }
 
-// The words go out byte for byte.
 fn echo(writer: &mut impl Write, words: &[OsString], newline: bool) -> io::Result<()> {
     for (place, word) in words.iter().enumerate() {
         if place > 0 {
@@ -104,30 +129,40 @@ fn echo(writer: &mut impl Write, words: &[OsString], newline: bool) -> io::Resul
     Ok(())
 }
 
-// The last part of a path.
-fn last_part(path: &str) -> &str {
-    path.rsplit('/').next().unwrap_or(path)
-}
-
 fn answer(rt: &impl Print, request: &Request) -> io::Result<()> {
+    let mut writer = io::writer(rt);
     match request {
-        Request::Echo { words, newline } => echo(&mut io::writer(rt), words, *newline),
-        Request::Basename(name) => rt.println(last_part(name)),
+        Request::Help => rt.println(HELP),
+        Request::Echo { words, newline } => echo(&mut writer, words, *newline),
+        Request::Basename(name) => {
+            writer.write_all(last_part(name.as_bytes()))?;
+            writer.write_all(b"\n")
+        }
     }
 }
 
+// Says what is wrong with the command line, and where help is.
+fn refuse(rt: &impl Eprint, name: &str, error: &Error) -> ExitCode {
+    let _ = eprintln!(rt; "{name}: {error}");
+    let _ = eprintln!(rt; "Try '{name} --help' for more information.");
+    ExitCode::from(2)
+}
+
 fn main(rt: HostRuntime) -> ExitCode {
-    let answered = match read_request(&rt) {
+    let mut parser = match Parser::from_env_os(&rt, rt.alloc()) {
+        Ok(parser) => parser,
+        Err(error) => return refuse(&rt, NAME, &error),
+    };
+    let request = read_request(rt.alloc(), &mut parser);
+    let name = parser.bin_name().unwrap_or(NAME);
+    let answered = match request {
         Ok(request) => answer(&rt, &request),
-        Err(error) => {
-            let _ = eprintln!(rt; "example_multicall: {error}");
-            return ExitCode::from(2);
-        }
+        Err(error) => return refuse(&rt, name, &error),
     };
     match answered {
         Ok(()) => ExitCode::SUCCESS,
         Err(error) => {
-            let _ = eprintln!(rt; "example_multicall: {error}");
+            let _ = eprintln!(rt; "{name}: {error}");
             ExitCode::FAILURE
         }
     }
