@@ -8,14 +8,22 @@
 #![tactic(auto)]
 
 use lexopt::items::{Item, Table, read_items};
+use lexopt::os_string::arguments;
 use lexopt::{Arg, Error, OsString, Quoted};
 use std::alloc::{AllocError, Global};
-use std::env::{Env, FillError};
+use std::env::Env;
 use std::io;
 use std::process::ExitCode;
 
-// No argument of a program on x86-64 Linux is longer.
-const LONGEST_WORD: usize = 131_072;
+const HELP: &str = "Usage: example_archive [OPTION].. [FILE]..
+
+  -v, --verbose       tell more
+  -o, --output=FILE   the archive
+  -b[SUFFIX], --backup[=SUFFIX]
+                      keep an archive that is there, with this suffix
+  -x, --exclude PATTERN..
+                      leave these out: all words up to the next option
+  -h, --help          print this and end";
 
 // What becomes of an archive that is there already.
 #[derive(Drop)]
@@ -33,6 +41,13 @@ struct Options {
     files: Vec<OsString>,
 }
 
+// What a command line asks for.
+#[derive(Drop)]
+enum Request {
+    Help,
+    Print(Options),
+}
+
 // Which options have one value, a value that may be left out, and several values. Any other option
 // is read as one of none.
 fn table(alloc: Global) -> Result<Table, AllocError> {
@@ -48,21 +63,6 @@ fn table(alloc: Global) -> Result<Table, AllocError> {
         .several_longs
         .push(String::from_str(alloc, "exclude")?)?;
     Ok(table)
-}
-
-// The words that the program was called with, of any bytes, after its name.
-fn own_words(rt: &(impl Env + AllocGlobal)) -> Result<Vec<OsString>, Error> {
-    let alloc = rt.alloc();
-    let mut words = Vec::new(alloc);
-    let mut buffer = vec![in alloc; 0u8; LONGEST_WORD]?;
-    for place in 1..usize::MAX {
-        match rt.arg(place, &mut buffer) {
-            Ok(length) => words.push(OsString::from_bytes(alloc, &buffer[..length])?)?,
-            Err(FillError::NotPresent) => break,
-            Err(FillError::TooLong) => return Err(Error::from("an argument is too long")),
-        }
-    }
-    Ok(words)
 }
 
 impl Backup {
@@ -116,13 +116,26 @@ impl Options {
     }
 }
 
-fn read_options(rt: &(impl Env + AllocGlobal)) -> Result<Options, Error> {
+fn is_help(item: &Item) -> bool {
+    match item {
+        Item::Short('h', _) => true,
+        Item::Long(name, _) => name.as_str() == "help",
+        _ => false,
+    }
+}
+
+fn own_request(rt: &(impl Env + AllocGlobal)) -> Result<Request, Error> {
     let alloc = rt.alloc();
     let mut options = Options::new(alloc);
-    for item in read_items(alloc, own_words(rt)?, true, &table(alloc)?)? {
+    // The first word is the name that the program was called by.
+    let words: Vec<OsString> = arguments(rt, alloc)?.into_iter().skip(1).collect(alloc)?;
+    for item in read_items(alloc, words, true, &table(alloc)?)? {
+        if is_help(&item) {
+            return Ok(Request::Help);
+        }
         options.set(alloc, item)?;
     }
-    Ok(options)
+    Ok(Request::Print(options))
 }
 
 fn print_word(rt: &impl Print, name: &str, word: &OsString) -> io::Result<()> {
@@ -153,13 +166,18 @@ fn print_options(rt: &impl Print, options: &Options) -> io::Result<()> {
     print_words(rt, "file", options.files.as_slice())
 }
 
+// Says what is wrong with the command line, and where help is.
+fn refuse(rt: &impl Eprint, error: &Error) -> ExitCode {
+    let _ = eprintln!(rt; "example_archive: {error}");
+    let _ = eprintln!(rt; "Try 'example_archive --help' for more information.");
+    ExitCode::from(2)
+}
+
 fn main(rt: HostRuntime) -> ExitCode {
-    let printed = match read_options(&rt) {
-        Ok(options) => print_options(&rt, &options),
-        Err(error) => {
-            let _ = eprintln!(rt; "example_archive: {error}");
-            return ExitCode::from(2);
-        }
+    let printed = match own_request(&rt) {
+        Ok(Request::Print(options)) => print_options(&rt, &options),
+        Ok(Request::Help) => rt.println(HELP),
+        Err(error) => return refuse(&rt, &error),
     };
     match printed {
         Ok(()) => ExitCode::SUCCESS,
