@@ -11,18 +11,25 @@
 
 mod shell;
 
-use anyhow::Result;
+use anyhow::{Error, Result};
 use lexopt::items::{Item, Table, read_items};
+use lexopt::os_string::arguments;
 use lexopt::spell::spell;
-use lexopt::{Arg, Error, OsString};
+use lexopt::{Arg, OsString};
 use shell::quoted;
 use std::alloc::{AllocError, Global};
-use std::env::{Env, FillError};
+use std::env::Env;
 use std::io::{self, Write};
 use std::process::ExitCode;
 
-// No argument of a program on x86-64 Linux is longer.
-const LONGEST_WORD: usize = 131_072;
+const HELP: &str = "Usage: example_forward [OPTION].. [FILE]..
+
+  -v, --verbose       passed on
+  -j, --jobs=N        passed on
+      --color[=WHEN]  passed on as --color=always
+  -x, --exclude PATTERN..
+                      passed on: all words up to the next option
+  -h, --help          print this and end";
 
 // The options of the other program that have values, which are those of this one.
 fn table(alloc: Global) -> Result<Table, AllocError> {
@@ -39,22 +46,11 @@ fn table(alloc: Global) -> Result<Table, AllocError> {
     Ok(table)
 }
 
-// The words that the program was called with, of any bytes, after its name.
-fn own_words(rt: &(impl Env + AllocGlobal)) -> Result<Vec<OsString>, Error> {
-    let alloc = rt.alloc();
-    let mut words = Vec::new(alloc);
-    let mut buffer = vec![in alloc; 0u8; LONGEST_WORD]?;
-    for place in 1..usize::MAX {
-        match rt.arg(place, &mut buffer) {
-            Ok(length) => words.push(OsString::from_bytes(alloc, &buffer[..length])?)?,
-            Err(FillError::NotPresent) => break,
-            Err(FillError::TooLong) => return Err(Error::from("an argument is too long")),
-        }
-    }
-    Ok(words)
-}
-
-fn forwarded_long(alloc: Global, name: String, value: Option<OsString>) -> Result<Item, Error> {
+fn forwarded_long(
+    alloc: Global,
+    name: String,
+    value: Option<OsString>,
+) -> Result<Item, lexopt::Error> {
     let value = match name.as_str() {
         "verbose" | "jobs" => value,
         "color" => Some(OsString::from_text(alloc, "always")?),
@@ -65,7 +61,7 @@ fn forwarded_long(alloc: Global, name: String, value: Option<OsString>) -> Resul
 
 // What an item is to be for the other program. An option that it does not have is refused, and so
 // is one with a damaged name.
-fn forwarded(alloc: Global, item: Item) -> Result<Item, Error> {
+fn forwarded(alloc: Global, item: Item) -> Result<Item, lexopt::Error> {
     match item {
         Item::Short('v', value) => Ok(Item::Short('v', value)),
         Item::Short('j', value) => Ok(Item::Short('j', value)),
@@ -76,12 +72,25 @@ fn forwarded(alloc: Global, item: Item) -> Result<Item, Error> {
     }
 }
 
-// The line for the other program.
-fn quoted_line(rt: &(impl Env + AllocGlobal)) -> Result<Vec<u8>> {
+fn is_help(item: &Item) -> bool {
+    match item {
+        Item::Short('h', _) => true,
+        Item::Long(name, _) => name.as_str() == "help",
+        _ => false,
+    }
+}
+
+// The line for the other program; none where help is asked for.
+fn quoted_line(rt: &(impl Env + AllocGlobal)) -> Result<Option<Vec<u8>>> {
     let alloc = rt.alloc();
     let table = table(alloc)?;
     let mut items = Vec::new(alloc);
-    for item in read_items(alloc, own_words(rt)?, true, &table)? {
+    // The first word is the name that the program was called by.
+    let words: Vec<OsString> = arguments(rt, alloc)?.into_iter().skip(1).collect(alloc)?;
+    for item in read_items(alloc, words, true, &table)? {
+        if is_help(&item) {
+            return Ok(None);
+        }
         items.push(forwarded(alloc, item)?)?;
     }
     let mut line = Vec::new(alloc);
@@ -92,16 +101,21 @@ fn quoted_line(rt: &(impl Env + AllocGlobal)) -> Result<Vec<u8>> {
         line.extend(quoted(alloc, word.as_bytes())?)?;
     }
     line.push(b'\n')?;
-    Ok(line)
+    Ok(Some(line))
+}
+
+// Says what is wrong with the command line, and where help is.
+fn refuse(rt: &impl Eprint, error: &Error) -> ExitCode {
+    let _ = eprintln!(rt; "example_forward: {error}");
+    let _ = eprintln!(rt; "Try 'example_forward --help' for more information.");
+    ExitCode::from(2)
 }
 
 fn main(rt: HostRuntime) -> ExitCode {
     let printed = match quoted_line(&rt) {
-        Ok(line) => io::writer(&rt).write_all(&line),
-        Err(error) => {
-            let _ = eprintln!(rt; "example_forward: {error}");
-            return ExitCode::from(2);
-        }
+        Ok(Some(line)) => io::writer(&rt).write_all(&line),
+        Ok(None) => rt.println(HELP),
+        Err(error) => return refuse(&rt, &error),
     };
     match printed {
         Ok(()) => ExitCode::SUCCESS,
