@@ -1,0 +1,57 @@
+//! Shows what it is called with: `example_names [-v|--verbose] [-o|--output=FILE] [FILE]..`.
+#![tactic(auto)]
+
+use lexopt_base::prelude::{Long, Short, Value};
+use lexopt_base::{Error, OsString, Parser};
+use std::env::Env;
+use std::process::ExitCode;
+
+const HELP: &str = "Usage: example_names [-v|--verbose] [-o|--output=FILE] [FILE]..";
+
+// A file name may be of any bytes.
+#[derive(Debug, Drop)]
+struct Options {
+    verbose: bool,
+    output: Option<OsString>,
+    files: Vec<OsString>,
+}
+
+// What the program was called with, or nothing where help is asked for.
+fn read_options(rt: &(impl Env + AllocGlobal)) -> Result<Option<Options>, Error> {
+    let mut parser = Parser::from_env_os(rt, rt.alloc())?;
+    let mut options = Options {
+        verbose: false,
+        output: None,
+        files: Vec::new(rt.alloc()),
+    };
+    for _ in 0..u64::MAX {
+        match parser.next()? {
+            Some(Short('v') | Long("verbose")) => options.verbose = true,
+            Some(Short('o') | Long("output")) => options.output = Some(parser.value()?),
+            Some(Short('h') | Long("help")) => return Ok(None),
+            Some(Value(file)) => options.files.push(file)?,
+            Some(argument) => return Err(argument.unexpected(rt.alloc())),
+            None => break,
+        }
+    }
+    Ok(Some(options))
+}
+
+fn main(rt: HostRuntime) -> ExitCode {
+    let printed = match read_options(&rt) {
+        Ok(Some(options)) => println!(rt; "{options:?}"),
+        Ok(None) => rt.println(HELP),
+        Err(error) => {
+            let _ = eprintln!(rt; "example_names: {error}");
+            let _ = eprintln!(rt; "Try 'example_names --help' for more information.");
+            return ExitCode::from(2);
+        }
+    };
+    match printed {
+        Ok(()) => ExitCode::SUCCESS,
+        Err(error) => {
+            let _ = eprintln!(rt; "example_names: {error}");
+            ExitCode::FAILURE
+        }
+    }
+}
