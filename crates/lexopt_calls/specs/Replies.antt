@@ -26,7 +26,7 @@ call_view (Values n) = runs.values n
 call_view (Raw n) = runs.raw n
 call_view (TryRaw n) = runs.try_raw n
 call_view (RawIf word) = runs.raw_if word
-call_view (Switch on) = runs.switch on
+call_view (Switch on) = runs.set_short_equals on
 
 abbrev pub reply_view : Reply → steps.Reply
 reply_view (Short c) = steps.short c

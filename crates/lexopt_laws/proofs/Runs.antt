@@ -7,7 +7,7 @@ use Rattle.lexopt_spec.specs.Runs.{Call, Step, Run}
 use Rattle.lexopt_line_spec.proofs.Exact.{Same}
 use Rattle.lexopt_line_spec.proofs.Calls.{call_answer, call_same}
 use Rattle.lexopt_line_spec.proofs.RunAccounts.{step_line}
-use Rattle.lexopt_laws.proofs.Refusals.{known_with_memory}
+use Rattle.lexopt_laws.proofs.Refusals.{other_with_memory}
 
 among_more : (r s : Reply) (rs : List Reply) → IsAmong rs s → IsAmong (r ∷ rs) s
 among_more r s rs is = (suc is.0, (let below = is.1.0 in omega arith, is.1.1))
@@ -28,7 +28,7 @@ run_answer [] u is = ([], u, refl, among_none no_memory)
 run_answer (c ∷ cs) u is =
     let first = call_answer c u is in
     let more = run_answer cs first.1 (step_line c u first.0 first.1 is (inl first.2)) in
-    (first.0 ∷ more.0, more.1, (first.1, inl first.2, more.2), among_split first.0 no_memory more.0 (known_with_memory c u first.0 first.1 first.2) more.3)
+    (first.0 ∷ more.0, more.1, (first.1, inl first.2, more.2), among_split first.0 no_memory more.0 (other_with_memory c u first.0 first.1 first.2) more.3)
 
 step_same : (call : Call) (u : UnreadLine) (r s : Reply) (v w : UnreadLine) → Step call u r v → Step call u s w → r ≢ no_memory → s ≢ no_memory → Same r v s w
 step_same call u r s v w (inl a) (inl b) fits also = call_same call u r s v w a b

@@ -4,7 +4,7 @@ use Rattle.lexopt_spec.specs.Pieces.{first_piece, pieces}
 use Rattle.lexopt_spec.specs.UnreadLine.{dash, equals, no_tail, joined, rest, UnreadLine, BeginsWith}
 use Rattle.lexopt_spec.specs.Steps.{Reply, IsLongOption, ReadsPositional, no_word_left, word_left, ReadsWord, no_word, reads_separator, reads_long, reads_cluster, reads_positional, NextStep, joined_value, equals_value, next_in_cluster, after_separator, next_word}
 use Rattle.lexopt_spec.specs.Account.{given, mark, piece_segment, name_end, handing, handed_items, positional_account, word_account, next_account}
-use Rattle.lexopt_spec.specs.Runs.{Call, next, value, optional, values, raw, try_raw, raw_if, switch, StepWithMemory, account_with_memory}
+use Rattle.lexopt_spec.specs.Runs.{Call, next, value, optional, values, raw, try_raw, raw_if, set_short_equals, StepWithMemory, account_with_memory}
 use Rattle.lexopt_line_spec.proofs.Exact.{others_of, no_option_plain, head_same, tail_same, no_head, separator_long, two_dashes_cluster, two_dashes, in_tail, rest_bytes, joined_bytes, same_option}
 use Rattle.lexopt_line_spec.proofs.Calls.{call_same}
 
@@ -103,4 +103,4 @@ call_accounts (values n) u r s v w one other = ap (λ x. handing u (handed_items
 call_accounts (raw n) u r s v w one other = ap (λ x. handing u (handed_items x)) (call_same (raw n) u r s v w one other).0
 call_accounts (try_raw n) u r s v w one other = ap (λ x. handing u (handed_items x)) (call_same (try_raw n) u r s v w one other).0
 call_accounts (raw_if word) u r s v w one other = ap (λ x. handing u (handed_items x)) (call_same (raw_if word) u r s v w one other).0
-call_accounts (switch on) u r s v w one other = refl
+call_accounts (set_short_equals on) u r s v w one other = refl

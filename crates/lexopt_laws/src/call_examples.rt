@@ -4,7 +4,7 @@ ghost use Rattle.std.specs.Prelude.{◌≡◌, [], ◌∷◌, true, false, Some,
 ghost use Rattle.lexopt_spec.specs.Account.{damage, given, mark};
 ghost use Rattle.lexopt_line_spec.specs.Bound.{bound, replies_count};
 ghost use Rattle.lexopt_spec.specs.Runs.{AccountedRun, Part, Run, next, optional, raw, raw_if};
-ghost use Rattle.lexopt_spec.specs.Runs.{switch, try_raw, value, values};
+ghost use Rattle.lexopt_spec.specs.Runs.{set_short_equals, try_raw, value, values};
 ghost use Rattle.lexopt_spec.specs.Steps.{busy, done, end, items, long, maybe, missing, no_memory};
 ghost use Rattle.lexopt_spec.specs.Steps.{positional, short, taken, unexpected};
 ghost use Rattle.lexopt_spec.specs.UnreadLine.{UnreadLine, fresh, joined, long_option, no_tail};
@@ -52,9 +52,9 @@ fn calls_have_these_replies()
     ensures value_in_a_cluster { (v : UnreadLine)
         × Run (fresh (codes "-a=" ∷ [])) (next ∷ next ∷ next ∷ [])
         (short 0x61 ∷ unexpected (codes "-a") [] ∷ end ∷ []) v }
-    ensures switch { (v : UnreadLine)
+    ensures set_short_equals { (v : UnreadLine)
         × Run (fresh (codes "-a=b" ∷ []))
-        (next ∷ switch false ∷ next ∷ switch true ∷ next ∷ next ∷ [])
+        (next ∷ set_short_equals false ∷ next ∷ set_short_equals true ∷ next ∷ next ∷ [])
         (short 0x61 ∷ done ∷ short 0x3D ∷ done ∷ short 0x62 ∷ end ∷ []) v }
     ensures optional { (v : UnreadLine)
         × Run (fresh (codes "-d" ∷ codes "v" ∷ [])) (next ∷ optional ∷ next ∷ [])

@@ -7,14 +7,14 @@ ghost use Rattle.lexopt_spec.specs.UnreadLine.{no_tail, pending, pending_in, res
 ghost use Rattle.lexopt_spec.specs.UnreadLine.{short_option, spelling};
 ghost use Rattle.lexopt_spec.specs.Steps.{busy, done, end, items, long, maybe, missing, no_memory};
 ghost use Rattle.lexopt_spec.specs.Steps.{positional, short, taken, unexpected};
-ghost use Rattle.lexopt_spec.specs.Runs.{next, optional, switch, value};
+ghost use Rattle.lexopt_spec.specs.Runs.{next, optional, set_short_equals, value};
 ghost use Rattle.lexopt_spec.specs.Text.{missing_message, non_unicode_message};
 ghost use Rattle.lexopt_spec.specs.Text.{parsing_failed_message, quoted};
 ghost use Rattle.lexopt_spec.specs.Text.{unexpected_argument_message, unexpected_option_message};
 ghost use Rattle.lexopt_spec.specs.Text.{unexpected_value_message};
 ghost use Rattle.lexopt_line_spec.specs.Table as table;
 ghost use Rattle.lexopt_line_spec.specs.Script.{bad_line, bracketed, call, calls_of, commands_of};
-ghost use Rattle.lexopt_line_spec.specs.Script.{item_text, line_of, reply_text, table_of};
+ghost use Rattle.lexopt_line_spec.specs.Script.{item_text, with_newline, reply_text, table_of};
 ghost use Rattle.lexopt_line_spec.specs.Script.{unescaped, whole_line, words_of};
 
 use crate::laws::{
@@ -180,7 +180,7 @@ fn a_script_has_words_and_calls()
     ensures calls { calls_of (codes "w --out=x\nw\nw \n\nw \\x2D\nnext\nvalue")
         ≡ next ∷ value ∷ [] }
     ensures switches { calls_of (codes "off\nw -a=b\nnext\non\noptional")
-        ≡ switch false ∷ next ∷ switch true ∷ optional ∷ [] }
+        ≡ set_short_equals false ∷ next ∷ set_short_equals true ∷ optional ∷ [] }
 {}
 
 #[tactic(auto, unfolding(crate::proofs::Computing::computing))]
@@ -212,8 +212,9 @@ fn a_script_has_a_table_and_commands()
           several_longs = codes "cmd" ∷ [];
         } }
     ensures commands { commands_of (codes "w a\nitems\noff\nitems\nnext")
-        ≡ whole_line ∷ call (switch false) ∷ whole_line ∷ call next ∷ [] }
-    ensures calls { calls_of (codes "w a\nitems\noff\nitems\nnext") ≡ switch false ∷ next ∷ [] }
+        ≡ whole_line ∷ call (set_short_equals false) ∷ whole_line ∷ call next ∷ [] }
+    ensures calls { calls_of (codes "w a\nitems\noff\nitems\nnext")
+        ≡ set_short_equals false ∷ next ∷ [] }
 {}
 
 #[tactic(auto, unfolding(crate::proofs::Computing::computing))]
@@ -231,20 +232,20 @@ fn items_are_written()
 
 #[tactic(auto, unfolding(crate::proofs::Computing::computing))]
 fn replies_are_written()
-    ensures first_script { flat_map (λ r. line_of (reply_text r))
+    ensures first_script { flat_map (λ r. with_newline (reply_text r))
         (long (codes "out") ∷ taken (codes "x") ∷ positional (codes "file") ∷ positional
         (codes "-y") ∷ end ∷ [])
         ≡ codes "Long \"out\"\n\"x\"\nValue \"file\"\nValue \"-y\"\nNone\n" }
-    ensures errors { flat_map (λ r. line_of (reply_text r))
+    ensures errors { flat_map (λ r. with_newline (reply_text r))
         (missing None ∷ unexpected (codes "-a") (codes "b") ∷ no_memory ∷ [])
         ≡ codes "error: missing argument\nerror: unexpected argument for option '-a': \"b\"\nerror: out of memory\n" }
-    ensures short { flat_map (λ r. line_of (reply_text r)) (short 0x61 ∷ [])
+    ensures short { flat_map (λ r. with_newline (reply_text r)) (short 0x61 ∷ [])
         ≡ codes "Short \"a\"\n" }
 {}
 
 #[tactic(auto, unfolding(crate::proofs::Computing::computing))]
 fn more_replies_are_written()
-    ensures views { flat_map (λ r. line_of (reply_text r))
+    ensures views { flat_map (λ r. with_newline (reply_text r))
         (items [] ∷ items (codes "a" ∷ codes "b c" ∷ []) ∷ maybe None ∷ maybe (Some (codes "x")) ∷
         busy ∷ done ∷ [])
         ≡ codes "[]\n[\"a\", \"b c\"]\nNone\n\"x\"\nNone\nok\n" }

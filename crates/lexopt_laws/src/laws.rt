@@ -11,7 +11,8 @@ ghost use Rattle.lexopt_spec.specs.Pieces.{IsFirstPiece, after_first_piece, firs
 ghost use Rattle.lexopt_spec.specs.Pieces.{lossy_characters, pieces};
 ghost use Rattle.lexopt_spec.specs.Runs.{StepWithMemory, Call, Part, Run, account};
 ghost use Rattle.lexopt_spec.specs.Runs.{account_with_memory};
-ghost use Rattle.lexopt_spec.specs.Runs.{Step, next, optional, raw, raw_if, segments, switch};
+ghost use Rattle.lexopt_spec.specs.Runs.{Step, next, optional, raw, raw_if, segments};
+ghost use Rattle.lexopt_spec.specs.Runs.{set_short_equals};
 ghost use Rattle.lexopt_spec.specs.Runs.{try_raw, up_to, values};
 ghost use Rattle.lexopt_spec.specs.Steps.{Reply, busy, end, items, long, maybe, missing, no_memory};
 ghost use Rattle.lexopt_spec.specs.Steps.{short, unexpected};
@@ -70,7 +71,8 @@ pub fn some_calls_are_never_refused()
         ⊎ ((option : List ℕ) × (value : List ℕ) × (r ≡ unexpected option value))))) }
     ensures optional { (u v : UnreadLine) → Step optional u no_memory v → ⊥ }
     ensures try_raw { (n : ℕ) (u v : UnreadLine) → Step (try_raw n) u no_memory v → ⊥ }
-    ensures switch { (on : Bool) (u v : UnreadLine) → Step (switch on) u no_memory v → ⊥ }
+    ensures set_short_equals { (on : Bool) (u v : UnreadLine)
+        → Step (set_short_equals on) u no_memory v → ⊥ }
     ensures raw { (n : ℕ) (u v : UnreadLine) → pending u ≡ None → Step (raw n) u no_memory v → ⊥ }
     ensures raw_if { (w : List ℕ) (u v : UnreadLine) → pending u ≡ None
         → Step (raw_if w) u no_memory v → ⊥ }

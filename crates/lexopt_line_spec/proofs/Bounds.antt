@@ -10,7 +10,7 @@ use Rattle.lexopt_spec.specs.Steps.{Reply, taken, end, no_memory, Next, Value, I
 use Rattle.lexopt_spec.specs.Views.{TakesWords, TakesWordIf}
 use Rattle.lexopt_spec.specs.Account.{handed_items}
 use Rattle.lexopt_line_spec.specs.Bound.{word_bound, tail_bound, bound, reply_count, replies_count}
-use Rattle.lexopt_spec.specs.Runs.{Call, next, value, optional, values, raw, try_raw, raw_if, switch, StepWithMemory, Step, Run}
+use Rattle.lexopt_spec.specs.Runs.{Call, next, value, optional, values, raw, try_raw, raw_if, set_short_equals, StepWithMemory, Step, Run}
 use Rattle.lexopt_line_spec.proofs.HandedItems.{HandedItems, hands_nothing, hands_words, hands_pending, value_hands, optional_hands, values_hands, raw_hands, words_hands, word_if_hands, try_raw_hands}
 use Rattle.lexopt_line_spec.proofs.NoOption.{NoOption, no_option_count, value_no_option, optional_no_option, values_no_option, words_no_option, word_if_no_option, raw_no_option, try_raw_no_option}
 
@@ -115,7 +115,7 @@ bound_with_memory (try_raw n) u r v step = items_bound u r v (try_raw_no_option 
 bound_with_memory (raw_if word) u r v step =
     items_bound u r v (raw_no_option (TakesWordIf word) u r v (λ t. word_if_no_option word u r v t) step)
     (raw_hands (TakesWordIf word) u r v (λ p t. word_if_hands word u r v p t) step)
-bound_with_memory (switch on) u r v step = rw (step.reply_is, step.after_is) (omega arith)
+bound_with_memory (set_short_equals on) u r v step = rw (step.reply_is, step.after_is) (omega arith)
 
 pub step_bound : (call : Call) (u : UnreadLine) (r : Reply) (v : UnreadLine) → Step call u r v → reply_count r + bound v ≤ bound u
 step_bound call u r v (inl step) = bound_with_memory call u r v step

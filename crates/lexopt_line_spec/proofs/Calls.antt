@@ -4,7 +4,7 @@ use Rattle.std.proofs.lemmas.Bool.{cases_eq}
 use Rattle.lexopt_spec.specs.UnreadLine.{Tail, no_tail, joined, rest, LastOption, UnreadLine, spelling, pending, pending_in, TailStands, IsLine}
 use Rattle.lexopt_spec.specs.Steps.{Reply, maybe, unexpected, OptionalStep, optional_pending, optional_none}
 use Rattle.lexopt_spec.specs.Views.{available, ValuesStep, no_values, some_values, TakesWords, TakesWordIf, is_next, is_not_next, RawStep, refuses_pending, lends_words, TryRawStep, leaves_pending, try_lends_words}
-use Rattle.lexopt_spec.specs.Runs.{Call, next, value, optional, values, raw, try_raw, raw_if, switch, StepWithMemory}
+use Rattle.lexopt_spec.specs.Runs.{Call, next, value, optional, values, raw, try_raw, raw_if, set_short_equals, StepWithMemory}
 use Rattle.lexopt_line_spec.proofs.Exact.{Same, next_same, value_same}
 use Rattle.lexopt_line_spec.proofs.Total.{Answer, next_answer, value_answer, spelled}
 
@@ -72,7 +72,7 @@ call_same (values n) u r s v w a b = values_same n u r s v w a b
 call_same (raw n) u r s v w a b = raw_same (TakesWords n) u r s v w (λ x y. words_same n u r s v w x y) a b
 call_same (try_raw n) u r s v w a b = try_raw_same n u r s v w a b
 call_same (raw_if word) u r s v w a b = raw_same (TakesWordIf word) u r s v w (λ x y. word_if_same word u r s v w x y) a b
-call_same (switch on) u r s v w a b = (a.reply_is ∙ sym b.reply_is, a.after_is ∙ sym b.after_is)
+call_same (set_short_equals on) u r s v w a b = (a.reply_is ∙ sym b.reply_is, a.after_is ∙ sym b.after_is)
 
 -- ---- some answer
 
@@ -139,4 +139,4 @@ call_answer (values n) u is = values_answer n u (available u) refl
 call_answer (raw n) u is = raw_at (TakesWords n) u (pending u) is refl (words_answer n u)
 call_answer (try_raw n) u is = try_raw_at n u (pending u) refl
 call_answer (raw_if word) u is = raw_at (TakesWordIf word) u (pending u) is refl (word_if_at word u u.words refl)
-call_answer (switch on) u is = (_, _, record { reply_is = refl; after_is = refl })
+call_answer (set_short_equals on) u is = (_, _, record { reply_is = refl; after_is = refl })

@@ -5,7 +5,7 @@ use Rattle.lexopt_spec.specs.UnreadLine.{UnreadLine, IsLine}
 use Rattle.lexopt_spec.specs.Steps.{Reply}
 use Rattle.lexopt_spec.specs.Views.{TakesWords, TakesWordIf}
 use Rattle.lexopt_spec.specs.Account.{bytes_of, flat, handing, handed_items, bytes_handed_out, segment_bytes, segment_shown, shown_of}
-use Rattle.lexopt_spec.specs.Runs.{Call, next, value, optional, values, raw, try_raw, raw_if, switch, StepWithMemory, Step, Run, account_with_memory, account, segments}
+use Rattle.lexopt_spec.specs.Runs.{Call, next, value, optional, values, raw, try_raw, raw_if, set_short_equals, StepWithMemory, Step, Run, account_with_memory, account, segments}
 use Rattle.lexopt_line_spec.proofs.Accounts.{next_keeps, next_shown, next_suffix, IsSuffix, words_after}
 use Rattle.lexopt_line_spec.proofs.HandedItems.{value_hands, optional_hands, values_hands, raw_hands, words_hands, word_if_hands, try_raw_hands, hands_keep, hands_suffix, hands_line, handing_shown}
 use Rattle.lexopt_line_spec.proofs.NoOption.{NoOption, no_option_handed, value_no_option, optional_no_option, values_no_option, words_no_option, word_if_no_option, raw_no_option, try_raw_no_option}
@@ -22,7 +22,7 @@ keeps_with_memory (values n) u r v step = hands_keep u (handed_items r) v (value
 keeps_with_memory (raw n) u r v step = hands_keep u (handed_items r) v (raw_hands (TakesWords n) u r v (λ p t. words_hands n u r v p t) step)
 keeps_with_memory (try_raw n) u r v step = hands_keep u (handed_items r) v (try_raw_hands n u r v step)
 keeps_with_memory (raw_if word) u r v step = hands_keep u (handed_items r) v (raw_hands (TakesWordIf word) u r v (λ p t. word_if_hands word u r v p t) step)
-keeps_with_memory (switch on) u r v step = ap flat (sym step.after_is)
+keeps_with_memory (set_short_equals on) u r v step = ap flat (sym step.after_is)
 
 step_keeps : (call : Call) (u : UnreadLine) (r : Reply) (v : UnreadLine) (step : Step call u r v)
     → flat u ≡ bytes_of (account call u r v step) ++ flat v
@@ -57,7 +57,7 @@ shown_with_memory (values n) u r v step = items_shown u r (values_no_option n u 
 shown_with_memory (raw n) u r v step = items_shown u r (raw_no_option (TakesWords n) u r v (λ t. words_no_option n u r v t) step)
 shown_with_memory (try_raw n) u r v step = items_shown u r (try_raw_no_option n u r v step)
 shown_with_memory (raw_if word) u r v step = items_shown u r (raw_no_option (TakesWordIf word) u r v (λ t. word_if_no_option word u r v t) step)
-shown_with_memory (switch on) u r v step = ap bytes_handed_out step.reply_is
+shown_with_memory (set_short_equals on) u r v step = ap bytes_handed_out step.reply_is
 
 pub step_shown : (call : Call) (u : UnreadLine) (r : Reply) (v : UnreadLine) (step : Step call u r v)
     → bytes_handed_out r ≡ shown_of (account call u r v step)
@@ -84,7 +84,7 @@ suffix_with_memory (values n) u r v step = hands_suffix u (handed_items r) v (va
 suffix_with_memory (raw n) u r v step = hands_suffix u (handed_items r) v (raw_hands (TakesWords n) u r v (λ p t. words_hands n u r v p t) step)
 suffix_with_memory (try_raw n) u r v step = hands_suffix u (handed_items r) v (try_raw_hands n u r v step)
 suffix_with_memory (raw_if word) u r v step = hands_suffix u (handed_items r) v (raw_hands (TakesWordIf word) u r v (λ p t. word_if_hands word u r v p t) step)
-suffix_with_memory (switch on) u r v step = ([], words_after v _ step.after_is)
+suffix_with_memory (set_short_equals on) u r v step = ([], words_after v _ step.after_is)
 
 pub step_suffix : (call : Call) (u : UnreadLine) (r : Reply) (v : UnreadLine) → Step call u r v → IsSuffix u v
 step_suffix call u r v (inl step) = suffix_with_memory call u r v step
@@ -109,7 +109,7 @@ line_with_memory (values n) u r v is step = hands_line u (handed_items r) v is (
 line_with_memory (raw n) u r v is step = hands_line u (handed_items r) v is (raw_hands (TakesWords n) u r v (λ p t. words_hands n u r v p t) step)
 line_with_memory (try_raw n) u r v is step = hands_line u (handed_items r) v is (try_raw_hands n u r v step)
 line_with_memory (raw_if word) u r v is step = hands_line u (handed_items r) v is (raw_hands (TakesWordIf word) u r v (λ p t. word_if_hands word u r v p t) step)
-line_with_memory (switch on) u r v is step = subst IsLine (sym step.after_is) is
+line_with_memory (set_short_equals on) u r v is step = subst IsLine (sym step.after_is) is
 
 pub step_line : (call : Call) (u : UnreadLine) (r : Reply) (v : UnreadLine) → IsLine u → Step call u r v → IsLine v
 step_line call u r v is (inl step) = line_with_memory call u r v is step

@@ -9,7 +9,7 @@ use Rattle.std.specs.Str.{all_ascii_digits, is_utf8}
 use Rattle.std.specs.Str.Parse.{digits_value}
 use Rattle.lexopt_spec.specs.Pieces.{first_piece}
 use Rattle.lexopt_spec.specs.Runs as calls
-use Rattle.lexopt_spec.specs.Runs.{Call, next, value, values, raw, try_raw, switch}
+use Rattle.lexopt_spec.specs.Runs.{Call, next, value, values, raw, try_raw, set_short_equals}
 use Rattle.lexopt_spec.specs.Steps as steps
 use Rattle.lexopt_spec.specs.Steps.{Reply, end, taken, maybe, items, busy, done, missing}
 use Rattle.lexopt_spec.specs.Steps.{unexpected, no_memory}
@@ -151,8 +151,8 @@ meaning_of_call_or_word line =
     else (if pointwise ◌==◌ line (codes "next") then command (call next)
     else (if pointwise ◌==◌ line (codes "value") then command (call value)
     else (if pointwise ◌==◌ line (codes "optional") then command (call calls.optional)
-    else (if pointwise ◌==◌ line (codes "on") then command (call (switch true))
-    else (if pointwise ◌==◌ line (codes "off") then command (call (switch false))
+    else (if pointwise ◌==◌ line (codes "on") then command (call (set_short_equals true))
+    else (if pointwise ◌==◌ line (codes "off") then command (call (set_short_equals false))
     else (if pointwise ◌==◌ line (codes "w") then word []
     else meaning_with_text line))))))
 
@@ -168,7 +168,7 @@ most_bytes = 1048576
 
 -- the call reads the line: `set_short_equals` alone does not
 abbrev pub reads_line : Call → Bool
-reads_line (switch on) = false
+reads_line (set_short_equals on) = false
 reads_line c = true
 
 -- the words are read: words and options stand before such a command
@@ -285,8 +285,8 @@ item_text (option name found) = name_text name ++ value_text found
 item_text (many name all) = name_text name ++ (codes " = " ++ bracketed quoted all)
 item_text (positional bytes) = codes "Value " ++ quoted bytes
 
-abbrev pub line_of : List ℕ → List ℕ
-line_of text = text ++ newline ∷ []
+abbrev pub with_newline : List ℕ → List ℕ
+with_newline text = text ++ newline ∷ []
 
 -- what may be written for the whole line of these words, read by the table: its items, or its error
 pub data WholeLineText (t : Table) (on : Bool) (words : List (List ℕ)) (text : List ℕ)
@@ -300,7 +300,7 @@ pub data WholeLineText (t : Table) (on : Bool) (words : List (List ℕ)) (text :
 
 -- the setting after a call
 abbrev pub switched : Bool → Call → Bool
-switched on (switch now) = now
+switched on (set_short_equals now) = now
 switched on c = on
 
 -- a line for each command, in order: that of the reply to a call, or that of the whole line under
@@ -311,7 +311,7 @@ Written t words on [] (reply ∷ replies) text = ⊥
 Written t words on (call c ∷ commands) [] text = ⊥
 Written t words on (call c ∷ commands) (reply ∷ replies) text =
     (more : List ℕ) × Written t words (switched on c) commands replies more
-    × (text ≡ line_of (reply_text reply) ++ more)
+    × (text ≡ with_newline (reply_text reply) ++ more)
 Written t words on (whole_line ∷ commands) replies text =
     (line : List ℕ) × (more : List ℕ) × WholeLineText t on words line
-    × Written t words on commands replies more × (text ≡ line_of line ++ more)
+    × Written t words on commands replies more × (text ≡ with_newline line ++ more)

@@ -9,7 +9,7 @@ use Rattle.lexopt_spec.specs.Steps.{Reply, end}
 use Rattle.lexopt_spec.specs.Runs.{Run}
 use Rattle.lexopt_line_spec.specs.Table as spec
 use Rattle.lexopt_line_spec.specs.Readings.{IsReading, start}
-use Rattle.lexopt_line_spec.specs.Script.{Command, call, whole_line, call_of, line_of, reply_text, switched, Written, WholeLineText, items_read, line_refused, memory_refused}
+use Rattle.lexopt_line_spec.specs.Script.{Command, call, whole_line, call_of, with_newline, reply_text, switched, Written, WholeLineText, items_read, line_refused, memory_refused}
 use Rattle.lexopt_line_spec.proofs.RunLemmas.{Run-more}
 use Rattle.lexopt_line_spec.proofs.WrittenLines.{switch_after, switch_after-call, switch_after-whole, Written-call, Written-whole}
 use Rattle.lexopt_base.specs.Replies.{error_reply}
@@ -48,7 +48,7 @@ answer_written t on words (Err e) reading (inr ends) =
 
 -- a text, and then the end of its line, were added
 pub line_added : (r : Result (Unit {0}) AllocError) (P : List ℕ → Type 0) (old mid new text : List ℕ) → P text → mid ≡ old ++ text
-    → new ≡ (if is_ok r then mid ++ codes "\n" else mid) → OnOk r ((line : List ℕ) × P line × (new ≡ old ++ line_of line))
+    → new ≡ (if is_ok r then mid ++ codes "\n" else mid) → OnOk r ((line : List ℕ) × P line × (new ≡ old ++ with_newline line))
 line_added (Ok u) P old mid new text holds is_mid is_new = (text, holds, is_new ∙ ap (λ l. l ++ codes "\n") is_mid ∙ append_assoc old text (codes "\n"))
 line_added (Err e) P old mid new text holds is_mid is_new = tt
 

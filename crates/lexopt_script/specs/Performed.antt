@@ -6,7 +6,7 @@ use Rattle.lexopt_spec.specs.UnreadLine.{UnreadLine, fresh}
 use Rattle.lexopt_spec.specs.Steps.{Reply}
 use Rattle.lexopt_spec.specs.Runs.{Run, Step}
 use Rattle.lexopt_line_spec.specs.Script as spec
-use Rattle.lexopt_line_spec.specs.Script.{bracketed, call_of, item_text, line_of, reply_text}
+use Rattle.lexopt_line_spec.specs.Script.{bracketed, call_of, item_text, with_newline, reply_text}
 use Rattle.lexopt_line_spec.specs.Script.{switched, WholeLineText, Written}
 use Rattle.lexopt_words.specs.Message.{message}
 use Rattle.lexopt_words.specs.declared.error.Error.{Error}
@@ -26,10 +26,10 @@ abbrev pub Performs : Script → spec.Command → UnreadLine → Bool → List �
     → List ℕ → Type 0
 Performs script (spec.call c) u on text v now new =
     (reply : Reply) × Step c u reply v × (now ≡ switched on c)
-    × (new ≡ text ++ line_of (reply_text reply))
+    × (new ≡ text ++ with_newline (reply_text reply))
 Performs script spec.whole_line u on text v now new =
     (line : List ℕ) × WholeLineText (table_view script.table) on script.words.items line × (v ≡ u)
-    × (now ≡ on) × (new ≡ text ++ line_of line)
+    × (now ≡ on) × (new ≡ text ++ with_newline line)
 
 -- a line for each command, in order
 pub record IsWritten (script : Script) (text : List ℕ) : Type 0 where

@@ -4,7 +4,7 @@ ghost use Rattle.std.specs.Prelude.{◌≡◌, ◌⊎◌, ◌+◌, ◌++◌, ◌
 ghost use Rattle.std.specs.Prelude.{IfErr, OnOk, length, map, codes, string_bytes};
 ghost use Rattle.std.specs.Io.KnownBytes.{Appends, Consumes};
 ghost use Rattle.lexopt_line_spec.specs.Script.{WholeLineText, bad_line, bracketed, item_text};
-ghost use Rattle.lexopt_line_spec.specs.Script.{line_of, most_bytes, reply_text, switched};
+ghost use Rattle.lexopt_line_spec.specs.Script.{most_bytes, reply_text, switched, with_newline};
 ghost use Rattle.lexopt_spec.specs.UnreadLine.{fresh};
 ghost use Rattle.lexopt_words.specs.Message.{message};
 ghost use Rattle.lexopt_items.specs.Items.{item_view, table_view};
@@ -67,7 +67,7 @@ fn write_whole_line(
     text: &mut String,
 ) -> Result<(), AllocError>
     ensures { OnOk result ((line : List ℕ) × WholeLineText (table_view table.now) on words.now line
-        × (string_bytes text.new ≡ string_bytes text.old ++ line_of line)) }
+        × (string_bytes text.new ≡ string_bytes text.old ++ with_newline line)) }
 {
     let answer = read_items(alloc, copies(alloc, words)?, on, table);
     write_answer(answer, text)?;
@@ -87,7 +87,7 @@ fn switched(on: bool, call: &Call) -> bool
 // Writes a line for a reply.
 fn write_reply(reply: &Reply, text: &mut String) -> Result<(), AllocError>
     ensures { OnOk result (string_bytes text.new
-        ≡ string_bytes text.old ++ line_of (reply_text (reply_view reply.now))) }
+        ≡ string_bytes text.old ++ with_newline (reply_text (reply_view reply.now))) }
 {
     writeln!(text, "{reply}")
 }

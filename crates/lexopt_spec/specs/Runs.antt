@@ -3,7 +3,8 @@
 use Rattle.std.specs.Prelude.{◌≡◌, ◌⊎◌, ℕ, Bool, List, [], ◌∷◌, ◌++◌, min}
 use Rattle.std.proofs.Common.{inl, inr}
 use Rattle.lexopt_spec.specs.UnreadLine.{UnreadLine}
-use Rattle.lexopt_spec.specs.Steps.{Reply, NextStep, ValueStep, OptionalStep, SwitchStep, Answers}
+use Rattle.lexopt_spec.specs.Steps.{Reply, NextStep, ValueStep, OptionalStep, SetsShortEquals}
+use Rattle.lexopt_spec.specs.Steps.{Answers}
 use Rattle.lexopt_spec.specs.Account.{Segment, handing, handed_items, next_account}
 use Rattle.lexopt_spec.specs.Views.{ValuesStep, RawStep, TakesWords, TakesWordIf, TryRawStep}
 
@@ -17,7 +18,7 @@ pub data Call : Type 0 where
   try_raw : ℕ → Call
   -- `raw_args`, and its next word where it is this one
   raw_if : List ℕ → Call
-  switch : Bool → Call
+  set_short_equals : Bool → Call
 
 -- with memory enough, a call answers so
 abbrev pub StepWithMemory : Call → UnreadLine → Reply → UnreadLine → Type 0
@@ -28,7 +29,7 @@ StepWithMemory (values n) = ValuesStep n
 StepWithMemory (raw n) = RawStep (TakesWords n)
 StepWithMemory (try_raw n) = TryRawStep n
 StepWithMemory (raw_if word) = RawStep (TakesWordIf word)
-StepWithMemory (switch on) = SwitchStep on
+StepWithMemory (set_short_equals on) = SetsShortEquals on
 
 -- what a call answers at the line u, and the line after it
 abbrev pub Step : Call → UnreadLine → Reply → UnreadLine → Type 0
@@ -54,7 +55,7 @@ account_with_memory (values n) u reply after step = handing u (handed_items repl
 account_with_memory (raw n) u reply after step = handing u (handed_items reply)
 account_with_memory (try_raw n) u reply after step = handing u (handed_items reply)
 account_with_memory (raw_if word) u reply after step = handing u (handed_items reply)
-account_with_memory (switch on) u reply after step = []
+account_with_memory (set_short_equals on) u reply after step = []
 
 abbrev pub account : (call : Call) (u : UnreadLine) (reply : Reply) (after : UnreadLine)
     → Step call u reply after → List Segment
@@ -86,7 +87,7 @@ up_to m (values n) = values (min m n)
 up_to m (raw n) = raw (min m n)
 up_to m (try_raw n) = try_raw (min m n)
 up_to m (raw_if word) = raw_if word
-up_to m (switch on) = switch on
+up_to m (set_short_equals on) = set_short_equals on
 
 -- some front of the calls was made, and then perhaps the next one, with some of its items
 abbrev pub Part : UnreadLine → List Call → UnreadLine → Type 0

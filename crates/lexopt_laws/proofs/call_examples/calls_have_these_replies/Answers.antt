@@ -121,9 +121,9 @@ returns-clause-value_in_a_cluster c = (
 )
 
 -- `-a=b`
-pub returns-clause-switch : goal.returns-clause-switch
+pub returns-clause-set_short_equals : goal.returns-clause-set_short_equals
 unfolding computing
-returns-clause-switch c = (
+returns-clause-set_short_equals c = (
   _,
   (
     _,

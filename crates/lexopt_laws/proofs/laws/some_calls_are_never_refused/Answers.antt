@@ -1,4 +1,4 @@
-use Rattle.lexopt_laws.proofs.Refusals.{optional_never, try_raw_never, switch_never, raw_never, raw_if_never, values_never, refused_only}
+use Rattle.lexopt_laws.proofs.Refusals.{optional_never, try_raw_never, set_short_equals_never, raw_never, raw_if_never, values_never, refused_only}
 use Rattle.lexopt_laws.proofs.laws.some_calls_are_never_refused.Goals as goal
 
 pub returns-clause-only : goal.returns-clause-only
@@ -10,8 +10,8 @@ returns-clause-optional c = λ u v step. optional_never u v step
 pub returns-clause-try_raw : goal.returns-clause-try_raw
 returns-clause-try_raw c = λ n u v step. try_raw_never n u v step
 
-pub returns-clause-switch : goal.returns-clause-switch
-returns-clause-switch c = λ on u v step. switch_never on u v step
+pub returns-clause-set_short_equals : goal.returns-clause-set_short_equals
+returns-clause-set_short_equals c = λ on u v step. set_short_equals_never on u v step
 
 pub returns-clause-raw : goal.returns-clause-raw
 returns-clause-raw c = λ n u v none step. raw_never n u v none step
