@@ -18,7 +18,7 @@ reason_message MissingValue = codes "by the table the option wants a value, and 
 reason_message WantsMany = codes "by the table the option has several values: give them as a list"
 reason_message NotMany = codes "by the table the option does not have several values"
 reason_message EmptyValue =
-    codes "an empty value cannot stand right after a character, and the switch turns `=` off"
+    codes "an empty value cannot stand right after a character where `short_equals` is off"
 reason_message OptionAmongValues = codes "one of several values would be read as an option"
 reason_message EmptyName = codes "a long option with an empty name needs one value after `=`"
 reason_message PastSeparator =

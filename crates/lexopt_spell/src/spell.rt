@@ -61,7 +61,7 @@ impl fmt::Display for Reason {
             Reason::WantsMany => "by the table the option has several values: give them as a list",
             Reason::NotMany => "by the table the option does not have several values",
             Reason::EmptyValue => {
-                "an empty value cannot stand right after a character, and the switch turns `=` off"
+                "an empty value cannot stand right after a character where `short_equals` is off"
             }
             Reason::OptionAmongValues => "one of several values would be read as an option",
             Reason::EmptyName => "a long option with an empty name needs one value after `=`",

@@ -656,7 +656,7 @@ const EMPTY_VALUE: [Fault; 1] = [Fault {
     items: &[Short('v'), ShortValue('c', b"")],
     index: 1,
     reason: Reason::EmptyValue,
-    printed: "items[1]: an empty value cannot stand right after a character, and the switch turns `=` off",
+    printed: "items[1]: an empty value cannot stand right after a character where `short_equals` is off",
 }];
 
 const OPTION_AMONG_VALUES: [Fault; 4] = [
