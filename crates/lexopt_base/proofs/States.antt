@@ -1,5 +1,5 @@
 -- What the states of a parser stand for.
-use Rattle.std.proofs.Common.{true≢false, ◌≡◌, ◌≢◌, ℕ, zero, suc, ◌+◌, ◌-◌, get_or, ◌<◌, ◌≤◌, ◌==◌, ◌&&◌, Bool, true, false, List, [], ◌∷◌, length, drop, Option, Some, None, refl, sym, ap, ◌∙◌, arith, ⊎_elim, add-one, length-drop}
+use Rattle.std.proofs.Common.{◌≡◌, ◌≢◌, ℕ, zero, suc, ◌+◌, ◌-◌, get_or, ◌<◌, ◌≤◌, ◌==◌, ◌&&◌, Bool, true, false, List, [], ◌∷◌, length, drop, Option, Some, None, refl, sym, ap, ◌∙◌, arith, ⊎_elim, add-one, length-drop}
 use Rattle.std.proofs.lemmas.Bool.{cases_Bool, cond-true, cond-false, cases_lt}
 use Rattle.std.proofs.lemmas.List.{drop-drop, drop_all, get_or-drop}
 use Rattle.std.proofs.Math.Seq.{drop-cons}
@@ -114,39 +114,6 @@ pending_ends short_equals word (PendingValue position) value by_equals placed is
 pending_ends short_equals word (Shorts position) value by_equals placed is =
     let found = rest_ends short_equals (drop position word) value by_equals is in
     (position + found.0, omega (found.1, length-drop position word, placed, arith), found.2 ∙ drop-drop found.0 position word, omega (placed, arith), refl)
-
--- what is not joined is all that is left of a cluster
-rest_is : (short_equals : Bool) (bytes value : List ℕ) → pending_in short_equals (rest_of bytes) ≡ Some (value, false) → bytes ≡ value
-rest_is short_equals [] value is = absurd (let e : None ≡ Some (value, false) = is in cc)
-rest_is short_equals (b ∷ bs) value is = ⊎_elim
-    (λ (yes : (short_equals && b == equals) ≡ true).
-    absurd (true≢false (ap flag_in (sym (cond-true _ (Some (bs, true)) (Some (b ∷ bs, false)) yes) ∙ is))))
-    (λ (no : (short_equals && b == equals) ≡ false). ap value_in (sym (cond-false _ (Some (bs, true)) (Some (b ∷ bs, false)) no) ∙ is))
-    (cases_Bool (short_equals && b == equals))
-
-pub record IsRest (word : List ℕ) (state : State) (value : List ℕ) : Type 0 where
-  pub tail : tail_of word state ≡ rest_of value
-  pub running : ended_of state ≡ false
-  pub some : 0 < length value
-  pub within : length value ≤ length word
-  pub last : drop (length word - length value) word ≡ value
-
-pub unjoined_rest : (short_equals : Bool) (word : List ℕ) (state : State) (value : List ℕ) → IsPlaced word state
-    → pending_in short_equals (tail_of word state) ≡ Some (value, false) → IsRest word state value
-unjoined_rest short_equals word Ready value placed is = absurd (let e : None ≡ Some (value, false) = is in cc)
-unjoined_rest short_equals word FinishedOpts value placed is = absurd (let e : None ≡ Some (value, false) = is in cc)
-unjoined_rest short_equals word (PendingValue position) value placed is = absurd (true≢false (ap flag_in is))
-unjoined_rest short_equals word (Shorts position) value placed is =
-    let same = rest_is short_equals (drop position word) value is in
-    let size : length value ≡ length word - position = sym (ap length same) ∙ length-drop position word in
-    let place : length word - length value ≡ position = omega (size, placed, arith) in
-    record {
-      tail = ap rest_of same;
-      running = refl;
-      some = omega (size, placed, arith);
-      within = omega (size, placed, arith);
-      last = ap (λ n. drop n word) place ∙ same;
-    }
 
 -- so it is the last bytes of that word
 last_is : (word value : List ℕ) (k count : ℕ) → k ≤ length word → value ≡ drop k word → length value ≡ count → last_bytes count word ≡ value

@@ -291,22 +291,25 @@ impl Parser {
     fn advance(&mut self) -> Result<Found, Refusal>
         ensures { RepliesWith Next self.old (found_reply self.new.last result) self.new }
     {
-        let Some(pending) = self.pending() else {
-            return if self.is_ended() {
-                Ok(self.read_positional())
-            } else {
-                self.read_word()
-            };
-        };
-        let count = pending.value.len();
-        if pending.is_joined {
-            return Err(self.refuse(count));
+        match self.state {
+            State::Ready => self.read_word(),
+            State::FinishedOpts => Ok(self.read_positional()),
+            State::PendingValue(position) => {
+                let count = self.words.tail(position).len();
+                Err(self.refuse(count))
+            }
+            State::Shorts(position) => {
+                let pending = pending_in_cluster(self.words.tail(position), self.short_equals);
+                if pending.is_joined {
+                    let count = pending.value.len();
+                    return Err(self.refuse(count));
+                }
+                let (option, state) = read_short(self.words.current(), position);
+                self.last_option = LastOption::Short(option);
+                self.state = state;
+                Ok(Found::Short(option))
+            }
         }
-        let word = self.words.current();
-        let (option, state) = read_short(word, word.len() - count);
-        self.last_option = LastOption::Short(option);
-        self.state = state;
-        Ok(Found::Short(option))
     }
 
     // Reads a word before the separator. A long option is consumed once nothing can fail any more.
@@ -400,8 +403,9 @@ impl Parser {
         requires { HasPending self.old count }
         ensures { TakesPending self.old result self.new }
     {
+        let value = self.words.take_tail(count);
         self.state = State::Ready;
-        self.words.take_tail(count)
+        value
     }
 
     // Takes the next word, where nothing is left of the word before it.
@@ -557,7 +561,7 @@ fn pending_in_cluster(rest: &[u8], short_equals: bool) -> Pending<'_>
     requires { rest.now ≢ [] }
     ensures { pending_in short_equals (rest_of rest.now) ≡ Some (pending_view result) }
 {
-    if short_equals && rest[0] == b'=' {
+    if rest[0] == b'=' && short_equals {
         return Pending {
             value: &rest[1..],
             is_joined: true,

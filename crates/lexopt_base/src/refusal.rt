@@ -51,18 +51,17 @@ impl From<AllocError> for Refusal {
 
     ghost from_gives = { λ _ refusal. refusal ≡ OutOfMemory };
 
-    #[inline(always)]
     fn from(_error: AllocError) -> Refusal {
         Refusal::OutOfMemory
     }
 }
 
+// With a hint to inline it, LLVM would zero the space of an `Error` for each answer of `next`.
 impl From<Refusal> for Error {
     ghost use Rattle.lexopt_base.specs.Refusals.{IsErrorOf};
 
     ghost from_gives = { IsErrorOf };
 
-    #[inline(always)]
     fn from(refusal: Refusal) -> Error {
         match refusal {
             Refusal::MissingValue(option) => Error::MissingValue { option },
