@@ -70,16 +70,21 @@ fn values(parser: &mut Parser, count: usize, answers: &mut Answers) -> Result<()
 }
 
 // Takes words from a view.
-fn take(mut view: RawArgs<'_>, count: usize, answers: &mut Answers) -> Result<(), Error> {
+fn take(view: &mut RawArgs<'_>, count: usize, answers: &mut Answers) -> Result<(), Error> {
     for _ in 0..count {
         answers.word(view.next())?;
     }
     Ok(())
 }
 
+fn raw(parser: &mut Parser, count: usize, answers: &mut Answers) -> Result<(), Error> {
+    let mut view = parser.raw_args()?;
+    take(&mut view, count, answers)
+}
+
 fn try_raw(parser: &mut Parser, count: usize, answers: &mut Answers) -> Result<(), Error> {
     match parser.try_raw_args() {
-        Some(view) => take(view, count, answers),
+        Some(mut view) => take(&mut view, count, answers),
         None => answers.letter(b'B'),
     }
 }
@@ -132,7 +137,7 @@ fn make_call(
         b'p' => converted(parser, answers)?,
         b'o' => answers.word(parser.optional_value())?,
         b's' => values(parser, number, answers)?,
-        b'r' => take(parser.raw_args()?, number, answers)?,
+        b'r' => raw(parser, number, answers)?,
         b't' => try_raw(parser, number, answers)?,
         b'l' => look(parser, answers)?,
         b'i' => take_if(parser, number, answers)?,

@@ -8,17 +8,38 @@ use std::alloc::Global;
 // If there was no view: there is none again, `raw_args` refuses the value once, and it is an
 // optional value.
 fn is_busy(parser: &mut Parser) -> Result<bool, Error> {
-    if parser.try_raw_args().is_some() {
+    if has_view(parser) {
         return Ok(false);
     }
     let mut copy = parser.clone()?;
-    if !matches!(copy.raw_args(), Err(Error::UnexpectedValue { .. })) {
-        return Ok(false);
-    }
-    if copy.raw_args().is_err() || copy.try_raw_args().is_none() {
+    if !refuses_a_value(&mut copy) || !has_words(&mut copy) || !has_view(&mut copy) {
         return Ok(false);
     }
     Ok(parser.clone()?.optional_value().is_some())
+}
+
+// Whether `try_raw_args` gives a view.
+fn has_view(parser: &mut Parser) -> bool {
+    match parser.try_raw_args() {
+        Some(_view) => true,
+        None => false,
+    }
+}
+
+// Whether `raw_args` gives a view.
+fn has_words(parser: &mut Parser) -> bool {
+    match parser.raw_args() {
+        Ok(_view) => true,
+        Err(_error) => false,
+    }
+}
+
+// Whether `raw_args` refuses a value.
+fn refuses_a_value(parser: &mut Parser) -> bool {
+    match parser.raw_args() {
+        Ok(_view) => false,
+        Err(error) => matches!(error, Error::UnexpectedValue { .. }),
+    }
 }
 
 // If there was a view, with these words: there is no optional value, and `raw_args` shows the same
