@@ -1,7 +1,7 @@
 //! The parser: a command line of which some is read.
 ghost use Rattle.std.specs.Prelude.{◌≡◌, ◌≢◌, ◌↔◌, ◌⊎◌, ◌<◌, ◌≤◌, ℕ, List, [], ◌∷◌, Some, None};
 ghost use Rattle.std.specs.Prelude.{false, IsTrue, IsSome, IfOk, IfErr, OnErr, OnOk, codes};
-ghost use Rattle.std.specs.Prelude.{length, string_bytes};
+ghost use Rattle.std.specs.Prelude.{drop, length, string_bytes};
 ghost use Rattle.std.specs.Option.{option_map};
 ghost use Rattle.std.specs.Iterator.{IsFiniteIterable};
 ghost use Rattle.std.specs.Iterator.Runs.{WholeRun};
@@ -299,12 +299,13 @@ impl Parser {
                 Err(self.refuse(count))
             }
             State::Shorts(position) => {
-                let pending = pending_in_cluster(self.words.tail(position), self.short_equals);
-                if pending.is_joined {
-                    let count = pending.value.len();
+                let word = self.words.current();
+                let (start, is_joined) = pending_at(word, position, self.short_equals);
+                if is_joined {
+                    let count = word.len() - start;
                     return Err(self.refuse(count));
                 }
-                let (option, state) = read_short(self.words.current(), position);
+                let (option, state) = read_short(word, position);
                 self.last_option = LastOption::Short(option);
                 self.state = state;
                 Ok(Found::Short(option))
@@ -392,7 +393,12 @@ impl Parser {
                 is_joined: true,
             }),
             State::Shorts(position) => {
-                Some(pending_in_cluster(self.words.tail(position), self.short_equals))
+                let word = self.words.current();
+                let (start, is_joined) = pending_at(word, position, self.short_equals);
+                Some(Pending {
+                    value: &word[start..],
+                    is_joined,
+                })
             }
         }
     }
@@ -555,21 +561,19 @@ where
     Ok(items)
 }
 
-// The value that is left of a cluster, of which these bytes are still unread.
+// Where the value begins that is left of a cluster, and whether `=` joins it to its option. The
+// bytes from this position on are still unread.
 #[inline(always)]
-fn pending_in_cluster(rest: &[u8], short_equals: bool) -> Pending<'_>
-    requires { rest.now ≢ [] }
-    ensures { pending_in short_equals (rest_of rest.now) ≡ Some (pending_view result) }
+fn pending_at(cluster: &[u8], position: usize, short_equals: bool) -> (usize, bool)
+    requires { position < length cluster.now }
+    ensures value { pending_in short_equals (rest_of (drop position cluster.now))
+        ≡ Some (drop result.0 cluster.now, result.1) }
+    ensures within { result.0 ≤ length cluster.now }
 {
-    if rest[0] == b'=' && short_equals {
-        return Pending {
-            value: &rest[1..],
-            is_joined: true,
-        };
-    }
-    Pending {
-        value: rest,
-        is_joined: false,
+    if cluster[position] == b'=' && short_equals {
+        (position + 1, true)
+    } else {
+        (position, false)
     }
 }
 

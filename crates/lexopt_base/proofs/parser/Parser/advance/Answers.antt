@@ -7,6 +7,7 @@ use Rattle.lexopt_base.specs.Found.{found_as, found_reply}
 use Rattle.lexopt_base.specs.declared.parser.State.{State}
 use Rattle.lexopt_base.proofs.States.{flag_in}
 use Rattle.lexopt_base.proofs.Refusals.{refuses, gives_map, gives_step}
+use Rattle.lexopt_base.proofs.parser.Parser.advance.Goals.{After-pending_at-start}
 use Rattle.lexopt_base.proofs.parser.Parser.advance.Goals as goal
 
 pub returns-in-PendingValue : goal.returns-in-PendingValue
@@ -16,17 +17,29 @@ returns-in-PendingValue c =
     let pends = ap pending (sym c.self.view_is) ∙ ap (λ (s : State). pending_in p.short_equals (tail_of word s)) c.in-PendingValue.is in
     refuses c.args.self.now c.refuse.new.self (drop c.in-PendingValue.position word) c.refuse.result pends c.refuse.ensures
 
-pub returns-then-pending : goal.returns-then-pending
-returns-then-pending c =
+-- what is pending in a cluster
+pends_at : (c : After-pending_at-start) → pending c.args.self.now ≡ Some (drop c.pending_at-start.result.0 c.current-word.result.now, c.pending_at-start.result.1)
+pends_at c =
     let p = c.self.inside in
-    let found = c.pending_in_cluster-pending.result in
-    let pends = ap pending (sym c.self.view_is) ∙ ap (λ (s : State). pending_in p.short_equals (tail_of p.words.current s)) c.in-Shorts.is
-    ∙ ap (λ (l : List ℕ). pending_in p.short_equals (rest_of l)) (sym c.tail.ensures) ∙ c.pending_in_cluster-pending.ensures
-    ∙ ap (λ (b : Bool). Some (found.value.now, b)) c.if-pending.true in
-    refuses c.args.self.now c.refuse-then-pending.new.self found.value.now c.refuse-then-pending.result pends c.refuse-then-pending.ensures
+    ap pending (sym c.self.view_is) ∙ ap (λ (s : State). pending_in p.short_equals (tail_of p.words.current s)) c.in-Shorts.is
+    ∙ ap (λ (l : List ℕ). pending_in p.short_equals (rest_of (drop c.in-Shorts.position l))) (sym c.current-word.ensures) ∙ c.pending_at-start.ensures.value
 
-pub returns-else-pending : goal.returns-else-pending
-returns-else-pending c =
+pub refuse-requires-then-is_joined-clause-value : goal.refuse-requires-then-is_joined-clause-value
+refuse-requires-then-is_joined-clause-value c = (
+  drop c.pending_at-start.result.0 c.current-word.result.now,
+  c.pending_at-start.result.1,
+  pends_at (goal.at.refuse-requires-then-is_joined-clause-value c).After-pending_at-start,
+  length-drop c.pending_at-start.result.0 c.current-word.result.now,
+)
+
+pub returns-then-is_joined : goal.returns-then-is_joined
+returns-then-is_joined c =
+    let value = drop c.pending_at-start.result.0 c.current-word.result.now in
+    let pends = pends_at (goal.at.returns-then-is_joined c).After-pending_at-start ∙ ap (λ (b : Bool). Some (value, b)) c.if-is_joined.true in
+    refuses c.args.self.now c.refuse-then-is_joined.new.self value c.refuse-then-is_joined.result pends c.refuse-then-is_joined.ensures
+
+pub returns-else-is_joined : goal.returns-else-is_joined
+returns-else-is_joined c =
     let u = c.args.self.now in
     let p = c.self.inside in
     let word = p.words.current in
@@ -36,11 +49,10 @@ returns-else-pending c =
     let some : 0 < length bytes = omega (arith, length-drop at word) in
     let is = ap (λ (s : State). tail_of word s) c.in-Shorts.is in
     let tail = ap (λ (l : UnreadLine). l.tail) (sym c.self.view_is) ∙ is ∙ rest_of-some bytes some in
-    let pends = ap pending (sym c.self.view_is) ∙ ap (λ (s : State). pending_in p.short_equals (tail_of word s)) c.in-Shorts.is
-    ∙ ap (λ (l : List ℕ). pending_in p.short_equals (rest_of l)) (sym c.tail.ensures) ∙ c.pending_in_cluster-pending.ensures in
-    let read = subst (λ (l : List ℕ). IsShortRead l at c.read_short-option.result.0 c.read_short-option.result.1) c.current.ensures c.read_short-option.ensures in
+    let pends = pends_at (goal.at.returns-else-is_joined c).After-pending_at-start in
+    let read = subst (λ (l : List ℕ). IsShortRead l at c.read_short-option.result.0 c.read_short-option.result.1) c.current-word.ensures c.read_short-option.ensures in
     inl (next_in_cluster bytes tail
-    (goes_on u bytes tail (λ value known. true≢false (sym (ap flag_in (sym pends ∙ known)) ∙ c.if-pending.false)))
+    (goes_on u bytes tail (λ value known. true≢false (sym (ap flag_in (sym pends ∙ known)) ∙ c.if-is_joined.false)))
     (record {
       some = λ none. let e : length bytes ≡ 0 = ap length none in omega arith;
       reply_is = ap short read.shown_is;
