@@ -194,7 +194,7 @@ impl Parser {
     /// Sets whether `=` stands between a short option and its value, as it does at the start. It
     /// counts from the next call on, also within a cluster.
     ///
-    /// With the switch off, the word `-a=b` gives `Short('a')`, `Short('=')` and `Short('b')`.
+    /// With it off, the word `-a=b` gives `Short('a')`, `Short('=')` and `Short('b')`.
     pub fn set_short_equals(&mut self, on: bool)
         ensures { self.new ≡ record self.old { short_equals = on } }
     {

@@ -36,7 +36,7 @@ pub enum Call {
 }
 
 impl Call {
-    /// Whether the call reads the line, which the switch alone does not.
+    /// Whether the call reads the line, as all do but `Switch`.
     pub fn reads_line(&self) -> bool
         ensures { result ≡ reads_line (call_view self.now) }
     {
@@ -64,7 +64,7 @@ pub enum Reply {
     Items(Vec<OsString>),
     /// `try_raw_args` gave no view, since a value is pending.
     Busy,
-    /// The switch was set.
+    /// `short_equals` was set.
     Done,
     /// `value` or `values` found no word, for this option if one was read.
     Missing(Option<String>),

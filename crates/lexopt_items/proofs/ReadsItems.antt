@@ -159,12 +159,12 @@ no_error (error.Custom c) is = let f : None ≡ Some steps.end = is in cc
 no_error error.OutOfMemory is = let f : Some steps.no_memory ≡ Some steps.end = is in cc
 
 -- where a reading ends in an error, the words show nothing
-pub refused_shows_none : (t : Table) (switch : Bool) (words : List (List ℕ)) (e : Error) → FailsWith t (start switch words) e
-    → (e ≡ error.OutOfMemory) ⊎ ((l : List Item) → Shows t switch words l → ⊥)
-refused_shows_none t switch words e (inl is) = inl is
-refused_shows_none t switch words e (inr reading) = inr (λ l shows.
-    let final = (shown_said t switch words l reading.1 reading.0 shows reading.2).0 in no_error e (reading.3 ∙ ap Some final))
+pub refused_shows_none : (t : Table) (short_equals : Bool) (words : List (List ℕ)) (e : Error) → FailsWith t (start short_equals words) e
+    → (e ≡ error.OutOfMemory) ⊎ ((l : List Item) → Shows t short_equals words l → ⊥)
+refused_shows_none t short_equals words e (inl is) = inl is
+refused_shows_none t short_equals words e (inr reading) = inr (λ l shows.
+    let final = (shown_said t short_equals words l reading.1 reading.0 shows reading.2).0 in no_error e (reading.3 ∙ ap Some final))
 
-pub refused_shows : (t : Table) (switch : Bool) (words : List (List ℕ)) (l : List Item) (e : Error) → Shows t switch words l → FailsWith t (start switch words) e → e ≡ error.OutOfMemory
-refused_shows t switch words l e shows refused =
-    ⊎_elim (λ is. is) (λ (none : (m : List Item) → Shows t switch words m → ⊥). absurd (none l shows)) (refused_shows_none t switch words e refused)
+pub refused_shows : (t : Table) (short_equals : Bool) (words : List (List ℕ)) (l : List Item) (e : Error) → Shows t short_equals words l → FailsWith t (start short_equals words) e → e ≡ error.OutOfMemory
+refused_shows t short_equals words l e shows refused =
+    ⊎_elim (λ is. is) (λ (none : (m : List Item) → Shows t short_equals words m → ⊥). absurd (none l shows)) (refused_shows_none t short_equals words e refused)

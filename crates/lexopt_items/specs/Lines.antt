@@ -1,5 +1,5 @@
 -- What `read_items` tells of a whole line: the relations of the grammar, over a table and items of
--- Rust. `short_equals` is the setting of the switch.
+-- Rust.
 use Rattle.std.specs.Prelude.{◌≡◌, ℕ, Bool, List, map, Result, Vec, IfOk, IfErr}
 use Rattle.std.specs.Global.{Global}
 use Rattle.lexopt_spec.specs.Steps.{end}

@@ -284,8 +284,8 @@ fn error_of(refusal: Refusal) -> Result<Vec<Item>, Error>
 /// Under a table with `o` and `out` of one value, `color` of a value that may be left out, and `d`
 /// of several, the words `-vo=x --out y --color=z -d 1 2 -- file` give `Short('v', None)`,
 /// `Short('o', Some(x))`, `Long("out", Some(y))`, `Long("color", Some(z))`,
-/// `ShortMany('d', [1, 2])` and `Positional(file)`. The switch says whether `=` in a cluster stands
-/// between an option and its value. The forms are those that lexopt documents;
+/// `ShortMany('d', [1, 2])` and `Positional(file)`. `short_equals` says whether `=` in a cluster
+/// stands between an option and its value. The forms are those that lexopt documents;
 /// `docs/behaviour.md` has them all. A damaged piece of an option's name is read, and looked up, as
 /// U+FFFD.
 ///

@@ -66,8 +66,8 @@ fn is_spelled_so(
     Ok(are_words(&words, row.words))
 }
 
-// The place of the first row whose items other words spell, with this setting of the switch, or
-// none.
+// The place of the first row whose items other words spell, with this setting of `short_equals`,
+// or none.
 fn spelled_otherwise(
     alloc: Global,
     rows: &[Row],
@@ -107,7 +107,8 @@ fn is_refused_so(
     )
 }
 
-// The place of the first fault that is told otherwise, with this setting of the switch, or none.
+// The place of the first fault that is told otherwise, with this setting of `short_equals`, or
+// none.
 fn told_otherwise(
     alloc: Global,
     faults: &[Fault],
@@ -189,7 +190,7 @@ const SHORT_OPTIONAL: [Row; 4] = [
     },
 ];
 
-// With the switch on, `=` stands between where the value is empty or begins with `=`.
+// If `short_equals` is on, `=` stands between where the value is empty or begins with `=`.
 const SHORT_OPTIONAL_ON: [Row; 3] = [
     Row {
         items: &[ShortValue('c', b"")],
@@ -205,7 +206,7 @@ const SHORT_OPTIONAL_ON: [Row; 3] = [
     },
 ];
 
-// With the switch off, `=` is a byte as others.
+// If it is off, `=` is a byte like any other.
 const SHORT_OPTIONAL_OFF: [Row; 2] = [
     Row {
         items: &[ShortValue('c', b"=x")],
@@ -332,8 +333,8 @@ const SEVERAL: [Row; 8] = [
     },
 ];
 
-// With the switch on, a lone value of a short option of several is joined where a positional comes
-// next and an option stands somewhere after that.
+// If `short_equals` is on, a lone value of a short option of several is joined where a positional
+// comes next and an option stands somewhere after that.
 const JOINED: [Row; 3] = [
     Row {
         items: &[ShortMany('d', &[b"1"]), Positional(b"f"), Short('v')],
@@ -465,7 +466,7 @@ const NAMELESS: [Row; 1] = [Row {
     words: &[b"--=a"],
 }];
 
-// The settings of the switch under which rows hold.
+// The settings of `short_equals` under which rows hold.
 const EITHER: &[bool] = &[true, false];
 
 const ON: &[bool] = &[true];
@@ -488,7 +489,8 @@ fn first_otherwise(
     Ok(None)
 }
 
-// Rows, the table that they go by, and the settings of the switch under which they hold.
+// Rows, the table that they go by, and the settings of `short_equals` under which they
+// hold.
 const OF_SHORTS: [(&[Row], More, &[bool]); 5] = [
     (&FLAGS, More::Nothing, EITHER),
     (&SHORT_OF_ONE, More::Nothing, EITHER),
@@ -738,7 +740,7 @@ const PAST_SEPARATOR: [Fault; 5] = [
     },
 ];
 
-// Only with the switch on can a lone value of a short option of several be joined, so that no
+// Only with `short_equals` on can a lone value of a short option of several be joined, so that no
 // separator is needed.
 const LONE_VALUE: [Fault; 1] = [Fault {
     items: &[ShortMany('d', &[b"1"]), Positional(b"f"), Short('v')],
@@ -822,7 +824,8 @@ const TWO_REASONS: [Fault; 5] = [
     },
 ];
 
-// Faults, the table that they go by, and the settings of the switch under which they are told.
+// Faults, the table that they go by, and the settings of `short_equals` under which they
+// are told.
 const FAULTS: [(&[Fault], More, &[bool]); 13] = [
     (&EQUALS_IN_NAME, More::Nothing, EITHER),
     (&UNEXPECTED_VALUE, More::Nothing, EITHER),
