@@ -4,4 +4,3 @@ pub mod Names
 pub mod LongOptions
 pub mod Ends
 pub mod Fronts
-pub mod Stages

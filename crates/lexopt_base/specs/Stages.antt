@@ -1,9 +1,8 @@
 -- How far a view of values has come, as contracts see it.
 use Rattle.lexopt_spec.specs.Views as views
 use Rattle.lexopt_base.specs.declared.values.Stage.{Stage}
-use Rattle.lexopt_base.specs.declared.values.Stage.TheVariants.{Start, GoingOn, End}
+use Rattle.lexopt_base.specs.declared.values.Stage.TheVariants.{GoingOn, End}
 
 abbrev pub stage_of : Stage → views.Stage
-stage_of Start = views.at_start
 stage_of GoingOn = views.going_on
 stage_of End = views.at_end

@@ -94,6 +94,24 @@ impl KeptWords {
         Some(word)
     }
 
+    /// Takes the word after the cursor. The word just before the cursor stays just before it.
+    #[inline(always)]
+    pub fn take_after(&mut self) -> Option<OsString>
+        requires { self.old.current ≢ [] }
+        ensures taken { TakesNext self.old result self.new }
+        ensures current { self.new.current ≡ self.old.current }
+    {
+        let place = self.count;
+        if place == self.words.len() {
+            return None;
+        }
+        let empty = OsString::new(self.alloc);
+        let current = mem::replace(&mut self.words[place - 1], empty);
+        let word = mem::replace(&mut self.words[place], current);
+        self.count = place + 1;
+        Some(word)
+    }
+
     /// The words after the cursor.
     pub fn left(&self) -> &[OsString]
         ensures { result.now ≡ self.now.left }

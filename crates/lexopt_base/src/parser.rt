@@ -423,6 +423,18 @@ impl Parser {
         self.words.take_next()
     }
 
+    // Takes the next word, and keeps what is left of the word before it.
+    #[inline(always)]
+    pub(crate) fn take_whole_word(&mut self) -> Option<OsString>
+        ensures { WordItem self.old result self.new }
+    {
+        match self.state {
+            State::Ready | State::FinishedOpts => self.words.take_next(),
+            // No view of words is made then, but its type does not say so.
+            State::PendingValue(_) | State::Shorts(_) => self.words.take_after(),
+        }
+    }
+
     // The words that are still unread.
     pub(crate) fn words_left(&self) -> &[OsString]
         ensures { result.now ≡ self.now.words }

@@ -1,7 +1,4 @@
 //! The words that are left, unread.
-ghost use Rattle.std.specs.Prelude.{◌≡◌};
-ghost use Rattle.lexopt_spec.specs.UnreadLine.{no_tail};
-
 use crate::parser::Parser;
 use lexopt_words::error::Error;
 use lexopt_words::os_string::{OsStr, OsString};
@@ -11,7 +8,6 @@ use lexopt_words::os_string::{OsStr, OsString};
 #[derive(Drop)]
 pub struct RawArgs<'a> {
     parser: &'a mut Parser,
-    ghost has_no_tail: { parser.now.tail ≡ no_tail },
 }
 
 impl Parser {
@@ -66,7 +62,7 @@ impl Iterator for RawArgs<'_> {
 
     /// Takes the next word.
     fn next(&mut self) -> Option<OsString> {
-        self.parser.take_word()
+        self.parser.take_whole_word()
     }
 }
 

@@ -1,16 +1,11 @@
 //! Several values of one option.
-ghost use Rattle.std.specs.Prelude.{◌≡◌};
-ghost use Rattle.lexopt_spec.specs.UnreadLine.{no_tail};
-ghost use Rattle.lexopt_base.specs.declared.values.Stage.TheVariants.{GoingOn};
-
 use crate::parser::Parser;
 use lexopt_words::error::Error;
 use lexopt_words::os_string::OsString;
 
-// How far a view has come.
+// Whether a view may give more.
 #[derive(Clone, Copy)]
 enum Stage {
-    Start,
     GoingOn,
     End,
 }
@@ -21,13 +16,12 @@ enum Stage {
 pub struct ValuesIter<'a> {
     parser: &'a mut Parser,
     stage: Stage,
-    ghost has_no_tail: { stage ≡ GoingOn → parser.now.tail ≡ no_tail },
 }
 
 impl Parser {
     ghost use Rattle.std.specs.Prelude.{◌≡◌, ◌≢◌, [], IfOk};
     ghost use Rattle.std.specs.Borrow.{sem};
-    ghost use Rattle.lexopt_spec.specs.Views.{at_start, available};
+    ghost use Rattle.lexopt_spec.specs.Views.{available, going_on};
     ghost use Rattle.lexopt_base.specs.Stages.{stage_of};
     ghost use Rattle.lexopt_base.specs.Views.{RestsIfRefused};
 
@@ -46,13 +40,13 @@ impl Parser {
         ensures* refused { sem 𝓛 (RestsIfRefused self.entry result) }
         ensures found { IfOk result (λ _. available self.old ≢ []) }
         ensures unchanged { IfOk result (λ view. view.parser.now ≡ self.old) }
-        ensures at_start { IfOk result (λ view. stage_of view.stage ≡ at_start) }
+        ensures going_on { IfOk result (λ view. stage_of view.stage ≡ going_on) }
         ensures same_parser { IfOk result (λ view. view.parser.ghost_name ≡ self.entry.ghost_name) }
     {
         self.refuse_if_missing()?;
         Ok(ValuesIter {
             parser: self,
-            stage: Stage::Start,
+            stage: Stage::GoingOn,
         })
     }
 }
@@ -73,7 +67,6 @@ impl Iterator for ValuesIter<'_> {
     #[inline(always)]
     fn next(&mut self) -> Option<OsString> {
         match self.stage {
-            Stage::Start => self.first(),
             Stage::GoingOn => self.another(),
             Stage::End => None,
         }
@@ -81,15 +74,14 @@ impl Iterator for ValuesIter<'_> {
 }
 
 impl ValuesIter<'_> {
-    ghost use Rattle.std.specs.Prelude.{◌≡◌, ◌≢◌};
-    ghost use Rattle.lexopt_spec.specs.UnreadLine.{no_tail};
+    ghost use Rattle.std.specs.Prelude.{◌≡◌};
     ghost use Rattle.lexopt_spec.specs.Views.{ValueItem};
     ghost use Rattle.lexopt_base.specs.Stages.{stage_of};
 
-    // The first value: what is left of the word of the option, or else a word.
+    // What is left of the word of the option, or else the next word, if it can be a value.
     #[inline(always)]
-    fn first(&mut self) -> Option<OsString>
-        requires { self.old.stage ≡ Stage.Start }
+    fn another(&mut self) -> Option<OsString>
+        requires { self.old.stage ≡ Stage.GoingOn }
         ensures same_parser { self.new.parser.ghost_name ≡ self.old.parser.ghost_name }
         ensures item { ValueItem (stage_of self.old.stage) self.old.parser.now result
             self.new.parser.now (stage_of self.new.stage) }
@@ -101,20 +93,7 @@ impl ValuesIter<'_> {
             self.stage = if is_last { Stage::End } else { Stage::GoingOn };
             return Some(value);
         }
-        self.another()
-    }
-
-    // The next word, if it can be a value.
-    #[inline(always)]
-    fn another(&mut self) -> Option<OsString>
-        requires on { self.old.stage ≢ Stage.End }
-        requires tail { self.old.parser.now.tail ≡ no_tail }
-        ensures same_parser { self.new.parser.ghost_name ≡ self.old.parser.ghost_name }
-        ensures item { ValueItem (stage_of self.old.stage) self.old.parser.now result
-            self.new.parser.now (stage_of self.new.stage) }
-    {
         if self.parser.has_plain_word() {
-            self.stage = Stage::GoingOn;
             return self.parser.take_word();
         }
         self.stage = Stage::End;

@@ -2,7 +2,7 @@
 use Rattle.std.proofs.Common.{◌≡◌, ◌≢◌, ◌⊎◌, ℕ, Bool, true, false, List, [], ◌∷◌, Option, Some, None, refl, sym, ap, subst, ◌∙◌, inl, inr, ⊎_elim, true≢false}
 use Rattle.lexopt_spec.specs.UnreadLine.{no_tail, UnreadLine, IsLine, pending, IsPlain, is_plain, IsNormalIn, IsNormal}
 use Rattle.lexopt_spec.specs.Steps.{Reply, maybe, busy, unexpected, OptionalStep, optional_pending, optional_none}
-use Rattle.lexopt_spec.specs.Views.{plain_front, available, available_with, values_left, ValuesStep, no_values, some_values, Stage, at_start, ValueItem, RawStep, refuses_pending, lends_words, TryRawStep, leaves_pending, try_lends_words, TakesWords}
+use Rattle.lexopt_spec.specs.Views.{plain_front, available, available_with, values_left, ValuesStep, no_values, some_values, Stage, going_on, ValueItem, RawStep, refuses_pending, lends_words, TryRawStep, leaves_pending, try_lends_words, TakesWords}
 use Rattle.lexopt_spec.proofs.PlainFronts.{plain_holds, plain_passes, front-more, front-less}
 use Rattle.lexopt_line_spec.proofs.OptionalLaw.{none_tail}
 use Rattle.lexopt_spec.proofs.ViewLemmas.{item_is_first, none_ends}
@@ -42,9 +42,9 @@ try_raw_untouched u v r (leaves_pending y by_equals p is after) = after
 try_raw_untouched u v r (try_lends_words p took) = took.after_is
 
 -- where `values` succeeds, its view gives an item when first asked
-pub first_comes : (u v : UnreadLine) (now : Stage) → available u ≢ [] → ValueItem at_start u None v now → ⊥
+pub first_comes : (u v : UnreadLine) (now : Stage) → available u ≢ [] → ValueItem going_on u None v now → ⊥
 first_comes u v now some item =
-    some (item_is_first at_start u None v now item ∙ ap (λ s. values_left s v) (none_ends at_start u v now item).1)
+    some (item_is_first going_on u None v now item ∙ ap (λ s. values_left s v) (none_ends going_on u v now item).1)
 
 -- ---- where `values` succeeds
 

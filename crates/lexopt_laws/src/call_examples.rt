@@ -9,8 +9,7 @@ ghost use Rattle.lexopt_spec.specs.Steps.{busy, done, end, items, long, maybe, m
 ghost use Rattle.lexopt_spec.specs.Steps.{positional, short, taken, unexpected};
 ghost use Rattle.lexopt_spec.specs.UnreadLine.{UnreadLine, fresh, joined, long_option, no_tail};
 ghost use Rattle.lexopt_spec.specs.UnreadLine.{rest, short_option};
-ghost use Rattle.lexopt_spec.specs.Views.{ValueItem, ValueItems, WordItems, at_end, at_start};
-ghost use Rattle.lexopt_spec.specs.Views.{going_on};
+ghost use Rattle.lexopt_spec.specs.Views.{ValueItem, ValueItems, WordItems, at_end, going_on};
 
 #[test]
 fn calls_answer_the_worked_examples() {
@@ -87,14 +86,14 @@ fn views_have_these_replies()
 
 // After `next` on the words `-ab c -d` and `-a=b c`; the fourth line is one that no parser can be.
 fn items_come_one_by_one()
-    ensures values { ValueItems 4 at_start (record (fresh (codes "c" ∷ codes "-d" ∷ [])) {
+    ensures values { ValueItems 4 going_on (record (fresh (codes "c" ∷ codes "-d" ∷ [])) {
       tail = rest (codes "b");
       last = short_option 0x61;
     })
         (codes "b" ∷ codes "c" ∷ []) (record (fresh (codes "-d" ∷ [])) {
           last = short_option 0x61;
         }) at_end }
-    ensures joined_value { ValueItems 2 at_start (record (fresh (codes "c" ∷ [])) {
+    ensures joined_value { ValueItems 2 going_on (record (fresh (codes "c" ∷ [])) {
       tail = rest (codes "=b");
       last = short_option 0x61;
     })

@@ -28,7 +28,7 @@ ghost use Rattle.lexopt_line_spec.specs.SpellerTables.{spelled};
 ghost use Rattle.lexopt_laws.specs.OneValueSpelling.{OneValueShows, OneValueSpells, OneValueTable};
 ghost use Rattle.lexopt_laws.specs.OneValueSpelling.{widened};
 ghost use Rattle.lexopt_spec.specs.Views.{Stage, ValueItem, ValueItems, WordItems, at_end};
-ghost use Rattle.lexopt_spec.specs.Views.{at_start, available, plain_front, values_left};
+ghost use Rattle.lexopt_spec.specs.Views.{available, going_on, plain_front, values_left};
 
 /// The first piece that the definitions compute is the one that table 3-7 of the Unicode Standard,
 /// read over all fronts of the bytes, allows: that piece and no other.
@@ -113,7 +113,7 @@ pub fn items_make_the_call()
         → ValueItem at_end u item v now → (item ≡ None) × (v ≡ u) × (now ≡ at_end) }
     ensures values { (n : ℕ) (u v : UnreadLine) (came : List (List ℕ)) (now : Stage)
         → available u ≢ []
-        → ValueItems n at_start u came v now → StepWithMemory (values n) u (items came) v }
+        → ValueItems n going_on u came v now → StepWithMemory (values n) u (items came) v }
     ensures all { (n : ℕ) (u v : UnreadLine) (came : List (List ℕ))
         → StepWithMemory (values n) u (items came) v → length came < n → came ≡ available u }
     ensures raw { (n : ℕ) (u v : UnreadLine) (came : List (List ℕ)) → pending u ≡ None
@@ -141,7 +141,7 @@ pub fn views_agree()
         → (available u ≢ [] → (pending u ≢ None) ⊎ IsNormal u)
         × ((pending u ≢ None) ⊎ IsNormal u → available u ≢ []) }
     ensures first_item { (u v : UnreadLine) (now : Stage) → available u ≢ []
-        → ValueItem at_start u None v now → ⊥ }
+        → ValueItem going_on u None v now → ⊥ }
 {}
 
 /// Whatever is called, under either setting, and also where memory runs out: each byte is in one

@@ -4,29 +4,23 @@ use Rattle.std.proofs.Math.Seq.{take-nil, drop-nil}
 use Rattle.std.specs.List.{cons_option}
 use Rattle.lexopt_spec.specs.UnreadLine.{no_tail, UnreadLine, pending, IsNormalIn}
 use Rattle.lexopt_spec.specs.Steps.{items}
-use Rattle.lexopt_spec.specs.Views.{plain_front, available, available_with, without, ValuesStep, some_values, TakesWords, RawStep, lends_words, TryRawStep, try_lends_words, Stage, at_start, going_on, at_end, values_left, ValueItem, gives_pending, gives_word, stops, stopped, WordItem, ValueItems, WordItems}
+use Rattle.lexopt_spec.specs.Views.{plain_front, available, available_with, without, ValuesStep, some_values, TakesWords, RawStep, lends_words, TryRawStep, try_lends_words, Stage, going_on, at_end, values_left, ValueItem, gives_pending, gives_word, stops, stopped, WordItem, ValueItems, WordItems}
 use Rattle.lexopt_spec.proofs.PlainFronts.{front-more, front-none}
 
 -- ---- one item of a view of values
 
-at_available : (u : UnreadLine) (p : Option (List ℕ × Bool)) → pending u ≡ p → values_left at_start u ≡ available_with p (plain_front u.ended u.words)
+at_available : (u : UnreadLine) (p : Option (List ℕ × Bool)) → pending u ≡ p → values_left going_on u ≡ available_with p (plain_front u.ended u.words)
 at_available u p is = ap (λ f. available_with f (plain_front u.ended u.words)) is
 
 -- what comes is the first of what was left
 pub item_is_first : (stage : Stage) (u : UnreadLine) (item : Option (List ℕ)) (after : UnreadLine) (now : Stage)
     → ValueItem stage u item after now → values_left stage u ≡ cons_option item (values_left now after)
-item_is_first at_start u item after now (gives_pending x true s p i a n) = rw (i, a, n) (at_available u (Some (x, true)) p)
-item_is_first at_start u item after now (gives_pending x false s p i a n) = rw (i, a, n) (at_available u (Some (x, false)) p)
-item_is_first going_on u item after now (gives_pending x by_equals s p i a n) = absurd (let e : going_on ≡ at_start = s in cc)
-item_is_first at_end u item after now (gives_pending x by_equals s p i a n) = absurd (let e : at_end ≡ at_start = s in cc)
-item_is_first at_start u item after now (gives_word w ws s p is plain i a n) =
-    rw (i, a, n) (at_available u None p ∙ ap (λ l. plain_front u.ended l) is ∙ front-more u.ended w ws plain)
-item_is_first going_on u item after now (gives_word w ws s p is plain i a n) =
-    rw (i, a, n) (ap (λ l. plain_front u.ended l) is ∙ front-more u.ended w ws plain)
-item_is_first at_end u item after now (gives_word w ws s p is plain i a n) = absurd (s refl)
-item_is_first at_start u item after now (stops s p other i a n) = rw (i, a, n) (at_available u None p ∙ front-none u.ended u.words other)
-item_is_first going_on u item after now (stops s p other i a n) = rw (i, a, n) (front-none u.ended u.words other)
-item_is_first at_end u item after now (stops s p other i a n) = absurd (s refl)
+item_is_first stage u item after now (gives_pending x true s p i a n) = rw (s, i, a, n) (at_available u (Some (x, true)) p)
+item_is_first stage u item after now (gives_pending x false s p i a n) = rw (s, i, a, n) (at_available u (Some (x, false)) p)
+item_is_first stage u item after now (gives_word w ws s p is plain i a n) =
+    rw (s, i, a, n) (at_available u None p ∙ ap (λ l. plain_front u.ended l) is ∙ front-more u.ended w ws plain
+    ∙ ap (λ l. w ∷ l) (sym (at_available (record u { words = ws }) None p)))
+item_is_first stage u item after now (stops s p other i a n) = rw (s, i, a, n) (at_available u None p ∙ front-none u.ended u.words other)
 item_is_first stage u item after now (stopped s i a n) = rw (s, i, a, n) refl
 
 -- once none came, none comes
@@ -39,9 +33,9 @@ none_ends stage u after now (stopped s i a n) = (a, n)
 
 pub none_ever : (u : UnreadLine) (item : Option (List ℕ)) (after : UnreadLine) (now : Stage)
     → ValueItem at_end u item after now → (item ≡ None) × (after ≡ u) × (now ≡ at_end)
-none_ever u item after now (gives_pending value by_equals s p i a n) = absurd (let e : at_end ≡ at_start = s in cc)
-none_ever u item after now (gives_word w ws s p is plain i a n) = absurd (s refl)
-none_ever u item after now (stops s p other i a n) = absurd (s refl)
+none_ever u item after now (gives_pending value by_equals s p i a n) = absurd (let e : at_end ≡ going_on = s in cc)
+none_ever u item after now (gives_word w ws s p is plain i a n) = absurd (let e : at_end ≡ going_on = s in cc)
+none_ever u item after now (stops s p other i a n) = absurd (let e : at_end ≡ going_on = s in cc)
 none_ever u item after now (stopped s i a n) = (i, a, n)
 
 -- ---- n items of a view of values
@@ -98,9 +92,9 @@ items_in_order (suc n) stage u came after now asked =
 
 -- so n items asked one by one are the call
 pub values_by_items : (n : ℕ) (u after : UnreadLine) (came : List (List ℕ)) (now : Stage) → available u ≢ []
-    → ValueItems n at_start u came after now → ValuesStep n u (items came) after
+    → ValueItems n going_on u came after now → ValuesStep n u (items came) after
 values_by_items n u after came now some asked =
-    let both = items_in_order n at_start u came after now asked in
+    let both = items_in_order n going_on u came after now asked in
     some_values some (ap items both.0) (both.1 ∙ ap (λ l. without (pending u) (length l) u) both.0)
 
 in_front : (item : Option (List ℕ)) (others more : List (List ℕ)) → cons_option item others ++ more ≡ cons_option item (others ++ more)
@@ -218,13 +212,13 @@ words_no_more n count u v w came below asked step =
 -- ---- what an implementation does
 
 -- a normal word was taken
-pub takes_normal : (stage : Stage) (u : UnreadLine) (item : Option (List ℕ)) (after : UnreadLine) → stage ≢ at_end → pending u ≡ None
-    → IsNormalIn u.ended u.words → WordItem u item after → ValueItem stage u item after going_on
+pub takes_normal : (stage : Stage) (u : UnreadLine) (item : Option (List ℕ)) (after : UnreadLine) → stage ≡ going_on → pending u ≡ None
+    → IsNormalIn u.ended u.words → WordItem u item after → ValueItem stage u item after stage
 takes_normal stage u None after on p normal step = absurd (subst (IsNormalIn u.ended) step.0 normal)
 takes_normal stage u (Some w) after on p normal step =
-    gives_word w after.words on p step.0 (subst (IsNormalIn u.ended) step.0 normal) refl step.1 refl
+    gives_word w after.words on p step.0 (subst (IsNormalIn u.ended) step.0 normal) refl step.1 on
 
 -- the next word is not normal
-pub stops_there : (stage : Stage) (u : UnreadLine) → stage ≢ at_end → pending u ≡ None → (IsNormalIn u.ended u.words → ⊥)
+pub stops_there : (stage : Stage) (u : UnreadLine) → stage ≡ going_on → pending u ≡ None → (IsNormalIn u.ended u.words → ⊥)
     → ValueItem stage u None u at_end
 stops_there stage u on p other = stops on p other refl refl refl

@@ -50,21 +50,27 @@ fn collected_values(rt: HostRuntime) -> Result<(), Fail> {
     Ok(())
 }
 
-// The length of the longest value of `-a`.
-fn longest(parser: &mut Parser) -> Result<usize, Error> {
+// The length of the longest of these values.
+fn longest(values: ValuesIter<'_>) -> usize {
     let mut most = 0;
-    if reads_short(parser, 'a')? {
-        for value in parser.values()? {
-            most = value.len().max(most);
-        }
+    for value in values {
+        most = value.len().max(most);
     }
-    Ok(most)
+    most
+}
+
+// The length of the longest value of `-a`.
+fn longest_of_a(parser: &mut Parser) -> Result<usize, Error> {
+    if !reads_short(parser, 'a')? {
+        return Ok(0);
+    }
+    Ok(longest(parser.values()?))
 }
 
 #[test]
 fn values_in_a_loop(rt: HostRuntime) -> Result<(), Fail> {
     let mut parser = parser_of(rt.alloc(), &[b"-a", b"b", b"ccc", b"dd"])?;
-    assert!(rt; longest(&mut parser)? == 3 && is_at_end(&mut parser)?);
+    assert!(rt; longest_of_a(&mut parser)? == 3 && is_at_end(&mut parser)?);
     Ok(())
 }
 
@@ -87,7 +93,7 @@ fn words_looked_at(rt: HostRuntime) -> Result<(), Fail> {
 }
 
 // Whether a view gives `-a`, lends the two words after it, and then gives `--`.
-fn lends(view: &mut RawArgs<'_>) -> bool {
+fn lends(mut view: RawArgs<'_>) -> bool {
     gives(view.next(), b"-a")
         && are_words(view.as_slice(), &[b"--", b"b"])
         && gives(view.next(), b"--")
@@ -96,7 +102,7 @@ fn lends(view: &mut RawArgs<'_>) -> bool {
 // Whether `try_raw_args` gives a view, and the view does so.
 fn lends_if_free(parser: &mut Parser) -> bool {
     match parser.try_raw_args() {
-        Some(mut view) => lends(&mut view),
+        Some(view) => lends(view),
         None => false,
     }
 }

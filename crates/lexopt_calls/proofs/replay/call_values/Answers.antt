@@ -12,7 +12,7 @@ use Rattle.lexopt_calls.proofs.replay.call_values.Goals as goal
 pub returns-in_err-take_values-in-Ok : goal.returns-in_err-take_values-in-Ok
 returns-in_err-take_values-in-Ok c =
     let h = c.in_err-take_values-in-Ok.ensures.items in
-    let made = values_made h.0 c.args.parser.now c.in-Ok.view.parser.now _ _ _ h.1 c.in-Ok.ensures.found c.in-Ok.ensures.unchanged c.in-Ok.ensures.at_start h.3 in (
+    let made = values_made h.0 c.args.parser.now c.in-Ok.view.parser.now _ _ _ h.1 c.in-Ok.ensures.found c.in-Ok.ensures.unchanged c.in-Ok.ensures.going_on h.3 in (
       h.0,
       items h.1,
       h.2,
@@ -23,7 +23,7 @@ returns-in_err-take_values-in-Ok c =
 pub returns-in_ok-take_values-in-Ok : goal.returns-in_ok-take_values-in-Ok
 returns-in_ok-take_values-in-Ok c =
     let h = c.in_ok-take_values-in-Ok.ensures.items in
-    let made = values_made h.0 c.args.parser.now c.in-Ok.view.parser.now _ _ _ h.1 c.in-Ok.ensures.found c.in-Ok.ensures.unchanged c.in-Ok.ensures.at_start h.3 in (
+    let made = values_made h.0 c.args.parser.now c.in-Ok.view.parser.now _ _ _ h.1 c.in-Ok.ensures.found c.in-Ok.ensures.unchanged c.in-Ok.ensures.going_on h.3 in (
       h.0,
       items h.1,
       h.2,

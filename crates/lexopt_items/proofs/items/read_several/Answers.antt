@@ -13,7 +13,7 @@ pub returns-in_ok-take_values-in-Ok-clause-ok : goal.returns-in_ok-take_values-i
 returns-in_ok-take_values-in-Ok-clause-ok c =
     let h = c.in_ok-take_values-in-Ok.ensures.items in
     let came = c.in_ok-take_values-in-Ok.field-0 in
-    let made = values_made h.0 c.args.parser.now c.in-Ok.view.parser.now _ _ _ h.1 c.in-Ok.ensures.found c.in-Ok.ensures.unchanged c.in-Ok.ensures.at_start h.3 in
+    let made = values_made h.0 c.args.parser.now c.in-Ok.view.parser.now _ _ _ h.1 c.in-Ok.ensures.found c.in-Ok.ensures.unchanged c.in-Ok.ensures.going_on h.3 in
     let small = came.small in
     let within = came.ok in
     let all = h.4.0 in (

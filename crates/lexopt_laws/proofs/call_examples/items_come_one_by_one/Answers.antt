@@ -1,11 +1,8 @@
-use Rattle.std.proofs.Common.{◌≡◌, ◌≢◌, false, true, [], ◌∷◌, Some, None, codes, refl}
+use Rattle.std.proofs.Common.{false, true, [], ◌∷◌, Some, None, codes, refl}
 use Rattle.lexopt_spec.specs.Views.{going_on, at_end, gives_pending, gives_word, stops, stopped}
 use Rattle.lexopt_spec.proofs.PlainFronts.{plain_holds}
 use Rattle.lexopt_laws.proofs.Worked.{not_normal}
 use Rattle.lexopt_laws.proofs.call_examples.items_come_one_by_one.Goals as goal
-
-goes : going_on ≢ at_end
-goes is = let e : going_on ≡ at_end = is in cc
 
 pub returns-clause-values : goal.returns-clause-values
 returns-clause-values c = (
@@ -19,13 +16,13 @@ returns-clause-values c = (
     _,
     going_on,
     _,
-    gives_word (codes "c") _ goes refl refl (plain_holds false (codes "c") refl) refl refl refl,
+    gives_word (codes "c") _ refl refl refl (plain_holds false (codes "c") refl) refl refl refl,
     (
       None,
       _,
       at_end,
       [],
-      stops goes refl (not_normal false (codes "-d" ∷ []) refl) refl refl refl,
+      stops refl refl (not_normal false (codes "-d" ∷ []) refl) refl refl refl,
       (None, _, at_end, [], stopped refl refl refl refl, (refl, refl, refl), refl),
       refl,
     ),
