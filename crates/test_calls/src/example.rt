@@ -4,7 +4,7 @@ use std::alloc::Global;
 use std::test::Fail;
 use test_helpers::calls::gives;
 use test_helpers::items::are_words;
-use test_helpers::parsers::words_of;
+use test_helpers::parsers::split_words;
 
 // What a program was asked to do.
 #[derive(Drop)]
@@ -44,7 +44,7 @@ fn read_options(parser: &mut Parser, options: &mut Options) -> Result<(), UsageE
 // Whether a line, given as one word in each line, is understood if `known` says so, and what was
 // read is `-n 10`, `--shout` and these files.
 fn reads(alloc: Global, line: &[u8], known: bool, files: &[&[u8]]) -> Result<bool, Error> {
-    let mut parser = Parser::from_vec(words_of(alloc, line)?);
+    let mut parser = Parser::from_vec(split_words(alloc, line)?);
     let mut options = Options {
         number: None,
         shout: false,

@@ -6,7 +6,7 @@ use std::alloc::{AllocError, Global};
 use std::test::Fail;
 use test_helpers::items::Given::{LongMany, LongValue, Positional, Short, ShortMany, ShortValue};
 use test_helpers::items::{Given, items_of, table_of_each_kind};
-use test_helpers::parsers::words_of;
+use test_helpers::parsers::split_words;
 
 // The table of the option `-` and the name `a=b`, of one value each.
 fn table_with_a_dash(alloc: Global) -> Result<Table, AllocError> {
@@ -19,7 +19,7 @@ fn table_with_a_dash(alloc: Global) -> Result<Table, AllocError> {
 // What these words say by that table, as text: each item on a line of its own, or the message.
 fn told(alloc: Global, words: &[u8]) -> Result<String, Fail> {
     let table = table_with_a_dash(alloc)?;
-    match read_items(alloc, words_of(alloc, words)?, true, &table) {
+    match read_items(alloc, split_words(alloc, words)?, true, &table) {
         Ok(items) => {
             let mut text = String::new(alloc);
             for item in items.iter() {
@@ -47,7 +47,7 @@ fn one_value_each(rt: HostRuntime) -> Result<(), Fail> {
 fn reads_as(alloc: Global, words: &[u8], wanted: &[Given]) -> Result<bool, Error> {
     let table = table_of_each_kind(alloc)?;
     let wanted = items_of(alloc, wanted)?;
-    let found = read_items(alloc, words_of(alloc, words)?, true, &table)?;
+    let found = read_items(alloc, split_words(alloc, words)?, true, &table)?;
     Ok(found == wanted)
 }
 

@@ -3,7 +3,7 @@ use lexopt::{Error, OsString, Parser};
 use std::alloc::{AllocError, Global};
 
 /// The words in these lines, one in each.
-pub fn words_of(alloc: Global, lines: &[u8]) -> Result<Vec<OsString>, AllocError> {
+pub fn split_words(alloc: Global, lines: &[u8]) -> Result<Vec<OsString>, AllocError> {
     let mut words = Vec::new(alloc);
     if !lines.is_empty() {
         for line in lines.split(|byte| *byte == b'\n') {

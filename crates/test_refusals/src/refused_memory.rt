@@ -16,7 +16,7 @@ use test_helpers::items::Given::{
     Long, LongMany, LongValue, Positional, Short, ShortMany, ShortValue,
 };
 use test_helpers::items::{Given, are_words, items_of, table_of_each_kind};
-use test_helpers::parsers::{named, parser_of, words_of};
+use test_helpers::parsers::{named, parser_of, split_words};
 use test_helpers::scripts::{SCRIPT, WRITTEN};
 
 // What the stored script writes where its first `next` is refused.
@@ -451,7 +451,7 @@ fn read_so(alloc: Global, lines: &[u8], wanted: &str) -> Result<(), Fail> {
     let Ok(table) = table_of_each_kind(alloc) else {
         return told(true, "the table");
     };
-    let Ok(words) = words_of(alloc, lines) else {
+    let Ok(words) = split_words(alloc, lines) else {
         return told(true, "the list");
     };
     let mut text = String::with_capacity(alloc, 200)?;
