@@ -3,22 +3,22 @@ use Rattle.std.proofs.Common.{◌≡◌, Bool, ℕ, List, [], ◌∷◌, ◌++�
 use Rattle.lexopt_spec.specs.Steps.{Reply}
 use Rattle.lexopt_spec.specs.Runs.{Call}
 use Rattle.lexopt_line_spec.specs.Table.{Table}
-use Rattle.lexopt_line_spec.specs.Script.{Command, call, whole_line, reply_text, with_newline, WholeLineText, switched, Written}
+use Rattle.lexopt_line_spec.specs.Script.{Command, call, whole_line, reply_text, with_newline, WholeLineText, short_equals_after, Written}
 
 -- the switch after these commands
 abbrev pub switch_after : Bool → List Command → Bool
 switch_after on [] = on
-switch_after on (call c ∷ commands) = switch_after (switched on c) commands
+switch_after on (call c ∷ commands) = switch_after (short_equals_after on c) commands
 switch_after on (whole_line ∷ commands) = switch_after on commands
 
-pub switch_after-call : (on : Bool) (commands : List Command) (c : Call) → switch_after on (commands ++ call c ∷ []) ≡ switched (switch_after on commands) c
+pub switch_after-call : (on : Bool) (commands : List Command) (c : Call) → switch_after on (commands ++ call c ∷ []) ≡ short_equals_after (switch_after on commands) c
 switch_after-call on [] c = refl
-switch_after-call on (call d ∷ commands) c = switch_after-call (switched on d) commands c
+switch_after-call on (call d ∷ commands) c = switch_after-call (short_equals_after on d) commands c
 switch_after-call on (whole_line ∷ commands) c = switch_after-call on commands c
 
 pub switch_after-whole : (on : Bool) (commands : List Command) → switch_after on (commands ++ whole_line ∷ []) ≡ switch_after on commands
 switch_after-whole on [] = refl
-switch_after-whole on (call d ∷ commands) = switch_after-whole (switched on d) commands
+switch_after-whole on (call d ∷ commands) = switch_after-whole (short_equals_after on d) commands
 switch_after-whole on (whole_line ∷ commands) = switch_after-whole on commands
 
 -- one call more
@@ -30,7 +30,7 @@ Written-call t words on [] (r ∷ replies) text c reply is = absurd is
 Written-call t words on (call d ∷ commands) [] text c reply is = absurd is
 Written-call t words on (call d ∷ commands) (r ∷ replies) text c reply is = (
   is.0 ++ with_newline (reply_text reply),
-  Written-call t words (switched on d) commands replies is.0 c reply is.1,
+  Written-call t words (short_equals_after on d) commands replies is.0 c reply is.1,
   ap (λ l. l ++ with_newline (reply_text reply)) is.2 ∙ append_assoc (with_newline (reply_text r)) is.0 (with_newline (reply_text reply)),
 )
 Written-call t words on (whole_line ∷ commands) replies text c reply is = (
@@ -50,7 +50,7 @@ Written-whole t words on [] (r ∷ replies) text line is says = absurd is
 Written-whole t words on (call d ∷ commands) [] text line is says = absurd is
 Written-whole t words on (call d ∷ commands) (r ∷ replies) text line is says = (
   is.0 ++ with_newline line,
-  Written-whole t words (switched on d) commands replies is.0 line is.1 says,
+  Written-whole t words (short_equals_after on d) commands replies is.0 line is.1 says,
   ap (λ l. l ++ with_newline line) is.2 ∙ append_assoc (with_newline (reply_text r)) is.0 (with_newline line),
 )
 Written-whole t words on (whole_line ∷ commands) replies text line is says = (

@@ -1,9 +1,10 @@
 -- Scripts: what they mean, and what is written for them.
 -- The source is `docs/formats.md`. A script is a list of bytes.
+use Prim.Native.String.{String}
 use Rattle.std.specs.Prelude.{◌≡◌, ◌≢◌, ℕ, ◌+◌, ◌*◌, ◌-◌, Bool, true, false, nat_le, ◌==◌, ◌&&◌}
 use Rattle.std.specs.Prelude.{◌||◌, List, [], ◌∷◌, ◌++◌, length, take, drop, Option, Some, None}
 use Rattle.std.specs.Prelude.{option_map, codes, encode_utf8, if◌then◌else◌}
-use Rattle.std.specs.List.{filter_map, join_by, slice_split}
+use Rattle.std.specs.List.{after_first, before_first, filter_map, join_by, list_any, slice_split}
 use Rattle.std.specs.Cmp.Lexicographic.{pointwise}
 use Rattle.std.specs.Str.{all_ascii_digits, is_utf8}
 use Rattle.std.specs.Str.Parse.{digits_value}
@@ -22,8 +23,8 @@ use Rattle.lexopt_spec.specs.Text.{no_memory_message}
 abbrev pub newline : ℕ
 newline = 0x0A
 
-abbrev pub blank : ℕ
-blank = 0x20
+abbrev pub space : ℕ
+space = 0x20
 
 abbrev pub backslash : ℕ
 backslash = 0x5C
@@ -102,9 +103,9 @@ abbrev pub number : List ℕ → Option ℕ
 number text = if nat_le 1 (length text) && (nat_le (length text) 9 && all_ascii_digits text)
     then Some (digits_value 10 text) else None
 
-abbrev pub counted : (ℕ → Call) → Option ℕ → Meaning
-counted c None = bad
-counted c (Some n) = command (call (c n))
+abbrev pub call_or_bad : Option Call → Meaning
+call_or_bad None = bad
+call_or_bad (Some c) = command (call c)
 
 -- the character that these bytes encode, if they are one and no more
 abbrev pub one_character : List ℕ → Option ℕ
@@ -124,41 +125,51 @@ option_named text =
     else (if begins (codes "-") text then option_map short (one_character (drop 1 text))
     else None)
 
-abbrev pub entry_or_bad : Kind → Option Name → Meaning
-entry_or_bad k None = bad
-entry_or_bad k (Some name) = entry (record { kind = k; name = name })
+abbrev pub entry_or_bad : Option Entry → Meaning
+entry_or_bad None = bad
+entry_or_bad (Some e) = entry e
 
--- `t OPTION`, `topt OPTION` or `tmany OPTION`: one blank, and then the option
-abbrev pub meaning_with_option : List ℕ → Meaning
-meaning_with_option line =
-    if begins (codes "t ") line then entry_or_bad one (option_named (drop 2 line))
-    else (if begins (codes "topt ") line then entry_or_bad optional (option_named (drop 5 line))
-    else (if begins (codes "tmany ") line then entry_or_bad several (option_named (drop 6 line))
-    else bad))
+abbrev pub of_kind : Kind → Name → Entry
+of_kind k name = record { kind = k; name = name }
 
--- `w TEXT`, `values N`, `raw N` or `try N`: one blank, and then the text or the number
-abbrev pub meaning_with_text : List ℕ → Meaning
-meaning_with_text line =
-    if begins (codes "w ") line then word_or_bad (unescaped (drop 2 line))
-    else (if begins (codes "values ") line then counted values (number (drop 7 line))
-    else (if begins (codes "raw ") line then counted raw (number (drop 4 line))
-    else (if begins (codes "try ") line then counted try_raw (number (drop 4 line))
-    else meaning_with_option line)))
+-- these bytes are this text
+infix 20 ◌is◌
+abbrev pub ◌is◌ : List ℕ → String → Bool
+bytes is text = pointwise ◌==◌ bytes (codes text)
 
-abbrev pub meaning_of_call_or_word : List ℕ → Meaning
-meaning_of_call_or_word line =
-    if pointwise ◌==◌ line [] then nothing
-    else (if pointwise ◌==◌ line (codes "next") then command (call next)
-    else (if pointwise ◌==◌ line (codes "value") then command (call value)
-    else (if pointwise ◌==◌ line (codes "optional") then command (call calls.optional)
-    else (if pointwise ◌==◌ line (codes "on") then command (call (set_short_equals true))
-    else (if pointwise ◌==◌ line (codes "off") then command (call (set_short_equals false))
-    else (if pointwise ◌==◌ line (codes "w") then word []
-    else meaning_with_text line))))))
+-- a line is a keyword, or a keyword, one space and a text: the keyword ends at the first space, and
+-- all that follows is the text
+abbrev pub keyword_of : List ℕ → List ℕ
+keyword_of line = before_first (λ b. b == space) line
+
+abbrev pub text_of : List ℕ → Option (List ℕ)
+text_of line =
+    if list_any (λ b. b == space) line then Some (after_first (λ b. b == space) line) else None
+
+-- the meaning of a keyword alone, and of a keyword with a text
+abbrev pub meaning_by_keyword : List ℕ → Option (List ℕ) → Meaning
+meaning_by_keyword keyword None =
+    if keyword is "" then nothing
+    else (if keyword is "next" then command (call next)
+    else (if keyword is "value" then command (call value)
+    else (if keyword is "optional" then command (call calls.optional)
+    else (if keyword is "on" then command (call (set_short_equals true))
+    else (if keyword is "off" then command (call (set_short_equals false))
+    else (if keyword is "items" then command whole_line
+    else (if keyword is "w" then word []
+    else bad)))))))
+meaning_by_keyword keyword (Some text) =
+    if keyword is "w" then word_or_bad (unescaped text)
+    else (if keyword is "values" then call_or_bad (option_map values (number text))
+    else (if keyword is "raw" then call_or_bad (option_map raw (number text))
+    else (if keyword is "try" then call_or_bad (option_map try_raw (number text))
+    else (if keyword is "t" then entry_or_bad (option_map (of_kind one) (option_named text))
+    else (if keyword is "topt" then entry_or_bad (option_map (of_kind optional) (option_named text))
+    else (if keyword is "tmany" then entry_or_bad (option_map (of_kind several) (option_named text))
+    else bad))))))
 
 abbrev pub meaning : List ℕ → Meaning
-meaning line = if pointwise ◌==◌ line (codes "items") then command whole_line
-    else meaning_of_call_or_word line
+meaning line = meaning_by_keyword (keyword_of line) (text_of line)
 
 -- ---- a script
 
@@ -299,9 +310,9 @@ pub data WholeLineText (t : Table) (on : Bool) (words : List (List ℕ)) (text :
   memory_refused : text ≡ reply_text no_memory → WholeLineText t on words text
 
 -- the setting after a call
-abbrev pub switched : Bool → Call → Bool
-switched on (set_short_equals now) = now
-switched on c = on
+abbrev pub short_equals_after : Bool → Call → Bool
+short_equals_after on (set_short_equals now) = now
+short_equals_after on c = on
 
 -- a line for each command, in order: that of the reply to a call, or that of the whole line under
 -- the setting as it stands then
@@ -310,7 +321,7 @@ Written t words on [] [] text = text ≡ []
 Written t words on [] (reply ∷ replies) text = ⊥
 Written t words on (call c ∷ commands) [] text = ⊥
 Written t words on (call c ∷ commands) (reply ∷ replies) text =
-    (more : List ℕ) × Written t words (switched on c) commands replies more
+    (more : List ℕ) × Written t words (short_equals_after on c) commands replies more
     × (text ≡ with_newline (reply_text reply) ++ more)
 Written t words on (whole_line ∷ commands) replies text =
     (line : List ℕ) × (more : List ℕ) × WholeLineText t on words line

@@ -1,6 +1,7 @@
+pub mod Cuts
 pub mod InARow
+pub mod Keywords
 pub mod NumberedLines
-pub mod MeaningLemmas
 pub mod Numbers
 pub mod Options
 pub mod Performing

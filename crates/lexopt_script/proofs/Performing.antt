@@ -9,7 +9,7 @@ use Rattle.lexopt_spec.specs.Steps.{Reply, end}
 use Rattle.lexopt_spec.specs.Runs.{Run}
 use Rattle.lexopt_line_spec.specs.Table as spec
 use Rattle.lexopt_line_spec.specs.Readings.{IsReading, start}
-use Rattle.lexopt_line_spec.specs.Script.{Command, call, whole_line, call_of, with_newline, reply_text, switched, Written, WholeLineText, items_read, line_refused, memory_refused}
+use Rattle.lexopt_line_spec.specs.Script.{Command, call, whole_line, call_of, with_newline, reply_text, short_equals_after, Written, WholeLineText, items_read, line_refused, memory_refused}
 use Rattle.lexopt_line_spec.proofs.RunLemmas.{Run-more}
 use Rattle.lexopt_line_spec.proofs.WrittenLines.{switch_after, switch_after-call, switch_after-whole, Written-call, Written-whole}
 use Rattle.lexopt_base.specs.Replies.{error_reply}
@@ -72,7 +72,7 @@ more_done script commands (call c) u v on now text new done performs = record {
       (Run-more _ u v (filter_map call_of commands) done.replies c performs.0 done.run performs.1);
   written = subst (Written (table_view script.table) script.words.items true (commands ++ call c ∷ []) (done.replies ++ performs.0 ∷ [])) (sym performs.3)
       (Written-call (table_view script.table) script.words.items true commands done.replies text c performs.0 done.written);
-  on_is = performs.2 ∙ ap (λ b. switched b c) done.on_is ∙ sym (switch_after-call true commands c);
+  on_is = performs.2 ∙ ap (λ b. short_equals_after b c) done.on_is ∙ sym (switch_after-call true commands c);
 }
 more_done script commands whole_line u v on now text new done performs = record {
   replies = done.replies;

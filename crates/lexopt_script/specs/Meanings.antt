@@ -1,5 +1,6 @@
 -- The meaning of a line, and the commands of a script, as contracts see them.
-use Rattle.std.specs.Prelude.{string_bytes}
+use Rattle.std.specs.Prelude.{ℕ, List, Option, Some, None, string_bytes}
+use Rattle.std.specs.Borrow.{Bor}
 use Rattle.lexopt_line_spec.specs.Script as script
 use Rattle.lexopt_line_spec.specs.Table as spec
 use Rattle.lexopt_calls.specs.Replies.{call_view}
@@ -24,6 +25,10 @@ abbrev pub entry_view : Entry → script.Entry
 entry_view (One name) = record { kind = spec.one; name = name_view name }
 entry_view (Optional name) = record { kind = spec.optional; name = name_view name }
 entry_view (Several name) = record { kind = spec.several; name = name_view name }
+
+abbrev pub text_view : Option (Bor (List ℕ)) → Option (List ℕ)
+text_view None = None
+text_view (Some text) = Some text.now
 
 abbrev pub meaning_view : Meaning → script.Meaning
 meaning_view meanings.Nothing = script.nothing

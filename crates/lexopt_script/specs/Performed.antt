@@ -7,7 +7,7 @@ use Rattle.lexopt_spec.specs.Steps.{Reply}
 use Rattle.lexopt_spec.specs.Runs.{Run, Step}
 use Rattle.lexopt_line_spec.specs.Script as spec
 use Rattle.lexopt_line_spec.specs.Script.{bracketed, call_of, item_text, with_newline, reply_text}
-use Rattle.lexopt_line_spec.specs.Script.{switched, WholeLineText, Written}
+use Rattle.lexopt_line_spec.specs.Script.{short_equals_after, WholeLineText, Written}
 use Rattle.lexopt_words.specs.Message.{message}
 use Rattle.lexopt_words.specs.declared.error.Error.{Error}
 use Rattle.lexopt_items.specs.declared.items.Item.{Item}
@@ -25,7 +25,7 @@ answer_text (Err e) = codes "error: " ++ message e
 abbrev pub Performs : Script → spec.Command → UnreadLine → Bool → List ℕ → UnreadLine → Bool
     → List ℕ → Type 0
 Performs script (spec.call c) u on text v now new =
-    (reply : Reply) × Step c u reply v × (now ≡ switched on c)
+    (reply : Reply) × Step c u reply v × (now ≡ short_equals_after on c)
     × (new ≡ text ++ with_newline (reply_text reply))
 Performs script spec.whole_line u on text v now new =
     (line : List ℕ) × WholeLineText (table_view script.table) on script.words.items line × (v ≡ u)

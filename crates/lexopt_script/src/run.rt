@@ -4,7 +4,7 @@ ghost use Rattle.std.specs.Prelude.{◌≡◌, ◌⊎◌, ◌+◌, ◌++◌, ◌
 ghost use Rattle.std.specs.Prelude.{IfErr, OnOk, length, map, codes, string_bytes};
 ghost use Rattle.std.specs.Io.KnownBytes.{Appends, Consumes};
 ghost use Rattle.lexopt_line_spec.specs.Script.{WholeLineText, bad_line, bracketed, item_text};
-ghost use Rattle.lexopt_line_spec.specs.Script.{most_bytes, reply_text, switched, with_newline};
+ghost use Rattle.lexopt_line_spec.specs.Script.{most_bytes, reply_text, short_equals_after, with_newline};
 ghost use Rattle.lexopt_spec.specs.UnreadLine.{fresh};
 ghost use Rattle.lexopt_words.specs.Message.{message};
 ghost use Rattle.lexopt_items.specs.Items.{item_view, table_view};
@@ -75,8 +75,8 @@ fn write_whole_line(
 }
 
 // `short_equals` after a call.
-fn switched(on: bool, call: &Call) -> bool
-    ensures { result ≡ switched on (call_view call.now) }
+fn short_equals_after(on: bool, call: &Call) -> bool
+    ensures { result ≡ short_equals_after on (call_view call.now) }
 {
     match call {
         Call::Switch(now) => *now,
@@ -109,7 +109,7 @@ fn perform(
         Command::Call(call) => {
             let reply = reply_to(alloc, parser, call)?;
             write_reply(&reply, text)?;
-            Ok(switched(on, call))
+            Ok(short_equals_after(on, call))
         }
         Command::Items => {
             write_whole_line(alloc, &script.words, on, &script.table, text)?;

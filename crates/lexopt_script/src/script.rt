@@ -21,17 +21,20 @@ ghost use Rattle.std.specs.Prelude.{◌≡◌, ◌⊎◌, ℕ, ◌+◌, ◌++◌
 ghost use Rattle.std.specs.Prelude.{IfOk, MatchOption, OnOk, drop, length, map};
 ghost use Rattle.std.specs.Option.{option_map};
 ghost use Rattle.std.specs.Io.KnownBytes.{Consumes};
-ghost use Rattle.lexopt_line_spec.specs.Script.{bad_line, after_backslash, commands_of};
-ghost use Rattle.lexopt_line_spec.specs.Script.{hexadecimal, in_front, is_bad, joined_to, meaning};
-ghost use Rattle.lexopt_line_spec.specs.Script.{meaning_of_call_or_word, meaning_with_option};
-ghost use Rattle.lexopt_line_spec.specs.Script.{meaning_with_text, most_bytes, number};
+ghost use Rattle.lexopt_line_spec.specs.Script.{bad_line, after_backslash, call_or_bad};
+ghost use Rattle.lexopt_line_spec.specs.Script.{commands_of, entry_or_bad, hexadecimal, in_front};
+ghost use Rattle.lexopt_line_spec.specs.Script.{is_bad, joined_to, keyword_of, meaning};
+ghost use Rattle.lexopt_line_spec.specs.Script.{meaning_by_keyword, most_bytes, number};
 ghost use Rattle.lexopt_line_spec.specs.Script.{one_character, option_named, reads_words, table_of};
-ghost use Rattle.lexopt_line_spec.specs.Script.{unescaped, words_of};
+ghost use Rattle.lexopt_line_spec.specs.Script.{text_of, unescaped, word_or_bad, words_of};
+ghost use Rattle.lexopt_calls.specs.Replies.{call_view};
 ghost use Rattle.lexopt_items.specs.Items.{table_view};
 ghost use Rattle.lexopt_script.specs.Output.{ReadsWhole, read_room};
 ghost use Rattle.lexopt_script.specs.Meanings.{command_view, entry_view, meaning_view, name_view};
+ghost use Rattle.lexopt_script.specs.Meanings.{text_view};
 
 use crate::run_error::RunError;
+use bstr::ByteSlice;
 use lexopt_calls::reply::Call;
 use lexopt_items::items::Table;
 use lexopt_words::codepoint::{FirstCodepoint, first_codepoint};
@@ -192,73 +195,89 @@ fn join(table: &mut Table, entry: Entry) -> Result<(), AllocError>
     Ok(())
 }
 
-// The meaning of a line.
+// The meaning of a line: a keyword, or a keyword, one space and a text.
 fn meaning_of(alloc: Global, line: &[u8]) -> Result<Meaning, AllocError>
     ensures { IfOk result (λ m. meaning_view m ≡ meaning line.now) }
 {
-    match line {
-        b"items" => Ok(Meaning::Command(Command::Items)),
-        _ => meaning_of_call_or_word(alloc, line),
+    let (keyword, text) = cut_at_space(line);
+    match str::from_utf8(keyword) {
+        Ok(keyword) => meaning_by_keyword(alloc, keyword, text),
+        Err(_) => Ok(Meaning::Bad),
     }
 }
 
-// The meaning of a line that is a call, a word or empty.
-fn meaning_of_call_or_word(alloc: Global, line: &[u8]) -> Result<Meaning, AllocError>
-    ensures { IfOk result (λ m. meaning_view m ≡ meaning_of_call_or_word line.now) }
+// What stands before the first space of a line, and what stands after it, if it has one.
+fn cut_at_space(line: &[u8]) -> (&[u8], Option<&[u8]>)
+    ensures { (result.0.now ≡ keyword_of line.now)
+        × (text_view result.1 ≡ text_of line.now) }
 {
-    match line {
-        [] => Ok(Meaning::Nothing),
-        b"next" => Ok(Meaning::Command(Command::Call(Call::Next))),
-        b"value" => Ok(Meaning::Command(Command::Call(Call::Value))),
-        b"optional" => Ok(Meaning::Command(Command::Call(Call::Optional))),
-        b"on" => Ok(Meaning::Command(Command::Call(Call::Switch(true)))),
-        b"off" => Ok(Meaning::Command(Command::Call(Call::Switch(false)))),
-        b"w" => Ok(Meaning::Word(OsString::new(alloc))),
-        _ => meaning_with_text(alloc, line),
+    match line.find_byte(b' ') {
+        Some(space) => (&line[..space], Some(&line[space + 1..])),
+        None => (line, None),
     }
 }
 
-// The meaning of a line that has a space, and then a text, a number or an option.
-fn meaning_with_text(alloc: Global, line: &[u8]) -> Result<Meaning, AllocError>
-    ensures { IfOk result (λ m. meaning_view m ≡ meaning_with_text line.now) }
+// The meaning of a keyword alone, and of a keyword with a text.
+fn meaning_by_keyword(
+    alloc: Global,
+    keyword: &str,
+    text: Option<&[u8]>,
+) -> Result<Meaning, AllocError>
+    ensures { IfOk result (λ m. meaning_view m
+        ≡ meaning_by_keyword keyword.now (text_view text.entry)) }
 {
-    if let Some(text) = line.strip_prefix(b"w ") {
-        return match unescaped(alloc, text)? {
-            Some(word) => Ok(Meaning::Word(word)),
-            None => Ok(Meaning::Bad),
-        };
+    match text {
+        None => match keyword {
+            "" => Ok(Meaning::Nothing),
+            "next" => Ok(Meaning::Command(Command::Call(Call::Next))),
+            "value" => Ok(Meaning::Command(Command::Call(Call::Value))),
+            "optional" => Ok(Meaning::Command(Command::Call(Call::Optional))),
+            "on" => Ok(Meaning::Command(Command::Call(Call::Switch(true)))),
+            "off" => Ok(Meaning::Command(Command::Call(Call::Switch(false)))),
+            "items" => Ok(Meaning::Command(Command::Items)),
+            "w" => Ok(Meaning::Word(OsString::new(alloc))),
+            _ => Ok(Meaning::Bad),
+        },
+        Some(text) => match keyword {
+            "w" => Ok(word_or_bad(unescaped(alloc, text)?)),
+            "values" => Ok(call_or_bad(number(text).map(Call::Values))),
+            "raw" => Ok(call_or_bad(number(text).map(Call::Raw))),
+            "try" => Ok(call_or_bad(number(text).map(Call::TryRaw))),
+            "t" => Ok(entry_or_bad(option_named(alloc, text)?.map(Entry::One))),
+            "topt" => Ok(entry_or_bad(option_named(alloc, text)?.map(Entry::Optional))),
+            "tmany" => Ok(entry_or_bad(option_named(alloc, text)?.map(Entry::Several))),
+            _ => Ok(Meaning::Bad),
+        },
     }
-    let call = if let Some(digits) = line.strip_prefix(b"values ") {
-        number(digits).map(Call::Values)
-    } else if let Some(digits) = line.strip_prefix(b"raw ") {
-        number(digits).map(Call::Raw)
-    } else if let Some(digits) = line.strip_prefix(b"try ") {
-        number(digits).map(Call::TryRaw)
-    } else {
-        return meaning_with_option(alloc, line);
-    };
+}
+
+// A word, if the text of the line is one.
+fn word_or_bad(word: Option<OsString>) -> Meaning
+    ensures { meaning_view result ≡ word_or_bad word }
+{
+    match word {
+        Some(word) => Meaning::Word(word),
+        None => Meaning::Bad,
+    }
+}
+
+// A call, if the text of the line is a number.
+fn call_or_bad(call: Option<Call>) -> Meaning
+    ensures { meaning_view result ≡ call_or_bad (option_map call_view call) }
+{
     match call {
-        Some(call) => Ok(Meaning::Command(Command::Call(call))),
-        None => Ok(Meaning::Bad),
+        Some(call) => Meaning::Command(Command::Call(call)),
+        None => Meaning::Bad,
     }
 }
 
-// The meaning of a line that has a space, and then an option of the table.
-fn meaning_with_option(alloc: Global, line: &[u8]) -> Result<Meaning, AllocError>
-    ensures { IfOk result (λ m. meaning_view m ≡ meaning_with_option line.now) }
+// An entry of the table, if the text of the line is an option.
+fn entry_or_bad(entry: Option<Entry>) -> Meaning
+    ensures { meaning_view result ≡ entry_or_bad (option_map entry_view entry) }
 {
-    let entry = if let Some(text) = line.strip_prefix(b"t ") {
-        option_named(alloc, text)?.map(Entry::One)
-    } else if let Some(text) = line.strip_prefix(b"topt ") {
-        option_named(alloc, text)?.map(Entry::Optional)
-    } else if let Some(text) = line.strip_prefix(b"tmany ") {
-        option_named(alloc, text)?.map(Entry::Several)
-    } else {
-        None
-    };
     match entry {
-        Some(entry) => Ok(Meaning::Entry(entry)),
-        None => Ok(Meaning::Bad),
+        Some(entry) => Meaning::Entry(entry),
+        None => Meaning::Bad,
     }
 }
 
