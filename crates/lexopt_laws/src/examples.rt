@@ -166,7 +166,9 @@ fn scripts_have_bad_lines()
     ensures bad_escape { bad_line (codes "w a\\q") ≡ Some 1 }
     ensures word_after_a_call { bad_line (codes "w a\nnext\nw b") ≡ Some 3 }
     ensures no_such_call { bad_line (codes "\nvalues") ≡ Some 2 }
-    ensures blank_after { bad_line (codes "next ") ≡ Some 1 }
+    ensures space_after { bad_line (codes "next ") ≡ Some 1 }
+    ensures space_before { bad_line (codes " next") ≡ Some 1 }
+    ensures two_spaces { bad_line (codes "values  3") ≡ Some 1 }
     ensures empty { bad_line [] ≡ None }
     ensures empty_lines { bad_line (codes "\n\nnext\n") ≡ None }
     ensures carriage_return { bad_line (codes "next\r") ≡ Some 1 }
@@ -177,6 +179,7 @@ fn scripts_have_bad_lines()
 fn a_script_has_words_and_calls()
     ensures words { words_of (codes "w --out=x\nw\nw \n\nw \\x2D\nnext\nvalue")
         ≡ codes "--out=x" ∷ [] ∷ [] ∷ codes "-" ∷ [] }
+    ensures spaces { words_of (codes "w a  b\nw  c") ≡ codes "a  b" ∷ codes " c" ∷ [] }
     ensures calls { calls_of (codes "w --out=x\nw\nw \n\nw \\x2D\nnext\nvalue")
         ≡ next ∷ value ∷ [] }
     ensures switches { calls_of (codes "off\nw -a=b\nnext\non\noptional")
