@@ -1,0 +1,183 @@
+//! Commands, and options in the shapes that programs often have:
+//! `example_build [-v].. [--color|--no-color] COMMAND [ARGUMENT]..`. The commands are
+//! `build [-j N|--jobs=N] [-f NAME|--feature=NAME].. [TARGET]..` and `touch [--by=SECONDS] FILE..`.
+//!
+//! It prints what it would do. The variable `BUILD_JOBS` of the environment says how many jobs there are
+//! if no option does. A word may be of any bytes.
+//!
+//! The exit status is 0, or 2 where the command line, or memory to read it, was refused, or 1 where
+//! a line could not be printed; then standard error says why.
+#![tactic(auto)]
+
+use anyhow::bail;
+use lexopt_base::prelude::{Long, Short, Value, ValueExt};
+use lexopt_base::{Arg, Error, OsString, Parser};
+use std::alloc::Global;
+use std::env;
+use std::env::{Env, VarError};
+use std::process::ExitCode;
+
+const HELP: &str = "Usage: example_build [OPTION].. COMMAND [ARGUMENT]..
+
+  -v, --verbose     say more; more than one says even more
+      --color       colour what is printed, as is usual
+      --no-color    do not colour it
+  -h, --help        print this and end
+
+build [OPTION].. [TARGET]..
+  -j, --jobs=N      so many jobs at a time, from 1 to 256; else the variable BUILD_JOBS says it
+  -f, --feature=NAME
+                    with this feature; there may be several
+
+touch [OPTION].. FILE..
+      --by=SECONDS  move the time of the files, back where this is less than 0";
+
+// The options that each command takes, before and after its name.
+#[derive(Clone, Copy, Debug)]
+struct General {
+    verbosity: u32,
+    color: bool,
+}
+
+impl General {
+    // Takes an option that is one of these, and refuses every other argument.
+    fn take(&mut self, alloc: Global, argument: Arg<'_>) -> Result<(), Error> {
+        match argument {
+            Short('v') | Long("verbose") => self.verbosity = self.verbosity.saturating_add(1),
+            Long("color") => self.color = true,
+            Long("no-color") => self.color = false,
+            argument => return Err(argument.unexpected(alloc)),
+        }
+        Ok(())
+    }
+}
+
+// What a command line asks for.
+#[derive(Debug, Drop)]
+enum Request {
+    Help,
+    Build {
+        jobs: u32,
+        features: Vec<OsString>,
+        targets: Vec<OsString>,
+    },
+    Touch {
+        by: i64,
+        files: Vec<OsString>,
+    },
+}
+
+// A number with a range, and a message of its own.
+fn jobs_of(text: &str) -> anyhow::Result<u32> {
+    match text.parse() {
+        Ok(jobs @ 1..=256) => Ok(jobs),
+        _ => bail!("expected a number from 1 to 256"),
+    }
+}
+
+// The number of jobs where no option says it.
+fn default_jobs(rt: &(impl Env + AllocGlobal)) -> Result<u32, Error> {
+    match env::var(rt, "BUILD_JOBS") {
+        Ok(text) => OsString::from_string(text).parse_with(jobs_of),
+        Err(VarError::OutOfMemory) => Err(Error::OutOfMemory),
+        Err(_) => Ok(1),
+    }
+}
+
+fn read_build(
+    alloc: Global,
+    parser: &mut Parser,
+    general: &mut General,
+    default_jobs: u32,
+) -> Result<Request, Error> {
+    let mut jobs = default_jobs;
+    let mut features = Vec::new(alloc);
+    let mut targets = Vec::new(alloc);
+    for _ in 0..u64::MAX {
+        match parser.next()? {
+            Some(Short('j') | Long("jobs")) => jobs = parser.value()?.parse_with(jobs_of)?,
+            Some(Short('f') | Long("feature")) => features.push(parser.value()?)?,
+            Some(Short('h') | Long("help")) => return Ok(Request::Help),
+            Some(Value(target)) => targets.push(target)?,
+            Some(argument) => general.take(alloc, argument)?,
+            None => break,
+        }
+    }
+    Ok(Request::Build {
+        jobs,
+        features,
+        targets,
+    })
+}
+
+fn read_touch(alloc: Global, parser: &mut Parser, general: &mut General) -> Result<Request, Error> {
+    let mut by = 0;
+    let mut files = Vec::new(alloc);
+    for _ in 0..u64::MAX {
+        match parser.next()? {
+            // `--by -10` is -10: a value may begin with a dash.
+            Some(Long("by")) => by = parser.value()?.parse()?,
+            Some(Short('h') | Long("help")) => return Ok(Request::Help),
+            Some(Value(file)) => files.push(file)?,
+            Some(argument) => general.take(alloc, argument)?,
+            None => break,
+        }
+    }
+    if files.is_empty() {
+        return Err(Error::from("missing argument FILE"));
+    }
+    Ok(Request::Touch { by, files })
+}
+
+// The first positional argument is the command, which reads the rest of the line.
+fn read_request(
+    alloc: Global,
+    parser: &mut Parser,
+    general: &mut General,
+    default_jobs: u32,
+) -> Result<Request, Error> {
+    for _ in 0..u64::MAX {
+        match parser.next()? {
+            Some(Short('h') | Long("help")) => return Ok(Request::Help),
+            Some(Value(command)) => {
+                return match command.as_bytes() {
+                    b"build" => read_build(alloc, parser, general, default_jobs),
+                    b"touch" => read_touch(alloc, parser, general),
+                    _ => Err(Value(command).unexpected(alloc)),
+                };
+            }
+            Some(argument) => general.take(alloc, argument)?,
+            None => break,
+        }
+    }
+    Err(Error::from("missing argument COMMAND"))
+}
+
+fn own_request(rt: &(impl Env + AllocGlobal), general: &mut General) -> Result<Request, Error> {
+    let jobs = default_jobs(rt)?;
+    let mut parser = Parser::from_env_os(rt, rt.alloc())?;
+    read_request(rt.alloc(), &mut parser, general, jobs)
+}
+
+fn main(rt: HostRuntime) -> ExitCode {
+    let mut general = General {
+        verbosity: 0,
+        color: true,
+    };
+    let printed = match own_request(&rt, &mut general) {
+        Ok(Request::Help) => rt.println(HELP),
+        Ok(request) => println!(rt; "{general:?}\n{request:?}"),
+        Err(error) => {
+            let _ = eprintln!(rt; "example_build: {error}");
+            let _ = eprintln!(rt; "Try 'example_build --help' for more information.");
+            return ExitCode::from(2);
+        }
+    };
+    match printed {
+        Ok(()) => ExitCode::SUCCESS,
+        Err(error) => {
+            let _ = eprintln!(rt; "example_build: {error}");
+            ExitCode::FAILURE
+        }
+    }
+}
