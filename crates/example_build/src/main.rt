@@ -2,8 +2,8 @@
 //! `example_build [-v].. [--color|--no-color] COMMAND [ARGUMENT]..`. The commands are
 //! `build [-j N|--jobs=N] [-f NAME|--feature=NAME].. [TARGET]..` and `touch [--by=SECONDS] FILE..`.
 //!
-//! It prints what it would do. The variable `BUILD_JOBS` of the environment says how many jobs there are
-//! if no option does. A word may be of any bytes.
+//! It prints what it would do. The variable `BUILD_JOBS` of the environment says how many jobs there
+//! are if no option does. A word may be of any bytes.
 //!
 //! The exit status is 0, or 2 where the command line, or memory to read it, was refused, or 1 where
 //! a line could not be printed; then standard error says why.
