@@ -3,6 +3,7 @@
 #![tactic(auto)]
 
 pub mod calls;
+pub mod environments;
 pub mod errors;
 pub mod items;
 pub mod parsers;

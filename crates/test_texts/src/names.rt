@@ -1,12 +1,11 @@
-//! Binary names, and the words of the environment.
+//! Binary names, and the words of an environment as text.
 use lexopt::{Error, Parser};
-use std::alloc::{AllocError, Global};
+use std::alloc::Global;
 use std::env;
-use std::env::{Env, FillError};
 use std::test::Fail;
 use test_helpers::calls::{is_at_end, reads_short, takes};
-use test_helpers::errors::prints;
-use test_helpers::parsers::{named, parser_of};
+use test_helpers::environments::Arguments;
+use test_helpers::parsers::{named, parser_of, words_from};
 
 // Whether this is the name of the parser of these words.
 fn is_name(alloc: Global, words: &[&[u8]], name: Option<&str>) -> Result<bool, Error> {
@@ -77,35 +76,9 @@ fn names_of_copies(rt: HostRuntime) -> Result<(), Fail> {
     Ok(())
 }
 
-// An environment with these arguments.
-#[derive(Drop)]
-struct Arguments<'a> {
-    words: &'a [&'a [u8]],
-}
-
-impl Env for Arguments<'_> {
-    fn arg(&self, i: usize, buf: &mut [u8]) -> Result<usize, FillError> {
-        let Some(word) = self.words.get(i) else {
-            return Err(FillError::NotPresent);
-        };
-        if word.len() > buf.len() {
-            return Err(FillError::TooLong);
-        }
-        buf[..word.len()].copy_from_slice(word);
-        Ok(word.len())
-    }
-
-    fn var(&self, _name: &str, _buf: &mut [u8]) -> Result<usize, FillError> {
-        Err(FillError::NotPresent)
-    }
-
-    fn var_at(&self, _i: usize, _buf: &mut [u8]) -> Result<usize, FillError> {
-        Err(FillError::NotPresent)
-    }
-}
-
 fn parser_of_arguments(alloc: Global, words: &[&[u8]]) -> Result<Parser, Error> {
-    Parser::from_env(&(Arguments { words }, alloc), alloc)
+    let words = words_from(alloc, words)?;
+    Parser::from_env(&(Arguments { words: &words }, alloc), alloc)
 }
 
 // Whether the first word is the name, and the others are read.
@@ -135,20 +108,6 @@ fn reads_no_words(alloc: Global) -> Result<bool, Error> {
 #[test]
 fn no_words_of_an_environment(rt: HostRuntime) -> Result<(), Fail> {
     assert!(rt; reads_no_words(rt.alloc())?);
-    Ok(())
-}
-
-// Whether a word that is no text is a custom error, which prints this message.
-fn refuses_damage(alloc: Global, message: &str) -> Result<bool, AllocError> {
-    match parser_of_arguments(alloc, &[b"tool", b"foo\xff"]) {
-        Err(error) => Ok(matches!(error, Error::Custom(_)) && prints(alloc, &error, message)?),
-        Ok(_) => Ok(false),
-    }
-}
-
-#[test]
-fn word_of_an_environment_that_is_no_text(rt: HostRuntime) -> Result<(), Fail> {
-    assert!(rt; refuses_damage(rt.alloc(), "arguments unavailable")?);
     Ok(())
 }
 
