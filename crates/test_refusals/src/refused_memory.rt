@@ -4,6 +4,7 @@
 //! One request of a test is refused in a run. Each test checks what stands afterwards, and then
 //! fails and says which call was refused. Where nothing is refused, each test passes.
 use lexopt::items::read_items;
+use lexopt::os_string::arguments;
 use lexopt::replay::{Call, Reply, RunError, replay, run};
 use lexopt::spell::{Reason, SpellError, spell};
 use lexopt::{Error, OsString, Parser};
@@ -12,11 +13,12 @@ use std::test::Fail;
 use test_helpers::calls::{
     is_at_end, is_missing, is_unexpected, left, reads_long, reads_short, reads_word, takes,
 };
+use test_helpers::environments::Arguments;
 use test_helpers::items::Given::{
     Long, LongMany, LongValue, Positional, Short, ShortMany, ShortValue,
 };
 use test_helpers::items::{Given, are_words, items_of, table_of_each_kind};
-use test_helpers::parsers::{named, parser_of, split_words};
+use test_helpers::parsers::{named, parser_of, split_words, words_from};
 use test_helpers::scripts::{SCRIPT, WRITTEN};
 
 // What the stored script writes where its first `next` is refused.
@@ -304,6 +306,60 @@ fn parser_of_the_environment(rt: HostRuntime) -> Result<(), Fail> {
         Err(Error::OutOfMemory) => told(true, "from_env"),
         Err(_) => Err(Fail::new("from_env gave another answer")),
     }
+}
+
+// The name and the words of an environment: damaged, empty, and longer than the first room of 256
+// bytes for a word and the next of 512.
+const GIVEN: [&[u8]; 6] = [
+    b"tool\xff",
+    b"",
+    b"a\xff",
+    &[b'x'; 700],
+    b"-x",
+    b"--\xff=\xfe",
+];
+
+// Whether `arguments` is refused memory; asked again where it was, it answers the words.
+fn answers_words(alloc: Global, words: &[OsString]) -> Result<Option<bool>, AllocError> {
+    let environment = Arguments { words };
+    let mut answer = arguments(&environment, alloc);
+    let refused = answer.is_err();
+    if refused {
+        answer = arguments(&environment, alloc);
+    }
+    Ok((answer?.as_slice() == words).then_some(refused))
+}
+
+// Whether a parser has this name, and these words are what it has to read.
+fn has_words(parser: &mut Parser, name: &str, words: &[OsString]) -> Result<bool, Error> {
+    let is_named = parser.bin_name() == Some(name);
+    let mut unread = parser.raw_args()?;
+    let are_there = words
+        .iter()
+        .all(|word| unread.next().as_ref() == Some(word));
+    Ok(is_named && are_there && unread.next().is_none())
+}
+
+// Whether `from_env_os` is refused memory; asked again where it was, it makes a parser of the words.
+fn reads_words(alloc: Global, words: &[OsString]) -> Result<Option<bool>, Error> {
+    let environment = Arguments { words };
+    let mut made = Parser::from_env_os(&environment, alloc);
+    let refused = matches!(made, Err(Error::OutOfMemory));
+    if refused {
+        made = Parser::from_env_os(&environment, alloc);
+    }
+    let unread = words.get(1..).unwrap_or(&[]);
+    Ok(has_words(&mut made?, "tool\u{FFFD}", unread)?.then_some(refused))
+}
+
+// The words of an environment come whole, or memory is refused and none comes.
+#[test]
+fn words_of_an_environment(rt: HostRuntime) -> Result<(), Fail> {
+    let Ok(words) = words_from(rt.alloc(), &GIVEN) else {
+        return told(true, "the list");
+    };
+    ended(answers_words(rt.alloc(), &words)?, "arguments")?;
+    ended(reads_words(rt.alloc(), &words)?, "from_env_os")
 }
 
 // Whether a copy is refused; the parser itself, and a copy if there is one, read the option and
