@@ -69,6 +69,20 @@ pub fn is_unexpected(error: Option<Error>, of: &str, held: &[u8]) -> Option<bool
     }
 }
 
+/// Whether a parser has this name, and these words are what it has to read.
+pub fn has_words(
+    parser: &mut Parser,
+    name: Option<&str>,
+    words: &[OsString],
+) -> Result<bool, Error> {
+    let is_named = parser.bin_name() == name;
+    let mut unread = parser.raw_args()?;
+    let are_there = words
+        .iter()
+        .all(|word| unread.next().as_ref() == Some(word));
+    Ok(is_named && are_there && unread.next().is_none())
+}
+
 /// What is left of a line: what is pending, the words, and the last option.
 pub fn left(alloc: Global, parser: &mut Parser) -> Result<Vec<Reply>, Error> {
     replay(alloc, parser, &[Call::Optional, Call::Raw(9), Call::Value])

@@ -11,7 +11,8 @@ use lexopt::{Error, OsString, Parser};
 use std::alloc::{AllocError, Global};
 use std::test::Fail;
 use test_helpers::calls::{
-    is_at_end, is_missing, is_unexpected, left, reads_long, reads_short, reads_word, takes,
+    has_words, is_at_end, is_missing, is_unexpected, left, reads_long, reads_short, reads_word,
+    takes,
 };
 use test_helpers::environments::Arguments;
 use test_helpers::items::Given::{
@@ -330,16 +331,6 @@ fn answers_words(alloc: Global, words: &[OsString]) -> Result<Option<bool>, Allo
     Ok((answer?.as_slice() == words).then_some(refused))
 }
 
-// Whether a parser has this name, and these words are what it has to read.
-fn has_words(parser: &mut Parser, name: &str, words: &[OsString]) -> Result<bool, Error> {
-    let is_named = parser.bin_name() == Some(name);
-    let mut unread = parser.raw_args()?;
-    let are_there = words
-        .iter()
-        .all(|word| unread.next().as_ref() == Some(word));
-    Ok(is_named && are_there && unread.next().is_none())
-}
-
 // Whether `from_env_os` is refused memory; asked again where it was, it makes a parser of the words.
 fn reads_words(alloc: Global, words: &[OsString]) -> Result<Option<bool>, Error> {
     let environment = Arguments { words };
@@ -349,7 +340,7 @@ fn reads_words(alloc: Global, words: &[OsString]) -> Result<Option<bool>, Error>
         made = Parser::from_env_os(&environment, alloc);
     }
     let unread = words.get(1..).unwrap_or(&[]);
-    Ok(has_words(&mut made?, "tool\u{FFFD}", unread)?.then_some(refused))
+    Ok(has_words(&mut made?, Some("tool\u{FFFD}"), unread)?.then_some(refused))
 }
 
 // The words of an environment come whole, or memory is refused and none comes.

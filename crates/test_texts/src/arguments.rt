@@ -5,24 +5,27 @@ use std::alloc::{AllocError, Global};
 use std::env;
 use std::env::Env;
 use std::test::Fail;
-use test_helpers::calls::{is_at_end, reads_short, reads_word, takes};
+use test_helpers::calls::{has_words, is_at_end, reads_short, reads_word, takes};
 use test_helpers::environments::Arguments;
 use test_helpers::errors::prints;
 use test_helpers::parsers::words_from;
 
-// Whether `arguments` answers these words, and a parser has the first as its name, which is this
-// text, and the others unread.
+// Whether `arguments` answers these words.
+fn are_answered(rt: &impl Env, alloc: Global, words: &[OsString]) -> Result<bool, AllocError> {
+    Ok(arguments(rt, alloc)?.as_slice() == words)
+}
+
+// Whether `arguments` answers these words, and `from_env_os` makes a parser with this name, which
+// has those after the first to read.
 fn come_whole(
     rt: &impl Env,
     alloc: Global,
     words: &[OsString],
     name: Option<&str>,
 ) -> Result<bool, Error> {
-    let mut parser = Parser::from_env_os(rt, alloc)?;
-    let are_answered = arguments(rt, alloc)?.as_slice() == words;
-    let is_named = parser.bin_name() == name;
-    let unread: Vec<OsString> = parser.raw_args()?.collect(alloc)?;
-    Ok(are_answered && is_named && unread.as_slice() == words.get(1..).unwrap_or(&[]))
+    let unread = words.get(1..).unwrap_or(&[]);
+    let is_made = has_words(&mut Parser::from_env_os(rt, alloc)?, name, unread)?;
+    Ok(is_made && are_answered(rt, alloc, words)?)
 }
 
 // Whether this is so of an environment with these words.
@@ -84,8 +87,8 @@ fn words_of_lengths(alloc: Global, lengths: &[usize]) -> Result<Vec<OsString>, A
     Ok(words)
 }
 
-// Each byte but 00 in one word; around the room of a word, which has 256 bytes at first and is
-// doubled; and the longest word that Linux hands over. After each long word stands a short one.
+// Around the room for a word, which has 256 bytes at first and is doubled, and of the longest word
+// that Linux hands over, with short ones between them. The word of 255 bytes has each byte but 00.
 const LENGTHS: [usize; 18] = [
     5, 255, 1, 256, 0, 257, 2, 511, 3, 512, 1, 513, 0, 131_071, 4, 131_071, 257, 1,
 ];
@@ -117,54 +120,56 @@ fn many_words(rt: HostRuntime) -> Result<(), Fail> {
     Ok(())
 }
 
-// Whether the words after the name are read as on any line: an option, damage as its value and as a
-// word, and an empty word.
-fn reads_a_line(alloc: Global, words: &[OsString]) -> Result<bool, Error> {
-    let mut parser = Parser::from_env_os(&Arguments { words }, alloc)?;
+// Whether the words after the name are read as on any line: an option, with damage as its value, and
+// damage as a word.
+fn reads_a_line(parser: &mut Parser) -> Result<bool, Error> {
     Ok(
-        reads_short(&mut parser, 'x')?
-            && takes(&mut parser, b"\xff")?
-            && reads_word(&mut parser, b"a\xff")?
-            && reads_word(&mut parser, b"")?
-            && is_at_end(&mut parser)?,
+        reads_short(parser, 'x')?
+            && takes(parser, b"\xff")?
+            && reads_word(parser, b"a\xff")?
+            && is_at_end(parser)?,
     )
 }
 
 #[test]
 fn line_of_an_environment(rt: HostRuntime) -> Result<(), Fail> {
-    let words = words_from(rt.alloc(), &[b"tool", b"-x\xff", b"a\xff", b""])?;
-    assert!(rt; reads_a_line(rt.alloc(), &words)?);
+    let words = words_from(rt.alloc(), &[b"tool", b"-x\xff", b"a\xff"])?;
+    let mut parser = Parser::from_env_os(&Arguments { words: &words }, rt.alloc())?;
+    assert!(rt; reads_a_line(&mut parser)?);
     Ok(())
 }
 
-// Whether no word is left, and none was the name.
-fn reads_nothing(alloc: Global) -> Result<bool, Error> {
-    let mut parser = Parser::from_env_os(&Arguments { words: &[] }, alloc)?;
-    Ok(parser.bin_name().is_none() && is_at_end(&mut parser)?)
+// Whether there is no name, and nothing to read.
+fn has_nothing(parser: &mut Parser) -> Result<bool, Error> {
+    Ok(parser.bin_name().is_none() && is_at_end(parser)?)
 }
 
 #[test]
 fn no_words_at_all(rt: HostRuntime) -> Result<(), Fail> {
-    assert!(rt; reads_nothing(rt.alloc())?);
+    let mut parser = Parser::from_env_os(&Arguments { words: &[] }, rt.alloc())?;
+    assert!(rt; has_nothing(&mut parser)?);
     Ok(())
 }
 
-// Whether `from_env` refuses these words with this message, and `from_env_os` reads them whole.
-fn only_bytes_are_read(alloc: Global, words: &[OsString], message: &str) -> Result<bool, Error> {
+// Whether an error is a custom one, and prints this message.
+fn is_custom(alloc: Global, error: &Error, message: &str) -> Result<bool, AllocError> {
+    Ok(matches!(error, Error::Custom(_)) && prints(alloc, error, message)?)
+}
+
+// Whether `from_env` refuses these words with this message.
+fn are_refused(alloc: Global, words: &[OsString], message: &str) -> Result<bool, AllocError> {
     match Parser::from_env(&(Arguments { words }, alloc), alloc) {
-        Err(error) => Ok(
-            matches!(error, Error::Custom(_))
-                && prints(alloc, &error, message)?
-                && are_read(alloc, words, Some("tool"))?,
-        ),
+        Err(error) => is_custom(alloc, &error, message),
         Ok(_) => Ok(false),
     }
 }
 
+// Damage, for both calls.
 #[test]
-fn damage_for_both_calls(rt: HostRuntime) -> Result<(), Fail> {
+fn words_that_are_no_text(rt: HostRuntime) -> Result<(), Fail> {
     let words = words_from(rt.alloc(), &[b"tool", b"foo\xff"])?;
-    assert!(rt; only_bytes_are_read(rt.alloc(), &words, "arguments unavailable")?);
+    assert!(rt; are_refused(rt.alloc(), &words, "arguments unavailable")?);
+    assert!(rt; are_read(rt.alloc(), &words, Some("tool"))?);
     Ok(())
 }
 
