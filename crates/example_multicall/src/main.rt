@@ -154,7 +154,10 @@ fn main(rt: HostRuntime) -> ExitCode {
         Err(error) => return refuse(&rt, NAME, &error),
     };
     let request = read_request(rt.alloc(), &mut parser);
-    let name = parser.bin_name().unwrap_or(NAME);
+    let name = match parser.bin_name() {
+        None | Some("") => NAME,
+        Some(name) => name,
+    };
     let answered = match request {
         Ok(request) => answer(&rt, &request),
         Err(error) => return refuse(&rt, name, &error),
