@@ -139,8 +139,8 @@ impl KeptWords {
         ensures value { result ≡ last_bytes count self.old.current }
         ensures left { self.new.left ≡ self.old.left }
     {
-        // Before the word is taken out: a call that borrows it then would keep LLVM from following
-        // its parts into the caller.
+        // Before the word is taken out: after that, a call that borrows it would keep LLVM from
+        // following its parts into the caller.
         let front = self.current().len() - count;
         let empty = OsString::new(self.alloc);
         let word = mem::replace(&mut self.words[self.count - 1], empty);

@@ -1,8 +1,8 @@
-//! A lexer for command lines of any bytes: all that a program names which makes its own calls.
+//! A lexer for command lines of any bytes: all that a program names if it makes its own calls.
 //!
 //! `Parser::next` reads the next option or positional argument, and `Parser::value` takes a value
 //! for the option just read. No table of options is needed: a program asks, and decides. The crate
-//! `lexopt` hands on the same, and has whole lines, lists of calls and scripts besides.
+//! `lexopt` re-exports the same, and has whole lines, lists of calls and scripts too.
 #![tactic(auto)]
 
 pub use crate::parser::Parser;

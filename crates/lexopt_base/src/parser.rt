@@ -33,7 +33,7 @@ use std::io::ErrorKind;
 use std::marker::Model;
 
 // What is left of the word just before the cursor. A position is a number of bytes of that word.
-// What has nothing left stands first, so that one comparison tells it.
+// The states with nothing left come first, so that one comparison tells them.
 #[derive(Clone, Copy)]
 enum State {
     // Nothing.
@@ -154,10 +154,10 @@ impl Parser {
     /// A parser of the words that the program was called with, of which none is read. The first is
     /// the binary name.
     ///
-    /// The words come as text, by `std::env::args`. Where one is no UTF-8, as a file name may be,
-    /// the error is a `Custom` one that says `arguments unavailable`; so is any other failure of
-    /// that call but want of memory, which is `OutOfMemory`. A program that takes file names calls
-    /// `from_env_os`.
+    /// The words come as text, by `std::env::args`. If one is not UTF-8, as a file name may be, the
+    /// error is a `Custom` one that says `arguments unavailable`. So is any other failure of that
+    /// call, except that running out of memory is `OutOfMemory`. A program that takes file names
+    /// calls `from_env_os`.
     pub fn from_env<R: Env + AllocGlobal>(rt: &R, alloc: Global) -> Result<Parser, Error>
         ensures ok { IfOk result (λ parser. (words : List (List ℕ)) × (parser ≡ invoked words)) }
         ensures err { IfErr result (λ e. (e ≡ Error.OutOfMemory)
@@ -183,7 +183,7 @@ impl Parser {
     }
 
     /// The binary name that `from_iter` and `from_env` keep: the first word as text, in which each
-    /// damaged piece is one U+FFFD. `None` where there was no word, and after `from_args`. No call
+    /// damaged piece is one U+FFFD. `None` if there was no word, and after `from_args`. No call
     /// changes it.
     pub fn bin_name(&self) -> Option<&str>
         ensures { option_map (λ name. name.now) result ≡ self.now.bin_name }
@@ -192,7 +192,7 @@ impl Parser {
     }
 
     /// Sets whether `=` stands between a short option and its value, as it does at the start. It
-    /// counts from the next call on, also within a cluster.
+    /// counts from the next call on, even within a cluster.
     ///
     /// With it off, the word `-a=b` gives `Short('a')`, `Short('=')` and `Short('b')`.
     pub fn set_short_equals(&mut self, on: bool)
@@ -209,9 +209,9 @@ impl Parser {
     /// GNU, as lexopt documents it; a short option is one character of UTF-8, and each damaged
     /// piece of an option is read as one U+FFFD.
     ///
-    /// Errors: `UnexpectedValue` where a value is joined by `=` to the last option and was not
-    /// taken; it is consumed. `OutOfMemory` only in place of a long option or of that error;
-    /// nothing is consumed. Reading can go on after an error.
+    /// Errors: `UnexpectedValue` if a value is joined by `=` to the last option and was not taken;
+    /// it is consumed. `OutOfMemory` only in place of a long option or of that error; nothing is
+    /// consumed. Reading can go on after an error.
     #[inline(always)]
     pub fn next(&mut self) -> Result<Option<Arg<'_>>, Error>
         ensures* after { sem 𝓛 (EndsAfter self.entry result) }
@@ -227,8 +227,8 @@ impl Parser {
     /// At `-n10`, `-n=10`, `-n 10`, `--number=10` and `--number 10` it gives `10`. The bytes are
     /// those of the word.
     ///
-    /// Errors: `MissingValue` where no word is left; `OutOfMemory` only in its place, where it
-    /// names an option. Neither consumes anything.
+    /// Errors: `MissingValue` if no word is left; `OutOfMemory` only in its place, if it names an
+    /// option. Neither consumes anything.
     #[inline(always)]
     pub fn value(&mut self) -> Result<OsString, Error>
         ensures { RepliesWith Value self.old (value_reply result) self.new }
@@ -368,8 +368,8 @@ impl Parser {
         ensures { (reply : Reply) → found_reply self.now.last found ≡ Some reply
             → next_reply result ≡ Some reply }
     {
-        // Each answer is returned at once. Where they met at the end of the function, LLVM would
-        // not follow each of them into the caller's `match`.
+        // Each answer is returned at once. If they met at the end of the function, LLVM would not
+        // follow each of them into the caller's `match`.
         match found {
             Ok(Found::Short(option)) => return Ok(Some(Arg::Short(option))),
             Ok(Found::Long) => return Ok(Some(Arg::Long(&self.name))),
@@ -414,7 +414,7 @@ impl Parser {
         value
     }
 
-    // Takes the next word, where nothing is left of the word before it.
+    // Takes the next word. Nothing may be left of the word before it.
     #[inline(always)]
     pub(crate) fn take_word(&mut self) -> Option<OsString>
         requires { self.old.tail ≡ no_tail }
@@ -464,9 +464,9 @@ impl Parser {
     // Refuses the pending value, which has so many bytes. It is then consumed.
     //
     // It is inlined, and `spelling` is not: an `Error` stores its cause inline, which is zeroed for
-    // each answer of `next` unless LLVM sees that nothing of it is used. It does where the value
-    // comes into the error in the caller's own function, and the text out of a call that hands it
-    // over by its parts. Where this function is a call, or `spelling` is inlined, each answer costs
+    // each answer of `next` unless LLVM sees that nothing of it is used. It does if the value goes
+    // into the error in the caller's own function, and the text comes out of a call that hands it
+    // over by its parts. If this function is a call, or `spelling` is inlined, each answer costs
     // some 70 instructions more; `bench/run --check` tells.
     #[inline(always)]
     fn refuse(&mut self, count: usize) -> Refusal
@@ -619,7 +619,7 @@ fn read_long(word: &[u8]) -> (&[u8], State)
 }
 
 // Keeps the name of a long option, of which each damaged piece is shown as U+FFFD, in place of the
-// one that was kept. Where memory is refused, that one stays.
+// one that was kept. If memory runs out, that one stays.
 fn keep_name(alloc: Global, kept: &mut String, name: &[u8]) -> Result<(), AllocError>
     ensures ok { OnOk result (string_bytes kept.new ≡ lossy name.now) }
     ensures err { OnErr result (string_bytes kept.new ≡ string_bytes kept.old) }

@@ -21,8 +21,8 @@ impl Parser {
     ///
     /// After `-a` of `-a -b --` it gives `-b` and `--`.
     ///
-    /// Errors: `UnexpectedValue` where a value of the last option was not taken, as `b` of `-ab`;
-    /// it is consumed, so a second call succeeds. `OutOfMemory` only in its place; nothing is
+    /// Errors: `UnexpectedValue` if a value of the last option was not taken, as `b` of `-ab`; it
+    /// is consumed, so a second call succeeds. `OutOfMemory` only in its place; nothing is
     /// consumed.
     pub fn raw_args(&mut self) -> Result<RawArgs<'_>, Error>
         ensures* refused { sem 𝓛 (RestsIfRawRefused self.entry result) }
@@ -79,8 +79,8 @@ impl RawArgs<'_> {
         Some(word.as_os_str())
     }
 
-    /// Asks `func` once about the next word, if there is one, and takes that word where the answer
-    /// is true.
+    /// Asks `func` once about the next word, if there is one, and takes that word if the answer is
+    /// true.
     ///
     /// `next_if(|word| word.as_bytes().starts_with(b"-"))` takes the next word if it begins with a
     /// dash.

@@ -8,8 +8,8 @@ use lexopt_words::os_string::OsString;
 use std::alloc::AllocError;
 
 /// Why a call of the parser gave nothing: one of the three errors that its calls answer. An `Error`
-/// stores a cause inline, so it is made where it is handed out. The crate `lexopt` does not hand
-/// this on.
+/// stores a cause inline, so it is made where it is handed out. The crate `lexopt` does not
+/// re-export this.
 #[derive(Drop)]
 pub enum Refusal {
     /// No value is left, for this option if one was read.

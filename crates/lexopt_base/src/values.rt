@@ -33,8 +33,8 @@ impl Parser {
     /// separator every word is a value. Nothing is taken before it is asked for: with `-a b c`, a
     /// view that is asked once leaves `c`.
     ///
-    /// Errors: `MissingValue` where there is no value; `OutOfMemory` only in its place, where it
-    /// names an option. Neither consumes anything.
+    /// Errors: `MissingValue` if there is no value; `OutOfMemory` only in its place, if it names an
+    /// option. Neither consumes anything.
     #[inline(always)]
     pub fn values(&mut self) -> Result<ValuesIter<'_>, Error>
         ensures* refused { sem 𝓛 (RestsIfRefused self.entry result) }

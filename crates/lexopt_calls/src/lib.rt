@@ -1,4 +1,4 @@
-//! Lists of calls on a parser. The crate `lexopt` hands on its public items.
+//! Lists of calls on a parser. The crate `lexopt` re-exports its public items.
 #![tactic(auto)]
 
 pub mod replay;

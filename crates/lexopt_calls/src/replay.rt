@@ -20,8 +20,8 @@ use lexopt_words::error::{Arg, Error};
 use lexopt_words::os_string::{OsStr, OsString};
 use std::alloc::{AllocError, Global};
 
-/// What `next` answered, with the name of a long option copied out of the parser. The crate `lexopt`
-/// does not hand this on.
+/// What `next` answered, with the name of a long option copied out of the parser. The crate
+/// `lexopt` does not re-export this.
 ///
 /// Its variants are flat, since each item of a whole line goes through it: with a `Refusal` inside,
 /// an item cost some 30 instructions more.
@@ -86,7 +86,7 @@ fn copy_error(error: Error) -> NextReply
     }
 }
 
-/// One call of `next`. The crate `lexopt` does not hand this on.
+/// One call of `next`. The crate `lexopt` does not re-export this.
 #[inline(always)]
 pub fn call_next(alloc: Global, parser: &mut Parser) -> Result<NextReply, AllocError>
     ensures { (reply : steps.Reply) × Next parser.old reply parser.new
@@ -106,8 +106,8 @@ fn call_value(parser: &mut Parser) -> Reply
     }
 }
 
-// One call of `values`, and so many items of its view. Where the list of them finds no memory, some
-// were taken.
+// One call of `values`, and so many items of its view. If memory runs out for the list of them,
+// some were taken.
 fn call_values(alloc: Global, parser: &mut Parser, count: usize) -> Result<Reply, AllocError>
     ensures { (m : ℕ) × (reply : steps.Reply) × (m ≤ count)
         × Step (values m) parser.old reply parser.new
@@ -119,8 +119,8 @@ fn call_values(alloc: Global, parser: &mut Parser, count: usize) -> Result<Reply
     }
 }
 
-/// So many items of a view of values, or fewer where it ends before. The crate `lexopt` does not
-/// hand this on.
+/// So many items of a view of values, or fewer if it ends before. The crate `lexopt` does not
+/// re-export this.
 pub fn take_values(
     alloc: Global,
     view: &mut ValuesIter<'_>,
@@ -166,7 +166,7 @@ fn call_try_raw(alloc: Global, parser: &mut Parser, count: usize) -> Result<Repl
     }
 }
 
-// One call of `raw_args`, and its next word where it is this one.
+// One call of `raw_args`, and its next word if it is this one.
 fn call_raw_if(parser: &mut Parser, wanted: &OsString) -> Reply
     ensures { Step (raw_if wanted.now) parser.old (reply_view result) parser.new }
 {
@@ -178,7 +178,7 @@ fn call_raw_if(parser: &mut Parser, wanted: &OsString) -> Reply
     }
 }
 
-// Takes the next word of a view where `is_wanted` says that it is this one.
+// Takes the next word of a view if `is_wanted` says that it is this one.
 fn take_if<F: FnOnce(OsStr<'_>) -> bool + Drop>(
     view: &mut RawArgs<'_>,
     wanted: &OsString,
@@ -193,7 +193,7 @@ fn take_if<F: FnOnce(OsStr<'_>) -> bool + Drop>(
     view.next_if(is_wanted)
 }
 
-// So many words of a view of words, or fewer where it ends before.
+// So many words of a view of words, or fewer if it ends before.
 fn take_words(
     alloc: Global,
     view: &mut RawArgs<'_>,
@@ -214,7 +214,7 @@ fn take_words(
     Ok(items)
 }
 
-/// Makes one call, and gives its reply. Where a list of items finds no memory, some were taken.
+/// Makes one call, and gives its reply. If memory runs out for a list of items, some were taken.
 pub fn reply_to(alloc: Global, parser: &mut Parser, call: &Call) -> Result<Reply, AllocError>
     ensures { (m : ℕ) × (reply : steps.Reply)
         × Step (up_to m (call_view call.now)) parser.old reply parser.new
@@ -242,9 +242,9 @@ pub fn reply_to(alloc: Global, parser: &mut Parser, call: &Call) -> Result<Reply
 /// `Taken` of `b`, `LongName` of `n`, and `Unexpected` of `--n` and `x`. An error of the parser is
 /// a reply like any other, `NoMemory` among them, and the calls after it are made.
 ///
-/// The only error is `OutOfMemory`, where the list of the replies or what is copied into it found
-/// no memory. Some front of the calls was made then, and perhaps the next one, of whose items some
-/// may have been given; the replies are gone.
+/// The only error is `OutOfMemory`, if memory runs out for the list of the replies or for what is
+/// copied into it. Some prefix of the calls was made then, and perhaps the next one, of whose items
+/// some may have been given; the replies are gone.
 pub fn replay(alloc: Global, parser: &mut Parser, calls: &[Call]) -> Result<Vec<Reply>, Error>
     // The replies and the line that is left are those of the grammar.
     ensures run { IfOk result (λ replies. Replays parser.old calls.now replies.items parser.new) }

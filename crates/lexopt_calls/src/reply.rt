@@ -26,10 +26,10 @@ pub enum Call {
     Values(usize),
     /// `raw_args`: asks for the words that are left, and for so many items of the view.
     Raw(usize),
-    /// `try_raw_args`: asks for the words that are left where no value is pending, and for so many
+    /// `try_raw_args`: asks for the words that are left if no value is pending, and for so many
     /// items of the view.
     TryRaw(usize),
-    /// `raw_args` and then `next_if`: asks for the next word where it is this one.
+    /// `raw_args` and then `next_if`: asks for the next word if it is this one.
     RawIf(OsString),
     /// `set_short_equals`: sets whether `=` stands between a short option and its value.
     Switch(bool),
@@ -70,7 +70,7 @@ pub enum Reply {
     Missing(Option<String>),
     /// `next` or `raw_args` found a value of this option that nobody asked for.
     Unexpected(String, OsString),
-    /// Memory was refused.
+    /// Memory ran out.
     NoMemory,
 }
 
@@ -141,7 +141,7 @@ pub fn write_long<W: fmt::Write>(name: &String, f: &mut fmt::Formatter<W>) -> fm
     write!(f, "Long {name}")
 }
 
-/// Writes a word that is no option.
+/// Writes a positional argument.
 pub fn write_positional<W: fmt::Write>(word: &OsString, f: &mut fmt::Formatter<W>) -> fmt::Result
     ensures { WritesOnOk W.write_str_gives f.old result (item_text (positional word.now)) f.new }
 {
@@ -158,7 +158,7 @@ pub fn write_list<W: fmt::Write>(words: &[OsString], f: &mut fmt::Formatter<W>) 
     f.write_str("]")
 }
 
-// Writes the quoted forms of these words, with a comma and a blank between them.
+// Writes the quoted forms of these words, with a comma and a space between them.
 fn write_words<W: fmt::Write>(words: &[OsString], f: &mut fmt::Formatter<W>) -> fmt::Result
     ensures { WritesOnOk W.write_str_gives f.old result (join_by quoted (codes ", ") words.now)
         f.new }

@@ -27,12 +27,12 @@ use lexopt_words::os_string::OsString;
 use std::alloc::Global;
 use std::fmt;
 
-/// The options that have values, by how many they have; any other option has none. Names stand
+/// The options that have values, by how many they have; any other option has none. Names are
 /// without their dashes.
 ///
-/// Membership alone counts: a name that stands twice, or that holds an `=` and so can be no
-/// option's, does no harm. Where lists of several kinds hold an option, the kind that stands first
-/// here holds.
+/// Membership alone counts: a name that is listed twice, or that holds an `=` and so can be no
+/// option's, does no harm. If lists of several kinds hold an option, the kind that comes first here
+/// counts.
 ///
 /// ```rust
 /// let mut table = Table::new(alloc);
@@ -127,14 +127,14 @@ enum Values {
 }
 
 impl Table {
-    /// The table of no options. It takes no memory.
+    /// The table of no options. It never allocates.
     pub fn new(alloc: Global) -> Table
         ensures { table_view result ≡ one_value [] [] }
     {
         Table::one_value(alloc, Vec::new(alloc), Vec::new(alloc))
     }
 
-    /// The table of these options, each of one value. It takes no memory.
+    /// The table of these options, each of one value. It never allocates.
     pub fn one_value(alloc: Global, shorts: Vec<char>, longs: Vec<String>) -> Table
         ensures { table_view result ≡ one_value shorts.items (map string_bytes longs.items) }
     {
@@ -289,9 +289,9 @@ fn error_of(refusal: Refusal) -> Result<Vec<Item>, Error>
 /// `docs/behaviour.md` has them all. A damaged piece of an option's name is read, and looked up, as
 /// U+FFFD.
 ///
-/// Errors, each of which ends the reading: `MissingValue` where an option of one value has none and
-/// no word is left, or one of several values has none; `UnexpectedValue` where an option that the
-/// table does not have has a value joined to it by `=`; `OutOfMemory`. The words are spent.
+/// Errors, each of which ends the reading: `MissingValue` if an option of one value has none and no
+/// word is left, or one of several values has none; `UnexpectedValue` if an option that the table
+/// does not have has a value joined to it by `=`; `OutOfMemory`. The words are spent.
 pub fn read_items(
     alloc: Global,
     words: Vec<OsString>,
@@ -303,17 +303,17 @@ pub fn read_items(
         LineReads table.now short_equals words.items items.items) }
     ensures refused { IfErr result (λ e. LineFails table.now short_equals words.items e) }
 
-    // The words show what is answered, and spell it where no option has U+FFFD in its name.
+    // The words show what is answered, and spell it if no option has U+FFFD in its name.
     ensures shown { IfOk result (λ items.
         LineShows table.now short_equals words.items items.items) }
     ensures spelled { IfOk result (λ items. NamesAreWhole items.items
         → LineSpells table.now short_equals words.items items.items) }
 
-    // Some words legally spell what is answered, also where these words do not.
+    // Some words legally spell what is answered, even if these words do not.
     ensures spellable { IfOk result (λ items. IsSpellable table.now short_equals items.items) }
 
     // Words show at most one list. What they show, and so what they spell, is answered, or memory
-    // is refused.
+    // runs out.
     ensures one_list { (l m : List spec.Item) → ShowsList table.now short_equals words.items l
         → ShowsList table.now short_equals words.items m → l ≡ m }
     ensures answered { (l : List spec.Item) → ShowsList table.now short_equals words.items l
@@ -322,7 +322,7 @@ pub fn read_items(
         → SpellsList table.now short_equals words.items l
         → IsAnswered l result }
 
-    // Another error comes only where the words show no list.
+    // Another error comes only if the words show no list.
     ensures no_list { IfErr result (λ e. (e ≡ Error.OutOfMemory)
         ⊎ ShowsNothing table.now short_equals words.items) }
 {

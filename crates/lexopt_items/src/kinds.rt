@@ -1,4 +1,4 @@
-//! How many values an option has, by a table of options. The crate `lexopt` does not hand it on.
+//! How many values an option has, by a table of options. The crate `lexopt` does not re-export it.
 ghost use Rattle.std.specs.Prelude.{◌≡◌, [], map, string_bytes};
 ghost use Rattle.lexopt_line_spec.specs.Table as spec;
 ghost use Rattle.lexopt_line_spec.specs.Table.{holds_in, kind};

@@ -1,4 +1,4 @@
-//! Whole lines, read by a table of options. The crate `lexopt` hands on its public items.
+//! Whole lines, read by a table of options. The crate `lexopt` re-exports its public items.
 #![tactic(auto)]
 
 pub mod items;

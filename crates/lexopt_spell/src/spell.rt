@@ -41,7 +41,7 @@ pub enum Reason {
     /// An option stands after a positional that needs `--` before it, so that the option would be a
     /// positional too.
     PastSeparator,
-    /// `-` as an option of one character, with no flag of one character right before it: no word
+    /// `-` as an option of one character, with no flag of one character right before it. No word
     /// begins with it, since `--` is the separator and `--name` a long option, but in `-v-` it
     /// stands after `v`.
     DashWithoutFlag,
@@ -84,7 +84,7 @@ pub enum SpellError {
         /// Why it cannot be spelled.
         reason: Reason,
     },
-    /// Memory was refused. It says nothing of the items.
+    /// Memory ran out. It says nothing about the items.
     OutOfMemory,
 }
 
@@ -137,7 +137,8 @@ pub fn spell(
     short_equals: bool,
     table: &Table,
 ) -> Result<Vec<OsString>, SpellError>
-    // Which words are answered, and which item is named, and why. Nothing is said of `OutOfMemory`.
+    // Which words are answered, and which item is named, and why. Nothing is said about
+    // `OutOfMemory`.
     ensures form { IfOk result (λ words. HaveWords table.now short_equals items.now words.items) }
     ensures fault { IfErr result (λ e. HaveFault table.now short_equals items.now e) }
 
@@ -155,8 +156,8 @@ pub fn spell(
     ensures one_fault { (i j : ℕ) → IsAtFault table.now short_equals items.now i
         → IsAtFault table.now short_equals items.now j → i ≡ j }
 
-    // Items that some words show, and so those that some words spell, are spelled, or memory is
-    // refused.
+    // Items that some words show, and so those that some words spell, are spelled, or memory runs
+    // out.
     ensures answered { (words : List (List ℕ)) → LineShows table.now short_equals words items.now
         → IfErr result (λ e. e ≡ SpellError.OutOfMemory) }
     ensures none { IfErr result (λ e. (e ≡ SpellError.OutOfMemory)

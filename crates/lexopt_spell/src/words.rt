@@ -19,7 +19,7 @@ pub enum Word<'a> {
     Long(&'a String, After<'a>),
     /// `--`
     Separator,
-    /// A word that is no option.
+    /// A positional argument.
     Positional(&'a OsString),
 }
 

@@ -10,7 +10,7 @@ use crate::os_string::OsString;
 use std::alloc::{AllocError, Global};
 use std::env::{Env, FillError};
 
-// How many bytes the room for a word has at first.
+// How many bytes there is room for at first.
 const FIRST_ROOM: usize = 256;
 
 // What words are asked of.
@@ -27,7 +27,7 @@ trait WordSource {
         ensures end { result ≡ Err NotPresent → answers self.now place None };
 }
 
-// What `Env` promises of an answer is that it fits into the room, and nothing of its bytes.
+// What `Env` promises is that an answer fits into the room, and nothing about its bytes.
 impl<R: Env> WordSource for R {
     ghost answers = { λ _ _ _. Unit {0} };
 
@@ -39,8 +39,8 @@ impl<R: Env> WordSource for R {
 /// The words that the program was called with, of any bytes and any length. The first is the name
 /// that it was called by; there may be no word at all.
 ///
-/// They are what `Env::arg` gives. Its contract says nothing of the bytes that it gives, so only
-/// tests show which words these are. The only error is a refusal of memory.
+/// They are what `Env::arg` gives. Its contract says nothing about their bytes, so only tests show
+/// which words these are. The only error is that memory runs out.
 pub fn arguments<R: Env>(rt: &R, alloc: Global) -> Result<Vec<OsString>, AllocError> {
     words_of(rt, alloc)
 }

@@ -96,7 +96,7 @@ pub fn lossy_text(alloc: Global, bytes: &[u8]) -> Result<String, AllocError>
     Ok(text)
 }
 
-// Adds to a text what stands there for a piece: its character, or U+FFFD for damage.
+// Adds to a text what a piece is shown as: its character, or U+FFFD for damage.
 fn push_shown(text: &mut String, character: Option<char>) -> Result<(), AllocError>
     ensures { OnOk result (string_bytes text.new
         ≡ string_bytes text.old ++ encode_utf8 (shown character)) }

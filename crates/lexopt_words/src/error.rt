@@ -46,7 +46,7 @@ impl<'a> Clone for Arg<'a> {
 
     ghost is_infallible = { IsOption };
 
-    /// An equal argument. Only the copy of a value takes memory.
+    /// An equal argument. Only the copy of a value allocates.
     fn clone(&self) -> Result<Arg<'a>, AllocError> {
         match self {
             Arg::Short(option) => Ok(Arg::Short(*option)),
@@ -59,8 +59,8 @@ impl<'a> Clone for Arg<'a> {
 /// Why a command line was refused.
 #[derive(Drop)]
 pub enum Error {
-    /// An option wants a value, and no word is left. The option is spelled with its dashes; there
-    /// is none where no option was read.
+    /// An option needs a value, and no word is left. The option is spelled with its dashes; there
+    /// is none if no option was read.
     MissingValue { option: Option<String> },
     /// An option was not expected. It is spelled with its dashes.
     UnexpectedOption(String),
@@ -68,14 +68,14 @@ pub enum Error {
     UnexpectedArgument(OsString),
     /// An option that takes no value has one joined to it. The option is spelled with its dashes.
     UnexpectedValue { option: String, value: OsString },
-    /// Nothing could be made of a value, for this cause.
+    /// A value could not be converted, for this cause.
     ParsingFailed { value: String, error: anyhow::Error },
-    /// A value is not UTF-8, and a text was wanted.
+    /// A value is not UTF-8, but has to be a text.
     NonUnicodeValue(OsString),
     /// The program's own reason. `Error::from` makes it of a text.
     Custom(anyhow::Error),
-    /// Memory was refused. A call of a parser changed nothing then, and can be made again; a
-    /// constructor gives none of its items back, and `Arg::unexpected` does not give the argument
+    /// Memory ran out. A call of a parser has changed nothing then, and can be made again. A
+    /// constructor does not give its items back, and `Arg::unexpected` does not give the argument
     /// back.
     OutOfMemory,
 }

@@ -32,7 +32,7 @@ impl Model for OsString {
 }
 
 impl OsString {
-    /// The empty word. It takes no memory.
+    /// The empty word. It never allocates.
     pub fn new(alloc: Global) -> OsString
         ensures { result ≡ [] }
     {
@@ -59,21 +59,21 @@ impl OsString {
         OsString::from_bytes(alloc, text.as_bytes())
     }
 
-    /// The word of these bytes. It takes no memory.
+    /// The word of these bytes. It never allocates.
     pub fn from_vec(bytes: Vec<u8>) -> OsString
         ensures { result ≡ bytes.items }
     {
         OsString { bytes, front: 0 }
     }
 
-    /// The word of the bytes of this text. It takes no memory.
+    /// The word of the bytes of this text. It never allocates.
     pub fn from_string(text: String) -> OsString
         ensures { result ≡ string_bytes text }
     {
         OsString::from_vec(text.into_bytes())
     }
 
-    /// The bytes of the word. It takes no memory.
+    /// The bytes of the word. It never allocates.
     pub fn into_vec(self) -> Vec<u8>
         ensures { result.items ≡ self }
     {
@@ -84,7 +84,7 @@ impl OsString {
         moved_up(bytes, front)
     }
 
-    /// The word without its first `count` bytes. It takes no memory, and moves no byte.
+    /// The word without its first `count` bytes. It never allocates, and moves no byte.
     ///
     /// The word `--name=value` without its first 7 bytes is `value`.
     pub fn without_front(self, count: usize) -> OsString
@@ -98,7 +98,7 @@ impl OsString {
         }
     }
 
-    /// The text of the word where its bytes are UTF-8, else the same word. It takes no memory.
+    /// The text of the word if its bytes are UTF-8, otherwise the same word. It never allocates.
     ///
     /// The bytes `66 6F 6F` give `foo`. The bytes `66 6F 6F FF` are given back.
     pub fn into_string(self) -> Result<String, OsString>
@@ -126,7 +126,7 @@ impl OsString {
         OsStr::from_bytes(self.as_bytes())
     }
 
-    /// The text of the word, where its bytes are UTF-8. The bytes `66 6F 6F FF` have none.
+    /// The text of the word, if its bytes are UTF-8. The bytes `66 6F 6F FF` have none.
     pub fn to_str(&self) -> Option<&str>
         ensures exactly_on_utf8 { IsSome result ↔ IsUtf8 self.now }
         ensures same_bytes { IfSome result (λ text. text.now ≡ self.now) }
@@ -141,14 +141,14 @@ impl OsString {
         self.bytes.len() - self.front
     }
 
-    /// Whether the word has no byte.
+    /// Whether the word has no bytes.
     pub fn is_empty(&self) -> bool
         ensures { IsTrue result ↔ (self.now ≡ []) }
     {
         self.len() == 0
     }
 
-    // What the word takes its memory of.
+    // The allocator of the word.
     pub(crate) fn allocator(&self) -> Global {
         *self.bytes.allocator()
     }
@@ -200,7 +200,7 @@ impl Eq for OsString {
     ghost laws = { Prim.search (comparing, rules) };
 }
 
-// Words have the order of their lists of bytes: the first byte that differs decides, and a front
+// Words have the order of their lists of bytes: the first byte that differs decides, and a prefix
 // comes first. `-b` comes after `-ab`.
 impl PartialOrd for OsString {
     ghost use Rattle.std.proofs.Common.{rules};
@@ -238,7 +238,7 @@ impl Ord for OsString {
     }
 }
 
-// What is hashed is the number of bytes and then each byte, as of a `Vec<u8>`.
+// What is hashed is the number of bytes and then each byte, as for a `Vec<u8>`.
 impl Hash for OsString {
     ghost use Rattle.std.proofs.Common.{rules};
     ghost use Rattle.std.specs.Cmp.Rules.{hashing};
@@ -265,7 +265,7 @@ impl fmt::Debug for OsString {
     }
 }
 
-/// A view of a word's bytes. It goes by value, where Rust has `&OsStr`.
+/// A view of a word's bytes. It is passed by value, where Rust has `&OsStr`.
 #[derive(Clone, Copy)]
 pub struct OsStr<'a> {
     /// The bytes of the word.
@@ -288,7 +288,7 @@ impl<'a> OsStr<'a> {
         bytes
     }
 
-    /// The text of the word, where its bytes are UTF-8, for as long as they were lent.
+    /// The text of the word, if its bytes are UTF-8, for as long as they were lent.
     pub fn to_str(self) -> Option<&'a str>
         ensures exactly_on_utf8 { IsSome result ↔ IsUtf8 self.entry.bytes.now }
         ensures same_bytes { IfSome result (λ text. text.now ≡ self.entry.bytes.now) }

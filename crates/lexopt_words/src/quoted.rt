@@ -12,7 +12,7 @@ use std::fmt;
 use std::marker::Model;
 
 /// Bytes that print in double quotes. A double quote, a backslash, each control character of ASCII
-/// and each byte that is no UTF-8 are escaped. Every other character stands for itself, also one
+/// and each byte that is not UTF-8 are escaped. Every other character stands for itself, even one
 /// that a terminal may act on, as U+0085, U+009B and U+2028.
 ///
 /// The bytes `66 6F 6F FF` print as `"foo\xFF"`.

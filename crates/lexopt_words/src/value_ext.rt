@@ -18,11 +18,10 @@ pub trait ValueExt: private::Sealed {
     // The bytes of the word.
     ghost word: { Self → List ℕ };
 
-    /// What the text of the word stands for, by its type's `FromStr`: at `10` a `u32` gives ten.
+    /// What the text of the word stands for, by its type's `FromStr`: `10` as a `u32` is ten.
     ///
-    /// Errors: `NonUnicodeValue` with a copy of the word where it is not UTF-8; `ParsingFailed`
-    /// with the text and the cause where the type refuses it; `OutOfMemory` only in place of these
-    /// two.
+    /// Errors: `NonUnicodeValue` with a copy of the word if it is not UTF-8; `ParsingFailed` with
+    /// the text and the cause if the type refuses it; `OutOfMemory` only in place of these two.
     fn parse<T: FromStr>(&self) -> Result<T, Error>
     where
         T::Err: Into<anyhow::Error>,
@@ -31,10 +30,10 @@ pub trait ValueExt: private::Sealed {
             × IsParsed T.Err.converts (word self.now) answer result) }
         ensures damaged { (IsUtf8 (word self.now) → ⊥) → IsNotUnicode (word self.now) result };
 
-    /// What the function makes of the text of the word. It is called once where the word is UTF-8,
-    /// and else not at all.
+    /// What the function makes of the text of the word. It is called once if the word is UTF-8, and
+    /// otherwise not at all.
     ///
-    /// Errors: as of `parse`, the cause being what the function answered.
+    /// Errors: those of `parse`. The cause is the error that the function returned.
     fn parse_with<F, T, E>(&self, func: F) -> Result<T, Error>
     where
         F: FnOnce(&str) -> Result<T, E> + Drop,
@@ -45,9 +44,9 @@ pub trait ValueExt: private::Sealed {
             × IsParsed E.converts (word self.now) answer result) }
         ensures damaged { (IsUtf8 (word self.now) → ⊥) → IsNotUnicode (word self.now) result };
 
-    /// The text of the word. It takes no memory.
+    /// The text of the word. It never allocates.
     ///
-    /// Errors: `NonUnicodeValue` with the word itself where it is not UTF-8.
+    /// Errors: `NonUnicodeValue` with the word itself if it is not UTF-8.
     fn string(self) -> Result<String, Error>
         ensures { MatchResult result
             (λ text. (string_bytes text ≡ word self) × IsUtf8 (word self))
@@ -61,8 +60,8 @@ impl ValueExt for OsString {
     where
         T::Err: Into<anyhow::Error>,
     {
-        // Where the value met the error at the end of the function, it would be moved with the room
-        // of one.
+        // If the value and the error met at the end of the function, the value would be moved as a
+        // whole `Result`.
         match self.parse_with(|text| T::from_str(text)) {
             Ok(value) => return Ok(value),
             Err(error) => Err(error),

@@ -3,7 +3,7 @@ ghost use Rattle.std.specs.Prelude.{◌↔◌, false, IsTrue};
 ghost use Rattle.lexopt_spec.specs.UnreadLine.{IsPlain};
 ghost use Rattle.lexopt_words.specs.WordKinds.{IsOfKind};
 
-/// What a word is, where the separator was not read.
+/// What a word is, if the separator has not been read.
 #[derive(Clone, Copy)]
 pub enum WordKind {
     /// `--`
@@ -12,7 +12,7 @@ pub enum WordKind {
     Long,
     /// `-abc`
     Shorts,
-    /// `-`, or no dash in front
+    /// `-`, or a word that does not begin with a dash
     Positional,
 }
 
@@ -28,7 +28,7 @@ pub fn kind_of(word: &[u8]) -> WordKind
     }
 }
 
-/// Whether this word is no option and no separator.
+/// Whether this word is neither an option nor the separator.
 pub fn is_positional(word: &[u8]) -> bool
     ensures { IsTrue result ↔ IsPlain false word.now }
 {
