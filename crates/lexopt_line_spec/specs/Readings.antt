@@ -54,7 +54,7 @@ pub data AskedAfter (t : Table) (final : Reply) : Kind → List Call → List Re
       → AskedAfter t final k (call ∷ calls) (reply ∷ replies)
 
 -- `next`, and after each option of the table the call for its values, up to the end or the first
--- error, and never short of memory
+-- error, and never out of memory
 abbrev pub Asked : Table → List Call → List Reply → Reply → Type 0
 Asked t calls replies final = AskedAfter t final flag calls replies
 

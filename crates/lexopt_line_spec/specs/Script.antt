@@ -203,7 +203,7 @@ is_bad called (command c) = false
 is_bad called bad = true
 
 -- the number of the first bad line among these, the first of which has the number n; such a command
--- stands before them where called is true
+-- comes before them if called is true
 abbrev pub first_bad : ℕ → Bool → List (List ℕ) → Option ℕ
 first_bad n called [] = None
 first_bad n called (line ∷ lines) =

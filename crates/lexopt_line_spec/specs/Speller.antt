@@ -20,7 +20,7 @@ pub data Reason : Type 0 where
   equals_in_name : Reason
   -- an option that has no value is given one
   unexpected_value : Reason
-  -- an option that wants a value, or values, is given none
+  -- an option that needs a value, or values, is given none
   missing_value : Reason
   -- an option of several values is not given them as a list
   wants_many : Reason
@@ -102,35 +102,35 @@ pub data HasForm (short_equals : Bool) (later : List Item)
   -- c and color: `-c` and `--color`
   left_out : (name : Name) → HasForm short_equals later optional name (option name None)
       nothing [] open_line
-  -- c "x": `-cx`, where the value is not empty, and does not begin with `=`
+  -- c "x": `-cx`, if the value is not empty, and does not begin with `=`
   right_after : (c : ℕ) (v : List ℕ) → v ≢ [] → ¬ BeginsWith equals v
       → HasForm short_equals later optional (short c) (option (short c) (Some v))
       (attached v) [] open_line
-  -- c "=x": `-c==x`, where the setting is on
+  -- c "=x": `-c==x`, if the setting is on
   equals_on : (c : ℕ) (v : List ℕ) → BeginsWith equals v → short_equals ≡ true
       → HasForm short_equals later optional (short c) (option (short c) (Some v))
       (joined v) [] open_line
-  -- c "=x": `-c=x`, where the setting is off
+  -- c "=x": `-c=x`, if the setting is off
   equals_off : (c : ℕ) (v : List ℕ) → BeginsWith equals v → short_equals ≡ false
       → HasForm short_equals later optional (short c) (option (short c) (Some v))
       (attached v) [] open_line
-  -- c "": `-c=`, where the setting is on
+  -- c "": `-c=`, if the setting is on
   empty_on : (c : ℕ) → short_equals ≡ true
       → HasForm short_equals later optional (short c) (option (short c) (Some []))
       (joined []) [] open_line
   -- color "x": `--color=x`, whatever the value is
   long_optional : (name v : List ℕ) → HasForm short_equals later optional (long name)
       (option (long name) (Some v)) (joined v) [] open_line
-  -- d "1": `-d=1`, where the separator would otherwise stand before an option
+  -- d "1": `-d=1`, if the separator would otherwise stand before an option
   lone_joined : (c : ℕ) (v : List ℕ) → IsLoneAndJoined short_equals later (v ∷ [])
       → HasForm short_equals later several (short c) (many (short c) (v ∷ []))
       (joined v) [] open_line
-  -- d "1" "2": `-d` `1` `2`, else, where all values are plain
+  -- d "1" "2": `-d` `1` `2`, otherwise, if all values are plain
   short_words : (c : ℕ) (v : List ℕ) (vs : List (List ℕ))
       → ¬ IsLoneAndJoined short_equals later (v ∷ vs) → All (IsPlain false) (v ∷ vs)
       → HasForm short_equals later several (short c) (many (short c) (v ∷ vs))
       nothing (v ∷ vs) after_values
-  -- d "-1" "2": `-d-1` `2`, else, where the first value is not plain, and all others are
+  -- d "-1" "2": `-d-1` `2`, otherwise, if the first value is not plain, and all others are
   first_attached : (c : ℕ) (v : List ℕ) (vs : List (List ℕ))
       → ¬ IsLoneAndJoined short_equals later (v ∷ vs) → ¬ IsPlain false v → All (IsPlain false) vs
       → HasForm short_equals later several (short c) (many (short c) (v ∷ vs))
@@ -138,7 +138,7 @@ pub data HasForm (short_equals : Bool) (later : List Item)
   -- cmd "a": `--cmd=a`, whatever the value is
   long_lone : (name v : List ℕ) → HasForm short_equals later several (long name)
       (many (long name) (v ∷ [])) (joined v) [] open_line
-  -- cmd "a" "b": `--cmd` `a` `b`, where all values are plain
+  -- cmd "a" "b": `--cmd` `a` `b`, if all values are plain
   long_words : (name v w : List ℕ) (vs : List (List ℕ)) → All (IsPlain false) (v ∷ w ∷ vs)
       → HasForm short_equals later several (long name) (many (long name) (v ∷ w ∷ vs))
       nothing (v ∷ w ∷ vs) after_values
@@ -158,7 +158,7 @@ pub data HasNoForm (short_equals : Bool) : Kind → Name → Item → Reason →
   no_value_given : (name : Name) → HasNoForm short_equals one name (option name None) missing_value
   -- d, given an empty list
   no_values_given : (name : Name) → HasNoForm short_equals several name (many name []) missing_value
-  -- c "", where the setting is off
+  -- c "", if the setting is off
   empty_off : (c : ℕ) → short_equals ≡ false
       → HasNoForm short_equals optional (short c) (option (short c) (Some [])) empty_value
   -- d "1" "-x": a value is not plain, and is not the first
@@ -201,15 +201,15 @@ pub data Adds (t : Table) (short_equals : Bool) (later : List Item)
   -- right after values that are words: `--` and the word
   separator_after_values : (w : List ℕ)
       → Adds t short_equals later after_values (positional w) (dash ∷ dash ∷ []) (w ∷ []) ended
-  -- else, where it begins a row, only positionals are left, and one of them is not plain: `--` and
-  -- the word
+  -- otherwise, if it begins a row, only positionals are left, and one of them is not plain: `--`
+  -- and the word
   separator_before_row : (w : List ℕ) (place : Place) → BeginsRow place
       → NeedSeparator (positional w ∷ later)
       → Adds t short_equals later place (positional w) (dash ∷ dash ∷ []) (w ∷ []) ended
-  -- else, where it is not plain: `--` and the word
+  -- otherwise, if it is not plain: `--` and the word
   separator_before_word : (w : List ℕ) (place : Place) → place ≢ ended → ¬ IsPlain false w
       → Adds t short_equals later place (positional w) (dash ∷ dash ∷ []) (w ∷ []) ended
-  -- else: the word
+  -- otherwise: the word
   first_of_row : (w : List ℕ) (place : Place) → BeginsRow place → IsPlain false w
       → ¬ NeedSeparator (positional w ∷ later)
       → Adds t short_equals later place (positional w) w [] after_positional

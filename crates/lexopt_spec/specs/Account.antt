@@ -14,12 +14,12 @@ use Rattle.lexopt_spec.specs.Steps.{next_word}
 
 -- some bytes in a row, and what becomes of them
 pub data Segment : Type 0 where
-  -- the same bytes stand in the reply
+  -- the same bytes are in the reply
   given : List ℕ → Segment
   -- a dash of a cluster, the dashes of a long option, the `=` before a value, a separator: it
-  -- stands in no reply
+  -- is in no reply
   mark : List ℕ → Segment
-  -- a damaged piece: U+FFFD stands in the reply
+  -- a damaged piece: the reply has U+FFFD
   damage : List ℕ → Segment
 
 abbrev pub segment_bytes : Segment → List ℕ
@@ -49,7 +49,7 @@ piece_as bytes (Some c) = given bytes
 abbrev pub piece_segment : Piece → Segment
 piece_segment p = piece_as p.bytes p.char
 
--- the `=` that stands between a long name and its value
+-- the `=` between a long name and its value
 abbrev pub name_end : Tail → List Segment
 name_end no_tail = []
 name_end (joined value) = mark (equals ∷ []) ∷ []

@@ -16,11 +16,11 @@ pub data Call : Type 0 where
   values : ℕ → Call
   raw : ℕ → Call
   try_raw : ℕ → Call
-  -- `raw_args`, and its next word where it is this one
+  -- `raw_args`, and its next word if it is this one
   raw_if : List ℕ → Call
   set_short_equals : Bool → Call
 
--- with memory enough, a call answers so
+-- with enough memory, a call answers so
 abbrev pub StepWithMemory : Call → UnreadLine → Reply → UnreadLine → Type 0
 StepWithMemory next = NextStep
 StepWithMemory value = ValueStep
@@ -89,7 +89,7 @@ up_to m (try_raw n) = try_raw (min m n)
 up_to m (raw_if word) = raw_if word
 up_to m (set_short_equals on) = set_short_equals on
 
--- some front of the calls was made, and then perhaps the next one, with some of its items
+-- some prefix of the calls was made, and then perhaps the next one, with some of its items
 abbrev pub Part : UnreadLine → List Call → UnreadLine → Type 0
 Part u [] after = after ≡ u
 Part u (call ∷ calls) after =

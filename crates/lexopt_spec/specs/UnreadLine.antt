@@ -92,7 +92,7 @@ abbrev pub BeginsWith : ℕ → List ℕ → Type 0
 BeginsWith b [] = ⊥
 BeginsWith b (c ∷ cs) = c ≡ b
 
--- the word is no option: it stands after the separator, or is `-`, or does not begin with a dash
+-- the word is not an option: it comes after the separator, or is `-`, or does not begin with a dash
 abbrev pub IsPlain : Bool → List ℕ → Type 0
 IsPlain ended word = (ended ≡ true) ⊎ ((word ≡ dash ∷ []) ⊎ ¬ BeginsWith dash word)
 
