@@ -42,12 +42,12 @@ impl<R: Env> WordSource for R {
 /// They are what `Env::arg` gives. Its contract says nothing about their bytes, so only tests show
 /// which words these are. The only error is that memory runs out.
 pub fn arguments<R: Env>(rt: &R, alloc: Global) -> Result<Vec<OsString>, AllocError> {
-    words_of(rt, alloc)
+    ask_for_words(rt, alloc)
 }
 
 // The words of each place, up to the first that has none.
 #[tactic(auto, using(crate::proofs::Answered::one_more_came))]
-fn words_of<S: WordSource>(source: &S, alloc: Global) -> Result<Vec<OsString>, AllocError>
+fn ask_for_words<S: WordSource>(source: &S, alloc: Global) -> Result<Vec<OsString>, AllocError>
     ensures { IfOk result (λ words. AreAnswered (S.answers source.now) 0 words.items) }
 {
     let mut words = Vec::new(alloc);

@@ -1,6 +1,6 @@
 use Rattle.std.proofs.Common.{subst}
 use Rattle.lexopt_words.proofs.Answered.{all_have_come}
-use Rattle.lexopt_words.proofs.arguments.words_of.Goals as goal
+use Rattle.lexopt_words.proofs.arguments.ask_for_words.Goals as goal
 
 pub returns-in-None : goal.returns-in-None
 returns-in-None g c =
