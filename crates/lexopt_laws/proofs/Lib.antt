@@ -9,3 +9,4 @@ pub mod SpellerReasons
 pub mod Computing
 pub mod Worked
 pub mod WorkedDamage
+pub mod Cuts

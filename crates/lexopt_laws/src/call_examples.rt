@@ -4,7 +4,7 @@ ghost use Rattle.std.specs.Prelude.{◌≡◌, [], ◌∷◌, true, false, Some,
 ghost use Rattle.lexopt_spec.specs.Account.{damage, given, mark};
 ghost use Rattle.lexopt_line_spec.specs.Bound.{bound, replies_count};
 ghost use Rattle.lexopt_spec.specs.Runs.{AccountedRun, Part, Run, next, optional, raw, raw_if};
-ghost use Rattle.lexopt_spec.specs.Runs.{set_short_equals, try_raw, value, values};
+ghost use Rattle.lexopt_spec.specs.Runs.{set_short_equals, try_raw, up_to, value, values};
 ghost use Rattle.lexopt_spec.specs.Steps.{busy, done, end, items, long, maybe, missing, no_memory};
 ghost use Rattle.lexopt_spec.specs.Steps.{positional, short, taken, unexpected};
 ghost use Rattle.lexopt_spec.specs.UnreadLine.{UnreadLine, fresh, joined, long_option, no_tail};
@@ -18,6 +18,8 @@ fn calls_answer_the_worked_examples() {
     items_come_one_by_one();
     bytes_are_accounted_for();
     calls_are_cut_short();
+    fewer_items_are_asked();
+    no_item_more_is_taken();
     replies_are_counted();
 }
 
@@ -145,6 +147,38 @@ fn calls_are_cut_short()
           last = short_option 0x61;
         } in
         Part u (values 2 ∷ raw 9 ∷ []) (record u { tail = no_tail; words = codes "e" ∷ [] }) }
+{}
+
+// A call asked for at most so many items: never for more than before.
+fn fewer_items_are_asked()
+    ensures values { up_to 5 (values 2) ≡ values 2 }
+    ensures fewer_values { up_to 1 (values 2) ≡ values 1 }
+    ensures no_values { up_to 0 (values 2) ≡ values 0 }
+    ensures raw { up_to 5 (raw 2) ≡ raw 2 }
+    ensures fewer_raw { up_to 1 (raw 2) ≡ raw 1 }
+    ensures no_raw { up_to 0 (raw 2) ≡ raw 0 }
+    ensures try_raw { up_to 5 (try_raw 2) ≡ try_raw 2 }
+    ensures fewer_try_raw { up_to 1 (try_raw 2) ≡ try_raw 1 }
+    ensures no_try_raw { up_to 0 (try_raw 2) ≡ try_raw 0 }
+    ensures next { up_to 0 next ≡ next }
+    ensures value { up_to 0 value ≡ value }
+    ensures optional { up_to 0 optional ≡ optional }
+    ensures raw_if { up_to 0 (raw_if (codes "a")) ≡ raw_if (codes "a") }
+    ensures set_short_equals { up_to 0 (set_short_equals true) ≡ set_short_equals true }
+{}
+
+// On the words `a b`: a call for one item may take the first, and never takes both.
+fn no_item_more_is_taken()
+    ensures one_value { Part (fresh (codes "a" ∷ codes "b" ∷ [])) (values 1 ∷ [])
+        (fresh (codes "b" ∷ [])) }
+    ensures two_values { Part (fresh (codes "a" ∷ codes "b" ∷ [])) (values 1 ∷ []) (fresh []) → ⊥ }
+    ensures one_word { Part (fresh (codes "a" ∷ codes "b" ∷ [])) (raw 1 ∷ [])
+        (fresh (codes "b" ∷ [])) }
+    ensures two_words { Part (fresh (codes "a" ∷ codes "b" ∷ [])) (raw 1 ∷ []) (fresh []) → ⊥ }
+    ensures one_word_tried { Part (fresh (codes "a" ∷ codes "b" ∷ [])) (try_raw 1 ∷ [])
+        (fresh (codes "b" ∷ [])) }
+    ensures two_words_tried { Part (fresh (codes "a" ∷ codes "b" ∷ [])) (try_raw 1 ∷ []) (fresh [])
+        → ⊥ }
 {}
 
 // A line's bound, and the replies of a run that comes to its end.

@@ -165,8 +165,8 @@ pub fn no_byte_is_lost()
         → (gone : List (List ℕ)) × (u.words ≡ gone ++ v.words) }
 {}
 
-/// Some front of a list of calls is a part of it, also with some items of the next call; and the
-/// words that a part leaves are a suffix.
+/// Some front of a list of calls is a part of it, also with some items of the next call, and never
+/// with more items than it asks for; and the words that a part leaves are a suffix.
 pub fn calls_cut_short_are_a_part()
     ensures front { (u v : UnreadLine) (calls more : List Call) (replies : List Reply)
         → Run u calls replies v → Part u (calls ++ more) v }
@@ -175,6 +175,10 @@ pub fn calls_cut_short_are_a_part()
         → Run u calls replies v → Step (up_to m call) v reply w → Part u (calls ++ call ∷ more) w }
     ensures fewer { (m n : ℕ) → m ≤ n → (up_to m (values n) ≡ values m) × (up_to m (raw n) ≡ raw m)
         × (up_to m (try_raw n) ≡ try_raw m) }
+    ensures no_more { (m n : ℕ) (u v : UnreadLine) (came : List (List ℕ))
+        → Step (up_to m (values n)) u (items came) v ⊎ (Step (up_to m (raw n)) u (items came) v
+        ⊎ Step (up_to m (try_raw n)) u (items came) v)
+        → (length came ≤ m) × (length came ≤ n) }
     ensures nothing_else { (u v : UnreadLine) (calls : List Call) → Part u calls v
         → (front : List Call) × (more : List Call) × (replies : List Reply) × (w : UnreadLine)
         × Run u front replies w × (calls ≡ front ++ more)
