@@ -10,3 +10,4 @@ pub mod Computing
 pub mod Worked
 pub mod WorkedDamage
 pub mod Cuts
+pub mod WorkedTexts

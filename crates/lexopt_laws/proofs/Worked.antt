@@ -41,15 +41,25 @@ pub not_mark : (short_equals : Bool) (bs : List ℕ) → short_equals && begins 
 not_mark false bs is = λ mark. true≢false (sym mark.0)
 not_mark true bs is = λ mark. not_begins equals bs is mark.1
 
+-- the number is none of these
+abbrev pub lacks : ℕ → List ℕ → Bool
+lacks x [] = true
+lacks x (b ∷ bs) = not (b == x) && lacks x bs
+
+pub not_among : (x : ℕ) (bs : List ℕ) → lacks x bs ≡ true → ¬ Contains bs x
+not_among x [] is (n, below, same) = absurd (omega arith)
+not_among x (b ∷ bs) is (zero, below, same) = true≢false (sym (both (not (b == x)) (lacks x bs) is).0 ∙ ap not (eq-eqb b x same))
+not_among x (b ∷ bs) is (suc n, below, same) = not_among x bs (both (not (b == x)) (lacks x bs) is).1 (n, omega arith, same)
+
+pub differ : (a b : ℕ) → a == b ≡ false → a ≢ b
+differ a b is same = true≢false (sym (eq-eqb a b same) ∙ is)
+
 -- the bytes hold no `=`
 abbrev pub free : List ℕ → Bool
-free [] = true
-free (b ∷ bs) = not (b == equals) && free bs
+free bs = lacks equals bs
 
 pub not_contains : (bs : List ℕ) → free bs ≡ true → ¬ Contains bs equals
-not_contains [] is (n, below, same) = absurd (omega arith)
-not_contains (b ∷ bs) is (zero, below, same) = true≢false (sym (both (not (b == equals)) (free bs) is).0 ∙ ap not (eq-eqb b equals same))
-not_contains (b ∷ bs) is (suc n, below, same) = not_contains bs (both (not (b == equals)) (free bs) is).1 (n, omega arith, same)
+not_contains bs is = not_among equals bs is
 
 -- all of these words are plain
 abbrev pub all_plain : Bool → List (List ℕ) → Bool

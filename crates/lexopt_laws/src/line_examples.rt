@@ -3,8 +3,9 @@
 ghost use Rattle.std.specs.Prelude.{◌≡◌, ◌++◌, [], ◌∷◌, List, true, false, Some, None, codes};
 ghost use Rattle.lexopt_line_spec.specs.Table.{Item, Table, long, many, one_value, option};
 ghost use Rattle.lexopt_line_spec.specs.Table.{positional, short};
-ghost use Rattle.lexopt_line_spec.specs.Spelling.{Shows, Spells};
+ghost use Rattle.lexopt_line_spec.specs.Spelling.{HaveWholeNames, Shows, Spells};
 ghost use Rattle.lexopt_line_spec.specs.Readings.{IsReading, start};
+ghost use Rattle.lexopt_line_spec.specs.Script.{WholeLineText};
 ghost use Rattle.lexopt_spec.specs.Steps.{end, missing, unexpected};
 ghost use Rattle.lexopt_laws.specs.OneValueSpelling.{OneValueShows, OneValueSpells, OneValueTable};
 
@@ -18,6 +19,8 @@ fn words_spell_the_worked_examples() {
     damage_is_shown_and_not_spelled();
     one_value_rules_spell_the_same();
     lines_are_read();
+    names_are_whole();
+    whole_lines_have_these_texts();
 }
 
 fn options_of_one_value_are_spelled()
@@ -233,4 +236,48 @@ fn lines_are_read()
       several_shorts = codes "d";
     }) (start true (codes "-d1" ∷ codes "2" ∷ [])) end
         (many (short 0x64) (codes "1" ∷ codes "2" ∷ []) ∷ []) }
+{}
+
+// Whether an option has U+FFFD in its name: a damaged name has. C2 B5 is another character, and
+// EF BF BD is U+FFFD itself.
+fn names_are_whole()
+    ensures no_items { HaveWholeNames [] }
+    ensures short { HaveWholeNames (option (short 0x78) None ∷ []) }
+    ensures short_of_two_bytes { HaveWholeNames (option (short 0xB5) None ∷ []) }
+    ensures short_replacement { HaveWholeNames (option (short 0xFFFD) None ∷ []) → ⊥ }
+    ensures several_replacement { HaveWholeNames
+        (many (short 0xFFFD) (codes "1" ∷ []) ∷ []) → ⊥ }
+    ensures long { HaveWholeNames
+        (option (long (codes "x")) None ∷ option (long (codes "out")) (Some (codes "f")) ∷ option
+        (long (codes "exclude")) None ∷ many (long (codes "cmd")) (codes "a" ∷ []) ∷ []) }
+    ensures long_of_two_bytes { HaveWholeNames (option (long (0xC2 ∷ 0xB5 ∷ [])) None ∷ []) }
+    ensures empty { HaveWholeNames (option (long []) (Some []) ∷ []) }
+    ensures long_replacement { HaveWholeNames
+        (option (long (0x61 ∷ 0xEF ∷ 0xBF ∷ 0xBD ∷ [])) None ∷ []) → ⊥ }
+    ensures damaged { HaveWholeNames (option (long (0x61 ∷ 0xFF ∷ [])) None ∷ []) → ⊥ }
+    ensures several_damaged { HaveWholeNames (many (long (0xFF ∷ [])) (codes "a" ∷ []) ∷ []) → ⊥ }
+    ensures not_the_first { HaveWholeNames
+        (option (short 0x78) None ∷ positional (codes "f") ∷ option (short 0xFFFD) None ∷ []) → ⊥ }
+    ensures damage_elsewhere { HaveWholeNames
+        (positional (0xFF ∷ []) ∷ option (short 0x6F) (Some (0xFF ∷ [])) ∷ many (short 0x64)
+        ((0xEF ∷ 0xBF ∷ 0xBD ∷ []) ∷ []) ∷ []) }
+{}
+
+// What may be written for a whole line, and what may not.
+fn whole_lines_have_these_texts()
+    ensures items { WholeLineText (one_value (codes "o") (codes "out" ∷ [])) true
+        (codes "-ox" ∷ codes "f" ∷ [])
+        (codes "[Short \"o\" = \"x\", Value \"f\"]") }
+    ensures no_words { WholeLineText (one_value (codes "o") (codes "out" ∷ [])) true []
+        (codes "[]") }
+    ensures missing_value { WholeLineText (one_value (codes "o") (codes "out" ∷ [])) true
+        (codes "-o" ∷ []) (codes "error: missing argument for option '-o'") }
+    ensures out_of_memory { WholeLineText (one_value (codes "o") (codes "out" ∷ [])) true
+        (codes "-o" ∷ []) (codes "error: out of memory") }
+    ensures no_items_of_an_error { WholeLineText (one_value (codes "o") (codes "out" ∷ [])) true
+        (codes "-o" ∷ []) (codes "[]") → ⊥ }
+    ensures no_item_left_out { WholeLineText (one_value (codes "o") (codes "out" ∷ [])) true
+        (codes "-v" ∷ []) (codes "[]") → ⊥ }
+    ensures no_other_error { WholeLineText (one_value (codes "o") (codes "out" ∷ [])) true
+        (codes "-v" ∷ []) (codes "error: missing argument") → ⊥ }
 {}
