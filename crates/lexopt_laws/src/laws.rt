@@ -47,8 +47,8 @@ pub fn pieces_are_in_a_row(bytes: &[u8])
         → pieces bytes.now ≡ first_piece bytes.now ∷ pieces (after_first_piece bytes.now) }
 {}
 
-/// Where memory is enough, each call has exactly one answer: some reply with a line after it, and
-/// no other. The rules forget no line and leave no choice.
+/// With enough memory, each call has exactly one answer: some reply with a line after it, and no
+/// other. The rules forget no line and leave no choice.
 pub fn each_call_has_one_answer()
     ensures some_answer { (call : Call) (u : UnreadLine) → IsLine u → (r : Reply) × (v : UnreadLine)
         × StepWithMemory call u r v }
@@ -62,8 +62,8 @@ pub fn each_call_has_one_answer()
         → ¬ IsAmong replies no_memory → ¬ IsAmong others no_memory → (replies ≡ others) × (v ≡ w) }
 {}
 
-/// A call that is refused memory leaves the line as it was, and stands in place of a long option or
-/// of an error that names an option. So some calls are never refused.
+/// A call that runs out of memory leaves the line as it was, and does so only in place of a long
+/// option or of an error that names an option. So some calls never do.
 pub fn some_calls_are_never_refused()
     ensures only { (call : Call) (u v : UnreadLine) → Step call u no_memory v → (v ≡ u)
         × ((r : Reply) × (w : UnreadLine) × StepWithMemory call u r w
@@ -80,8 +80,8 @@ pub fn some_calls_are_never_refused()
         → ⊥ }
 {}
 
-/// A tail stands only with a last option and never after the separator: so it is at the start, and
-/// so it stays, whatever is called, and also where memory runs out.
+/// There is a tail only with a last option and never after the separator: so it is at the start,
+/// and so it stays, whatever is called, and even if memory runs out.
 pub fn lines_stay_lines()
     ensures start { (words : List (List ℕ)) → IsLine (fresh words) }
     ensures step { (call : Call) (u v : UnreadLine) (r : Reply) → IsLine u → Step call u r v
@@ -90,7 +90,7 @@ pub fn lines_stay_lines()
         → Run u calls replies v → IsLine v }
 {}
 
-/// The words that can be values are the longest front of plain words, and no other front is.
+/// The words that can be values are the longest prefix of plain words, and no other prefix is.
 pub fn plain_words_are_the_longest_front()
     ensures test { (ended : Bool) (w : List ℕ) → (is_plain ended w ≡ true → IsPlain ended w)
         × (IsPlain ended w → is_plain ended w ≡ true) }
@@ -100,7 +100,7 @@ pub fn plain_words_are_the_longest_front()
         → IsPlainFront ended words front after → plain_front ended words ≡ front }
 {}
 
-/// Items that are asked of a view one by one are what the call answers that asks so many; where
+/// Items that are asked of a view one by one are what the call answers that asks for so many; if
 /// fewer came, all came; what comes is the first of what is left; and once none came, none comes
 /// and nothing changes.
 pub fn items_make_the_call()
@@ -122,9 +122,9 @@ pub fn items_make_the_call()
         → WordItems n u came v → StepWithMemory (try_raw n) u (items came) v }
 {}
 
-/// `try_raw_args` gives no view exactly where `optional_value` gives a value; after its refusal
-/// `raw_args` succeeds; a view that was not asked changes nothing; `values` succeeds exactly where
-/// a value is pending or the next word is normal, and its view then gives an item when first asked.
+/// `try_raw_args` gives no view exactly if `optional_value` gives a value; after its refusal
+/// `raw_args` succeeds; a view that was not asked changes nothing; `values` succeeds exactly if a
+/// value is pending or the next word is normal, and its view then gives an item when first asked.
 pub fn views_agree()
     ensures busy { (n : ℕ) (u v : UnreadLine) → StepWithMemory (try_raw n) u busy v
         → (value : List ℕ)
@@ -144,7 +144,7 @@ pub fn views_agree()
         → ValueItem going_on u None v now → ⊥ }
 {}
 
-/// Whatever is called, under either setting, and also where memory runs out: each byte is in one
+/// Whatever is called, under either setting, and even if memory runs out: each byte is in one
 /// segment or still unread, in order; what the replies hand out is what the segments show; the
 /// words left are a suffix.
 pub fn no_byte_is_lost()
@@ -165,7 +165,7 @@ pub fn no_byte_is_lost()
         → (gone : List (List ℕ)) × (u.words ≡ gone ++ v.words) }
 {}
 
-/// Some front of a list of calls is a part of it, also with some items of the next call, and never
+/// Some prefix of a list of calls is a part of it, even with some items of the next call, but never
 /// with more items than it asks for; and the words that a part leaves are a suffix.
 pub fn calls_cut_short_are_a_part()
     ensures front { (u v : UnreadLine) (calls more : List Call) (replies : List Reply)
@@ -211,9 +211,9 @@ pub fn clusters_are_read_by_pieces()
     ensures as_many { (bytes : List ℕ) → length (lossy_characters bytes) ≡ length (pieces bytes) }
 {}
 
-/// A whole line read by a table. A reading that comes to the end says what the words show. Where
-/// words show something, there is a reading that says it, and every reading comes to the end and
-/// says it: so none ends in an error.
+/// A whole line read by a table. A reading that comes to the end says what the words show. If words
+/// show something, there is a reading that says it, and every reading comes to the end and says it:
+/// so none ends in an error.
 pub fn readings_say_what_words_show()
     ensures said { (t : Table) (short_equals : Bool) (words : List (List ℕ)) (l : List Item)
         → IsReading t (start short_equals words) end l → Shows t short_equals words l }
@@ -231,8 +231,7 @@ pub fn words_show_one_list()
         → Shows t short_equals words l → Shows t short_equals words m → l ≡ m }
 {}
 
-/// What words spell they show; and what they show they spell, where no option has U+FFFD in its
-/// name.
+/// What words spell they show; and what they show they spell, if no option has U+FFFD in its name.
 pub fn whole_names_are_spelled()
     ensures shows { (t : Table) (short_equals : Bool) (words : List (List ℕ)) (l : List Item)
         → Spells t short_equals words l → Shows t short_equals words l }
@@ -276,7 +275,7 @@ pub fn tables_compute_the_answer()
         × (spelled t short_equals l ≡ Err f → HasFault t short_equals l f) }
 {}
 
-/// Items are spelled, where some words spell them; else one item is at fault, and no other: those
+/// Items are spelled, if some words spell them; otherwise one item is at fault, and no other: those
 /// before it can be spelled, and with it they cannot. What some words show, damage let in, can be
 /// spelled.
 pub fn items_are_spelled_or_one_is_at_fault()
@@ -294,17 +293,17 @@ pub fn items_are_spelled_or_one_is_at_fault()
         → IsAtFault t short_equals l i → Spells t short_equals words l → ⊥ }
 {}
 
-/// Where the same words spell the items under either setting, the answer is the same under either.
+/// If the same words spell the items under either setting, the answer is the same under either.
 pub fn both_settings_have_one_form()
     ensures { (t : Table) (words : List (List ℕ)) (l : List Item) → Spells t true words l
         → Spells t false words l
         → (others : List (List ℕ)) × SpelledAs t true l others × SpelledAs t false l others }
 {}
 
-/// What the reason says of an item at fault: it is of the item, and then no line has that item; or
-/// of its place, and then a line of two can be spelled, any flag of one character but `-` and right
-/// after it that item. Where the reason is the separator, no option at all can be spelled in its
-/// place.
+/// What the reason says about an item at fault: it is about the item, and then no line has that
+/// item; or about its place, and then a line of two can be spelled, any flag of one character but
+/// `-` and right after it that item. If the reason is the separator, no option at all can be
+/// spelled in its place.
 pub fn reasons_are_of_the_item_or_of_its_place()
     ensures item { (t : Table) (short_equals : Bool) (l : List Item) (f : Fault) (it : Item)
         (others : List Item) → HasFault t short_equals l f
