@@ -149,7 +149,6 @@ WORKLOADS = [
         10_000,
         after(b"-x", [b"value"]),
         work="items",
-        bounds={"items": (1.05, OF_EMPTY_WORDS)},
     ),
     Workload("{size} words, `-x=a` and a positional in turn", 10_000, repeated([b"-x=a", b"b"]), work="items"),
 ]
