@@ -2,8 +2,8 @@
 //! `example_build [-v].. [--color|--no-color] COMMAND [ARGUMENT]..`. The commands are
 //! `build [-j N|--jobs=N] [-f NAME|--feature=NAME].. [TARGET]..` and `touch [--by=SECONDS] FILE..`.
 //!
-//! It prints what it would do. The variable `BUILD_JOBS` of the environment says how many jobs there
-//! are if no option does. A word may be of any bytes.
+//! It prints what it would do. If no option says how many jobs there are, the variable `BUILD_JOBS`
+//! of the environment does. A word may be of any bytes.
 //!
 //! The exit status is 0, or 2 where the command line, or memory to read it, was refused, or 1 where
 //! a line could not be printed; then standard error says why.
@@ -19,18 +19,18 @@ use std::process::ExitCode;
 
 const HELP: &str = "Usage: example_build [OPTION].. COMMAND [ARGUMENT]..
 
-  -v, --verbose     say more; more than one says even more
-      --color       colour what is printed, as is usual
+  -v, --verbose     say more; repeat it for even more
+      --color       colour what is printed (default)
       --no-color    do not colour it
-  -h, --help        print this and end
+  -h, --help        print this help and exit
 
 build [OPTION].. [TARGET]..
-  -j, --jobs=N      so many jobs at a time, from 1 to 256; else the variable BUILD_JOBS says it
+  -j, --jobs=N      run N jobs at a time, 1 to 256 (default: BUILD_JOBS, or 1)
   -f, --feature=NAME
                     with this feature; there may be several
 
 touch [OPTION].. FILE..
-      --by=SECONDS  move the time of the files, back where this is less than 0";
+      --by=SECONDS  move the time of the files, back if this is less than 0";
 
 // The options that each command takes, before and after its name.
 #[derive(Clone, Copy, Debug)]
@@ -75,27 +75,32 @@ fn jobs_of(text: &str) -> anyhow::Result<u32> {
     }
 }
 
-// The number of jobs where no option says it.
+// The number of jobs if no option says it.
 fn default_jobs(rt: &(impl Env + AllocGlobal)) -> Result<u32, Error> {
-    match env::var(rt, "BUILD_JOBS") {
-        Ok(text) => OsString::from_string(text).parse_with(jobs_of),
-        Err(VarError::OutOfMemory) => Err(Error::OutOfMemory),
-        Err(_) => Ok(1),
+    let text = match env::var(rt, "BUILD_JOBS") {
+        Ok(text) => text,
+        Err(VarError::NotPresent) => return Ok(1),
+        Err(VarError::NotUnicode) => return Err(Error::from("BUILD_JOBS is not UTF-8")),
+        Err(VarError::OutOfMemory) => return Err(Error::OutOfMemory),
+    };
+    match jobs_of(&text) {
+        Ok(jobs) => Ok(jobs),
+        Err(_) => Err(Error::from("BUILD_JOBS: expected a number from 1 to 256")),
     }
 }
 
 fn read_build(
-    alloc: Global,
+    rt: &(impl Env + AllocGlobal),
     parser: &mut Parser,
     general: &mut General,
-    default_jobs: u32,
 ) -> Result<Request, Error> {
-    let mut jobs = default_jobs;
+    let alloc = rt.alloc();
+    let mut jobs = None;
     let mut features = Vec::new(alloc);
     let mut targets = Vec::new(alloc);
     for _ in 0..u64::MAX {
         match parser.next()? {
-            Some(Short('j') | Long("jobs")) => jobs = parser.value()?.parse_with(jobs_of)?,
+            Some(Short('j') | Long("jobs")) => jobs = Some(parser.value()?.parse_with(jobs_of)?),
             Some(Short('f') | Long("feature")) => features.push(parser.value()?)?,
             Some(Short('h') | Long("help")) => return Ok(Request::Help),
             Some(Value(target)) => targets.push(target)?,
@@ -103,6 +108,10 @@ fn read_build(
             None => break,
         }
     }
+    let jobs = match jobs {
+        Some(jobs) => jobs,
+        None => default_jobs(rt)?,
+    };
     Ok(Request::Build {
         jobs,
         features,
@@ -131,17 +140,17 @@ fn read_touch(alloc: Global, parser: &mut Parser, general: &mut General) -> Resu
 
 // The first positional argument is the command, which reads the rest of the line.
 fn read_request(
-    alloc: Global,
+    rt: &(impl Env + AllocGlobal),
     parser: &mut Parser,
     general: &mut General,
-    default_jobs: u32,
 ) -> Result<Request, Error> {
+    let alloc = rt.alloc();
     for _ in 0..u64::MAX {
         match parser.next()? {
             Some(Short('h') | Long("help")) => return Ok(Request::Help),
             Some(Value(command)) => {
                 return match command.as_bytes() {
-                    b"build" => read_build(alloc, parser, general, default_jobs),
+                    b"build" => read_build(rt, parser, general),
                     b"touch" => read_touch(alloc, parser, general),
                     _ => Err(Value(command).unexpected(alloc)),
                 };
@@ -154,9 +163,8 @@ fn read_request(
 }
 
 fn own_request(rt: &(impl Env + AllocGlobal), general: &mut General) -> Result<Request, Error> {
-    let jobs = default_jobs(rt)?;
     let mut parser = Parser::from_env_os(rt, rt.alloc())?;
-    read_request(rt.alloc(), &mut parser, general, jobs)
+    read_request(rt, &mut parser, general)
 }
 
 fn main(rt: HostRuntime) -> ExitCode {

@@ -157,7 +157,7 @@ impl Parser {
     /// The words come as text, by `std::env::args`. If one is not UTF-8, as a file name may be, the
     /// error is a `Custom` one that says `arguments unavailable`. So is any other failure of that
     /// call, except that running out of memory is `OutOfMemory`. A program that takes file names
-    /// calls `from_env_os`.
+    /// calls `from_env_os`. Only tests show which words these are.
     pub fn from_env<R: Env + AllocGlobal>(rt: &R, alloc: Global) -> Result<Parser, Error>
         ensures ok { IfOk result (λ parser. (words : List (List ℕ)) × (parser ≡ invoked words)) }
         ensures err { IfErr result (λ e. (e ≡ Error.OutOfMemory)
@@ -173,7 +173,8 @@ impl Parser {
     /// A parser of the words that the program was called with, of any bytes and any length, of
     /// which none is read. The first is the binary name.
     ///
-    /// They are the words that `os_string::arguments` gives. The only error is `OutOfMemory`.
+    /// They are the words that `os_string::arguments` gives, and only tests show which these are.
+    /// The only error is `OutOfMemory`.
     pub fn from_env_os<R: Env>(rt: &R, alloc: Global) -> Result<Parser, Error>
         ensures ok { IfOk result (λ parser. (words : List (List ℕ)) × (parser ≡ invoked words)) }
         ensures err { IfErr result (λ e. e ≡ Error.OutOfMemory) }
@@ -182,9 +183,9 @@ impl Parser {
         Ok(Parser::invoked(alloc, words)?)
     }
 
-    /// The binary name that `from_iter` and `from_env` keep: the first word as text, in which each
-    /// damaged piece is one U+FFFD. `None` if there was no word, and after `from_args`. No call
-    /// changes it.
+    /// The binary name that `from_iter`, `from_env` and `from_env_os` keep: the first word as text,
+    /// in which each damaged piece is one U+FFFD. `None` if there was no word, and after
+    /// `from_args` and `from_vec`. No call changes it.
     pub fn bin_name(&self) -> Option<&str>
         ensures { option_map (λ name. name.now) result ≡ self.now.bin_name }
     {

@@ -63,7 +63,7 @@ impl Iterator for ValuesIter<'_> {
 
     ghost remaining = { item_count (λ view. values_left (stage_of view.stage) view.parser.now) };
 
-    /// The next value. After the first `None` there is no other.
+    /// The next value. After the first `None` it gives `None` forever.
     #[inline(always)]
     fn next(&mut self) -> Option<OsString> {
         match self.stage {

@@ -1,7 +1,7 @@
 //! The words that a program was called with.
 //!
-//! They are asked for one after another, and the room for a word grows until the word fits, so no
-//! length is a limit.
+//! They are asked for one after another, and the room for a word grows until the word fits, so
+//! there is no limit on its length.
 ghost use Rattle.std.specs.Prelude.{◌≡◌, ℕ, List, None, Option, Some, Err, IfOk, take};
 ghost use Rattle.std.specs.Io.{WritesAtMost};
 ghost use Rattle.lexopt_words.specs.Answered.{AreAnswered};

@@ -33,7 +33,8 @@ pub trait ValueExt: private::Sealed {
     /// What the function makes of the text of the word. It is called once if the word is UTF-8, and
     /// otherwise not at all.
     ///
-    /// Errors: those of `parse`. The cause is the error that the function returned.
+    /// Errors: those of `parse`. The cause is what `anyhow` keeps of the function's error, at most
+    /// 120 bytes of its text.
     fn parse_with<F, T, E>(&self, func: F) -> Result<T, Error>
     where
         F: FnOnce(&str) -> Result<T, E> + Drop,
