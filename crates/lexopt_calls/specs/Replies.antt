@@ -58,8 +58,8 @@ TakesThis wanted u None after = (after ≡ u)
 TakesThis wanted u (Some word) after = (word ≡ wanted) × WordItem u (Some word) after
 
 -- Take a line that begins with a cluster, where `short_equals` is false or no `=` stands after the
--- first byte of the cluster. If the calls are `next`, once for each piece, the replies are the lossy
--- characters, so none of them is `no_memory`, and the word is gone.
+-- first byte of the cluster. If the calls are `next`, once for each piece, the replies are its
+-- lossy characters, so none of them is `no_memory`, and the word is gone.
 abbrev pub ReadsPieces : UnreadLine → List runs.Call → List steps.Reply → UnreadLine → Type 0
 ReadsPieces u calls replies v =
     (b : ℕ) (bs : List ℕ) (words : List (List ℕ)) → u.tail ≡ no_tail → u.ended ≡ false

@@ -4,7 +4,8 @@ ghost use Rattle.std.specs.Prelude.{◌≡◌, ◌⊎◌, ◌+◌, ◌++◌, ◌
 ghost use Rattle.std.specs.Prelude.{IfErr, OnOk, length, map, codes, string_bytes};
 ghost use Rattle.std.specs.Io.KnownBytes.{Appends, Consumes};
 ghost use Rattle.lexopt_line_spec.specs.Script.{WholeLineText, bad_line, bracketed, item_text};
-ghost use Rattle.lexopt_line_spec.specs.Script.{most_bytes, reply_text, short_equals_after, with_newline};
+ghost use Rattle.lexopt_line_spec.specs.Script.{most_bytes, reply_text, short_equals_after};
+ghost use Rattle.lexopt_line_spec.specs.Script.{with_newline};
 ghost use Rattle.lexopt_spec.specs.UnreadLine.{fresh};
 ghost use Rattle.lexopt_words.specs.Message.{message};
 ghost use Rattle.lexopt_items.specs.Items.{item_view, table_view};

@@ -331,7 +331,7 @@ fn answers_words(alloc: Global, words: &[OsString]) -> Result<Option<bool>, Allo
     Ok((answer?.as_slice() == words).then_some(refused))
 }
 
-// Whether `from_env_os` is refused memory; asked again where it was, it makes a parser of the words.
+// Whether `from_env_os` is refused memory. Asked again then, it makes a parser of the words.
 fn reads_words(alloc: Global, words: &[OsString]) -> Result<Option<bool>, Error> {
     let environment = Arguments { words };
     let mut made = Parser::from_env_os(&environment, alloc);

@@ -120,8 +120,8 @@ fn many_words(rt: HostRuntime) -> Result<(), Fail> {
     Ok(())
 }
 
-// Whether the words after the name are read as on any line: an option, with damage as its value, and
-// damage as a word.
+// Whether the words after the name are read as on any line: an option, with damage as its value,
+// and damage as a word.
 fn reads_a_line(parser: &mut Parser) -> Result<bool, Error> {
     Ok(
         reads_short(parser, 'x')?
