@@ -1,6 +1,5 @@
 -- What a view gives, and what a parser ends as where none is lent.
-use Rattle.std.specs.Prelude.{◌≡◌, ℕ, Bool, true, false, ◌⊎◌, List, [], ◌∷◌, Option, Some, None}
-use Rattle.std.specs.Prelude.{Result, IfErr}
+use Rattle.std.specs.Prelude.{◌≡◌, ℕ, Bool, List, Option, Result, IfErr}
 use Rattle.std.specs.Borrow.{Fml, MutBor, RestsIfErr, RestsIfNone}
 use Rattle.lexopt_spec.specs.UnreadLine.{UnreadLine}
 use Rattle.lexopt_spec.specs.Runs.{Step, values, raw, raw_if}
@@ -55,11 +54,6 @@ abbrev pub RestsIfBusy : MutBor UnreadLine → Option RawArgs → Fml
 RestsIfBusy parser result =
     RestsIfNone the_row parser (λ view. view.parser.ghost_name) result (λ after. after ≡ parser.now)
 
--- the next word is taken where the answer about it is true; with no word nothing is asked
-abbrev pub TakesIf : (OsStr → Bool → Type 0) → UnreadLine → Option (List ℕ) → UnreadLine → Type 0
-TakesIf answers u None after =
-    (after ≡ u) × ((u.words ≡ [])
-    ⊎ ((word : OsStr) × (others : List (List ℕ)) × (u.words ≡ word.bytes.now ∷ others)
-    × answers word false))
-TakesIf answers u (Some taken) after =
-    WordItem u (Some taken) after × ((word : OsStr) × (word.bytes.now ≡ taken) × answers word true)
+-- what a closure may answer about a word, as these pairs of a word and an answer say
+abbrev pub Answered : (OsStr → Bool → Type 0) → List ℕ → Bool → Type 0
+Answered post bytes answer = (word : OsStr) × (word.bytes.now ≡ bytes) × post word answer

@@ -1,21 +1,23 @@
 //! Worked examples of calls: what they answer, what becomes of each byte, and what is left where
 //! they are cut short.
-ghost use Rattle.std.specs.Prelude.{◌≡◌, [], ◌∷◌, true, false, Some, None, codes};
+ghost use Rattle.std.specs.Prelude.{◌≡◌, [], ◌∷◌, Bool, true, false, Some, None, codes};
 ghost use Rattle.lexopt_spec.specs.Account.{damage, given, mark};
-ghost use Rattle.lexopt_line_spec.specs.Bound.{bound, replies_count};
+ghost use Rattle.lexopt_line_spec.specs.Bound.{bound, next_replies, replies_count};
 ghost use Rattle.lexopt_spec.specs.Runs.{AccountedRun, Part, Run, next, optional, raw, raw_if};
 ghost use Rattle.lexopt_spec.specs.Runs.{set_short_equals, try_raw, up_to, value, values};
 ghost use Rattle.lexopt_spec.specs.Steps.{busy, done, end, items, long, maybe, missing, no_memory};
 ghost use Rattle.lexopt_spec.specs.Steps.{positional, short, taken, unexpected};
 ghost use Rattle.lexopt_spec.specs.UnreadLine.{UnreadLine, fresh, joined, long_option, no_tail};
 ghost use Rattle.lexopt_spec.specs.UnreadLine.{rest, short_option};
-ghost use Rattle.lexopt_spec.specs.Views.{ValueItem, ValueItems, WordItems, at_end, going_on};
+ghost use Rattle.lexopt_spec.specs.Views.{TakesIf, ValueItem, ValueItems, WordItems, at_end};
+ghost use Rattle.lexopt_spec.specs.Views.{going_on};
 
 #[test]
 fn calls_answer_the_worked_examples() {
     calls_have_these_replies();
     views_have_these_replies();
     items_come_one_by_one();
+    words_are_taken_on_a_condition();
     bytes_are_accounted_for();
     calls_are_cut_short();
     fewer_items_are_asked();
@@ -102,6 +104,22 @@ fn items_come_one_by_one()
         (codes "b" ∷ []) (record (fresh (codes "c" ∷ [])) { last = short_option 0x61 }) at_end }
     ensures words { WordItems 3 (fresh (codes "a" ∷ codes "--" ∷ [])) (codes "a" ∷ codes "--" ∷ [])
         (fresh []) }
+{}
+
+// On the words `a b`, and on none: the next word is taken exactly if the answer about it is `true`.
+fn words_are_taken_on_a_condition()
+    ensures taken { TakesIf (λ word answer. answer ≡ true) (fresh (codes "a" ∷ codes "b" ∷ []))
+        (Some (codes "a")) (fresh (codes "b" ∷ [])) }
+    ensures left { TakesIf (λ word answer. answer ≡ false) (fresh (codes "a" ∷ codes "b" ∷ [])) None
+        (fresh (codes "a" ∷ codes "b" ∷ [])) }
+    ensures nothing_asked { (answer : Bool) → TakesIf (λ word said. said ≡ answer) (fresh []) None
+        (fresh []) }
+    ensures not_left { TakesIf (λ word answer. answer ≡ true) (fresh (codes "a" ∷ codes "b" ∷ []))
+        None (fresh (codes "a" ∷ codes "b" ∷ [])) → ⊥ }
+    ensures not_taken { TakesIf (λ word answer. answer ≡ false)
+        (fresh (codes "a" ∷ codes "b" ∷ [])) (Some (codes "a")) (fresh (codes "b" ∷ [])) → ⊥ }
+    ensures no_other_word { TakesIf (λ word answer. answer ≡ true)
+        (fresh (codes "a" ∷ codes "b" ∷ [])) (Some (codes "b")) (fresh (codes "a" ∷ [])) → ⊥ }
 {}
 
 // A run with these replies has these segments.
@@ -200,4 +218,9 @@ fn replies_are_counted()
         (items (codes "b" ∷ codes "c" ∷ []) ∷ items [] ∷ maybe None ∷ maybe (Some []) ∷ taken [] ∷
         positional [] ∷ []) ≡ 5 }
     ensures nothing_given { replies_count (end ∷ busy ∷ done ∷ missing None ∷ no_memory ∷ []) ≡ 0 }
+    ensures replies_to_next { next_replies (next ∷ value ∷ next ∷ next ∷ optional ∷ next ∷ [])
+        (short 0x61 ∷ taken (codes "b") ∷ no_memory ∷ positional (codes "c") ∷ maybe None ∷ end ∷
+        [])
+        ≡ short 0x61 ∷ positional (codes "c") ∷ end ∷ [] }
+    ensures no_reply_to_next { next_replies (value ∷ next ∷ []) (no_memory ∷ no_memory ∷ []) ≡ [] }
 {}

@@ -3,10 +3,10 @@ ghost use Rattle.std.specs.Prelude.{◌≡◌, ◌≢◌, ◌⊎◌, ◌<◌, �
 ghost use Rattle.std.specs.Prelude.{false, List, Option, None, Some, Ok, Err, drop, length, map};
 ghost use Rattle.std.specs.Prelude.{take};
 ghost use Rattle.std.specs.Char.{IsScalar};
-ghost use Rattle.std.specs.List.{All, Contains, IsAmong, cons_option, flat_map};
+ghost use Rattle.std.specs.List.{Contains, IsAmong, cons_option, flat_map};
 ghost use Rattle.lexopt_spec.specs.Account.{NamesOption, bytes_of, flat, given_of};
 ghost use Rattle.lexopt_spec.specs.Account.{bytes_handed_out, handed_items, shown_of};
-ghost use Rattle.lexopt_line_spec.specs.Bound.{bound, replies_count};
+ghost use Rattle.lexopt_line_spec.specs.Bound.{bound, next_replies, replies_count};
 ghost use Rattle.lexopt_spec.specs.Pieces.{IsFirstPiece, after_first_piece, first_piece};
 ghost use Rattle.lexopt_spec.specs.Pieces.{lossy_characters, pieces};
 ghost use Rattle.lexopt_spec.specs.Runs.{StepWithMemory, Call, Part, Run, account};
@@ -17,7 +17,8 @@ ghost use Rattle.lexopt_spec.specs.Runs.{try_raw, up_to, values};
 ghost use Rattle.lexopt_spec.specs.Steps.{Reply, busy, end, items, long, maybe, missing, no_memory};
 ghost use Rattle.lexopt_spec.specs.Steps.{short, unexpected};
 ghost use Rattle.lexopt_spec.specs.UnreadLine.{IsLine, IsNormal, IsPlain, IsPlainFront, UnreadLine};
-ghost use Rattle.lexopt_spec.specs.UnreadLine.{dash, equals, fresh, is_plain, no_tail, pending};
+ghost use Rattle.lexopt_spec.specs.UnreadLine.{dash, equals, fresh, invoked, is_plain, no_tail};
+ghost use Rattle.lexopt_spec.specs.UnreadLine.{pending};
 ghost use Rattle.lexopt_line_spec.specs.Table as table;
 ghost use Rattle.lexopt_line_spec.specs.Table.{Item, Table, flag, kind};
 ghost use Rattle.lexopt_line_spec.specs.Readings.{IsReading, start};
@@ -27,8 +28,9 @@ ghost use Rattle.lexopt_line_spec.specs.Speller.{HasFault, SpelledAs, is_positio
 ghost use Rattle.lexopt_line_spec.specs.SpellerTables.{spelled};
 ghost use Rattle.lexopt_laws.specs.OneValueSpelling.{OneValueShows, OneValueSpells, OneValueTable};
 ghost use Rattle.lexopt_laws.specs.OneValueSpelling.{widened};
-ghost use Rattle.lexopt_spec.specs.Views.{Stage, ValueItem, ValueItems, WordItems, at_end};
-ghost use Rattle.lexopt_spec.specs.Views.{available, going_on, plain_front, values_left};
+ghost use Rattle.lexopt_spec.specs.Views.{Stage, TakesIf, ValueItem, ValueItems, WordItem};
+ghost use Rattle.lexopt_spec.specs.Views.{WordItems, at_end, available, going_on, plain_front};
+ghost use Rattle.lexopt_spec.specs.Views.{values_left};
 
 /// The first piece that the definitions compute is the one that table 3-7 of the Unicode Standard,
 /// read over all fronts of the bytes, allows: that piece and no other.
@@ -81,13 +83,23 @@ pub fn some_calls_are_never_refused()
 {}
 
 /// There is a tail only with a last option and never after the separator: so it is at the start,
-/// and so it stays, whatever is called, and even if memory runs out.
+/// and so it stays, whatever is called, whatever is asked of a view, one item at a time, and even
+/// if memory runs out.
 pub fn lines_stay_lines()
-    ensures start { (words : List (List ℕ)) → IsLine (fresh words) }
+    ensures start { (words : List (List ℕ)) (on : Bool)
+        → IsLine (record (fresh words) { short_equals = on }) }
+    ensures invoked { (words : List (List ℕ)) (on : Bool)
+        → IsLine (record (invoked words) { short_equals = on }) }
     ensures step { (call : Call) (u v : UnreadLine) (r : Reply) → IsLine u → Step call u r v
         → IsLine v }
     ensures run { (u v : UnreadLine) (calls : List Call) (replies : List Reply) → IsLine u
         → Run u calls replies v → IsLine v }
+    ensures value_item { (stage now : Stage) (u v : UnreadLine) (item : Option (List ℕ)) → IsLine u
+        → ValueItem stage u item v now → IsLine v }
+    ensures word_item { (u v : UnreadLine) (item : Option (List ℕ)) → IsLine u → WordItem u item v
+        → IsLine v }
+    ensures next_if { (answer : Bool) (u v : UnreadLine) (item : Option (List ℕ)) → IsLine u
+        → TakesIf (λ word said. said ≡ answer) u item v → IsLine v }
 {}
 
 /// The words that can be values are the longest prefix of plain words, and no other prefix is.
@@ -188,14 +200,16 @@ pub fn calls_cut_short_are_a_part()
         × (u.words ≡ gone ++ v.words) }
 {}
 
-/// What a run answers is bounded by the words: so `next` comes to the end, unless memory runs out.
+/// What a run answers is bounded by the words. So `next` comes to the end, whatever is called
+/// between: of more calls of it than the bound, not counting those that run out of memory, one is
+/// answered so.
 pub fn replies_are_bounded()
     ensures bounded { (u v : UnreadLine) (calls : List Call) (replies : List Reply)
         → Run u calls replies v
         → replies_count replies + bound v ≤ bound u }
     ensures ends { (u v : UnreadLine) (calls : List Call) (replies : List Reply)
-        → Run u calls replies v → All (λ call. call ≡ next) calls
-        → bound u < length calls → IsAmong replies no_memory ⊎ IsAmong replies end }
+        → Run u calls replies v → bound u < length (next_replies calls replies)
+        → IsAmong (next_replies calls replies) end }
 {}
 
 /// A cluster with no `=` between an option and its value, read to its end by one call of `next` for

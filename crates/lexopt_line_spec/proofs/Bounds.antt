@@ -1,7 +1,7 @@
 -- How many replies a line can give.
 use Rattle.std.proofs.Common.{◌≡◌, ◌≢◌, ◌⊎◌, ℕ, suc, ◌+◌, ◌<◌, ◌≤◌, Bool, true, List, [], ◌∷◌, ◌++◌, length, Some, None, refl, sym, ap, subst, ◌∙◌, inl, inr, ⊎_elim, arith, length-drop}
 use Rattle.std.proofs.lemmas.List.Sums.{sum_by-cons, sum_by-append}
-use Rattle.std.specs.List.{sum_by, All, IsAmong}
+use Rattle.std.specs.List.{sum_by, IsAmong}
 use Rattle.bstr.specs.Utf8.{decoded}
 use Rattle.bstr.proofs.lemmas.PieceLemmas.{piece-bounds}
 use Rattle.lexopt_spec.specs.Pieces.{after_first_piece}
@@ -9,7 +9,7 @@ use Rattle.lexopt_spec.specs.UnreadLine.{dash, Tail, no_tail, joined, rest, rest
 use Rattle.lexopt_spec.specs.Steps.{Reply, taken, end, no_memory, Next, Value, IsLongOption, ReadsPositional, no_word_left, word_left, ReadsWord, no_word, reads_separator, reads_long, reads_cluster, reads_positional, NextStep, joined_value, equals_value, next_in_cluster, after_separator, next_word}
 use Rattle.lexopt_spec.specs.Views.{TakesWords, TakesWordIf}
 use Rattle.lexopt_spec.specs.Account.{handed_items}
-use Rattle.lexopt_line_spec.specs.Bound.{word_bound, tail_bound, bound, reply_count, replies_count}
+use Rattle.lexopt_line_spec.specs.Bound.{word_bound, tail_bound, bound, reply_count, replies_count, next_replies}
 use Rattle.lexopt_spec.specs.Runs.{Call, next, value, optional, values, raw, try_raw, raw_if, set_short_equals, StepWithMemory, Step, Run}
 use Rattle.lexopt_line_spec.proofs.HandedItems.{HandedItems, hands_nothing, hands_words, hands_pending, value_hands, optional_hands, values_hands, raw_hands, words_hands, word_if_hands, try_raw_hands}
 use Rattle.lexopt_line_spec.proofs.NoOption.{NoOption, no_option_count, value_no_option, optional_no_option, values_no_option, words_no_option, word_if_no_option, raw_no_option, try_raw_no_option}
@@ -157,32 +157,47 @@ among_more r s rs is = (suc is.0, (let below = is.1.0 in omega arith, is.1.1))
 among_first : (r s : Reply) (rs : List Reply) → r ≡ s → IsAmong (r ∷ rs) s
 among_first r s rs is = (0, (omega arith, sym is))
 
-abbrev Ends : List Reply → ℕ → Type 0
-Ends replies n = (IsAmong replies no_memory ⊎ IsAmong replies end) ⊎ (replies_count replies ≡ n)
+-- the replies to `next` hold the end, or are no more than the replies count
+abbrev Ends : List Call → List Reply → Type 0
+Ends calls replies = IsAmong (next_replies calls replies) end ⊎ (length (next_replies calls replies) ≤ replies_count replies)
 
-ends_first : (u : UnreadLine) (r : Reply) (v : UnreadLine) (rs : List Reply) (n : ℕ) → Step next u r v → replies_count rs ≡ n → Ends (r ∷ rs) (suc n)
-ends_first u r v rs n (inl step) count = ⊎_elim
-    (λ (is : r ≡ end). inl (inr (among_first r end rs is)))
-    (λ (one : reply_count r ≡ 1). let cut = sum_by-cons reply_count r rs in inr (omega arith))
-    (next_counts u r v step)
-ends_first u r v rs n (inr refused) count = inl (inl (among_first r no_memory rs refused.reply_is))
+-- a reply that is not counted here
+passed_over : (r : Reply) (rs ns : List Reply) → IsAmong ns end ⊎ (length ns ≤ replies_count rs) → IsAmong ns end ⊎ (length ns ≤ replies_count (r ∷ rs))
+passed_over r rs ns (inl found) = inl found
+passed_over r rs ns (inr few) = let cut = sum_by-cons reply_count r rs in inr (omega arith)
 
-run_counts : (u : UnreadLine) (calls : List Call) (replies : List Reply) (v : UnreadLine) → Run u calls replies v
-    → All (λ call. call ≡ next) calls → Ends replies (length calls)
-run_counts u [] [] v run all = inr refl
-run_counts u [] (r ∷ rs) v run all = absurd run
-run_counts u (c ∷ cs) [] v run all = absurd run
-run_counts u (c ∷ cs) (r ∷ rs) v run all = ⊎_elim
-    (λ found. ⊎_elim (λ none. inl (inl (among_more r no_memory rs none))) (λ at_end. inl (inr (among_more r end rs at_end))) found)
-    (λ count. ends_first u r run.0 rs (length cs) (subst (λ (x : Call). Step x u r run.0) (all 0 next (omega arith)) run.1) count)
-    (run_counts run.0 cs rs v run.2 (λ k d below. all (suc k) d (omega arith)))
+-- a reply of `next`
+counted : (r : Reply) (rs ns : List Reply) → (r ≡ end) ⊎ (reply_count r ≡ 1) → IsAmong ns end ⊎ (length ns ≤ replies_count rs)
+    → IsAmong (r ∷ ns) end ⊎ (length (r ∷ ns) ≤ replies_count (r ∷ rs))
+counted r rs ns (inl is) more = inl (among_first r end ns is)
+counted r rs ns (inr one) (inl found) = inl (among_more r end ns found)
+counted r rs ns (inr one) (inr few) = let cut = sum_by-cons reply_count r rs in inr (omega arith)
 
-pub run_ends : (u v : UnreadLine) (calls : List Call) (replies : List Reply) → Run u calls replies v → All (λ call. call ≡ next) calls
-    → bound u < length calls → IsAmong replies no_memory ⊎ IsAmong replies end
-run_ends u v calls replies run all many = ⊎_elim
+next_ends : (r : Reply) (cs : List Call) (rs : List Reply) → (r ≡ no_memory) ⊎ ((r ≡ end) ⊎ (reply_count r ≡ 1)) → Ends cs rs → Ends (next ∷ cs) (r ∷ rs)
+next_ends no_memory cs rs is more = passed_over no_memory rs (next_replies cs rs) more
+next_ends r cs rs (inl is) more = subst (λ (x : Reply). Ends (next ∷ cs) (x ∷ rs)) (sym is) (passed_over no_memory rs (next_replies cs rs) more)
+next_ends r cs rs (inr is) more = counted r rs (next_replies cs rs) is more
+
+next_found : (u : UnreadLine) (r : Reply) (v : UnreadLine) → Step next u r v → (r ≡ no_memory) ⊎ ((r ≡ end) ⊎ (reply_count r ≡ 1))
+next_found u r v (inl step) = inr (next_counts u r v step)
+next_found u r v (inr refused) = inl refused.reply_is
+
+call_ends : (c : Call) (u : UnreadLine) (r : Reply) (v : UnreadLine) (cs : List Call) (rs : List Reply) → Step c u r v → Ends cs rs → Ends (c ∷ cs) (r ∷ rs)
+call_ends next u r v cs rs step more = next_ends r cs rs (next_found u r v step) more
+call_ends c u r v cs rs step more = passed_over r rs (next_replies cs rs) more
+
+run_counts : (u : UnreadLine) (calls : List Call) (replies : List Reply) (v : UnreadLine) → Run u calls replies v → Ends calls replies
+run_counts u [] [] v run = inr (omega arith)
+run_counts u [] (r ∷ rs) v run = absurd run
+run_counts u (c ∷ cs) [] v run = absurd run
+run_counts u (c ∷ cs) (r ∷ rs) v run = call_ends c u r run.0 cs rs run.1 (run_counts run.0 cs rs v run.2)
+
+pub run_ends : (u v : UnreadLine) (calls : List Call) (replies : List Reply) → Run u calls replies v → bound u < length (next_replies calls replies)
+    → IsAmong (next_replies calls replies) end
+run_ends u v calls replies run many = ⊎_elim
     (λ found. found)
-    (λ count. let most = run_bound u calls replies v run in absurd (omega arith))
-    (run_counts u calls replies v run all)
+    (λ few. let most = run_bound u calls replies v run in absurd (omega arith))
+    (run_counts u calls replies v run)
 
 -- ---- a step that gives something takes from the bound
 

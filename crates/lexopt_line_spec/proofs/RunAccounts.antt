@@ -1,9 +1,9 @@
 -- The account of bytes of each call, and of lists of calls.
-use Rattle.std.proofs.Common.{◌≡◌, List, [], ◌∷◌, ◌++◌, flat_map, refl, sym, ap, subst, ◌∙◌, inl, inr, append_assoc}
+use Rattle.std.proofs.Common.{◌≡◌, ℕ, Bool, Option, Some, None, List, [], ◌∷◌, ◌++◌, flat_map, refl, sym, ap, subst, ◌∙◌, inl, inr, append_assoc}
 use Rattle.std.proofs.lemmas.Grind.{flat_map-append}
 use Rattle.lexopt_spec.specs.UnreadLine.{UnreadLine, IsLine}
 use Rattle.lexopt_spec.specs.Steps.{Reply}
-use Rattle.lexopt_spec.specs.Views.{TakesWords, TakesWordIf}
+use Rattle.lexopt_spec.specs.Views.{TakesWords, TakesWordIf, Stage, ValueItem, gives_pending, gives_word, stops, stopped, WordItem, TakesIf}
 use Rattle.lexopt_spec.specs.Account.{bytes_of, flat, handing, handed_items, bytes_handed_out, segment_bytes, segment_shown, shown_of}
 use Rattle.lexopt_spec.specs.Runs.{Call, next, value, optional, values, raw, try_raw, raw_if, set_short_equals, StepWithMemory, Step, Run, account_with_memory, account, segments}
 use Rattle.lexopt_line_spec.proofs.Accounts.{next_keeps, next_shown, next_suffix, IsSuffix, words_after}
@@ -114,6 +114,21 @@ line_with_memory (set_short_equals on) u r v is step = subst IsLine (sym step.af
 pub step_line : (call : Call) (u : UnreadLine) (r : Reply) (v : UnreadLine) → IsLine u → Step call u r v → IsLine v
 step_line call u r v is (inl step) = line_with_memory call u r v is step
 step_line call u r v is (inr refused) = subst IsLine (sym refused.after_is) is
+
+-- and after one item, or one word on a condition
+pub value_item_line : (stage now : Stage) (u v : UnreadLine) (item : Option (List ℕ)) → IsLine u → ValueItem stage u item v now → IsLine v
+value_item_line stage now u v item is (gives_pending x by_equals a p b after c) = subst IsLine (sym after) tt
+value_item_line stage now u v item is (gives_word w ws a p b plain c after d) = subst IsLine (sym after) is
+value_item_line stage now u v item is (stops a p b c after d) = subst IsLine (sym after) is
+value_item_line stage now u v item is (stopped a b after c) = subst IsLine (sym after) is
+
+pub word_item_line : (u v : UnreadLine) (item : Option (List ℕ)) → IsLine u → WordItem u item v → IsLine v
+word_item_line u v None is h = subst IsLine (sym h.1) is
+word_item_line u v (Some word) is h = subst IsLine (sym h.1) is
+
+pub word_if_line : (Says : List ℕ → Bool → Type 0) (u v : UnreadLine) (item : Option (List ℕ)) → IsLine u → TakesIf Says u item v → IsLine v
+word_if_line Says u v None is h = subst IsLine (sym h.0) is
+word_if_line Says u v (Some word) is h = word_item_line u v (Some word) is h.0
 
 pub run_line : (u : UnreadLine) (calls : List Call) (replies : List Reply) (v : UnreadLine) → IsLine u → Run u calls replies v → IsLine v
 run_line u [] [] v is run = subst IsLine (sym run) is

@@ -5,4 +5,4 @@ pub returns-clause-bounded : goal.returns-clause-bounded
 returns-clause-bounded c = λ u v calls replies run. run_bound u calls replies v run
 
 pub returns-clause-ends : goal.returns-clause-ends
-returns-clause-ends c = λ u v calls replies run all many. run_ends u v calls replies run all many
+returns-clause-ends c = λ u v calls replies run many. run_ends u v calls replies run many
