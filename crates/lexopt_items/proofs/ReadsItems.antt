@@ -1,5 +1,5 @@
 -- The turns of `read_items`.
-use Rattle.std.proofs.Common.{◌≡◌, ◌<◌, ◌||◌, ℕ, Bool, true, false, List, [], ◌∷◌, map, Option, Some, None, refl, sym, ap, subst, ◌∙◌, arith, inl, inr, ⊎_elim, ◌⊎◌, append-nil, string_bytes, String, Global}
+use Rattle.std.proofs.Common.{◌≡◌, ◌<◌, ◌||◌, ℕ, Bool, true, false, List, [], ◌∷◌, map, Option, Some, None, refl, sym, ap, subst, ◌∙◌, arith, inl, inr, ⊎_elim, true≢false, ◌++◌, ◌⊎◌, append-nil, string_bytes, String, Global}
 use Rattle.std.specs.List.{list_any}
 use Rattle.lexopt_spec.specs.UnreadLine.{UnreadLine}
 use Rattle.lexopt_spec.specs.Steps as steps
@@ -28,7 +28,7 @@ use Rattle.lexopt_base.proofs.Refusals.{error_said}
 use Rattle.lexopt_items.specs.declared.items.Values.{Values}
 use Rattle.lexopt_items.specs.declared.items.Values.TheVariants.{AtMostOne, All}
 use Rattle.lexopt_calls.specs.Replies.{next_view}
-use Rattle.lexopt_items.specs.Items.{ReadsItem, ReadsValues, ValuesEndBy, EndsBy, FailsWith, item_with, kind_view}
+use Rattle.lexopt_items.specs.Items.{ReadsItem, ReadsInto, ReadsValues, ValuesEndBy, EndsBy, FailsWith, item_with, kind_view}
 
 pub list_any-map : {X Y : Type 0} (f : X → Y) (p : Y → Bool) (xs : List X) → list_any p (map f xs) ≡ list_any (λ x. p (f x)) xs
 list_any-map f p [] = refl
@@ -64,7 +64,7 @@ option_falls : (u v : UnreadLine) (name : Name) → Next u (option_reply name) v
 option_falls u v (short c) step = given_falls u v (steps.short c) (λ is. let e : steps.short c ≡ steps.end = is in cc) (λ is. let e : steps.short c ≡ steps.no_memory = is in cc) step
 option_falls u v (long n) step = given_falls u v (steps.long n) (λ is. let e : steps.long n ≡ steps.end = is in cc) (λ is. let e : steps.long n ≡ steps.no_memory = is in cc) step
 
-pub positional_read : (t : Table) (u v : UnreadLine) (word : List ℕ) → Next u (steps.positional word) v → ReadsItem t u (Some (positional word)) v
+pub positional_read : (t : Table) (u v : UnreadLine) (word : List ℕ) → Next u (steps.positional word) v → ReadsItem t u (positional word) v
 positional_read t u v word step = (
   says_positional t u v word step,
   given_falls u v (steps.positional word) (λ is. let e : steps.positional word ≡ steps.end = is in cc) (λ is. let e : steps.positional word ≡ steps.no_memory = is in cc) step,
@@ -79,7 +79,7 @@ falls_on u v w name call reply step takes =
 
 -- an option, and its values
 pub option_read : (t : Table) (u v w : UnreadLine) (name : Name) (k : copies.Kind) (values : Values) → kind_view k ≡ kind t name → Next u (option_reply name) v
-    → ReadsValues k v values w → ReadsItem t u (Some (item_with name values)) w
+    → ReadsValues k v values w → ReadsItem t u (item_with name values) w
 option_read t u v w name Flag (AtMostOne None) is step reads = (
   subst (SaysUpTo t u (option name None ∷ [])) (sym reads) (says_flag t u v name (sym is) step),
   subst (λ (x : UnreadLine). bound x < bound u) (sym reads) (option_falls u v name step),
@@ -91,6 +91,18 @@ option_read t u v w name Optional (AtMostOne value) is step reads =
 option_read t u v w name Several (All values) is step reads =
     (says_several t u v w name reads.0 values.items (sym is) reads.1 step reads.2, falls_on u v w name (calls.values reads.0) (steps.items values.items) step reads.2)
 option_read t u v w name k values is step reads = absurd reads
+
+-- an item that was read joins a list
+pub joins : (t : Table) (u v : UnreadLine) (before after : List Item) (item : Item) (r : Result Bool Refusal) → ReadsItem t u item v
+    → IfOk r (λ goes_on. (goes_on ≡ true) × (after ≡ before ++ item ∷ [])) → IfOk r (λ goes_on. ReadsInto t u before goes_on v after)
+joins t u v before after item (Ok true) reads h = (item, h.1, reads)
+joins t u v before after item (Ok false) reads h = absurd (true≢false (sym h.0))
+joins t u v before after item (Err e) reads h = tt
+
+-- the list cannot grow
+pub cannot_join : (t : Table) (u : UnreadLine) (r : Result Bool Refusal) → IfErr r (λ refusal. refusal ≡ OutOfMemory) → IfErr r (EndsBy t u)
+cannot_join t u (Ok b) h = tt
+cannot_join t u (Err e) h = inl h
 
 -- ---- errors
 
@@ -123,9 +135,12 @@ is_refused t u (MissingValue o) e (inl none) is = let f : MissingValue o ≡ Out
 is_refused t u (UnexpectedValue o x) e (inl none) is = let f : UnexpectedValue o x ≡ OutOfMemory = none in cc
 is_refused t u refusal e (inr r) is = inr (_, r.0, r.1, error_said refusal e is)
 
--- the end
-pub end_read : (t : Table) (u v w : UnreadLine) (l : List Item) → SaysUpTo t u l v → Next v steps.end w → IsReading t u steps.end l
-end_read t u v w l says step = subst (IsReading t u steps.end) (append-nil l) (says steps.end [] (reads_last t v w steps.end tt step))
+-- what was read before, and then the end
+pub end_read : (t : Table) (u v w : UnreadLine) (before after : List Item) (goes_on : Bool) → goes_on ≡ false → SaysUpTo t u before v → ReadsInto t v before goes_on w after
+    → IsReading t u steps.end after
+end_read t u v w before after false is says reads =
+    subst (IsReading t u steps.end) (append-nil before ∙ sym reads.0) (says steps.end [] (reads_last t v w steps.end tt reads.1))
+end_read t u v w before after true is says reads = absurd (true≢false is)
 
 -- ---- what a step gave
 

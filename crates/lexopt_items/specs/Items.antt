@@ -1,5 +1,6 @@
 -- Tables, items and errors as contracts see them, and what one turn of `read_items` reads.
-use Rattle.std.specs.Prelude.{◌≡◌, ◌<◌, ◌⊎◌, ℕ, List, [], ◌∷◌, length, map, Option, Some, None}
+use Rattle.std.specs.Prelude.{◌≡◌, ◌<◌, ◌⊎◌, ℕ, Bool, true, false, List, [], ◌∷◌, ◌++◌, length, map}
+use Rattle.std.specs.Prelude.{Some, None}
 use Rattle.std.specs.Prelude.{string_bytes}
 use Rattle.lexopt_spec.specs.UnreadLine.{UnreadLine}
 use Rattle.lexopt_spec.specs.Steps.{Reply, Next, Value, end, taken, maybe, items}
@@ -68,10 +69,16 @@ ValuesEndBy k u refusal =
     (refusal ≡ OutOfMemory) ⊎ ((call : calls.Call) × (v : UnreadLine) × IsDue (kind_view k) call
     × Step call u (refusal_reply refusal) v)
 
--- the item that is read next, and none at the end
-abbrev pub ReadsItem : spec.Table → UnreadLine → Option spec.Item → UnreadLine → Type 0
-ReadsItem t u None v = Next u end v
-ReadsItem t u (Some item) v = SaysUpTo t u (item ∷ []) v × (bound v < bound u)
+-- this item is read next
+abbrev pub ReadsItem : spec.Table → UnreadLine → spec.Item → UnreadLine → Type 0
+ReadsItem t u item v = SaysUpTo t u (item ∷ []) v × (bound v < bound u)
+
+-- the item that is read next joins a list, and the line goes on; or it is at its end
+abbrev pub ReadsInto : spec.Table → UnreadLine → List spec.Item → Bool → UnreadLine
+    → List spec.Item → Type 0
+ReadsInto t u before true v after = (item : spec.Item) × (after ≡ before ++ item ∷ [])
+    × ReadsItem t u item v
+ReadsInto t u before false v after = (after ≡ before) × Next u end v
 
 -- out of memory, or a reading of the line ends so
 abbrev pub EndsBy : spec.Table → UnreadLine → Refusal → Type 0

@@ -1,7 +1,6 @@
 //! Whole lines, read by a table of options.
-ghost use Rattle.std.specs.Prelude.{◌≡◌, ◌⊎◌, ℕ, [], List, IfErr, IfOk, map};
+ghost use Rattle.std.specs.Prelude.{◌≡◌, ◌∷◌, ◌++◌, ◌⊎◌, ℕ, [], List, IfErr, IfOk, map, true};
 ghost use Rattle.std.specs.Prelude.{string_bytes};
-ghost use Rattle.std.specs.Option.{option_map};
 ghost use Rattle.std.specs.Result.{IsErrAnd};
 ghost use Rattle.std.specs.Fmt.{WritesOnOk};
 ghost use Rattle.lexopt_line_spec.specs.Script.{value_text};
@@ -10,7 +9,7 @@ ghost use Rattle.lexopt_line_spec.specs.Table as spec;
 ghost use Rattle.lexopt_line_spec.specs.Table.{one_value};
 ghost use Rattle.lexopt_line_spec.specs.Readings.{IsReading};
 ghost use Rattle.lexopt_base.specs.Refusals.{IsErrorOf};
-ghost use Rattle.lexopt_items.specs.Items.{EndsBy, FailsWith, ReadsItem, ReadsValues};
+ghost use Rattle.lexopt_items.specs.Items.{EndsBy, FailsWith, ReadsInto, ReadsValues};
 ghost use Rattle.lexopt_items.specs.Items.{ValuesEndBy, item_view, item_with};
 ghost use Rattle.lexopt_items.specs.Items.{table_view};
 ghost use Rattle.lexopt_items.specs.Lines.{IsAnswered, IsSpellable, LineFails, LineReads};
@@ -205,24 +204,44 @@ fn read_values(alloc: Global, parser: &mut Parser, kind: Kind) -> Result<Values,
     }
 }
 
-// The next item of a line, and none at its end.
+// Adds an item to a list, after which its line goes on.
 #[inline(always)]
-fn read_item(alloc: Global, parser: &mut Parser, table: &Table) -> Result<Option<Item>, Refusal>
-    ensures ok { IfOk result (λ item.
-        ReadsItem (table_view table.now) parser.old (option_map item_view item) parser.new) }
+fn add(items: &mut Vec<Item>, item: Item) -> Result<bool, Refusal>
+    ensures ok { IfOk result (λ goes_on. (goes_on ≡ true)
+        × (map item_view items.new.items ≡ map item_view items.old.items ++ item_view item ∷ [])) }
+    ensures err { IfErr result (λ refusal. refusal ≡ Refusal.OutOfMemory) }
+{
+    if items.push(item).is_err() {
+        return Err(Refusal::OutOfMemory);
+    }
+    Ok(true)
+}
+
+// Reads the next item of a line into a list, and says whether the line goes on. Each arm adds its
+// own item, so that an item is written in its place alone.
+#[inline(always)]
+fn read_item(
+    alloc: Global,
+    parser: &mut Parser,
+    table: &Table,
+    items: &mut Vec<Item>,
+) -> Result<bool, Refusal>
+    ensures ok { IfOk result (λ goes_on.
+        ReadsInto (table_view table.now) parser.old (map item_view items.old.items) goes_on
+        parser.new (map item_view items.new.items)) }
     ensures err { IfErr result (λ refusal. EndsBy (table_view table.now) parser.old refusal) }
 {
     match call_next(alloc, parser)? {
         NextReply::Short(option) => {
             let values = read_values(alloc, parser, kind_of_short(table, option))?;
-            Ok(Some(values.of_short(option)))
+            add(items, values.of_short(option))
         }
         NextReply::Long(name) => {
             let values = read_values(alloc, parser, kind_of_long(table, &name))?;
-            Ok(Some(values.of_long(name)))
+            add(items, values.of_long(name))
         }
-        NextReply::Value(word) => Ok(Some(Item::Positional(word))),
-        NextReply::End => Ok(None),
+        NextReply::Value(word) => add(items, Item::Positional(word)),
+        NextReply::End => Ok(false),
         NextReply::UnexpectedValue(option, value) => {
             Err(Refusal::UnexpectedValue { option, value })
         }
@@ -245,11 +264,7 @@ fn read_items_left(
     let Ok(mut items) = Vec::with_capacity(alloc, room) else {
         return Err(Refusal::OutOfMemory);
     };
-    while let Some(item) = read_item(alloc, parser, table)? {
-        if items.push(item).is_err() {
-            return Err(Refusal::OutOfMemory);
-        }
-    }
+    while read_item(alloc, parser, table, &mut items)? {}
     Ok(items)
 }
 

@@ -1,30 +1,33 @@
-use Rattle.std.proofs.Common.{◌≡◌, Some, string_bytes, subst, sym}
-use Rattle.lexopt_line_spec.specs.Table.{Item, short, long}
+use Rattle.std.proofs.Common.{◌≡◌, string_bytes, subst, sym}
+use Rattle.lexopt_line_spec.specs.Table.{Item, short, long, positional}
 use Rattle.lexopt_items.specs.Items.{ReadsItem, table_view}
 use Rattle.lexopt_calls.specs.declared.replay.NextReply.TheVariants as next
-use Rattle.lexopt_items.proofs.ReadsItems.{gave, option_read, option_refused, positional_read, next_refused, handed_on}
+use Rattle.lexopt_items.proofs.ReadsItems.{gave, option_read, option_refused, positional_read, next_refused, handed_on, joins}
 use Rattle.lexopt_items.proofs.items.read_item.Goals as goal
 
 pub returns-in_ok-values-in-Short-clause-ok :
     goal.returns-in_ok-values-in-Short-clause-ok
 returns-in_ok-values-in-Short-clause-ok c =
     let is : c.in_ok-option.field-0 ≡ (next.Short c.in-Short.option) = cc in
-    subst (λ (i : Item). ReadsItem (table_view c.args.table.now) c.args.parser.now (Some i) c.read_values.new.parser) (sym c.of_short.ensures)
+    joins (table_view c.args.table.now) c.args.parser.now c.read_values.new.parser _ _ _ c.add.result
+    (subst (λ (i : Item). ReadsItem (table_view c.args.table.now) c.args.parser.now i c.read_values.new.parser) (sym c.of_short.ensures)
     (option_read (table_view c.args.table.now) c.args.parser.now c.call_next.new.parser c.read_values.new.parser (short c.in-Short.option) c.kind_of_short.result
-    c.in_ok-values-in-Short.values c.kind_of_short.ensures (gave _ _ _ _ c.in_ok-option.ensures is) c.in_ok-values-in-Short.ensures.ok)
+    c.in_ok-values-in-Short.values c.kind_of_short.ensures (gave _ _ _ _ c.in_ok-option.ensures is) c.in_ok-values-in-Short.ensures.ok)) c.add.ensures.ok
 
 pub returns-in_ok-values-in-Long-clause-ok :
     goal.returns-in_ok-values-in-Long-clause-ok
 returns-in_ok-values-in-Long-clause-ok c =
     let is : c.in_ok-option.field-0 ≡ (next.Long c.in-Long.name) = cc in
-    subst (λ (i : Item). ReadsItem (table_view c.args.table.now) c.args.parser.now (Some i) c.read_values-in-Long.new.parser) (sym c.of_long.ensures)
+    joins (table_view c.args.table.now) c.args.parser.now c.read_values-in-Long.new.parser _ _ _ c.add-in-Long.result
+    (subst (λ (i : Item). ReadsItem (table_view c.args.table.now) c.args.parser.now i c.read_values-in-Long.new.parser) (sym c.of_long.ensures)
     (option_read (table_view c.args.table.now) c.args.parser.now c.call_next.new.parser c.read_values-in-Long.new.parser (long (string_bytes c.in-Long.name))
-    c.kind_of_long.result c.in_ok-values-in-Long.values c.kind_of_long.ensures (gave _ _ _ _ c.in_ok-option.ensures is) c.in_ok-values-in-Long.ensures.ok)
+    c.kind_of_long.result c.in_ok-values-in-Long.values c.kind_of_long.ensures (gave _ _ _ _ c.in_ok-option.ensures is) c.in_ok-values-in-Long.ensures.ok)) c.add-in-Long.ensures.ok
 
 pub returns-in-Value-clause-ok : goal.returns-in-Value-clause-ok
 returns-in-Value-clause-ok c =
     let is : c.in_ok-option.field-0 ≡ (next.Value c.in-Value.word) = cc in
-    positional_read (table_view c.args.table.now) c.args.parser.now c.call_next.new.parser c.in-Value.word (gave _ _ _ _ c.in_ok-option.ensures is)
+    joins (table_view c.args.table.now) c.args.parser.now c.call_next.new.parser _ _ (positional c.in-Value.word) c.add-in-Value.result
+    (positional_read (table_view c.args.table.now) c.args.parser.now c.call_next.new.parser c.in-Value.word (gave _ _ _ _ c.in_ok-option.ensures is)) c.add-in-Value.ensures.ok
 
 pub returns-in-UnexpectedValue-clause-err : goal.returns-in-UnexpectedValue-clause-err
 returns-in-UnexpectedValue-clause-err c =
