@@ -214,8 +214,8 @@ fn take_words(
     Ok(items)
 }
 
-/// Makes one call, and gives its reply. If memory runs out for a list of items, some were taken.
-pub fn reply_to(alloc: Global, parser: &mut Parser, call: &Call) -> Result<Reply, AllocError>
+// Makes one call, and gives its reply. If memory runs out for a list of items, some were taken.
+fn reply_to(alloc: Global, parser: &mut Parser, call: &Call) -> Result<Reply, AllocError>
     ensures { (m : ℕ) × (reply : steps.Reply)
         × Step (up_to m (call_view call.now)) parser.old reply parser.new
         × IfOk result (λ copy. (up_to m (call_view call.now) ≡ call_view call.now)

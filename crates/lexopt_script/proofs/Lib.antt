@@ -1,3 +1,4 @@
+pub mod Commands
 pub mod Cuts
 pub mod InARow
 pub mod Keywords

@@ -1,12 +1,12 @@
 -- What is written for commands, one after another.
-use Rattle.std.proofs.Common.{◌≡◌, ◌≢◌, ℕ, Bool, true, List, [], ◌∷◌, ◌++◌, map, Option, Some, None, MatchOption, Result, Ok, Err, IfOk, IfErr, OnOk, is_ok, if◌then◌else◌, Vec, Global, codes, refl, sym, ap, subst, ◌∙◌, inl, inr, append_assoc, append-nil}
+use Rattle.std.proofs.Common.{◌≡◌, ◌≢◌, ℕ, Bool, true, List, [], ◌∷◌, ◌++◌, map, fold, Option, Some, None, MatchOption, Result, Ok, Err, IfOk, IfErr, OnOk, is_ok, if◌then◌else◌, Vec, Global, codes, refl, sym, ap, subst, ◌∙◌, inl, inr, append_assoc, append-nil}
 use Rattle.std.specs.declared.alloc.AllocError.{AllocError}
 use Rattle.std.specs.List.{filter_map}
 use Rattle.std.proofs.lemmas.List.Elements.{filter_map-append}
 use Rattle.lexopt_spec.specs.UnreadLine.{UnreadLine, fresh}
 use Rattle.lexopt_spec.specs.Steps as steps
 use Rattle.lexopt_spec.specs.Steps.{Reply, end}
-use Rattle.lexopt_spec.specs.Runs.{Run}
+use Rattle.lexopt_spec.specs.Runs.{Call, Run, Step}
 use Rattle.lexopt_line_spec.specs.Table as spec
 use Rattle.lexopt_line_spec.specs.Readings.{IsReading, start}
 use Rattle.lexopt_line_spec.specs.Script.{Command, call, whole_line, call_of, with_newline, reply_text, short_equals_after, Written, WholeLineText, items_read, line_refused, memory_refused}
@@ -19,7 +19,7 @@ use Rattle.lexopt_words.specs.declared.error.Error.TheVariants.{MissingValue, Un
 use Rattle.lexopt_items.specs.declared.items.Item.{Item}
 use Rattle.lexopt_items.specs.Items.{FailsWith, item_view, table_view}
 use Rattle.lexopt_script.specs.declared.script.Script.{Script}
-use Rattle.lexopt_script.specs.Performed.{answer_text, Performs}
+use Rattle.lexopt_script.specs.Performed.{answer_text, replies_text, MakesCalls}
 
 -- ---- the answer of a whole line
 
@@ -64,22 +64,48 @@ pub record Done (script : Script) (commands : List Command) (v : UnreadLine) (on
 pub nothing_done : (script : Script) (u : UnreadLine) (text : List ℕ) → u ≡ fresh script.words.items → text ≡ [] → Done script [] u true text
 nothing_done script u text is none = record { replies = []; run = is; written = none; on_is = refl }
 
-pub more_done : (script : Script) (commands : List Command) (command : Command) (u v : UnreadLine) (on now : Bool) (text new : List ℕ) → Done script commands u on text
-    → Performs script command u on text v now new → Done script (commands ++ command ∷ []) v now new
-more_done script commands (call c) u v on now text new done performs = record {
-  replies = done.replies ++ performs.0 ∷ [];
-  run = subst (λ calls. Run (fresh script.words.items) calls (done.replies ++ performs.0 ∷ []) v) (sym (filter_map-append call_of commands (call c ∷ [])))
-      (Run-more _ u v (filter_map call_of commands) done.replies c performs.0 done.run performs.1);
-  written = subst (Written (table_view script.table) script.words.items true (commands ++ call c ∷ []) (done.replies ++ performs.0 ∷ [])) (sym performs.3)
-      (Written-call (table_view script.table) script.words.items true commands done.replies text c performs.0 done.written);
-  on_is = performs.2 ∙ ap (λ b. short_equals_after b c) done.on_is ∙ sym (switch_after-call true commands c);
+-- one call more
+call_done : (script : Script) (commands : List Command) (c : Call) (reply : Reply) (u v : UnreadLine) (on : Bool) (text : List ℕ) → Done script commands u on text
+    → Step c u reply v → Done script (commands ++ call c ∷ []) v (short_equals_after on c) (text ++ with_newline (reply_text reply))
+call_done script commands c reply u v on text done step = record {
+  replies = done.replies ++ reply ∷ [];
+  run = subst (λ calls. Run (fresh script.words.items) calls (done.replies ++ reply ∷ []) v) (sym (filter_map-append call_of commands (call c ∷ [])))
+      (Run-more _ u v (filter_map call_of commands) done.replies c reply done.run step);
+  written = Written-call (table_view script.table) script.words.items true commands done.replies text c reply done.written;
+  on_is = ap (λ b. short_equals_after b c) done.on_is ∙ sym (switch_after-call true commands c);
 }
-more_done script commands whole_line u v on now text new done performs = record {
+
+-- the same at other commands and another text
+done_at : (script : Script) (a b : List Command) (v : UnreadLine) (on : Bool) (text new : List ℕ) → a ≡ b → text ≡ new → Done script a v on text → Done script b v on new
+done_at script a b v on text new same same_text done =
+    subst (λ l. Done script l v on new) same (subst (λ t. Done script a v on t) same_text done)
+
+run_done : (script : Script) (commands : List Command) (calls : List Call) (replies : List Reply) (u v : UnreadLine) (on : Bool) (text : List ℕ) → Done script commands u on text
+    → Run u calls replies v → Done script (commands ++ map call calls) v (fold short_equals_after on calls) (text ++ replies_text replies)
+run_done script commands [] [] u v on text done run =
+    done_at script commands (commands ++ []) v on text (text ++ []) (sym (append-nil commands)) (sym (append-nil text)) (subst (λ (l : UnreadLine). Done script commands l on text) (sym run) done)
+run_done script commands [] (r ∷ rs) u v on text done run = absurd run
+run_done script commands (c ∷ cs) [] u v on text done run = absurd run
+run_done script commands (c ∷ cs) (r ∷ rs) u v on text done run =
+    done_at script ((commands ++ call c ∷ []) ++ map call cs) (commands ++ map call (c ∷ cs)) v (fold short_equals_after on (c ∷ cs))
+    ((text ++ with_newline (reply_text r)) ++ replies_text rs) (text ++ replies_text (r ∷ rs))
+    (append_assoc commands (call c ∷ []) (map call cs)) (append_assoc text (with_newline (reply_text r)) (replies_text rs))
+    (run_done script (commands ++ call c ∷ []) cs rs run.0 v (short_equals_after on c) (text ++ with_newline (reply_text r))
+    (call_done script commands c r u run.0 on text done run.1) run.2)
+
+-- so many calls more
+pub calls_done : (script : Script) (commands : List Command) (calls : List Call) (u v : UnreadLine) (on now : Bool) (text new : List ℕ) → Done script commands u on text
+    → MakesCalls calls u on text v now new → Done script (commands ++ map call calls) v now new
+calls_done script commands calls u v on now text new done made =
+    rw (made.2, made.3) (run_done script commands calls made.0 u v on text done made.1)
+
+-- the whole line once more
+pub line_done : (script : Script) (commands : List Command) (u : UnreadLine) (on : Bool) (text line : List ℕ) → Done script commands u on text
+    → WholeLineText (table_view script.table) on script.words.items line → Done script (commands ++ whole_line ∷ []) u on (text ++ with_newline line)
+line_done script commands u on text line done says = record {
   replies = done.replies;
-  run = subst (λ calls. Run (fresh script.words.items) calls done.replies v) (sym (filter_map-append call_of commands (whole_line ∷ []) ∙ append-nil (filter_map call_of commands)))
-      (subst (λ (l : UnreadLine). Run (fresh script.words.items) (filter_map call_of commands) done.replies l) (sym performs.2) done.run);
-  written = subst (Written (table_view script.table) script.words.items true (commands ++ whole_line ∷ []) done.replies) (sym performs.4)
-      (Written-whole (table_view script.table) script.words.items true commands done.replies text performs.0 done.written
-      (subst (λ (b : Bool). WholeLineText (table_view script.table) b script.words.items performs.0) done.on_is performs.1));
-  on_is = performs.3 ∙ done.on_is ∙ sym (switch_after-whole true commands);
+  run = subst (λ calls. Run (fresh script.words.items) calls done.replies u) (sym (filter_map-append call_of commands (whole_line ∷ []) ∙ append-nil (filter_map call_of commands))) done.run;
+  written = Written-whole (table_view script.table) script.words.items true commands done.replies text line done.written
+      (subst (λ (b : Bool). WholeLineText (table_view script.table) b script.words.items line) done.on_is says);
+  on_is = done.on_is ∙ sym (switch_after-whole true commands);
 }

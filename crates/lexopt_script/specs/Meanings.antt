@@ -1,11 +1,12 @@
 -- The meaning of a line, and the commands of a script, as contracts see them.
-use Rattle.std.specs.Prelude.{ℕ, List, Option, Some, None, string_bytes}
+use Rattle.std.specs.Prelude.{ℕ, List, [], ◌∷◌, ◌++◌, map, Option, Some, None, Vec, string_bytes}
+use Rattle.std.specs.Global.{Global}
+use Rattle.std.specs.List.{flat_map}
 use Rattle.std.specs.Borrow.{Bor}
 use Rattle.lexopt_line_spec.specs.Script as script
 use Rattle.lexopt_line_spec.specs.Table as spec
+use Rattle.lexopt_calls.specs.declared.reply.Call.{Call}
 use Rattle.lexopt_calls.specs.Replies.{call_view}
-use Rattle.lexopt_script.specs.declared.script.Command.{Command}
-use Rattle.lexopt_script.specs.declared.script.Command.TheVariants as commands
 use Rattle.lexopt_script.specs.declared.script.Name.{Name}
 use Rattle.lexopt_script.specs.declared.script.Name.TheVariants.{Short, Long}
 use Rattle.lexopt_script.specs.declared.script.Entry.{Entry}
@@ -13,9 +14,16 @@ use Rattle.lexopt_script.specs.declared.script.Entry.TheVariants.{One, Optional,
 use Rattle.lexopt_script.specs.declared.script.Meaning.{Meaning}
 use Rattle.lexopt_script.specs.declared.script.Meaning.TheVariants as meanings
 
-abbrev pub command_view : Command → script.Command
-command_view (commands.Call call) = script.call (call_view call)
-command_view commands.Items = script.whole_line
+abbrev pub calls_view : List Call → List script.Command
+calls_view calls = map script.call (map call_view calls)
+
+-- calls, and the whole line after them
+abbrev pub calls_and_line : Vec Call Global → List script.Command
+calls_and_line calls = calls_view calls.items ++ script.whole_line ∷ []
+
+-- the commands of a script: the calls before each whole line, and those after the last
+abbrev pub commands_view : List (Vec Call Global) → List Call → List script.Command
+commands_view calls_before last_calls = flat_map calls_and_line calls_before ++ calls_view last_calls
 
 abbrev pub name_view : Name → spec.Name
 name_view (Short c) = spec.short c
@@ -34,5 +42,6 @@ abbrev pub meaning_view : Meaning → script.Meaning
 meaning_view meanings.Nothing = script.nothing
 meaning_view (meanings.Word word) = script.word word
 meaning_view (meanings.Entry entry) = script.entry (entry_view entry)
-meaning_view (meanings.Command command) = script.command (command_view command)
+meaning_view (meanings.Call call) = script.command (script.call (call_view call))
+meaning_view meanings.Items = script.command script.whole_line
 meaning_view meanings.Bad = script.bad

@@ -1,23 +1,22 @@
 //! Runs scripts: `run` reads a script, does what it says, and writes a line for each reply and each
 //! whole line.
 ghost use Rattle.std.specs.Prelude.{◌≡◌, ◌⊎◌, ◌+◌, ◌++◌, ◌≤◌, ◌<◌, ℕ, List, None, Some, Err, IfOk};
-ghost use Rattle.std.specs.Prelude.{IfErr, OnOk, length, map, codes, string_bytes};
+ghost use Rattle.std.specs.Prelude.{IfErr, OnOk, fold, length, map, codes, string_bytes};
 ghost use Rattle.std.specs.Io.KnownBytes.{Appends, Consumes};
 ghost use Rattle.lexopt_line_spec.specs.Script.{WholeLineText, bad_line, bracketed, item_text};
-ghost use Rattle.lexopt_line_spec.specs.Script.{most_bytes, reply_text, short_equals_after};
+ghost use Rattle.lexopt_line_spec.specs.Script.{most_bytes, short_equals_after};
 ghost use Rattle.lexopt_line_spec.specs.Script.{with_newline};
 ghost use Rattle.lexopt_spec.specs.UnreadLine.{fresh};
 ghost use Rattle.lexopt_words.specs.Message.{message};
 ghost use Rattle.lexopt_items.specs.Items.{item_view, table_view};
 ghost use Rattle.lexopt_calls.specs.Replies.{call_view, reply_view};
 ghost use Rattle.lexopt_script.specs.Output.{IsOutput, ReadsWhole, read_room};
-ghost use Rattle.lexopt_script.specs.Meanings.{command_view};
-ghost use Rattle.lexopt_script.specs.Performed.{IsWritten, Performs, answer_text};
+ghost use Rattle.lexopt_script.specs.Performed.{IsWritten, MakesCalls, answer_text, replies_text};
 
 pub use crate::run_error::RunError;
-use crate::script::{Command, Script, parse_script, read_script};
+use crate::script::{Script, parse_script, read_script};
 use lexopt_base::parser::Parser;
-use lexopt_calls::replay::reply_to;
+use lexopt_calls::replay::replay;
 use lexopt_calls::reply::{Call, Reply};
 use lexopt_items::items::{Item, Table, read_items};
 use lexopt_words::error::Error;
@@ -75,48 +74,47 @@ fn write_whole_line(
     text.push_str("\n")
 }
 
-// `short_equals` after a call.
-fn short_equals_after(on: bool, call: &Call) -> bool
-    ensures { result ≡ short_equals_after on (call_view call.now) }
-{
-    match call {
-        Call::Switch(now) => *now,
-        _ => on,
-    }
-}
-
-// Writes a line for a reply.
-fn write_reply(reply: &Reply, text: &mut String) -> Result<(), AllocError>
+// Writes a line for each of these replies.
+fn write_replies(replies: &[Reply], text: &mut String) -> Result<(), AllocError>
     ensures { OnOk result (string_bytes text.new
-        ≡ string_bytes text.old ++ with_newline (reply_text (reply_view reply.now))) }
+        ≡ string_bytes text.old ++ replies_text (map reply_view replies.now)) }
 {
-    writeln!(text, "{reply}")
+    for reply in replies {
+        writeln!(text, "{reply}")?;
+    }
+    Ok(())
 }
 
-// Does what a command says, writes a line for it, and returns `short_equals` after it.
-fn perform(
+// `short_equals` after these calls.
+fn short_equals_after(on: bool, calls: &[Call]) -> bool
+    ensures { result ≡ fold short_equals_after on (map call_view calls.now) }
+{
+    let mut now = on;
+    for call in calls {
+        if let Call::Switch(switched) = call {
+            now = *switched;
+        }
+    }
+    now
+}
+
+// Makes these calls, writes a line for each reply, and returns `short_equals` after them.
+fn make_calls(
     alloc: Global,
-    script: &Script,
-    command: &Command,
+    calls: &[Call],
     parser: &mut Parser,
     on: bool,
     text: &mut String,
 ) -> Result<bool, AllocError>
     ensures { IfOk result (λ now.
-        Performs script.now (command_view command.now) parser.old on (string_bytes text.old)
+        MakesCalls (map call_view calls.now) parser.old on (string_bytes text.old)
         parser.new now (string_bytes text.new)) }
 {
-    match command {
-        Command::Call(call) => {
-            let reply = reply_to(alloc, parser, call)?;
-            write_reply(&reply, text)?;
-            Ok(short_equals_after(on, call))
-        }
-        Command::Items => {
-            write_whole_line(alloc, &script.words, on, &script.table, text)?;
-            Ok(on)
-        }
-    }
+    let Ok(replies) = replay(alloc, parser, calls) else {
+        return Err(AllocError);
+    };
+    write_replies(&replies, text)?;
+    Ok(short_equals_after(on, calls))
 }
 
 // A parser of these words.
@@ -138,9 +136,11 @@ fn perform_all(alloc: Global, script: &Script) -> Result<String, RunError>
     let mut parser = parser_of(alloc, &script.words)?;
     let mut text = String::new(alloc);
     let mut on = true;
-    for command in script.commands.iter() {
-        on = perform(alloc, script, command, &mut parser, on, &mut text)?;
+    for calls in &script.calls_before {
+        on = make_calls(alloc, calls, &mut parser, on, &mut text)?;
+        write_whole_line(alloc, &script.words, on, &script.table, &mut text)?;
     }
+    make_calls(alloc, &script.last_calls, &mut parser, on, &mut text)?;
     Ok(text)
 }
 

@@ -25,12 +25,12 @@ ghost use Rattle.lexopt_line_spec.specs.Script.{bad_line, after_backslash, call_
 ghost use Rattle.lexopt_line_spec.specs.Script.{commands_of, entry_or_bad, hexadecimal, in_front};
 ghost use Rattle.lexopt_line_spec.specs.Script.{is_bad, joined_to, keyword_of, meaning};
 ghost use Rattle.lexopt_line_spec.specs.Script.{meaning_by_keyword, most_bytes, number};
-ghost use Rattle.lexopt_line_spec.specs.Script.{one_character, option_named, reads_words, table_of};
+ghost use Rattle.lexopt_line_spec.specs.Script.{one_character, option_named, table_of};
 ghost use Rattle.lexopt_line_spec.specs.Script.{text_of, unescaped, word_or_bad, words_of};
 ghost use Rattle.lexopt_calls.specs.Replies.{call_view};
 ghost use Rattle.lexopt_items.specs.Items.{table_view};
 ghost use Rattle.lexopt_script.specs.Output.{ReadsWhole, read_room};
-ghost use Rattle.lexopt_script.specs.Meanings.{command_view, entry_view, meaning_view, name_view};
+ghost use Rattle.lexopt_script.specs.Meanings.{commands_view, entry_view, meaning_view, name_view};
 ghost use Rattle.lexopt_script.specs.Meanings.{text_view};
 
 use crate::run_error::RunError;
@@ -41,7 +41,7 @@ use lexopt_words::codepoint::{FirstCodepoint, first_codepoint};
 use lexopt_words::os_string::OsString;
 use std::alloc::{AllocError, Global};
 use std::io::Read;
-use std::str;
+use std::{mem, str};
 
 // The most bytes that a script may have.
 const LIMIT: usize = 1_048_576;
@@ -49,33 +49,16 @@ const LIMIT: usize = 1_048_576;
 // The size of one read: at most this many bytes are read past the limit.
 const ROOM: usize = 512;
 
-/// The words of a command line, the table of its options, and what to do, in order.
+/// The words of a command line, the table of its options, and the calls on a parser of the words.
+/// Between calls the words are read as a whole line, by the table.
 #[derive(Drop)]
 pub struct Script {
     pub words: Vec<OsString>,
     pub table: Table,
-    pub commands: Vec<Command>,
-}
-
-/// What to do with the words of a script.
-#[derive(Drop)]
-pub enum Command {
-    /// Make a call on the parser of them.
-    Call(Call),
-    /// Read all of them by the table.
-    Items,
-}
-
-impl Command {
-    // Whether this reads the words. Only a call that sets `short_equals` does not.
-    fn reads_words(&self) -> bool
-        ensures { result ≡ reads_words (command_view self.now) }
-    {
-        match self {
-            Command::Call(call) => call.reads_line(),
-            Command::Items => true,
-        }
-    }
+    /// For each whole line, the calls since the one before it.
+    pub calls_before: Vec<Vec<Call>>,
+    /// The calls after the last whole line.
+    pub last_calls: Vec<Call>,
 }
 
 /// Reads a script, to the end or past the limit.
@@ -104,19 +87,20 @@ pub fn read_script<R: Read>(alloc: Global, reader: &mut R) -> Result<Vec<u8>, Ru
     }
 }
 
-/// The words, the table and the commands of a script, or its first bad line.
+/// The words, the table, the calls and the whole lines of a script, or its first bad line.
 pub fn parse_script(alloc: Global, script: &[u8]) -> Result<Script, RunError>
     requires { length script.now ≤ most_bytes }
     ensures ok { IfOk result (λ s. (s.words.items ≡ words_of script.now)
         × (table_view s.table ≡ table_of script.now)
-        × (map command_view s.commands.items ≡ commands_of script.now)
+        × (commands_view s.calls_before.items s.last_calls.items ≡ commands_of script.now)
         × (bad_line script.now ≡ None)) }
     ensures err { IfErr result (λ e. (e ≡ RunError.NoMemory)
         ⊎ ((n : ℕ) × (e ≡ RunError.BadLine n) × (bad_line script.now ≡ Some n))) }
 {
     let mut words = Vec::new(alloc);
     let mut table = Table::new(alloc);
-    let mut commands = Vec::new(alloc);
+    let mut calls_before = Vec::new(alloc);
+    let mut calls = Vec::new(alloc);
     let mut is_read = false;
     for (index, line) in script.split(|byte| *byte == b'\n').enumerate() {
         let meaning = meaning_of(alloc, line)?;
@@ -128,16 +112,21 @@ pub fn parse_script(alloc: Global, script: &[u8]) -> Result<Script, RunError>
             Meaning::Bad => {}
             Meaning::Word(word) => words.push(word)?,
             Meaning::Entry(entry) => join(&mut table, entry)?,
-            Meaning::Command(command) => {
-                is_read |= command.reads_words();
-                commands.push(command)?;
+            Meaning::Call(call) => {
+                is_read |= call.reads_line();
+                calls.push(call)?;
+            }
+            Meaning::Items => {
+                is_read = true;
+                calls_before.push(mem::replace(&mut calls, Vec::new(alloc)))?;
             }
         }
     }
     Ok(Script {
         words,
         table,
-        commands,
+        calls_before,
+        last_calls: calls,
     })
 }
 
@@ -147,7 +136,8 @@ enum Meaning {
     Nothing,
     Word(OsString),
     Entry(Entry),
-    Command(Command),
+    Call(Call),
+    Items,
     Bad,
 }
 
@@ -172,7 +162,7 @@ impl Meaning {
         ensures { result ≡ is_bad is_read (meaning_view self.now) }
     {
         match self {
-            Meaning::Nothing | Meaning::Command(_) => false,
+            Meaning::Nothing | Meaning::Call(_) | Meaning::Items => false,
             Meaning::Word(_) | Meaning::Entry(_) => is_read,
             Meaning::Bad => true,
         }
@@ -229,12 +219,12 @@ fn meaning_by_keyword(
     match text {
         None => match keyword {
             "" => Ok(Meaning::Nothing),
-            "next" => Ok(Meaning::Command(Command::Call(Call::Next))),
-            "value" => Ok(Meaning::Command(Command::Call(Call::Value))),
-            "optional" => Ok(Meaning::Command(Command::Call(Call::Optional))),
-            "on" => Ok(Meaning::Command(Command::Call(Call::Switch(true)))),
-            "off" => Ok(Meaning::Command(Command::Call(Call::Switch(false)))),
-            "items" => Ok(Meaning::Command(Command::Items)),
+            "next" => Ok(Meaning::Call(Call::Next)),
+            "value" => Ok(Meaning::Call(Call::Value)),
+            "optional" => Ok(Meaning::Call(Call::Optional)),
+            "on" => Ok(Meaning::Call(Call::Switch(true))),
+            "off" => Ok(Meaning::Call(Call::Switch(false))),
+            "items" => Ok(Meaning::Items),
             "w" => Ok(Meaning::Word(OsString::new(alloc))),
             _ => Ok(Meaning::Bad),
         },
@@ -266,7 +256,7 @@ fn call_or_bad(call: Option<Call>) -> Meaning
     ensures { meaning_view result ≡ call_or_bad (option_map call_view call) }
 {
     match call {
-        Some(call) => Meaning::Command(Command::Call(call)),
+        Some(call) => Meaning::Call(call),
         None => Meaning::Bad,
     }
 }

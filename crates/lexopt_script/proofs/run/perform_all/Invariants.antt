@@ -1,7 +1,7 @@
-use Rattle.std.proofs.Common.{map, take, string_bytes}
-use Rattle.lexopt_script.specs.Meanings.{command_view}
+use Rattle.std.proofs.Common.{flat_map, take, string_bytes}
+use Rattle.lexopt_script.specs.Meanings.{calls_and_line}
 use Rattle.lexopt_script.proofs.Performing.{Done}
 use Rattle.lexopt_script.proofs.run.perform_all.Given as goal
 
-abbrev pub invariant-loop-command : goal.invariant-loop-command
-invariant-loop-command l = Done l.script (map command_view (take l.command-index l.script.commands.items)) l.parser l.on (string_bytes l.text)
+abbrev pub invariant-loop-calls : goal.invariant-loop-calls
+invariant-loop-calls l = Done l.script (flat_map calls_and_line (take l.calls-index l.script.calls_before.items)) l.parser l.on (string_bytes l.text)

@@ -1,10 +1,14 @@
-use Rattle.std.proofs.Common.{rules, tests, ◌+◌, ◌||◌, [], ◌∷◌, length, map, Some, refl, sym, ap, ◌∙◌, inr, append-nil}
+use Rattle.std.proofs.Common.{rules, tests, ◌+◌, ◌||◌, length, Some, Vec, Global, refl, sym, ap, ◌∙◌, inr, append-nil}
 use Rattle.std.proofs.lemmas.Iterator.Consumers.{YieldsList-at, YieldsList-from_enumerate}
 use Rattle.std.proofs.lemmas.Iterator.Splits.{YieldsList-from_slice_split}
-use Rattle.std.proofs.lemmas.List.{length_push, map-append}
-use Rattle.lexopt_line_spec.specs.Script.{nothing, word, entry, command, is_bad}
+use Rattle.std.proofs.Math.Bool.{or-true}
+use Rattle.std.proofs.lemmas.List.{length_push}
+use Rattle.lexopt_line_spec.specs.Script.{nothing, word, entry, command, call, whole_line, is_bad}
 use Rattle.lexopt_line_spec.proofs.ScriptLemmas.{called, called-append, ReadsTo-more, ReadsTo-bad, ReadsTo-end}
-use Rattle.lexopt_script.specs.Meanings.{command_view, entry_view, meaning_view}
+use Rattle.lexopt_script.specs.Meanings.{commands_view, entry_view, meaning_view}
+use Rattle.lexopt_calls.specs.declared.reply.Call.{Call}
+use Rattle.lexopt_calls.specs.Replies.{call_view}
+use Rattle.lexopt_script.proofs.Commands.{call_more, calls_taken}
 use Rattle.lexopt_script.proofs.NumberedLines.{IsLineAt, line_read, lines_read}
 use Rattle.lexopt_script.proofs.script.parse_script.Goals as goal
 use Rattle.lexopt_script.proofs.script.parse_script.Goals.{In_ok-meaning}
@@ -48,16 +52,31 @@ loop-index-preserved-in-Continue-branch-3 c =
       c.loop-index.invariant.1,
     )
 
+pub loop-index-preserved-in-Continue-branch-4 : goal.loop-index-preserved-in-Continue-branch-4
+loop-index-preserved-in-Continue-branch-4 c =
+    let line = turn (goal.at.loop-index-preserved-in-Continue-branch-4 c).In_ok-meaning in
+    let says = sym c.in_ok-meaning.ensures ∙ ap meaning_view c.in-Call.is in
+    let before = c.loop-index.calls_before.items in
+    let commands = commands_view before c.loop-index.calls.items in
+    let one = command (call (call_view c.in-Call.call)) in
+    let more = ap (commands_view before) c.in_ok-push-in-Call.ensures.items ∙ call_more before c.loop-index.calls.items c.in-Call.call in (
+      ReadsTo-more _ _ _ _ _ _ _ _ _ c.in-Some.line.now one line.within line.is says refl (length_push c.loop-index.yielded _)
+          (sym (append-nil _)) refl more c.loop-index.invariant.0,
+      ap (λ b. b || c.reads_line-is_read.result) c.loop-index.invariant.1 ∙ ap (λ b. called commands || b) c.reads_line-is_read.ensures
+          ∙ sym (called-append commands one) ∙ ap called (sym more),
+    )
+
 pub loop-index-preserved : goal.loop-index-preserved
 loop-index-preserved c =
     let line = turn (goal.at.loop-index-preserved c).In_ok-meaning in
-    let says = sym c.in_ok-meaning.ensures ∙ ap meaning_view c.in-Command.is in
-    let commands = map command_view c.loop-index.commands.items in
-    let more = ap (map command_view) c.in_ok-push-in-Command.ensures.items ∙ map-append command_view c.loop-index.commands.items (c.in-Command.command ∷ []) in (
-      ReadsTo-more _ _ _ _ _ _ _ _ _ c.in-Some.line.now (command (command_view c.in-Command.command)) line.within line.is says refl (length_push c.loop-index.yielded _)
+    let says = sym c.in_ok-meaning.ensures ∙ ap meaning_view c.in-Items.is in
+    let before = c.loop-index.calls_before.items in
+    let commands = commands_view before c.loop-index.calls.items in
+    let none = ap (λ (calls : Vec Call Global). calls.items) c.replace.ensures.after ∙ c.new.ensures.items in
+    let more = calls_taken before _ c.loop-index.calls _ c.replace.new.dest c.in_ok-push-in-Items.ensures.items c.replace.ensures.value none in (
+      ReadsTo-more _ _ _ _ _ _ _ _ _ c.in-Some.line.now (command whole_line) line.within line.is says refl (length_push c.loop-index.yielded _)
           (sym (append-nil _)) refl more c.loop-index.invariant.0,
-      ap (λ b. b || c.reads_words-is_read.result) c.loop-index.invariant.1 ∙ ap (λ b. called commands || b) c.reads_words-is_read.ensures
-          ∙ sym (called-append commands (command (command_view c.in-Command.command))) ∙ ap called (sym more),
+      sym (or-true (called commands)) ∙ sym (called-append commands (command whole_line)) ∙ ap called (sym more),
     )
 
 pub returns-then-is_bad-clause-err : goal.returns-then-is_bad-clause-err

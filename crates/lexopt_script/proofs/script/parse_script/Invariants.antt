@@ -1,10 +1,10 @@
-use Rattle.std.proofs.Common.{◌≡◌, length, map}
+use Rattle.std.proofs.Common.{◌≡◌, length}
 use Rattle.lexopt_line_spec.proofs.ScriptLemmas.{ReadsTo, called}
 use Rattle.lexopt_items.specs.Items.{table_view}
-use Rattle.lexopt_script.specs.Meanings.{command_view}
+use Rattle.lexopt_script.specs.Meanings.{commands_view}
 use Rattle.lexopt_script.proofs.script.parse_script.Given as goal
 
 abbrev pub invariant-loop-index : goal.invariant-loop-index
 invariant-loop-index l =
-    ReadsTo l.script (length l.yielded) l.words.items (table_view l.table) (map command_view l.commands.items)
-    × (l.is_read ≡ called (map command_view l.commands.items))
+    ReadsTo l.script (length l.yielded) l.words.items (table_view l.table) (commands_view l.calls_before.items l.calls.items)
+    × (l.is_read ≡ called (commands_view l.calls_before.items l.calls.items))
