@@ -7,8 +7,9 @@ use lexopt::items::read_items;
 use lexopt::os_string::arguments;
 use lexopt::replay::{Call, Reply, RunError, replay, run};
 use lexopt::spell::{Reason, SpellError, spell};
-use lexopt::{Error, OsString, Parser};
+use lexopt::{Arg, Error, OsStr, OsString, Parser, ValueExt};
 use std::alloc::{AllocError, Global};
+use std::str::FromStr;
 use std::test::Fail;
 use test_helpers::calls::{
     has_words, is_at_end, is_missing, is_unexpected, left, reads_long, reads_short, reads_word,
@@ -42,14 +43,24 @@ fn ended(seen: Option<bool>, call: &str) -> Result<(), Fail> {
     }
 }
 
+// Whether one of two calls was refused memory. Of each there is whether its answer was as wanted,
+// or `None` if memory ran out.
+fn refused_once(first: Option<bool>, second: Option<bool>) -> Option<bool> {
+    match (first, second) {
+        (Some(true), Some(true)) => Some(false),
+        (None, Some(true)) | (Some(true), None) => Some(true),
+        _ => None,
+    }
+}
+
 // Whether a long option is refused, and it and its value are read then.
-fn reads_long_option(parser: &mut Parser) -> Result<Option<bool>, Error> {
-    let refused = match reads_long(parser, "out") {
+fn reads_long_option(parser: &mut Parser, name: &str) -> Result<Option<bool>, Error> {
+    let refused = match reads_long(parser, name) {
         Ok(true) => false,
         Err(Error::OutOfMemory) => true,
         _ => return Ok(None),
     };
-    let is_read = !refused || reads_long(parser, "out")?;
+    let is_read = !refused || reads_long(parser, name)?;
     Ok((is_read && takes(parser, b"x")?).then_some(refused))
 }
 
@@ -61,7 +72,20 @@ fn long_option(rt: HostRuntime) -> Result<(), Fail> {
     let Ok(mut parser) = parser_of(rt.alloc(), &[b"--out=x"]) else {
         return told(true, "from_args");
     };
-    ended(reads_long_option(&mut parser)?, "next")
+    ended(reads_long_option(&mut parser, "out")?, "next")
+}
+
+// A damaged name is longer as text, so `next` may ask for memory more than once. The option and its
+// value are read whichever request is refused.
+#[test]
+fn damaged_long_option(rt: HostRuntime) -> Result<(), Fail> {
+    let Ok(mut parser) = parser_of(rt.alloc(), &[b"--\xff\xff\xff=x"]) else {
+        return told(true, "from_args");
+    };
+    ended(
+        reads_long_option(&mut parser, "\u{fffd}\u{fffd}\u{fffd}")?,
+        "next",
+    )
 }
 
 // Whether the value of `-a` is unexpected, and reading goes on after it.
@@ -370,6 +394,134 @@ fn copied_parser(rt: HostRuntime) -> Result<(), Fail> {
         return told(true, "from_iter");
     };
     ended(copies(&mut parser)?, "clone")
+}
+
+// Whether one of two calls was refused memory, each of which is to give the word of these bytes.
+fn gives_word(
+    first: Result<OsString, AllocError>,
+    second: Result<OsString, AllocError>,
+    bytes: &[u8],
+) -> Option<bool> {
+    let first = first.ok().map(|word| word.as_bytes() == bytes);
+    let second = second.ok().map(|word| word.as_bytes() == bytes);
+    refused_once(first, second)
+}
+
+// The bytes of a text and of a view are copied whole, or memory is refused and no word comes.
+#[test]
+fn copied_bytes(rt: HostRuntime) -> Result<(), Fail> {
+    let alloc = rt.alloc();
+    let text = "\u{e9}";
+    let (first, second) = (
+        OsString::from_text(alloc, text),
+        OsString::from_text(alloc, text),
+    );
+    ended(gives_word(first, second, b"\xc3\xa9"), "from_text")?;
+    let view = OsStr::from_bytes(b"a\xff");
+    let (first, second) = (view.to_os_string(alloc), view.to_os_string(alloc));
+    ended(gives_word(first, second, b"a\xff"), "to_os_string")
+}
+
+// A value that was taken out of its word is copied without what stood before it.
+#[test]
+fn copied_value(rt: HostRuntime) -> Result<(), Fail> {
+    let Ok(word) = OsString::from_bytes(rt.alloc(), b"--n=a\xff") else {
+        return told(true, "from_bytes");
+    };
+    let value = word.without_front(4);
+    ended(gives_word(value.clone(), value.clone(), b"a\xff"), "clone")
+}
+
+// Whether a copy is the same argument; `None` if memory ran out.
+fn is_copy(copy: Result<Arg<'_>, AllocError>, argument: &Arg<'_>) -> Option<bool> {
+    Some(copy.ok()? == *argument)
+}
+
+#[test]
+fn copied_argument(rt: HostRuntime) -> Result<(), Fail> {
+    let Ok(word) = OsString::from_bytes(rt.alloc(), b"a\xff") else {
+        return told(true, "from_bytes");
+    };
+    let argument = Arg::Value(word);
+    let first = is_copy(argument.clone(), &argument);
+    let second = is_copy(argument.clone(), &argument);
+    ended(refused_once(first, second), "clone")
+}
+
+// Whether the error says that this option was not expected; `None` if memory ran out.
+fn is_not_expected(error: Error, of: &str) -> Option<bool> {
+    match error {
+        Error::UnexpectedOption(option) => Some(option.as_str() == of),
+        Error::OutOfMemory => None,
+        _ => Some(false),
+    }
+}
+
+#[test]
+fn unexpected_short_option(rt: HostRuntime) -> Result<(), Fail> {
+    let first = is_not_expected(Arg::Short('\u{e9}').unexpected(rt.alloc()), "-\u{e9}");
+    let second = is_not_expected(Arg::Short('\u{e9}').unexpected(rt.alloc()), "-\u{e9}");
+    ended(refused_once(first, second), "unexpected")
+}
+
+#[test]
+fn unexpected_long_option(rt: HostRuntime) -> Result<(), Fail> {
+    let first = is_not_expected(Arg::Long("name").unexpected(rt.alloc()), "--name");
+    let second = is_not_expected(Arg::Long("name").unexpected(rt.alloc()), "--name");
+    ended(refused_once(first, second), "unexpected")
+}
+
+// Whether the error is the one for this word, which is no number or no text; `None` if memory ran
+// out.
+fn is_of_word(error: Option<Error>, word: &OsString) -> Option<bool> {
+    match error {
+        Some(Error::ParsingFailed { value, .. }) => Some(word.to_str() == Some(value.as_str())),
+        Some(Error::NonUnicodeValue(copy)) => Some(word.to_str().is_none() && copy == *word),
+        Some(Error::OutOfMemory) => None,
+        _ => Some(false),
+    }
+}
+
+// Whether one of two calls of `parse` was refused memory for the error.
+fn fails_to_parse(word: &OsString) -> Option<bool> {
+    let first = is_of_word(word.parse::<u8>().err(), word);
+    let second = is_of_word(word.parse::<u8>().err(), word);
+    refused_once(first, second)
+}
+
+// The same of `parse_with`.
+fn fails_to_parse_with(word: &OsString) -> Option<bool> {
+    let first = is_of_word(word.parse_with(u8::from_str).err(), word);
+    let second = is_of_word(word.parse_with(u8::from_str).err(), word);
+    refused_once(first, second)
+}
+
+#[test]
+fn value_that_is_no_number(rt: HostRuntime) -> Result<(), Fail> {
+    let Ok(word) = OsString::from_bytes(rt.alloc(), b"1x") else {
+        return told(true, "from_bytes");
+    };
+    ended(fails_to_parse(&word), "parse")?;
+    ended(fails_to_parse_with(&word), "parse_with")
+}
+
+// Whether `string` gives the word back. It asks for no memory.
+fn gives_back(word: OsString, bytes: &[u8]) -> bool {
+    match word.string() {
+        Err(Error::NonUnicodeValue(word)) => word.as_bytes() == bytes,
+        _ => false,
+    }
+}
+
+#[test]
+fn value_that_is_no_text(rt: HostRuntime) -> Result<(), Fail> {
+    let Ok(word) = OsString::from_bytes(rt.alloc(), b"1\xff") else {
+        return told(true, "from_bytes");
+    };
+    ended(fails_to_parse(&word), "parse")?;
+    ended(fails_to_parse_with(&word), "parse_with")?;
+    assert!(rt; gives_back(word, b"1\xff"));
+    Ok(())
 }
 
 // The words and the calls of a list with every call, of which five can want memory in a reply or in
