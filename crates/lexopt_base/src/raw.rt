@@ -89,8 +89,7 @@ impl RawArgs<'_> {
         requires { (word : _) → slice_get self.old.parser.now.words 0 ≡ Some word.bytes.now
             → F.pre func word }
         ensures same_parser { self.new.parser.ghost_name ≡ self.old.parser.ghost_name }
-        ensures asked {
-            TakesIf (Answered (F.post func)) self.old.parser.now result self.new.parser.now }
+        ensures asked { TakesIf (Answered (F.post func)) self.old.parser.now result self.new.parser.now }
     {
         let word = self.peek()?;
         if func(word) { self.next() } else { None }

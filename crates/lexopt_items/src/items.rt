@@ -218,7 +218,7 @@ fn add(items: &mut Vec<Item>, item: Item) -> Result<bool, Refusal>
 }
 
 // Reads the next item of a line into a list, and says whether the line goes on. Each arm adds its
-// own item, so that an item is written in its place alone.
+// own item: if one `push` stood after all arms, a positional would cost 14 instructions more.
 #[inline(always)]
 fn read_item(
     alloc: Global,
