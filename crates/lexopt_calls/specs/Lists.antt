@@ -6,7 +6,8 @@ use Rattle.lexopt_spec.specs.Account.{Segment, bytes_of, flat, bytes_handed_out,
 use Rattle.lexopt_spec.specs.Runs as runs
 use Rattle.lexopt_spec.specs.UnreadLine.{UnreadLine}
 use Rattle.lexopt_line_spec.specs.Bound.{bound, replies_count}
-use Rattle.lexopt_calls.specs.Replies.{ReadsPieces, call_view, reply_view}
+use Rattle.lexopt_line_spec.specs.Clusters.{ReadsPieces}
+use Rattle.lexopt_calls.specs.Replies.{call_view, reply_view}
 use Rattle.lexopt_calls.specs.declared.reply.Call.{Call}
 use Rattle.lexopt_calls.specs.declared.reply.Reply.{Reply}
 

@@ -1,10 +1,8 @@
 -- Calls and replies as contracts see them, the word that `RawIf` takes, and what `next` makes of a
 -- cluster.
-use Rattle.std.specs.Prelude.{◌≡◌, ◌≢◌, ◌⊎◌, ℕ, false, List, ◌∷◌, map, Option, Some, None}
+use Rattle.std.specs.Prelude.{◌≡◌, ◌⊎◌, ℕ, List, ◌∷◌, Option, Some, None}
 use Rattle.std.specs.Prelude.{option_map, string_bytes}
-use Rattle.std.specs.List.{Contains}
-use Rattle.lexopt_spec.specs.Pieces.{lossy_characters, pieces}
-use Rattle.lexopt_spec.specs.UnreadLine.{UnreadLine, dash, equals, no_tail}
+use Rattle.lexopt_spec.specs.UnreadLine.{UnreadLine}
 use Rattle.lexopt_spec.specs.Views.{WordItem}
 use Rattle.lexopt_spec.specs.Runs as runs
 use Rattle.lexopt_spec.specs.Steps as steps
@@ -56,15 +54,3 @@ abbrev pub TakesThis : List ℕ → UnreadLine → Option (List ℕ) → UnreadL
 TakesThis wanted u None after = (after ≡ u)
     × ((others : List (List ℕ)) → u.words ≡ wanted ∷ others → ⊥)
 TakesThis wanted u (Some word) after = (word ≡ wanted) × WordItem u (Some word) after
-
--- Take a line that begins with a cluster, where `short_equals` is false or no `=` stands after the
--- first byte of the cluster. If the calls are `next`, once for each piece, the replies are its
--- lossy characters, so none of them is `no_memory`, and the word is gone.
-abbrev pub ReadsPieces : UnreadLine → List runs.Call → List steps.Reply → UnreadLine → Type 0
-ReadsPieces u calls replies v =
-    (b : ℕ) (bs : List ℕ) (words : List (List ℕ)) → u.tail ≡ no_tail → u.ended ≡ false
-    → u.words ≡ (dash ∷ b ∷ bs) ∷ words → b ≢ dash
-    → (u.short_equals ≡ false) ⊎ ¬ Contains bs equals
-    → calls ≡ map (λ piece. runs.next) (pieces (b ∷ bs))
-    → (replies ≡ map steps.short (lossy_characters (b ∷ bs))) × (v.tail ≡ no_tail)
-    × (v.words ≡ words)

@@ -1,11 +1,14 @@
 //! Worked examples of calls: what they answer, what becomes of each byte, and what is left where
 //! they are cut short.
-ghost use Rattle.std.specs.Prelude.{◌≡◌, [], ◌∷◌, Bool, true, false, Some, None, codes};
+ghost use Rattle.std.specs.Prelude.{◌≡◌, [], ◌∷◌, Bool, List, true, false, Some, None};
+ghost use Rattle.std.specs.Prelude.{codes};
 ghost use Rattle.lexopt_spec.specs.Account.{damage, given, mark};
 ghost use Rattle.lexopt_line_spec.specs.Bound.{bound, next_replies, replies_count};
+ghost use Rattle.lexopt_line_spec.specs.Clusters.{ReadsPieces};
 ghost use Rattle.lexopt_spec.specs.Runs.{AccountedRun, Part, Run, next, optional, raw, raw_if};
 ghost use Rattle.lexopt_spec.specs.Runs.{set_short_equals, try_raw, up_to, value, values};
-ghost use Rattle.lexopt_spec.specs.Steps.{busy, done, end, items, long, maybe, missing, no_memory};
+ghost use Rattle.lexopt_spec.specs.Steps.{Reply, busy, done, end, items, long, maybe, missing};
+ghost use Rattle.lexopt_spec.specs.Steps.{no_memory};
 ghost use Rattle.lexopt_spec.specs.Steps.{positional, short, taken, unexpected};
 ghost use Rattle.lexopt_spec.specs.UnreadLine.{UnreadLine, fresh, joined, long_option, no_tail};
 ghost use Rattle.lexopt_spec.specs.UnreadLine.{rest, short_option};
@@ -23,6 +26,7 @@ fn calls_answer_the_worked_examples() {
     fewer_items_are_asked();
     no_item_more_is_taken();
     replies_are_counted();
+    clusters_are_read_to_their_end();
 }
 
 fn calls_have_these_replies()
@@ -223,4 +227,20 @@ fn replies_are_counted()
         [])
         ≡ short 0x61 ∷ positional (codes "c") ∷ end ∷ [] }
     ensures no_reply_to_next { next_replies (value ∷ next ∷ []) (no_memory ∷ no_memory ∷ []) ≡ [] }
+{}
+
+// On the words `-ab c`, on `-a=` with `short_equals` false, and on `-a` and the byte FF.
+fn clusters_are_read_to_their_end()
+    ensures two_letters { (replies : List Reply) (v : UnreadLine)
+        → ReadsPieces (fresh (codes "-ab" ∷ codes "c" ∷ [])) (next ∷ next ∷ []) replies v
+        → (replies ≡ short 0x61 ∷ short 0x62 ∷ []) × (v.words ≡ codes "c" ∷ []) }
+    ensures equals_sign { (replies : List Reply) (v : UnreadLine)
+        → ReadsPieces (record (fresh (codes "-a=" ∷ [])) { short_equals = false })
+        (next ∷ next ∷ []) replies v → replies ≡ short 0x61 ∷ short 0x3D ∷ [] }
+    ensures damage { (replies : List Reply) (v : UnreadLine)
+        → ReadsPieces (fresh ((0x2D ∷ 0x61 ∷ 0xFF ∷ []) ∷ [])) (next ∷ next ∷ []) replies v
+        → replies ≡ short 0x61 ∷ short 0xFFFD ∷ [] }
+    ensures no_other_replies { (v : UnreadLine)
+        → ReadsPieces (fresh (codes "-ab" ∷ [])) (next ∷ next ∷ []) (short 0x61 ∷ no_memory ∷ []) v
+        → ⊥ }
 {}

@@ -1,11 +1,12 @@
 //! Worked examples of whole lines: what words spell under a table, what they show, and words that
 //! show no list.
-ghost use Rattle.std.specs.Prelude.{◌≡◌, ◌++◌, [], ◌∷◌, List, true, false, Some, None, codes};
+ghost use Rattle.std.specs.Prelude.{◌≡◌, ◌++◌, [], ◌∷◌, ℕ, List, true, false, Some, None};
+ghost use Rattle.std.specs.Prelude.{codes};
 ghost use Rattle.lexopt_line_spec.specs.Table.{Item, Table, long, many, one_value, option};
 ghost use Rattle.lexopt_line_spec.specs.Table.{positional, short};
 ghost use Rattle.lexopt_line_spec.specs.Spelling.{HaveWholeNames, Shows, Spells};
 ghost use Rattle.lexopt_line_spec.specs.Readings.{IsReading, start};
-ghost use Rattle.lexopt_line_spec.specs.Script.{WholeLineText};
+ghost use Rattle.lexopt_line_spec.specs.Script.{IsOutput, WholeLineText};
 ghost use Rattle.lexopt_spec.specs.Steps.{end, missing, unexpected};
 ghost use Rattle.lexopt_laws.specs.OneValueSpelling.{OneValueShows, OneValueSpells, OneValueTable};
 
@@ -21,6 +22,7 @@ fn words_spell_the_worked_examples() {
     lines_are_read();
     names_are_whole();
     whole_lines_have_these_texts();
+    scripts_have_these_outputs();
 }
 
 fn options_of_one_value_are_spelled()
@@ -280,4 +282,14 @@ fn whole_lines_have_these_texts()
         (codes "-v" ∷ []) (codes "[]") → ⊥ }
     ensures no_other_error { WholeLineText (one_value (codes "o") (codes "out" ∷ [])) true
         (codes "-v" ∷ []) (codes "error: missing argument") → ⊥ }
+{}
+
+// What may be written for a script, and what may not.
+fn scripts_have_these_outputs()
+    ensures replies { IsOutput (codes "w -x\nnext\nnext") (codes "Short \"x\"\nNone\n") }
+    ensures whole_line { IsOutput (codes "w a\nitems") (codes "[Value \"a\"]\n") }
+    ensures out_of_memory { IsOutput (codes "w a\nitems") (codes "error: out of memory\n") }
+    ensures no_output_of_a_bad_line { (text : List ℕ) → IsOutput (codes "w a\nnex") text → ⊥ }
+    ensures no_line_left_out { IsOutput (codes "next") [] → ⊥ }
+    ensures no_other_reply { IsOutput (codes "next") (codes "ok\n") → ⊥ }
 {}

@@ -5,3 +5,4 @@ pub mod Speller
 pub mod SpellerTables
 pub mod Readings
 pub mod Script
+pub mod Clusters

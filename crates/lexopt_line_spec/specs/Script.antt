@@ -9,8 +9,9 @@ use Rattle.std.specs.Cmp.Lexicographic.{pointwise}
 use Rattle.std.specs.Str.{all_ascii_digits, is_utf8}
 use Rattle.std.specs.Str.Parse.{digits_value}
 use Rattle.lexopt_spec.specs.Pieces.{first_piece}
+use Rattle.lexopt_spec.specs.UnreadLine.{UnreadLine, fresh}
 use Rattle.lexopt_spec.specs.Runs as calls
-use Rattle.lexopt_spec.specs.Runs.{Call, next, value, values, raw, try_raw, set_short_equals}
+use Rattle.lexopt_spec.specs.Runs.{Call, Run, next, value, values, raw, try_raw, set_short_equals}
 use Rattle.lexopt_spec.specs.Steps as steps
 use Rattle.lexopt_spec.specs.Steps.{Reply, end, taken, maybe, items, busy, done, missing}
 use Rattle.lexopt_spec.specs.Steps.{unexpected, no_memory}
@@ -326,3 +327,12 @@ Written t words on (call c ∷ commands) (reply ∷ replies) text =
 Written t words on (whole_line ∷ commands) replies text =
     (line : List ℕ) × (more : List ℕ) × WholeLineText t on words line
     × Written t words on commands replies more × (text ≡ with_newline line ++ more)
+
+-- the script has no bad line, and the text has a line for each of its commands, in order: the
+-- replies to its calls are those of a run on a parser of its words
+pub record IsOutput (script text : List ℕ) : Type 0 where
+  pub no_bad_line : bad_line script ≡ None
+  pub replies : List Reply
+  pub after : UnreadLine
+  pub run : Run (fresh (words_of script)) (calls_of script) replies after
+  pub written : Written (table_of script) (words_of script) true (commands_of script) replies text

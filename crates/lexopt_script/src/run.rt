@@ -3,14 +3,14 @@
 ghost use Rattle.std.specs.Prelude.{◌≡◌, ◌⊎◌, ◌+◌, ◌++◌, ◌≤◌, ◌<◌, ℕ, List, None, Some, Err, IfOk};
 ghost use Rattle.std.specs.Prelude.{IfErr, OnOk, fold, length, map, codes, string_bytes};
 ghost use Rattle.std.specs.Io.KnownBytes.{Appends, Consumes};
-ghost use Rattle.lexopt_line_spec.specs.Script.{WholeLineText, bad_line, bracketed, item_text};
-ghost use Rattle.lexopt_line_spec.specs.Script.{most_bytes, short_equals_after};
+ghost use Rattle.lexopt_line_spec.specs.Script.{IsOutput, WholeLineText, bad_line, bracketed};
+ghost use Rattle.lexopt_line_spec.specs.Script.{item_text, most_bytes, short_equals_after};
 ghost use Rattle.lexopt_line_spec.specs.Script.{with_newline};
 ghost use Rattle.lexopt_spec.specs.UnreadLine.{fresh};
 ghost use Rattle.lexopt_words.specs.Message.{message};
 ghost use Rattle.lexopt_items.specs.Items.{item_view, table_view};
 ghost use Rattle.lexopt_calls.specs.Replies.{call_view, reply_view};
-ghost use Rattle.lexopt_script.specs.Output.{IsOutput, ReadsWhole, read_room};
+ghost use Rattle.lexopt_script.specs.Output.{ReadsWhole, read_room};
 ghost use Rattle.lexopt_script.specs.Performed.{IsWritten, MakesCalls, answer_text, replies_text};
 
 pub use crate::run_error::RunError;

@@ -1,5 +1,5 @@
 use Rattle.std.proofs.Common.{ℕ, List, rules, string_bytes, subst}
-use Rattle.lexopt_script.specs.Output.{IsOutput}
+use Rattle.lexopt_line_spec.specs.Script.{IsOutput}
 use Rattle.lexopt_script.proofs.run.run.Goals as goal
 
 pub returns-clause-ok : goal.returns-clause-ok

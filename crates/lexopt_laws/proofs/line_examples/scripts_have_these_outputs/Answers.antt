@@ -1,0 +1,66 @@
+use Rattle.std.proofs.Common.{[], ◌∷◌, codes, length, refl, ap, inl}
+use Rattle.lexopt_spec.specs.Steps as steps
+use Rattle.lexopt_spec.specs.Steps.{no_word, next_word}
+use Rattle.lexopt_spec.specs.Runs.{next}
+use Rattle.lexopt_line_spec.specs.Table.{flag, one_value, positional}
+use Rattle.lexopt_line_spec.specs.Readings.{last, more}
+use Rattle.lexopt_line_spec.specs.Script.{bad_line, items_read, memory_refused}
+use Rattle.lexopt_laws.proofs.Computing.{computing}
+use Rattle.lexopt_laws.proofs.Worked.{differ, reads_first, reads_plain}
+use Rattle.lexopt_laws.proofs.WorkedTexts.{is_bad_line, one_end}
+use Rattle.lexopt_laws.proofs.line_examples.scripts_have_these_outputs.Goals as goal
+
+pub returns-clause-replies : goal.returns-clause-replies
+unfolding computing
+returns-clause-replies c = record {
+  no_bad_line = refl;
+  replies = steps.short 0x78 ∷ steps.end ∷ [];
+  after = _;
+  run = (_, inl (reads_first _ 0x78 [] _ refl refl refl refl), (_, inl (next_word refl refl (no_word refl refl refl)), refl));
+  written = (codes "None\n", ([], refl, refl), refl);
+}
+
+pub returns-clause-whole_line : goal.returns-clause-whole_line
+unfolding computing
+returns-clause-whole_line c = record {
+  no_bad_line = refl;
+  replies = [];
+  after = _;
+  run = refl;
+  written = (
+    codes "[Value \"a\"]",
+    [],
+    items_read (positional (codes "a") ∷ []) (record {
+      calls = next ∷ next ∷ [];
+      replies = steps.positional (codes "a") ∷ steps.end ∷ [];
+      after = _;
+      run = (_, inl (reads_plain _ (codes "a") _ refl refl refl refl), (_, inl (next_word refl refl (no_word refl refl refl)), refl));
+      asked = more flag flag next _ _ _ refl tt refl (last flag next refl tt);
+      items_are = refl;
+    }) refl,
+    refl,
+    refl,
+  );
+}
+
+pub returns-clause-out_of_memory : goal.returns-clause-out_of_memory
+unfolding computing
+returns-clause-out_of_memory c = record {
+  no_bad_line = refl;
+  replies = [];
+  after = _;
+  run = refl;
+  written = (codes "error: out of memory", [], memory_refused refl, refl, refl);
+}
+
+pub returns-clause-no_output_of_a_bad_line : goal.returns-clause-no_output_of_a_bad_line
+unfolding computing
+returns-clause-no_output_of_a_bad_line c = λ text output. is_bad_line 2 (bad_line (codes "w a\nnex")) refl output.no_bad_line
+
+pub returns-clause-no_line_left_out : goal.returns-clause-no_line_left_out
+unfolding computing
+returns-clause-no_line_left_out c = λ output. differ 0 5 refl (ap length (one_end (one_value [] []) [] output.replies output.after output.run output.written))
+
+pub returns-clause-no_other_reply : goal.returns-clause-no_other_reply
+unfolding computing
+returns-clause-no_other_reply c = λ output. differ 3 5 refl (ap length (one_end (one_value [] []) (codes "ok\n") output.replies output.after output.run output.written))
