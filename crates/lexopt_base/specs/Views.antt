@@ -3,7 +3,7 @@ use Rattle.std.specs.Prelude.{◌≡◌, ℕ, Bool, List, Option, Result, IfErr}
 use Rattle.std.specs.Borrow.{Fml, MutBor, RestsIfErr, RestsIfNone}
 use Rattle.lexopt_spec.specs.UnreadLine.{UnreadLine}
 use Rattle.lexopt_spec.specs.Runs.{Step, values, raw, raw_if}
-use Rattle.lexopt_spec.specs.Views.{ValueItem, WordItem}
+use Rattle.lexopt_spec.specs.Views.{ValueItem, WordItem, TakesIf}
 use Rattle.lexopt_base.specs.Stages.{stage_of}
 use Rattle.lexopt_base.specs.Replies.{RepliesWith, error_reply}
 use Rattle.lexopt_words.specs.declared.error.Error.{Error}
@@ -54,6 +54,7 @@ abbrev pub RestsIfBusy : MutBor UnreadLine → Option RawArgs → Fml
 RestsIfBusy parser result =
     RestsIfNone the_row parser (λ view. view.parser.ghost_name) result (λ after. after ≡ parser.now)
 
--- what a closure may answer about a word, as these pairs of a word and an answer say
-abbrev pub Answered : (OsStr → Bool → Type 0) → List ℕ → Bool → Type 0
-Answered post bytes answer = (word : OsStr) × (word.bytes.now ≡ bytes) × post word answer
+-- the next word is taken exactly if the closure, which answers so, says `true` about it
+abbrev pub NextIf : (OsStr → Bool → Type 0) → UnreadLine → Option (List ℕ) → UnreadLine → Type 0
+NextIf Answers = TakesIf
+    (λ bytes answer. (word : OsStr) × (word.bytes.now ≡ bytes) × Answers word answer)

@@ -69,8 +69,7 @@ impl Iterator for RawArgs<'_> {
 impl RawArgs<'_> {
     ghost use Rattle.std.specs.Prelude.{◌≡◌, Some, option_map, slice_get};
     ghost use Rattle.lexopt_base.specs.KeptWords.{IsFirst};
-    ghost use Rattle.lexopt_spec.specs.Views.{TakesIf};
-    ghost use Rattle.lexopt_base.specs.Views.{Answered};
+    ghost use Rattle.lexopt_base.specs.Views.{NextIf};
 
     /// The next word, which stays.
     pub fn peek(&self) -> Option<OsStr<'_>>
@@ -89,7 +88,7 @@ impl RawArgs<'_> {
         requires { (word : _) → slice_get self.old.parser.now.words 0 ≡ Some word.bytes.now
             → F.pre func word }
         ensures same_parser { self.new.parser.ghost_name ≡ self.old.parser.ghost_name }
-        ensures asked { TakesIf (Answered (F.post func)) self.old.parser.now result self.new.parser.now }
+        ensures asked { NextIf (F.post func) self.old.parser.now result self.new.parser.now }
     {
         let word = self.peek()?;
         if func(word) { self.next() } else { None }

@@ -28,7 +28,8 @@ reply_count reply = length (handed_items reply)
 abbrev pub replies_count : List Reply → ℕ
 replies_count replies = sum_by reply_count replies
 
--- what the calls of `next` among these were answered, in order, but for those that ran out of memory
+-- what the calls of `next` among these were answered, in order, but for those that ran out of
+-- memory
 abbrev pub next_replies : List Call → List Reply → List Reply
 next_replies [] replies = []
 next_replies (call ∷ calls) [] = []

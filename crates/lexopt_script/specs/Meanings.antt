@@ -23,7 +23,8 @@ calls_and_line calls = calls_view calls.items ++ script.whole_line ∷ []
 
 -- the commands of a script: the calls before each whole line, and those after the last
 abbrev pub commands_view : List (Vec Call Global) → List Call → List script.Command
-commands_view calls_before last_calls = flat_map calls_and_line calls_before ++ calls_view last_calls
+commands_view calls_before last_calls =
+    flat_map calls_and_line calls_before ++ calls_view last_calls
 
 abbrev pub name_view : Name → spec.Name
 name_view (Short c) = spec.short c
