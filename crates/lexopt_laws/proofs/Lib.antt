@@ -11,3 +11,5 @@ pub mod Worked
 pub mod WorkedDamage
 pub mod Cuts
 pub mod WorkedTexts
+pub mod Stays
+pub mod OneItem

@@ -2,7 +2,9 @@
 ghost use Rattle.std.specs.Prelude.{◌≡◌, ◌++◌, [], ◌∷◌, true, false, Some, None, codes};
 ghost use Rattle.std.specs.List.{flat_map};
 ghost use Rattle.lexopt_spec.specs.Pieces.{first_piece, lossy, lossy_characters};
-ghost use Rattle.lexopt_spec.specs.UnreadLine.{fresh, invoked, joined, long_option, no_option};
+ghost use Rattle.lexopt_spec.specs.Account.{NamesOption};
+ghost use Rattle.lexopt_spec.specs.UnreadLine.{BeginsWith, IsLine, dash, fresh, invoked, joined};
+ghost use Rattle.lexopt_spec.specs.UnreadLine.{long_option, no_option};
 ghost use Rattle.lexopt_spec.specs.UnreadLine.{no_tail, pending, pending_in, rest, rest_of};
 ghost use Rattle.lexopt_spec.specs.UnreadLine.{short_option, spelling};
 ghost use Rattle.lexopt_spec.specs.Steps.{busy, done, end, items, long, maybe, missing, no_memory};
@@ -14,15 +16,17 @@ ghost use Rattle.lexopt_spec.specs.Text.{unexpected_argument_message, unexpected
 ghost use Rattle.lexopt_spec.specs.Text.{unexpected_value_message};
 ghost use Rattle.lexopt_line_spec.specs.Table as table;
 ghost use Rattle.lexopt_line_spec.specs.Script.{bad_line, bracketed, call, calls_of, commands_of};
-ghost use Rattle.lexopt_line_spec.specs.Script.{item_text, with_newline, reply_text, table_of};
+ghost use Rattle.lexopt_line_spec.specs.Script.{hexadecimal, item_text, most_bytes, number};
+ghost use Rattle.lexopt_line_spec.specs.Script.{reply_text, short_equals_after, table_of};
+ghost use Rattle.lexopt_line_spec.specs.Script.{with_newline};
 ghost use Rattle.lexopt_line_spec.specs.Script.{unescaped, whole_line, words_of};
 
 use crate::laws::{
     calls_cut_short_are_a_part, clusters_are_read_by_pieces, each_call_has_one_answer,
     first_piece_is_by_the_table, items_make_the_call, lines_stay_lines, no_byte_is_lost,
-    one_value_tables_agree, pieces_are_in_a_row, plain_words_are_the_longest_front,
-    readings_say_what_words_show, replies_are_bounded, some_calls_are_never_refused, views_agree,
-    whole_names_are_spelled, words_show_one_list,
+    one_value_tables_agree, other_parts_stay, pieces_are_in_a_row,
+    plain_words_are_the_longest_front, readings_say_what_words_show, replies_are_bounded,
+    some_calls_are_never_refused, views_agree, whole_names_are_spelled, words_show_one_list,
 };
 
 #[test]
@@ -35,6 +39,7 @@ fn laws_hold_at_some_bytes() {
     plain_words_are_the_longest_front();
     items_make_the_call();
     no_byte_is_lost();
+    other_parts_stay();
     calls_cut_short_are_a_part();
     replies_are_bounded();
     clusters_are_read_by_pieces();
@@ -52,6 +57,8 @@ fn definitions_compute_the_worked_examples() {
     options_are_spelled();
     lines_have_binary_names();
     values_are_pending();
+    lines_are_told_apart();
+    numbers_and_digits_are_read();
     quoted_forms();
     messages();
     texts_are_unescaped();
@@ -120,6 +127,69 @@ fn values_are_pending()
     ensures attached { pending_in true (rest (codes "value")) ≡ Some (codes "value", false) }
     ensures empty_after_equals { pending_in true (rest (codes "=")) ≡ Some ([], true) }
     ensures rest_of_none { rest_of [] ≡ no_tail }
+{}
+
+// Lines that a parser can be, and lines that it never is.
+fn lines_are_told_apart()
+    ensures nothing_read { fresh (codes "a" ∷ []) ≡ record {
+      tail = no_tail;
+      words = codes "a" ∷ [];
+      ended = false;
+      last = no_option;
+      short_equals = true;
+      bin_name = None;
+    } }
+    ensures joined { IsLine (record (fresh []) {
+      tail = joined [];
+      last = long_option [];
+    }) }
+    ensures rest { IsLine (record (fresh []) {
+      tail = rest (codes "b");
+      last = short_option 0x61;
+    }) }
+    ensures ended { IsLine (record (fresh []) { ended = true }) }
+    ensures joined_to_no_option { IsLine (record (fresh []) { tail = joined [] }) → ⊥ }
+    ensures joined_after_the_separator { IsLine (record (fresh []) {
+      tail = joined [];
+      last = long_option [];
+      ended = true;
+    }) → ⊥ }
+    ensures rest_of_no_option { IsLine (record (fresh []) { tail = rest (codes "b") }) → ⊥ }
+    ensures rest_after_the_separator { IsLine (record (fresh []) {
+      tail = rest (codes "b");
+      last = short_option 0x61;
+      ended = true;
+    }) → ⊥ }
+    ensures empty_rest { IsLine (record (fresh []) {
+      tail = rest [];
+      last = short_option 0x61;
+    }) → ⊥ }
+    ensures empty_rest_is_no_value { pending_in false (rest []) ≡ None }
+    ensures dash_first { BeginsWith dash (codes "-x") }
+    ensures dash_second { BeginsWith dash (codes "x-") → ⊥ }
+    ensures no_byte { BeginsWith dash [] → ⊥ }
+    ensures option { NamesOption (short 0x61) × NamesOption (long (codes "a")) }
+    ensures value { NamesOption (taken (codes "-a")) → ⊥ }
+    ensures error { NamesOption (missing (Some (codes "-a"))) → ⊥ }
+    ensures unexpected { NamesOption (unexpected (codes "-a") (codes "b")) → ⊥ }
+{}
+
+// The bounds of what a script may hold.
+fn numbers_and_digits_are_read()
+    ensures nine_digits { number (codes "012345678") ≡ Some 12345678 }
+    ensures ten_digits { number (codes "0000000001") ≡ None }
+    ensures no_digit { number [] ≡ None }
+    ensures no_number { number (codes "1a") ≡ None }
+    ensures sign { number (codes "+1") ≡ None }
+    ensures first_digits { (hexadecimal 0x30 ≡ Some 0) × (hexadecimal 0x41 ≡ Some 10) × (hexadecimal 0x61 ≡ Some 10) }
+    ensures last_digits { (hexadecimal 0x39 ≡ Some 9) × (hexadecimal 0x46 ≡ Some 15) × (hexadecimal 0x66 ≡ Some 15) }
+    ensures before_digits { (hexadecimal 0x2F ≡ None) × (hexadecimal 0x40 ≡ None) × (hexadecimal 0x60 ≡ None) }
+    ensures after_digits { (hexadecimal 0x3A ≡ None) × (hexadecimal 0x47 ≡ None) × (hexadecimal 0x67 ≡ None) }
+    ensures most { most_bytes ≡ 1048576 }
+    ensures off { short_equals_after true (set_short_equals false) ≡ false }
+    ensures on { short_equals_after false (set_short_equals true) ≡ true }
+    ensures stays_off { short_equals_after false next ≡ false }
+    ensures stays_on { short_equals_after true optional ≡ true }
 {}
 
 #[tactic(auto, unfolding(crate::proofs::Computing::computing))]

@@ -18,7 +18,8 @@ ghost use Rattle.lexopt_spec.specs.Steps.{Reply, busy, end, items, long, maybe, 
 ghost use Rattle.lexopt_spec.specs.Steps.{short, unexpected};
 ghost use Rattle.lexopt_spec.specs.UnreadLine.{IsLine, IsNormal, IsPlain, IsPlainFront, UnreadLine};
 ghost use Rattle.lexopt_spec.specs.UnreadLine.{dash, equals, fresh, invoked, is_plain, no_tail};
-ghost use Rattle.lexopt_spec.specs.UnreadLine.{pending};
+ghost use Rattle.lexopt_spec.specs.UnreadLine.{long_option, pending, short_option};
+ghost use Rattle.lexopt_line_spec.specs.Script.{short_equals_after};
 ghost use Rattle.lexopt_line_spec.specs.Table as table;
 ghost use Rattle.lexopt_line_spec.specs.Table.{Item, Table, flag, kind};
 ghost use Rattle.lexopt_line_spec.specs.Readings.{IsReading, start};
@@ -102,6 +103,26 @@ pub fn lines_stay_lines()
         → TakesIf (λ word said. said ≡ answer) u item v → IsLine v }
 {}
 
+/// What no rule names stays. The binary name always does; `short_equals`, unless the call sets it;
+/// the last option, unless the reply is an option, which is then the last one. The separator, once
+/// read, stays read, and only `next` reads it.
+pub fn other_parts_stay()
+    ensures bin_name { (call : Call) (u v : UnreadLine) (r : Reply) → Step call u r v
+        → v.bin_name ≡ u.bin_name }
+    ensures short_equals { (call : Call) (u v : UnreadLine) (r : Reply) → Step call u r v
+        → v.short_equals ≡ short_equals_after u.short_equals call }
+    ensures last { (call : Call) (u v : UnreadLine) (r : Reply) → Step call u r v
+        → ¬ NamesOption r → v.last ≡ u.last }
+    ensures short { (u v : UnreadLine) (c : ℕ) → Step next u (short c) v
+        → v.last ≡ short_option c }
+    ensures long { (u v : UnreadLine) (name : List ℕ) → Step next u (long name) v
+        → v.last ≡ long_option name }
+    ensures ended { (call : Call) (u v : UnreadLine) (r : Reply) → Step call u r v
+        → u.ended ≡ true → v.ended ≡ true }
+    ensures only_next { (call : Call) (u v : UnreadLine) (r : Reply) → Step call u r v
+        → call ≢ next → v.ended ≡ u.ended }
+{}
+
 /// The words that can be values are the longest prefix of plain words, and no other prefix is.
 pub fn plain_words_are_the_longest_front()
     ensures test { (ended : Bool) (w : List ℕ) → (is_plain ended w ≡ true → IsPlain ended w)
@@ -112,10 +133,19 @@ pub fn plain_words_are_the_longest_front()
         → IsPlainFront ended words front after → plain_front ended words ≡ front }
 {}
 
-/// Items that are asked of a view one by one are what the call answers that asks for so many; if
-/// fewer came, all came; what comes is the first of what is left; and once none came, none comes
-/// and nothing changes.
+/// A view that is asked for an item has exactly one answer. Items that are asked one by one are what
+/// the call answers that asks for so many; if fewer came, all came; what comes is the first of what
+/// is left; and once none came, none comes and nothing changes.
 pub fn items_make_the_call()
+    ensures some_value { (stage : Stage) (u : UnreadLine) → (item : Option (List ℕ))
+        × (v : UnreadLine) × (now : Stage) × ValueItem stage u item v now }
+    ensures no_other_value { (stage now then : Stage) (u v w : UnreadLine)
+        (item other : Option (List ℕ)) → ValueItem stage u item v now
+        → ValueItem stage u other w then → (item ≡ other) × (v ≡ w) × (now ≡ then) }
+    ensures some_word { (u : UnreadLine) → (item : Option (List ℕ)) × (v : UnreadLine)
+        × WordItem u item v }
+    ensures no_other_word { (u v w : UnreadLine) (item other : Option (List ℕ)) → WordItem u item v
+        → WordItem u other w → (item ≡ other) × (v ≡ w) }
     ensures first { (stage now : Stage) (u v : UnreadLine) (item : Option (List ℕ))
         → ValueItem stage u item v now
         → values_left stage u ≡ cons_option item (values_left now v) }

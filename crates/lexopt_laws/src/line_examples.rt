@@ -288,6 +288,8 @@ fn whole_lines_have_these_texts()
 fn scripts_have_these_outputs()
     ensures replies { IsOutput (codes "w -x\nnext\nnext") (codes "Short \"x\"\nNone\n") }
     ensures whole_line { IsOutput (codes "w a\nitems") (codes "[Value \"a\"]\n") }
+    ensures off_for_a_whole_line { IsOutput (codes "w -a=\noff\nitems")
+        (codes "ok\n[Short \"a\", Short \"=\"]\n") }
     ensures out_of_memory { IsOutput (codes "w a\nitems") (codes "error: out of memory\n") }
     ensures no_output_of_a_bad_line { (text : List ℕ) → IsOutput (codes "w a\nnex") text → ⊥ }
     ensures no_line_left_out { IsOutput (codes "next") [] → ⊥ }

@@ -1,12 +1,12 @@
-use Rattle.std.proofs.Common.{[], ◌∷◌, codes, length, refl, ap, inl}
+use Rattle.std.proofs.Common.{[], ◌∷◌, codes, length, refl, ap, inl, None, true≢false, sym}
 use Rattle.lexopt_spec.specs.Steps as steps
-use Rattle.lexopt_spec.specs.Steps.{no_word, next_word}
+use Rattle.lexopt_spec.specs.Steps.{no_word, next_in_cluster, next_word}
 use Rattle.lexopt_spec.specs.Runs.{next}
-use Rattle.lexopt_line_spec.specs.Table.{flag, one_value, positional}
+use Rattle.lexopt_line_spec.specs.Table.{flag, kind, one_value, option, positional, short}
 use Rattle.lexopt_line_spec.specs.Readings.{last, more}
 use Rattle.lexopt_line_spec.specs.Script.{bad_line, items_read, memory_refused}
 use Rattle.lexopt_laws.proofs.Computing.{computing}
-use Rattle.lexopt_laws.proofs.Worked.{differ, reads_first, reads_plain}
+use Rattle.lexopt_laws.proofs.Worked.{differ, reads_first, reads_plain, some}
 use Rattle.lexopt_laws.proofs.WorkedTexts.{is_bad_line, one_end}
 use Rattle.lexopt_laws.proofs.line_examples.scripts_have_these_outputs.Goals as goal
 
@@ -39,6 +39,42 @@ returns-clause-whole_line c = record {
       items_are = refl;
     }) refl,
     refl,
+    refl,
+  );
+}
+
+-- `-a=`, read by `next` alone
+pub returns-clause-off_for_a_whole_line : goal.returns-clause-off_for_a_whole_line
+unfolding kind computing
+returns-clause-off_for_a_whole_line c = record {
+  no_bad_line = refl;
+  replies = steps.done ∷ [];
+  after = _;
+  run = (_, inl (record { reply_is = refl; after_is = refl }), refl);
+  written = (
+    codes "[Short \"a\", Short \"=\"]\n",
+    (
+      codes "[Short \"a\", Short \"=\"]",
+      [],
+      items_read (option (short 0x61) None ∷ option (short 0x3D) None ∷ []) (record {
+        calls = next ∷ next ∷ next ∷ [];
+        replies = steps.short 0x61 ∷ steps.short 0x3D ∷ steps.end ∷ [];
+        after = _;
+        run = (
+          _,
+          inl (reads_first _ 0x61 (codes "=") _ refl refl refl refl),
+          (
+            _,
+            inl (next_in_cluster (codes "=") refl (λ h. true≢false (sym h.0)) (record { some = some 0x3D []; reply_is = refl; after_is = refl })),
+            (_, inl (next_word refl refl (no_word refl refl refl)), refl),
+          ),
+        );
+        asked = more flag flag next _ _ _ refl tt refl (more flag flag next _ _ _ refl tt refl (last flag next refl tt));
+        items_are = refl;
+      }) refl,
+      refl,
+      refl,
+    ),
     refl,
   );
 }
