@@ -6,10 +6,7 @@ pub mod GivenItems
 pub mod OneValueLaw
 pub mod SpellerSettings
 pub mod SpellerReasons
-pub mod Computing
-pub mod Worked
 pub mod WorkedDamage
 pub mod Cuts
-pub mod WorkedTexts
 pub mod Stays
 pub mod OneItem

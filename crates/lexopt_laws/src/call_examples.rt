@@ -23,10 +23,8 @@ fn calls_answer_the_worked_examples() {
     words_are_taken_on_a_condition();
     bytes_are_accounted_for();
     calls_are_cut_short();
-    fewer_items_are_asked();
     no_item_more_is_taken();
     replies_are_counted();
-    clusters_are_read_to_their_end();
 }
 
 fn calls_have_these_replies()
@@ -59,6 +57,12 @@ fn calls_have_these_replies()
     ensures value_in_a_cluster { (v : UnreadLine)
         × Run (fresh (codes "-a=" ∷ [])) (next ∷ next ∷ next ∷ [])
         (short 0x61 ∷ unexpected (codes "-a") [] ∷ end ∷ []) v }
+    ensures value_of_a_name { (v : UnreadLine)
+        × Run (fresh (codes "--n=x" ∷ [])) (next ∷ next ∷ next ∷ [])
+        (long (codes "n") ∷ unexpected (codes "--n") (codes "x") ∷ end ∷ []) v }
+    ensures first_equals_ends_the_name { (v : UnreadLine)
+        × Run (fresh (codes "--n=x=y" ∷ [])) (next ∷ value ∷ [])
+        (long (codes "n") ∷ taken (codes "x=y") ∷ []) v }
     ensures set_short_equals { (v : UnreadLine)
         × Run (fresh (codes "-a=b" ∷ []))
         (next ∷ set_short_equals false ∷ next ∷ set_short_equals true ∷ next ∷ next ∷ [])
@@ -171,24 +175,6 @@ fn calls_are_cut_short()
         Part u (values 2 ∷ raw 9 ∷ []) (record u { tail = no_tail; words = codes "e" ∷ [] }) }
 {}
 
-// A call asked for at most so many items: never for more than before.
-fn fewer_items_are_asked()
-    ensures values { up_to 5 (values 2) ≡ values 2 }
-    ensures fewer_values { up_to 1 (values 2) ≡ values 1 }
-    ensures no_values { up_to 0 (values 2) ≡ values 0 }
-    ensures raw { up_to 5 (raw 2) ≡ raw 2 }
-    ensures fewer_raw { up_to 1 (raw 2) ≡ raw 1 }
-    ensures no_raw { up_to 0 (raw 2) ≡ raw 0 }
-    ensures try_raw { up_to 5 (try_raw 2) ≡ try_raw 2 }
-    ensures fewer_try_raw { up_to 1 (try_raw 2) ≡ try_raw 1 }
-    ensures no_try_raw { up_to 0 (try_raw 2) ≡ try_raw 0 }
-    ensures next { up_to 0 next ≡ next }
-    ensures value { up_to 0 value ≡ value }
-    ensures optional { up_to 0 optional ≡ optional }
-    ensures raw_if { up_to 0 (raw_if (codes "a")) ≡ raw_if (codes "a") }
-    ensures set_short_equals { up_to 0 (set_short_equals true) ≡ set_short_equals true }
-{}
-
 // On the words `a b`: a call for one item may take the first, and never takes both.
 fn no_item_more_is_taken()
     ensures one_value { Part (fresh (codes "a" ∷ codes "b" ∷ [])) (values 1 ∷ [])
@@ -204,7 +190,7 @@ fn no_item_more_is_taken()
 {}
 
 // A line's bound, and the replies of a run that comes to its end.
-#[tactic(auto, unfolding(crate::proofs::Computing::computing))]
+#[tactic(auto, unfolding(lexopt_line_spec::proofs::Computing::computing))]
 fn replies_are_counted()
     ensures cluster { bound (fresh (codes "-abc" ∷ [])) ≡ 3 }
     ensures cluster_replies { replies_count (short 0x61 ∷ short 0x62 ∷ short 0x63 ∷ end ∷ []) ≡ 3 }
@@ -215,6 +201,10 @@ fn replies_are_counted()
       tail = joined [];
       last = long_option [];
     }) ≡ 1 }
+    ensures cluster_read { bound (record (fresh []) {
+      tail = rest (codes "bc");
+      last = short_option 0x61;
+    }) ≡ 2 }
     ensures all_kinds_of_words { bound
         (fresh ([] ∷ codes "--=" ∷ codes "--=3" ∷ codes "-" ∷ codes "-x" ∷ codes "--" ∷ codes "-" ∷
         codes "-x" ∷ codes "--" ∷ [] ∷ codes "-" ∷ codes "-x" ∷ [])) ≡ 15 }
@@ -227,20 +217,4 @@ fn replies_are_counted()
         [])
         ≡ short 0x61 ∷ positional (codes "c") ∷ end ∷ [] }
     ensures no_reply_to_next { next_replies (value ∷ next ∷ []) (no_memory ∷ no_memory ∷ []) ≡ [] }
-{}
-
-// On the words `-ab c`, on `-a=` with `short_equals` false, and on `-a` and the byte FF.
-fn clusters_are_read_to_their_end()
-    ensures two_letters { (replies : List Reply) (v : UnreadLine)
-        → ReadsPieces (fresh (codes "-ab" ∷ codes "c" ∷ [])) (next ∷ next ∷ []) replies v
-        → (replies ≡ short 0x61 ∷ short 0x62 ∷ []) × (v.words ≡ codes "c" ∷ []) }
-    ensures equals_sign { (replies : List Reply) (v : UnreadLine)
-        → ReadsPieces (record (fresh (codes "-a=" ∷ [])) { short_equals = false })
-        (next ∷ next ∷ []) replies v → replies ≡ short 0x61 ∷ short 0x3D ∷ [] }
-    ensures damage { (replies : List Reply) (v : UnreadLine)
-        → ReadsPieces (fresh ((0x2D ∷ 0x61 ∷ 0xFF ∷ []) ∷ [])) (next ∷ next ∷ []) replies v
-        → replies ≡ short 0x61 ∷ short 0xFFFD ∷ [] }
-    ensures no_other_replies { (v : UnreadLine)
-        → ReadsPieces (fresh (codes "-ab" ∷ [])) (next ∷ next ∷ []) (short 0x61 ∷ no_memory ∷ []) v
-        → ⊥ }
 {}

@@ -2,14 +2,13 @@
 ghost use Rattle.std.specs.Prelude.{◌≡◌, ◌++◌, [], ◌∷◌, true, false, Some, None, codes};
 ghost use Rattle.std.specs.List.{flat_map};
 ghost use Rattle.lexopt_spec.specs.Pieces.{first_piece, lossy, lossy_characters};
-ghost use Rattle.lexopt_spec.specs.Account.{NamesOption};
-ghost use Rattle.lexopt_spec.specs.UnreadLine.{BeginsWith, IsLine, dash, fresh, invoked, joined};
-ghost use Rattle.lexopt_spec.specs.UnreadLine.{long_option, no_option};
+ghost use Rattle.lexopt_spec.specs.UnreadLine.{fresh, invoked, joined, long_option, no_option};
 ghost use Rattle.lexopt_spec.specs.UnreadLine.{no_tail, pending, pending_in, rest, rest_of};
 ghost use Rattle.lexopt_spec.specs.UnreadLine.{short_option, spelling};
 ghost use Rattle.lexopt_spec.specs.Steps.{busy, done, end, items, long, maybe, missing, no_memory};
 ghost use Rattle.lexopt_spec.specs.Steps.{positional, short, taken, unexpected};
-ghost use Rattle.lexopt_spec.specs.Runs.{next, optional, set_short_equals, value};
+ghost use Rattle.lexopt_spec.specs.Runs.{next, optional, raw, set_short_equals, try_raw, value};
+ghost use Rattle.lexopt_spec.specs.Runs.{values};
 ghost use Rattle.lexopt_spec.specs.Text.{missing_message, non_unicode_message};
 ghost use Rattle.lexopt_spec.specs.Text.{parsing_failed_message, quoted};
 ghost use Rattle.lexopt_spec.specs.Text.{unexpected_argument_message, unexpected_option_message};
@@ -57,7 +56,6 @@ fn definitions_compute_the_worked_examples() {
     options_are_spelled();
     lines_have_binary_names();
     values_are_pending();
-    lines_are_told_apart();
     numbers_and_digits_are_read();
     quoted_forms();
     messages();
@@ -71,7 +69,7 @@ fn definitions_compute_the_worked_examples() {
     more_replies_are_written();
 }
 
-#[tactic(auto, unfolding(crate::proofs::Computing::computing))]
+#[tactic(auto, unfolding(lexopt_line_spec::proofs::Computing::computing))]
 fn lossy_text_of_damaged_bytes()
     ensures between { lossy_characters (0x61 ∷ 0xFF ∷ 0x63 ∷ []) ≡ 0x61 ∷ 0xFFFD ∷ 0x63 ∷ [] }
     ensures cut { lossy_characters (0xC2 ∷ []) ≡ 0xFFFD ∷ [] }
@@ -104,14 +102,14 @@ fn first_pieces_of_damaged_bytes()
     } }
 {}
 
-#[tactic(auto, unfolding(crate::proofs::Computing::computing))]
+#[tactic(auto, unfolding(lexopt_line_spec::proofs::Computing::computing))]
 fn options_are_spelled()
     ensures none { spelling no_option ≡ None }
     ensures short { spelling (short_option 0xB5) ≡ Some (0x2D ∷ 0xC2 ∷ 0xB5 ∷ []) }
     ensures long { spelling (long_option (codes "out")) ≡ Some (codes "--out") }
 {}
 
-#[tactic(auto, unfolding(crate::proofs::Computing::computing))]
+#[tactic(auto, unfolding(lexopt_line_spec::proofs::Computing::computing))]
 fn lines_have_binary_names()
     ensures damaged { invoked ((0x61 ∷ 0xFF ∷ []) ∷ codes "-x" ∷ [])
         ≡ record (fresh (codes "-x" ∷ [])) { bin_name = Some (0x61 ∷ 0xEF ∷ 0xBF ∷ 0xBD ∷ []) } }
@@ -129,51 +127,6 @@ fn values_are_pending()
     ensures rest_of_none { rest_of [] ≡ no_tail }
 {}
 
-// Lines that a parser can be, and lines that it never is.
-fn lines_are_told_apart()
-    ensures nothing_read { fresh (codes "a" ∷ []) ≡ record {
-      tail = no_tail;
-      words = codes "a" ∷ [];
-      ended = false;
-      last = no_option;
-      short_equals = true;
-      bin_name = None;
-    } }
-    ensures joined { IsLine (record (fresh []) {
-      tail = joined [];
-      last = long_option [];
-    }) }
-    ensures rest { IsLine (record (fresh []) {
-      tail = rest (codes "b");
-      last = short_option 0x61;
-    }) }
-    ensures ended { IsLine (record (fresh []) { ended = true }) }
-    ensures joined_to_no_option { IsLine (record (fresh []) { tail = joined [] }) → ⊥ }
-    ensures joined_after_the_separator { IsLine (record (fresh []) {
-      tail = joined [];
-      last = long_option [];
-      ended = true;
-    }) → ⊥ }
-    ensures rest_of_no_option { IsLine (record (fresh []) { tail = rest (codes "b") }) → ⊥ }
-    ensures rest_after_the_separator { IsLine (record (fresh []) {
-      tail = rest (codes "b");
-      last = short_option 0x61;
-      ended = true;
-    }) → ⊥ }
-    ensures empty_rest { IsLine (record (fresh []) {
-      tail = rest [];
-      last = short_option 0x61;
-    }) → ⊥ }
-    ensures empty_rest_is_no_value { pending_in false (rest []) ≡ None }
-    ensures dash_first { BeginsWith dash (codes "-x") }
-    ensures dash_second { BeginsWith dash (codes "x-") → ⊥ }
-    ensures no_byte { BeginsWith dash [] → ⊥ }
-    ensures option { NamesOption (short 0x61) × NamesOption (long (codes "a")) }
-    ensures value { NamesOption (taken (codes "-a")) → ⊥ }
-    ensures error { NamesOption (missing (Some (codes "-a"))) → ⊥ }
-    ensures unexpected { NamesOption (unexpected (codes "-a") (codes "b")) → ⊥ }
-{}
-
 // The bounds of what a script may hold.
 fn numbers_and_digits_are_read()
     ensures nine_digits { number (codes "012345678") ≡ Some 12345678 }
@@ -181,10 +134,14 @@ fn numbers_and_digits_are_read()
     ensures no_digit { number [] ≡ None }
     ensures no_number { number (codes "1a") ≡ None }
     ensures sign { number (codes "+1") ≡ None }
-    ensures first_digits { (hexadecimal 0x30 ≡ Some 0) × (hexadecimal 0x41 ≡ Some 10) × (hexadecimal 0x61 ≡ Some 10) }
-    ensures last_digits { (hexadecimal 0x39 ≡ Some 9) × (hexadecimal 0x46 ≡ Some 15) × (hexadecimal 0x66 ≡ Some 15) }
-    ensures before_digits { (hexadecimal 0x2F ≡ None) × (hexadecimal 0x40 ≡ None) × (hexadecimal 0x60 ≡ None) }
-    ensures after_digits { (hexadecimal 0x3A ≡ None) × (hexadecimal 0x47 ≡ None) × (hexadecimal 0x67 ≡ None) }
+    ensures first_digits { (hexadecimal 0x30 ≡ Some 0) × (hexadecimal 0x41 ≡ Some 10)
+        × (hexadecimal 0x61 ≡ Some 10) }
+    ensures last_digits { (hexadecimal 0x39 ≡ Some 9) × (hexadecimal 0x46 ≡ Some 15)
+        × (hexadecimal 0x66 ≡ Some 15) }
+    ensures before_digits { (hexadecimal 0x2F ≡ None) × (hexadecimal 0x40 ≡ None)
+        × (hexadecimal 0x60 ≡ None) }
+    ensures after_digits { (hexadecimal 0x3A ≡ None) × (hexadecimal 0x47 ≡ None)
+        × (hexadecimal 0x67 ≡ None) }
     ensures most { most_bytes ≡ 1048576 }
     ensures off { short_equals_after true (set_short_equals false) ≡ false }
     ensures on { short_equals_after false (set_short_equals true) ≡ true }
@@ -192,7 +149,7 @@ fn numbers_and_digits_are_read()
     ensures stays_on { short_equals_after true optional ≡ true }
 {}
 
-#[tactic(auto, unfolding(crate::proofs::Computing::computing))]
+#[tactic(auto, unfolding(lexopt_line_spec::proofs::Computing::computing))]
 fn quoted_forms()
     ensures empty { quoted [] ≡ codes "\"\"" }
     ensures control { quoted (0x1B ∷ []) ≡ codes "\"\\u{1b}\"" }
@@ -202,9 +159,10 @@ fn quoted_forms()
     ensures escapes { quoted (0x00 ∷ 0x0D ∷ 0x1F ∷ 0x0A ∷ 0x09 ∷ 0x7F ∷ 0x5C ∷ 0x22 ∷ [])
         ≡ codes "\"\\0\\r\\u{1f}\\n\\t\\u{7f}\\\\\\\"\"" }
     ensures past_ascii { quoted (0xC2 ∷ 0xB5 ∷ []) ≡ 0x22 ∷ 0xC2 ∷ 0xB5 ∷ 0x22 ∷ [] }
+    ensures control_past_ascii { quoted (0xC2 ∷ 0x85 ∷ []) ≡ 0x22 ∷ 0xC2 ∷ 0x85 ∷ 0x22 ∷ [] }
 {}
 
-#[tactic(auto, unfolding(crate::proofs::Computing::computing))]
+#[tactic(auto, unfolding(lexopt_line_spec::proofs::Computing::computing))]
 fn messages()
     ensures missing { missing_message None ≡ codes "missing argument" }
     ensures missing_of { missing_message (Some (codes "-o"))
@@ -229,6 +187,7 @@ fn texts_are_unescaped()
     ensures byte { unescaped (codes "a\\xfFb") ≡ Some (0x61 ∷ 0xFF ∷ 0x62 ∷ []) }
     ensures other { unescaped (codes "\\q") ≡ None }
     ensures cut { unescaped (codes "\\x4") ≡ None }
+    ensures no_digits { unescaped (codes "\\x") ≡ None }
     ensures nothing_after { unescaped (codes "\\") ≡ None }
 {}
 
@@ -254,13 +213,15 @@ fn a_script_has_words_and_calls()
         ≡ next ∷ value ∷ [] }
     ensures switches { calls_of (codes "off\nw -a=b\nnext\non\noptional")
         ≡ set_short_equals false ∷ next ∷ set_short_equals true ∷ optional ∷ [] }
+    ensures views { calls_of (codes "values 1\nraw 2\ntry 3") ≡ values 1 ∷ raw 2 ∷ try_raw 3 ∷ [] }
 {}
 
-#[tactic(auto, unfolding(crate::proofs::Computing::computing))]
+#[tactic(auto, unfolding(lexopt_line_spec::proofs::Computing::computing))]
 fn lines_name_options()
     ensures two_characters { bad_line (codes "t --a\nt -ab") ≡ Some 2 }
     ensures no_character { bad_line (codes "t -") ≡ Some 1 }
     ensures no_option { bad_line (codes "t a") ≡ Some 1 }
+    ensures no_dash { bad_line (codes "t ab") ≡ Some 1 }
     ensures no_text { bad_line (codes "t") ≡ Some 1 }
     ensures damaged_character { bad_line (codes "t -" ++ 0xC2 ∷ []) ≡ Some 1 }
     ensures damaged_name { bad_line (codes "t --" ++ 0xFF ∷ []) ≡ Some 1 }
@@ -272,7 +233,7 @@ fn lines_name_options()
     ensures after_a_switch { bad_line (codes "off\nt -a\nitems\non\nitems") ≡ None }
 {}
 
-#[tactic(auto, unfolding(crate::proofs::Computing::computing))]
+#[tactic(auto, unfolding(lexopt_line_spec::proofs::Computing::computing))]
 fn a_script_has_a_table_and_commands()
     ensures table { table_of (codes
         "t -o\ntopt --color\nt -v\ntmany -d\nt --\ntopt -i\ntmany --cmd\nitems")
@@ -290,7 +251,7 @@ fn a_script_has_a_table_and_commands()
         ≡ set_short_equals false ∷ next ∷ [] }
 {}
 
-#[tactic(auto, unfolding(crate::proofs::Computing::computing))]
+#[tactic(auto, unfolding(lexopt_line_spec::proofs::Computing::computing))]
 fn items_are_written()
     ensures none { bracketed item_text [] ≡ codes "[]" }
     ensures values { bracketed item_text
@@ -303,7 +264,7 @@ fn items_are_written()
         ≡ codes "[Short \"d\" = [\"1\", \"2\"], Long \"cmd\" = [\"a\"]]" }
 {}
 
-#[tactic(auto, unfolding(crate::proofs::Computing::computing))]
+#[tactic(auto, unfolding(lexopt_line_spec::proofs::Computing::computing))]
 fn replies_are_written()
     ensures first_script { flat_map (λ r. with_newline (reply_text r))
         (long (codes "out") ∷ taken (codes "x") ∷ positional (codes "file") ∷ positional
@@ -316,7 +277,7 @@ fn replies_are_written()
         ≡ codes "Short \"a\"\n" }
 {}
 
-#[tactic(auto, unfolding(crate::proofs::Computing::computing))]
+#[tactic(auto, unfolding(lexopt_line_spec::proofs::Computing::computing))]
 fn more_replies_are_written()
     ensures views { flat_map (λ r. with_newline (reply_text r))
         (items [] ∷ items (codes "a" ∷ codes "b c" ∷ []) ∷ maybe None ∷ maybe (Some (codes "x")) ∷

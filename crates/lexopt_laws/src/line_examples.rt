@@ -20,9 +20,6 @@ fn words_spell_the_worked_examples() {
     damage_is_shown_and_not_spelled();
     one_value_rules_spell_the_same();
     lines_are_read();
-    names_are_whole();
-    whole_lines_have_these_texts();
-    scripts_have_these_outputs();
 }
 
 fn options_of_one_value_are_spelled()
@@ -238,60 +235,4 @@ fn lines_are_read()
       several_shorts = codes "d";
     }) (start true (codes "-d1" ∷ codes "2" ∷ [])) end
         (many (short 0x64) (codes "1" ∷ codes "2" ∷ []) ∷ []) }
-{}
-
-// Whether an option has U+FFFD in its name: a damaged name has. C2 B5 is another character, and
-// EF BF BD is U+FFFD itself.
-fn names_are_whole()
-    ensures no_items { HaveWholeNames [] }
-    ensures short { HaveWholeNames (option (short 0x78) None ∷ []) }
-    ensures short_of_two_bytes { HaveWholeNames (option (short 0xB5) None ∷ []) }
-    ensures short_replacement { HaveWholeNames (option (short 0xFFFD) None ∷ []) → ⊥ }
-    ensures several_replacement { HaveWholeNames
-        (many (short 0xFFFD) (codes "1" ∷ []) ∷ []) → ⊥ }
-    ensures long { HaveWholeNames
-        (option (long (codes "x")) None ∷ option (long (codes "out")) (Some (codes "f")) ∷ option
-        (long (codes "exclude")) None ∷ many (long (codes "cmd")) (codes "a" ∷ []) ∷ []) }
-    ensures long_of_two_bytes { HaveWholeNames (option (long (0xC2 ∷ 0xB5 ∷ [])) None ∷ []) }
-    ensures empty { HaveWholeNames (option (long []) (Some []) ∷ []) }
-    ensures long_replacement { HaveWholeNames
-        (option (long (0x61 ∷ 0xEF ∷ 0xBF ∷ 0xBD ∷ [])) None ∷ []) → ⊥ }
-    ensures damaged { HaveWholeNames (option (long (0x61 ∷ 0xFF ∷ [])) None ∷ []) → ⊥ }
-    ensures several_damaged { HaveWholeNames (many (long (0xFF ∷ [])) (codes "a" ∷ []) ∷ []) → ⊥ }
-    ensures not_the_first { HaveWholeNames
-        (option (short 0x78) None ∷ positional (codes "f") ∷ option (short 0xFFFD) None ∷ []) → ⊥ }
-    ensures damage_elsewhere { HaveWholeNames
-        (positional (0xFF ∷ []) ∷ option (short 0x6F) (Some (0xFF ∷ [])) ∷ many (short 0x64)
-        ((0xEF ∷ 0xBF ∷ 0xBD ∷ []) ∷ []) ∷ []) }
-{}
-
-// What may be written for a whole line, and what may not.
-fn whole_lines_have_these_texts()
-    ensures items { WholeLineText (one_value (codes "o") (codes "out" ∷ [])) true
-        (codes "-ox" ∷ codes "f" ∷ [])
-        (codes "[Short \"o\" = \"x\", Value \"f\"]") }
-    ensures no_words { WholeLineText (one_value (codes "o") (codes "out" ∷ [])) true []
-        (codes "[]") }
-    ensures missing_value { WholeLineText (one_value (codes "o") (codes "out" ∷ [])) true
-        (codes "-o" ∷ []) (codes "error: missing argument for option '-o'") }
-    ensures out_of_memory { WholeLineText (one_value (codes "o") (codes "out" ∷ [])) true
-        (codes "-o" ∷ []) (codes "error: out of memory") }
-    ensures no_items_of_an_error { WholeLineText (one_value (codes "o") (codes "out" ∷ [])) true
-        (codes "-o" ∷ []) (codes "[]") → ⊥ }
-    ensures no_item_left_out { WholeLineText (one_value (codes "o") (codes "out" ∷ [])) true
-        (codes "-v" ∷ []) (codes "[]") → ⊥ }
-    ensures no_other_error { WholeLineText (one_value (codes "o") (codes "out" ∷ [])) true
-        (codes "-v" ∷ []) (codes "error: missing argument") → ⊥ }
-{}
-
-// What may be written for a script, and what may not.
-fn scripts_have_these_outputs()
-    ensures replies { IsOutput (codes "w -x\nnext\nnext") (codes "Short \"x\"\nNone\n") }
-    ensures whole_line { IsOutput (codes "w a\nitems") (codes "[Value \"a\"]\n") }
-    ensures off_for_a_whole_line { IsOutput (codes "w -a=\noff\nitems")
-        (codes "ok\n[Short \"a\", Short \"=\"]\n") }
-    ensures out_of_memory { IsOutput (codes "w a\nitems") (codes "error: out of memory\n") }
-    ensures no_output_of_a_bad_line { (text : List ℕ) → IsOutput (codes "w a\nnex") text → ⊥ }
-    ensures no_line_left_out { IsOutput (codes "next") [] → ⊥ }
-    ensures no_other_reply { IsOutput (codes "next") (codes "ok\n") → ⊥ }
 {}

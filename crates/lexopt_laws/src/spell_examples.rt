@@ -16,7 +16,7 @@ fn the_definition_spells_the_worked_examples() {
     items_are_refused();
 }
 
-#[tactic(auto, unfolding(crate::proofs::Computing::computing))]
+#[tactic(auto, unfolding(lexopt_line_spec::proofs::Computing::computing))]
 fn flags_and_options_of_one_value_have_these_words()
     ensures nothing { spelled (one_value (codes "o") (codes "out" ∷ [] ∷ [])) true [] ≡ Ok [] }
     ensures in_words { spelled (one_value (codes "o") (codes "out" ∷ [] ∷ [])) true
@@ -46,7 +46,7 @@ fn flags_and_options_of_one_value_have_these_words()
         ≡ Ok (codes "-=" ∷ []) }
 {}
 
-#[tactic(auto, unfolding(crate::proofs::Computing::computing))]
+#[tactic(auto, unfolding(lexopt_line_spec::proofs::Computing::computing))]
 fn options_of_optional_values_have_these_words()
     ensures alone { spelled (record (one_value [] []) {
       optional_shorts = codes "i";
@@ -83,7 +83,7 @@ fn options_of_optional_values_have_these_words()
         ≡ Ok (codes "-i=x" ∷ []) }
 {}
 
-#[tactic(auto, unfolding(crate::proofs::Computing::computing))]
+#[tactic(auto, unfolding(lexopt_line_spec::proofs::Computing::computing))]
 fn options_of_several_values_have_these_words()
     ensures words { spelled (record (one_value [] []) {
       several_shorts = codes "d";
@@ -122,7 +122,7 @@ fn options_of_several_values_have_these_words()
         ≡ Ok (codes "--cmd" ∷ codes "a" ∷ codes "b" ∷ codes "--" ∷ codes "f" ∷ []) }
 {}
 
-#[tactic(auto, unfolding(crate::proofs::Computing::computing))]
+#[tactic(auto, unfolding(lexopt_line_spec::proofs::Computing::computing))]
 fn positionals_have_these_words()
     ensures plain { spelled (one_value (codes "o") (codes "out" ∷ [] ∷ [])) true
         (positional (codes "f") ∷ positional [] ∷ positional (codes "-") ∷ option (short 0x76) None
@@ -138,7 +138,7 @@ fn positionals_have_these_words()
         ≡ Ok (codes "f" ∷ codes "-v" ∷ codes "--" ∷ codes "g" ∷ codes "-x" ∷ []) }
 {}
 
-#[tactic(auto, unfolding(crate::proofs::Computing::computing))]
+#[tactic(auto, unfolding(lexopt_line_spec::proofs::Computing::computing))]
 fn items_are_refused()
     ensures flag_with_a_value { spelled (one_value (codes "o") (codes "out" ∷ [] ∷ [])) true
         (option (short 0x76) (Some (codes "x")) ∷ [])

@@ -36,3 +36,6 @@ pub mod SpellerComplete
 pub mod SpellerFaults
 pub mod SpellerRows
 pub mod SpellerAgrees
+pub mod Computing
+pub mod Worked
+pub mod WorkedTexts

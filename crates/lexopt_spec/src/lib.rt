@@ -3,4 +3,7 @@
 //! messages. `proofs/` has the lemmas that code cites.
 //!
 //! There is no code here. That the definitions fit each other is the subject of `lexopt_laws`.
+//! `examples` has what a few of them say and deny.
 #![tactic(auto)]
+
+mod examples;

@@ -3,7 +3,7 @@ use Rattle.std.specs.List.{Contains}
 use Rattle.lexopt_spec.specs.UnreadLine.{equals, joined}
 use Rattle.lexopt_spec.specs.Steps.{with_value, word_left, no_word_left, reads_separator, reads_long, reads_cluster, joined_value, after_separator, next_word, pending_value, optional_pending}
 use Rattle.lexopt_spec.specs.Views.{is_next, is_not_next, lends_words}
-use Rattle.lexopt_laws.proofs.Computing.{computing}
+use Rattle.lexopt_line_spec.proofs.Computing.{computing}
 use Rattle.lexopt_laws.proofs.call_examples.bytes_are_accounted_for.Goals as goal
 
 free_one : (b : ℕ) → b ≢ equals → Contains (b ∷ []) equals → ⊥

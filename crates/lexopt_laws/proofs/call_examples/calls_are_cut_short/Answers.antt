@@ -1,6 +1,6 @@
 use Rattle.std.proofs.Common.{[], ◌∷◌, codes, refl, inl, inr}
 use Rattle.lexopt_spec.specs.Views.{lends_words}
-use Rattle.lexopt_laws.proofs.Worked.{some, plain_front_is, gives_values}
+use Rattle.lexopt_line_spec.proofs.Worked.{some, plain_front_is, gives_values}
 use Rattle.lexopt_laws.proofs.call_examples.calls_are_cut_short.Goals as goal
 
 pub returns-clause-at_once : goal.returns-clause-at_once

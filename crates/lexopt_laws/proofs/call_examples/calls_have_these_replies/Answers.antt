@@ -1,8 +1,8 @@
 use Rattle.std.proofs.Common.{true, [], ◌∷◌, Some, codes, refl, inl, inr}
 use Rattle.lexopt_spec.specs.Steps as steps
 use Rattle.lexopt_spec.specs.Steps.{no_word_left, word_left, no_word, reads_separator, joined_value, equals_value, next_in_cluster, after_separator, next_word, pending_value, takes_word, nothing_to_take, optional_none}
-use Rattle.lexopt_laws.proofs.Computing.{computing}
-use Rattle.lexopt_laws.proofs.Worked.{some, not_mark, reads_first, reads_joined, reads_name, reads_plain}
+use Rattle.lexopt_line_spec.proofs.Computing.{computing}
+use Rattle.lexopt_line_spec.proofs.Worked.{some, not_mark, reads_first, reads_joined, reads_name, reads_plain}
 use Rattle.lexopt_laws.proofs.call_examples.calls_have_these_replies.Goals as goal
 
 -- `--out=x file -- -y`
@@ -154,4 +154,32 @@ unfolding computing
 returns-clause-optional c = (
   _,
   (_, inl (reads_first _ 0x64 [] _ refl refl refl refl), (_, inl (optional_none refl refl refl), (_, inl (reads_plain _ (codes "v") _ refl refl refl refl), refl))),
+)
+
+-- `--n=x`
+pub returns-clause-value_of_a_name : goal.returns-clause-value_of_a_name
+unfolding computing
+returns-clause-value_of_a_name c = (
+  _,
+  (
+    _,
+    inl (reads_joined _ (codes "n") (codes "x") _ refl refl refl refl),
+    (
+      _,
+      inl (joined_value (codes "x") (codes "--n") refl refl refl refl),
+      (_, inl (next_word refl refl (no_word refl refl refl)), refl),
+    ),
+  ),
+)
+
+-- `--n=x=y`
+pub returns-clause-first_equals_ends_the_name : goal.returns-clause-first_equals_ends_the_name
+unfolding computing
+returns-clause-first_equals_ends_the_name c = (
+  _,
+  (
+    _,
+    inl (reads_joined _ (codes "n") (codes "x=y") _ refl refl refl refl),
+    (_, inl (pending_value (codes "x=y") true refl refl refl), refl),
+  ),
 )

@@ -1,7 +1,7 @@
 use Rattle.std.proofs.Common.{false, true, [], ◌∷◌, Some, None, codes, refl}
 use Rattle.lexopt_spec.specs.Views.{going_on, at_end, gives_pending, gives_word, stops, stopped}
 use Rattle.lexopt_spec.proofs.PlainFronts.{plain_holds}
-use Rattle.lexopt_laws.proofs.Worked.{not_normal}
+use Rattle.lexopt_line_spec.proofs.Worked.{not_normal}
 use Rattle.lexopt_laws.proofs.call_examples.items_come_one_by_one.Goals as goal
 
 pub returns-clause-values : goal.returns-clause-values

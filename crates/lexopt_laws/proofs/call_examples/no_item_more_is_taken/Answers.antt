@@ -2,7 +2,7 @@ use Rattle.std.proofs.Common.{[], ◌∷◌, codes, refl, inl, inr, arith, min}
 use Rattle.lexopt_spec.specs.Views.{lends_words, try_lends_words}
 use Rattle.lexopt_spec.specs.Runs.{values, raw, try_raw}
 use Rattle.lexopt_laws.proofs.Cuts.{values_lose, raw_loses, try_raw_loses, leaves_one}
-use Rattle.lexopt_laws.proofs.Worked.{some, plain_front_is, gives_values}
+use Rattle.lexopt_line_spec.proofs.Worked.{some, plain_front_is, gives_values}
 use Rattle.lexopt_laws.proofs.call_examples.no_item_more_is_taken.Goals as goal
 
 pub returns-clause-one_value : goal.returns-clause-one_value

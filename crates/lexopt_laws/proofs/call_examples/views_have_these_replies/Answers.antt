@@ -1,8 +1,8 @@
 use Rattle.std.proofs.Common.{false, [], ◌∷◌, codes, refl, inl}
 use Rattle.lexopt_spec.specs.Steps.{no_word_left, word_left, no_word, reads_separator, after_separator, next_word}
 use Rattle.lexopt_spec.specs.Views.{refuses_pending, lends_words, leaves_pending, try_lends_words}
-use Rattle.lexopt_laws.proofs.Computing.{computing}
-use Rattle.lexopt_laws.proofs.Worked.{some, plain_front_is, reads_first, reads_plain, gives_values, misses_values}
+use Rattle.lexopt_line_spec.proofs.Computing.{computing}
+use Rattle.lexopt_line_spec.proofs.Worked.{some, plain_front_is, reads_first, reads_plain, gives_values, misses_values}
 use Rattle.lexopt_laws.proofs.call_examples.views_have_these_replies.Goals as goal
 
 -- `-ab c`

@@ -3,9 +3,9 @@ use Rattle.lexopt_spec.specs.UnreadLine.{dash}
 use Rattle.lexopt_line_spec.specs.Table.{option, short, kind, one_value}
 use Rattle.lexopt_line_spec.specs.Readings.{start}
 use Rattle.lexopt_line_spec.specs.Spelling.{nothing, joined, no_value, joined_value, nothing_more, flag_first, last_option, name_and_value, cluster, long_option, no_words, group}
-use Rattle.lexopt_laws.proofs.Computing.{computing}
+use Rattle.lexopt_line_spec.proofs.Computing.{computing}
 use Rattle.lexopt_line_spec.proofs.Existence.{only_one}
-use Rattle.lexopt_laws.proofs.Worked.{not_begins, not_mark, not_contains, last_of, cluster_line, joined_line}
+use Rattle.lexopt_line_spec.proofs.Worked.{not_begins, not_mark, not_contains, last_of, cluster_line, joined_line}
 use Rattle.lexopt_laws.proofs.WorkedDamage.{damage_of, ff_not_spelled, ff_name_not_spelled}
 use Rattle.lexopt_laws.proofs.line_examples.damage_is_shown_and_not_spelled.Goals as goal
 

@@ -5,8 +5,8 @@ use Rattle.lexopt_spec.specs.Runs.{next, value, values}
 use Rattle.lexopt_spec.specs.Runs as calls
 use Rattle.lexopt_line_spec.specs.Table.{flag, one, optional, several, kind}
 use Rattle.lexopt_line_spec.specs.Readings.{last, more}
-use Rattle.lexopt_laws.proofs.Computing.{computing}
-use Rattle.lexopt_laws.proofs.Worked.{some, plain_front_is, reads_first, reads_plain, gives_values}
+use Rattle.lexopt_line_spec.proofs.Computing.{computing}
+use Rattle.lexopt_line_spec.proofs.Worked.{some, plain_front_is, reads_first, reads_plain, gives_values}
 use Rattle.lexopt_laws.proofs.line_examples.lines_are_read.Goals as goal
 
 -- `-o= f`

@@ -3,9 +3,9 @@ use Rattle.lexopt_spec.specs.UnreadLine.{dash}
 use Rattle.lexopt_line_spec.specs.Table.{option, short, long}
 use Rattle.lexopt_line_spec.specs.Spelling.{nothing, joined, no_value, joined_value, next_word, nothing_more, marked_value, name_alone}
 use Rattle.lexopt_laws.specs.OneValueSpelling.{value_kind, flag_first, last_option, cluster, long_option, no_words, plain_word, group, separator}
-use Rattle.lexopt_laws.proofs.Computing.{computing}
+use Rattle.lexopt_line_spec.proofs.Computing.{computing}
 use Rattle.lexopt_spec.proofs.PlainFronts.{plain_holds}
-use Rattle.lexopt_laws.proofs.Worked.{some, not_begins, not_mark, not_contains}
+use Rattle.lexopt_line_spec.proofs.Worked.{some, not_begins, not_mark, not_contains}
 use Rattle.lexopt_laws.proofs.WorkedDamage.{damage_of}
 use Rattle.lexopt_laws.proofs.line_examples.one_value_rules_spell_the_same.Goals as goal
 

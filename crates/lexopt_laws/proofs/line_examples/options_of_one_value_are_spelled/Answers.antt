@@ -1,8 +1,8 @@
 use Rattle.std.proofs.Common.{[], ◌∷◌, codes, refl}
 use Rattle.lexopt_line_spec.specs.Table.{kind}
 use Rattle.lexopt_line_spec.specs.Spelling.{nothing, attached, joined, no_value, attached_value, joined_value, next_word, nothing_more, marked_value, no_words, separator}
-use Rattle.lexopt_laws.proofs.Computing.{computing}
-use Rattle.lexopt_laws.proofs.Worked.{flag_of, last_of, value_after, cluster_line, name_line, joined_line, plain_line}
+use Rattle.lexopt_line_spec.proofs.Computing.{computing}
+use Rattle.lexopt_line_spec.proofs.Worked.{flag_of, last_of, value_after, cluster_line, name_line, joined_line, plain_line}
 use Rattle.lexopt_laws.proofs.line_examples.options_of_one_value_are_spelled.Goals as goal
 
 pub returns-clause-no_words : goal.returns-clause-no_words

@@ -1,8 +1,8 @@
 use Rattle.std.proofs.Common.{[], codes, refl}
 use Rattle.lexopt_line_spec.specs.Table.{kind}
 use Rattle.lexopt_line_spec.specs.Spelling.{nothing, attached, joined, attached_value, no_optional, attached_optional, joined_optional, nothing_more, marked_value, no_words, separator}
-use Rattle.lexopt_laws.proofs.Computing.{computing}
-use Rattle.lexopt_laws.proofs.Worked.{flag_of, last_of, value_after, cluster_line, name_line, joined_line, plain_line}
+use Rattle.lexopt_line_spec.proofs.Computing.{computing}
+use Rattle.lexopt_line_spec.proofs.Worked.{flag_of, last_of, value_after, cluster_line, name_line, joined_line, plain_line}
 use Rattle.lexopt_laws.proofs.line_examples.options_of_optional_values_are_spelled.Goals as goal
 
 -- `-vi.bak f`

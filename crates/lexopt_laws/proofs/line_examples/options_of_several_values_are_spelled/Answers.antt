@@ -1,8 +1,8 @@
 use Rattle.std.proofs.Common.{[], ◌∷◌, codes, refl}
 use Rattle.lexopt_line_spec.specs.Table.{kind}
 use Rattle.lexopt_line_spec.specs.Spelling.{nothing, attached, joined, no_value, joined_several, attached_several, several_words, nothing_more, marked_value, no_words, separator}
-use Rattle.lexopt_laws.proofs.Computing.{computing}
-use Rattle.lexopt_laws.proofs.Worked.{last_of, value_after, cluster_line, name_line, joined_line, plain_line, plain_front_is, some}
+use Rattle.lexopt_line_spec.proofs.Computing.{computing}
+use Rattle.lexopt_line_spec.proofs.Worked.{last_of, value_after, cluster_line, name_line, joined_line, plain_line, plain_front_is, some}
 use Rattle.lexopt_laws.proofs.line_examples.options_of_several_values_are_spelled.Goals as goal
 
 -- `-d 1 2 -d1 2 -d=1 2 -d=`

@@ -4,8 +4,8 @@ use Rattle.lexopt_spec.specs.Steps.{next_in_cluster, equals_value, joined_value,
 use Rattle.lexopt_spec.specs.Runs.{next, value, values}
 use Rattle.lexopt_line_spec.specs.Table.{flag, one, several, kind}
 use Rattle.lexopt_line_spec.specs.Readings.{last, more}
-use Rattle.lexopt_laws.proofs.Computing.{computing}
-use Rattle.lexopt_laws.proofs.Worked.{some, not_mark, reads_first, reads_name, reads_joined, misses_values, none_shown}
+use Rattle.lexopt_line_spec.proofs.Computing.{computing}
+use Rattle.lexopt_line_spec.proofs.Worked.{some, not_mark, reads_first, reads_name, reads_joined, misses_values, none_shown}
 use Rattle.lexopt_laws.proofs.line_examples.some_words_show_no_list.Goals as goal
 
 -- `-v=1`

@@ -1,8 +1,8 @@
 use Rattle.std.proofs.Common.{[], codes, refl}
 use Rattle.lexopt_line_spec.specs.Table.{kind}
 use Rattle.lexopt_line_spec.specs.Spelling.{nothing, next_word, no_optional, nothing_more, no_words}
-use Rattle.lexopt_laws.proofs.Computing.{computing}
-use Rattle.lexopt_laws.proofs.Worked.{last_of, cluster_line, name_line, plain_line}
+use Rattle.lexopt_line_spec.proofs.Computing.{computing}
+use Rattle.lexopt_line_spec.proofs.Worked.{last_of, cluster_line, name_line, plain_line}
 use Rattle.lexopt_laws.proofs.line_examples.the_first_kind_holds.Goals as goal
 
 -- `-i v`

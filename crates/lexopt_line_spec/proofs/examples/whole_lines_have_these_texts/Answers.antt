@@ -1,15 +1,15 @@
-use Rattle.std.proofs.Common.{◌≡◌, true, false, [], ◌∷◌, Some, None, codes, length, refl, ap, inl}
+use Rattle.std.proofs.Common.{◌≡◌, true, false, [], ◌∷◌, Some, None, codes, length, refl, sym, ap, inl, true≢false}
 use Rattle.lexopt_spec.specs.Steps as steps
-use Rattle.lexopt_spec.specs.Steps.{no_word, next_word, pending_value, nothing_to_take}
+use Rattle.lexopt_spec.specs.Steps.{no_word, next_in_cluster, next_word, pending_value, nothing_to_take}
 use Rattle.lexopt_spec.specs.Runs.{next, value}
 use Rattle.lexopt_line_spec.specs.Table.{flag, one, kind, one_value, short, option}
 use Rattle.lexopt_line_spec.specs.Readings.{start, last, more, IsReading}
 use Rattle.lexopt_line_spec.specs.Script.{items_read, line_refused, memory_refused}
 use Rattle.lexopt_line_spec.proofs.WholeLines.{said_shows}
-use Rattle.lexopt_laws.proofs.Computing.{computing}
-use Rattle.lexopt_laws.proofs.Worked.{differ, reads_first, reads_plain, none_shown}
-use Rattle.lexopt_laws.proofs.WorkedTexts.{none_written, only_written}
-use Rattle.lexopt_laws.proofs.line_examples.whole_lines_have_these_texts.Goals as goal
+use Rattle.lexopt_line_spec.proofs.Computing.{computing}
+use Rattle.lexopt_line_spec.proofs.Worked.{differ, reads_first, reads_plain, none_shown, some}
+use Rattle.lexopt_line_spec.proofs.WorkedTexts.{none_written, only_written}
+use Rattle.lexopt_line_spec.proofs.examples.whole_lines_have_these_texts.Goals as goal
 
 -- `-ox f`
 pub returns-clause-items : goal.returns-clause-items
@@ -86,3 +86,28 @@ pub returns-clause-no_other_error : goal.returns-clause-no_other_error
 unfolding kind computing
 returns-clause-no_other_error c = only_written _ _ _ _ _ (said_shows _ _ _ _ flag_read)
     (λ is. differ 23 11 refl (ap length is)) (λ is. differ 23 20 refl (ap length is))
+
+-- `-a=`, read by `next` alone
+characters_read : IsReading (one_value [] []) (start false (codes "-a=" ∷ [])) steps.end (option (short 0x61) None ∷ option (short 0x3D) None ∷ [])
+unfolding kind computing
+characters_read = record {
+  calls = next ∷ next ∷ next ∷ [];
+  replies = steps.short 0x61 ∷ steps.short 0x3D ∷ steps.end ∷ [];
+  after = _;
+  run = (
+    _,
+    inl (reads_first _ 0x61 (codes "=") _ refl refl refl refl),
+    (
+      _,
+      inl (next_in_cluster (codes "=") refl (λ h. true≢false (sym h.0)) (record { some = some 0x3D []; reply_is = refl; after_is = refl })),
+      (_, inl (next_word refl refl (no_word refl refl refl)), refl),
+    ),
+  );
+  asked = more flag flag next _ _ _ refl tt refl (more flag flag next _ _ _ refl tt refl (last flag next refl tt));
+  items_are = refl;
+}
+
+pub returns-clause-under_its_setting : goal.returns-clause-under_its_setting
+unfolding kind computing
+returns-clause-under_its_setting c = only_written _ _ _ _ _ (said_shows _ _ _ _ characters_read)
+    (λ is. differ 46 22 refl (ap length is)) (λ is. differ 46 20 refl (ap length is))

@@ -1,14 +1,14 @@
-use Rattle.std.proofs.Common.{[], ◌∷◌, codes, length, refl, ap, inl, None, true≢false, sym}
+use Rattle.std.proofs.Common.{◌≡◌, false, [], ◌∷◌, codes, length, refl, ap, inl, None, Some, true≢false, sym}
 use Rattle.lexopt_spec.specs.Steps as steps
-use Rattle.lexopt_spec.specs.Steps.{no_word, next_in_cluster, next_word}
-use Rattle.lexopt_spec.specs.Runs.{next}
-use Rattle.lexopt_line_spec.specs.Table.{flag, kind, one_value, option, positional, short}
+use Rattle.lexopt_spec.specs.Steps.{equals_value, no_word, next_in_cluster, next_word, pending_value}
+use Rattle.lexopt_spec.specs.Runs.{next, value}
+use Rattle.lexopt_line_spec.specs.Table.{flag, kind, one, one_value, option, positional, short}
 use Rattle.lexopt_line_spec.specs.Readings.{last, more}
-use Rattle.lexopt_line_spec.specs.Script.{bad_line, items_read, memory_refused}
-use Rattle.lexopt_laws.proofs.Computing.{computing}
-use Rattle.lexopt_laws.proofs.Worked.{differ, reads_first, reads_plain, some}
-use Rattle.lexopt_laws.proofs.WorkedTexts.{is_bad_line, one_end}
-use Rattle.lexopt_laws.proofs.line_examples.scripts_have_these_outputs.Goals as goal
+use Rattle.lexopt_line_spec.specs.Script.{bad_line, items_read, line_refused, memory_refused}
+use Rattle.lexopt_line_spec.proofs.Computing.{computing}
+use Rattle.lexopt_line_spec.proofs.Worked.{differ, reads_first, reads_plain, some}
+use Rattle.lexopt_line_spec.proofs.WorkedTexts.{is_bad_line, one_end}
+use Rattle.lexopt_line_spec.proofs.examples.scripts_have_these_outputs.Goals as goal
 
 pub returns-clause-replies : goal.returns-clause-replies
 unfolding computing
@@ -75,6 +75,66 @@ returns-clause-off_for_a_whole_line c = record {
       refl,
       refl,
     ),
+    refl,
+  );
+}
+
+-- `-a=b`
+pub returns-clause-on_at_the_start : goal.returns-clause-on_at_the_start
+unfolding kind computing
+returns-clause-on_at_the_start c = record {
+  no_bad_line = refl;
+  replies = [];
+  after = _;
+  run = refl;
+  written = (
+    codes "error: unexpected argument for option '-a': \"b\"",
+    [],
+    line_refused (steps.unexpected (codes "-a") (codes "b")) (option (short 0x61) None ∷ []) (record {
+      calls = next ∷ next ∷ [];
+      replies = steps.short 0x61 ∷ steps.unexpected (codes "-a") (codes "b") ∷ [];
+      after = _;
+      run = (
+        _,
+        inl (reads_first _ 0x61 (codes "=b") _ refl refl refl refl),
+        (_, inl (equals_value (codes "b") (codes "-a") refl refl refl refl refl), refl),
+      );
+      asked = more flag flag next _ _ _ refl tt refl (last flag next refl tt);
+      items_are = refl;
+    }) (λ is. let e : steps.unexpected (codes "-a") (codes "b") ≡ steps.end = is in cc) refl,
+    refl,
+    refl,
+  );
+}
+
+-- `-ox`, where o has a value
+pub returns-clause-with_its_table : goal.returns-clause-with_its_table
+unfolding kind computing
+returns-clause-with_its_table c = record {
+  no_bad_line = refl;
+  replies = [];
+  after = _;
+  run = refl;
+  written = (
+    codes "[Short \"o\" = \"x\"]",
+    [],
+    items_read (option (short 0x6F) (Some (codes "x")) ∷ []) (record {
+      calls = next ∷ value ∷ next ∷ [];
+      replies = steps.short 0x6F ∷ steps.taken (codes "x") ∷ steps.end ∷ [];
+      after = _;
+      run = (
+        _,
+        inl (reads_first _ 0x6F (codes "x") _ refl refl refl refl),
+        (
+          _,
+          inl (pending_value (codes "x") false refl refl refl),
+          (_, inl (next_word refl refl (no_word refl refl refl)), refl),
+        ),
+      );
+      asked = more flag one next _ _ _ refl tt refl (more one flag value _ _ _ refl tt refl (last flag next refl tt));
+      items_are = refl;
+    }) refl,
+    refl,
     refl,
   );
 }

@@ -1,8 +1,8 @@
 use Rattle.std.proofs.Common.{[], ◌∷◌, codes, refl, arith, ◌<◌}
 use Rattle.lexopt_spec.specs.Pieces.{lossy_characters, replacement}
-use Rattle.lexopt_laws.proofs.Computing.{computing}
-use Rattle.lexopt_laws.proofs.Worked.{not_among, differ}
-use Rattle.lexopt_laws.proofs.line_examples.names_are_whole.Goals as goal
+use Rattle.lexopt_line_spec.proofs.Computing.{computing}
+use Rattle.lexopt_line_spec.proofs.Worked.{not_among, differ}
+use Rattle.lexopt_line_spec.proofs.examples.names_are_whole.Goals as goal
 
 pub returns-clause-no_items : goal.returns-clause-no_items
 unfolding computing
