@@ -256,7 +256,8 @@ fn items_are_written()
     ensures none { bracketed item_text [] ≡ codes "[]" }
     ensures values { bracketed item_text
         (table.option (table.short 0x76) None ∷ table.option (table.short 0x6F) (Some (codes "x"))
-        ∷ table.option (table.long (codes "out")) (Some (codes "y")) ∷ table.positional (codes "-z") ∷ [])
+        ∷ table.option (table.long (codes "out")) (Some (codes "y"))
+        ∷ table.positional (codes "-z") ∷ [])
         ≡ codes "[Short \"v\", Short \"o\" = \"x\", Long \"out\" = \"y\", Value \"-z\"]" }
     ensures several { bracketed item_text
         (table.many (table.short 0x64) (codes "1" ∷ codes "2" ∷ []) ∷ table.many

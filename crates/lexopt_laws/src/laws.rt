@@ -37,7 +37,8 @@ ghost use Rattle.lexopt_spec.specs.Views.{values_left};
 /// read over all fronts of the bytes, allows: that piece and no other.
 pub fn first_piece_is_by_the_table(bytes: &[u8])
     ensures by_the_table { 0 < length bytes.now
-        → IsFirstPiece bytes.now (length (first_piece bytes.now).bytes) (first_piece bytes.now).char }
+        → IsFirstPiece bytes.now (length (first_piece bytes.now).bytes)
+        (first_piece bytes.now).char }
     ensures only_one { (size : ℕ) (char : Option ℕ) → IsFirstPiece bytes.now size char
         → (take size bytes.now ≡ (first_piece bytes.now).bytes)
         × (char ≡ (first_piece bytes.now).char) }
@@ -133,9 +134,9 @@ pub fn plain_words_are_the_longest_front()
         → IsPlainFront ended words front after → plain_front ended words ≡ front }
 {}
 
-/// A view that is asked for an item has exactly one answer. Items that are asked one by one are what
-/// the call answers that asks for so many; if fewer came, all came; what comes is the first of what
-/// is left; and once none came, none comes and nothing changes.
+/// A view that is asked for an item has exactly one answer. Items that are asked one by one are
+/// what the call answers that asks for so many; if fewer came, all came; what comes is the first of
+/// what is left; and once none came, none comes and nothing changes.
 pub fn items_make_the_call()
     ensures some_value { (stage : Stage) (u : UnreadLine) → (item : Option (List ℕ))
         × (v : UnreadLine) × (now : Stage) × ValueItem stage u item v now }

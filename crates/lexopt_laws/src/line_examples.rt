@@ -188,7 +188,8 @@ fn damage_is_shown_and_not_spelled()
     ensures whole_character { Spells (one_value [] []) true ((0x2D ∷ 0xEF ∷ 0xBF ∷ 0xBD ∷ []) ∷ [])
         (option (short 0xFFFD) None ∷ []) }
     ensures surrogate { Shows (one_value [] []) true ((0x2D ∷ 0xED ∷ 0xA0 ∷ 0x80 ∷ []) ∷ [])
-        (option (short 0xFFFD) None ∷ option (short 0xFFFD) None ∷ option (short 0xFFFD) None ∷ []) }
+        (option (short 0xFFFD) None ∷ option (short 0xFFFD) None
+        ∷ option (short 0xFFFD) None ∷ []) }
     ensures surrogate_is_no_character { Shows (one_value [] []) true
         ((0x2D ∷ 0xED ∷ 0xA0 ∷ 0x80 ∷ []) ∷ []) (option (short 0xD800) None ∷ []) → ⊥ }
     ensures damaged_name { Shows (one_value [] ((0xEF ∷ 0xBF ∷ 0xBD ∷ []) ∷ [])) true
@@ -206,7 +207,8 @@ fn damage_is_shown_and_not_spelled()
 fn one_value_rules_spell_the_same()
     ensures every_form { let t : OneValueTable =
         record { shorts = codes "o"; longs = codes "out" ∷ [] } in
-        OneValueSpells t true (codes "-vo=x" ∷ codes "--out" ∷ codes "y" ∷ codes "--" ∷ codes "-z" ∷ codes "--" ∷ [])
+        OneValueSpells t true (codes "-vo=x" ∷ codes "--out" ∷ codes "y" ∷ codes "--"
+        ∷ codes "-z" ∷ codes "--" ∷ [])
         (option (short 0x76) None ∷ option (short 0x6F) (Some (codes "x")) ∷ option
         (long (codes "out")) (Some (codes "y"))
         ∷ positional (codes "-z") ∷ positional (codes "--") ∷ []) }
