@@ -22,8 +22,8 @@ ghost use Rattle.lexopt_line_spec.specs.Script.{unescaped, whole_line, words_of}
 
 use crate::laws::{
     calls_cut_short_are_a_part, clusters_are_read_by_pieces, each_call_has_one_answer,
-    first_piece_is_by_the_table, items_make_the_call, lines_stay_lines, no_byte_is_lost,
-    one_value_tables_agree, other_parts_stay, pieces_are_in_a_row,
+    each_line_has_one_reading, first_piece_is_by_the_table, items_make_the_call, lines_stay_lines,
+    no_byte_is_lost, one_value_tables_agree, other_parts_stay, pieces_are_in_a_row,
     plain_words_are_the_longest_front, readings_say_what_words_show, replies_are_bounded,
     some_calls_are_never_refused, views_agree, whole_names_are_spelled, words_show_one_list,
 };
@@ -33,6 +33,7 @@ fn laws_hold_at_some_bytes() {
     first_piece_is_by_the_table(b"\xf0\x9da");
     pieces_are_in_a_row(b"\xf0\x9da");
     each_call_has_one_answer();
+    each_line_has_one_reading();
     lines_stay_lines();
     some_calls_are_never_refused();
     plain_words_are_the_longest_front();

@@ -270,6 +270,15 @@ pub fn readings_say_what_words_show()
         → Shows t short_equals words l → IsReading t (start short_equals words) end l }
 {}
 
+/// Under every table each line that a parser can be has a reading, to the end or to an error, and
+/// every other reading of it ends so and says the same.
+pub fn each_line_has_one_reading()
+    ensures some_reading { (t : Table) (u : UnreadLine) → IsLine u
+        → (final : Reply) × (l : List Item) × IsReading t u final l }
+    ensures no_other { (t : Table) (u : UnreadLine) (final other : Reply) (l m : List Item)
+        → IsReading t u final l → IsReading t u other m → (final ≡ other) × (l ≡ m) }
+{}
+
 /// Words show at most one list of items.
 pub fn words_show_one_list()
     ensures { (t : Table) (short_equals : Bool) (words : List (List ℕ)) (l m : List Item)
