@@ -1,10 +1,9 @@
 -- What views and `optional_value` have to do with one another.
 use Rattle.std.proofs.Common.{◌≡◌, ◌≢◌, ◌⊎◌, ℕ, Bool, true, false, List, [], ◌∷◌, Option, Some, None, refl, sym, ap, subst, ◌∙◌, inl, inr, ⊎_elim, true≢false}
-use Rattle.lexopt_spec.specs.UnreadLine.{no_tail, UnreadLine, IsLine, pending, IsPlain, is_plain, IsNormalIn, IsNormal}
+use Rattle.lexopt_spec.specs.UnreadLine.{no_tail, UnreadLine, pending, IsPlain, is_plain, IsNormalIn}
 use Rattle.lexopt_spec.specs.Steps.{Reply, maybe, busy, unexpected, OptionalStep, optional_pending, optional_none}
 use Rattle.lexopt_spec.specs.Views.{plain_front, available, available_with, values_left, ValuesStep, no_values, some_values, Stage, going_on, ValueItem, RawStep, refuses_pending, lends_words, TryRawStep, leaves_pending, try_lends_words, TakesWords}
 use Rattle.lexopt_spec.proofs.PlainFronts.{plain_holds, plain_passes, front-more, front-less}
-use Rattle.lexopt_line_spec.proofs.OptionalLaw.{none_tail}
 use Rattle.lexopt_spec.proofs.ViewLemmas.{item_is_first, none_ends}
 
 abbrev is_busy : Reply → Type 0
@@ -62,22 +61,22 @@ front_normal ended (w ∷ ws) found = elim (is_plain ended w) as (λ t. is_plain
   | false ↦ λ is. absurd (found (front-less ended w ws (λ plain. true≢false (sym (plain_passes ended w plain) ∙ is))))
 ] refl
 
-found_with : (u : UnreadLine) (found : Option (List ℕ × Bool)) → IsLine u → pending u ≡ found
-    → (available_with found (plain_front u.ended u.words) ≢ [] → (found ≢ None) ⊎ IsNormal u) × ((found ≢ None) ⊎ IsNormal u → available_with found (plain_front u.ended u.words) ≢ [])
-found_with u None line is = (
-  λ some. inr (none_tail u.short_equals u.tail u.last u.ended line is, front_normal u.ended u.words some),
-  λ either. ⊎_elim (λ (some : None ≢ None). absurd (some refl)) (λ normal. front_some u.ended u.words normal.1) either,
+found_with : (u : UnreadLine) (found : Option (List ℕ × Bool))
+    → (available_with found (plain_front u.ended u.words) ≢ [] → (found ≢ None) ⊎ IsNormalIn u.ended u.words) × ((found ≢ None) ⊎ IsNormalIn u.ended u.words → available_with found (plain_front u.ended u.words) ≢ [])
+found_with u None = (
+  λ some. inr (front_normal u.ended u.words some),
+  λ either. ⊎_elim (λ (some : None ≢ None). absurd (some refl)) (λ normal. front_some u.ended u.words normal) either,
 )
-found_with u (Some (value, true)) line is = (
+found_with u (Some (value, true)) = (
   λ some. inl (λ none. let e : Some (value, true) ≡ None = none in cc),
   λ either. some_words value [],
 )
-found_with u (Some (value, false)) line is = (
+found_with u (Some (value, false)) = (
   λ some. inl (λ none. let e : Some (value, false) ≡ None = none in cc),
   λ either. some_words value (plain_front u.ended u.words),
 )
 
 -- a value is pending, or the next word is normal
-pub values_found : (u : UnreadLine) → IsLine u
-    → (available u ≢ [] → (pending u ≢ None) ⊎ IsNormal u) × ((pending u ≢ None) ⊎ IsNormal u → available u ≢ [])
-values_found u line = found_with u (pending u) line refl
+pub values_found : (u : UnreadLine)
+    → (available u ≢ [] → (pending u ≢ None) ⊎ IsNormalIn u.ended u.words) × ((pending u ≢ None) ⊎ IsNormalIn u.ended u.words → available u ≢ [])
+values_found u = found_with u (pending u)

@@ -201,10 +201,6 @@ fn replies_are_counted()
       tail = joined [];
       last = long_option [];
     }) ≡ 1 }
-    ensures cluster_read { bound (record (fresh []) {
-      tail = rest (codes "bc");
-      last = short_option 0x61;
-    }) ≡ 2 }
     ensures all_kinds_of_words { bound
         (fresh ([] ∷ codes "--=" ∷ codes "--=3" ∷ codes "-" ∷ codes "-x" ∷ codes "--" ∷ codes "-" ∷
         codes "-x" ∷ codes "--" ∷ [] ∷ codes "-" ∷ codes "-x" ∷ [])) ≡ 15 }

@@ -7,8 +7,7 @@ ghost use Rattle.lexopt_spec.specs.UnreadLine.{no_tail, pending, pending_in, res
 ghost use Rattle.lexopt_spec.specs.UnreadLine.{short_option, spelling};
 ghost use Rattle.lexopt_spec.specs.Steps.{busy, done, end, items, long, maybe, missing, no_memory};
 ghost use Rattle.lexopt_spec.specs.Steps.{positional, short, taken, unexpected};
-ghost use Rattle.lexopt_spec.specs.Runs.{next, optional, raw, set_short_equals, try_raw, value};
-ghost use Rattle.lexopt_spec.specs.Runs.{values};
+ghost use Rattle.lexopt_spec.specs.Runs.{next, optional, set_short_equals, value};
 ghost use Rattle.lexopt_spec.specs.Text.{missing_message, non_unicode_message};
 ghost use Rattle.lexopt_spec.specs.Text.{parsing_failed_message, quoted};
 ghost use Rattle.lexopt_spec.specs.Text.{unexpected_argument_message, unexpected_option_message};
@@ -188,7 +187,6 @@ fn texts_are_unescaped()
     ensures byte { unescaped (codes "a\\xfFb") ≡ Some (0x61 ∷ 0xFF ∷ 0x62 ∷ []) }
     ensures other { unescaped (codes "\\q") ≡ None }
     ensures cut { unescaped (codes "\\x4") ≡ None }
-    ensures no_digits { unescaped (codes "\\x") ≡ None }
     ensures nothing_after { unescaped (codes "\\") ≡ None }
 {}
 
@@ -214,7 +212,6 @@ fn a_script_has_words_and_calls()
         ≡ next ∷ value ∷ [] }
     ensures switches { calls_of (codes "off\nw -a=b\nnext\non\noptional")
         ≡ set_short_equals false ∷ next ∷ set_short_equals true ∷ optional ∷ [] }
-    ensures views { calls_of (codes "values 1\nraw 2\ntry 3") ≡ values 1 ∷ raw 2 ∷ try_raw 3 ∷ [] }
 {}
 
 #[tactic(auto, unfolding(lexopt_line_spec::proofs::Computing::computing))]
@@ -222,7 +219,6 @@ fn lines_name_options()
     ensures two_characters { bad_line (codes "t --a\nt -ab") ≡ Some 2 }
     ensures no_character { bad_line (codes "t -") ≡ Some 1 }
     ensures no_option { bad_line (codes "t a") ≡ Some 1 }
-    ensures no_dash { bad_line (codes "t ab") ≡ Some 1 }
     ensures no_text { bad_line (codes "t") ≡ Some 1 }
     ensures damaged_character { bad_line (codes "t -" ++ 0xC2 ∷ []) ≡ Some 1 }
     ensures damaged_name { bad_line (codes "t --" ++ 0xFF ∷ []) ≡ Some 1 }

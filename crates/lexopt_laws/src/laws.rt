@@ -16,9 +16,9 @@ ghost use Rattle.lexopt_spec.specs.Runs.{set_short_equals};
 ghost use Rattle.lexopt_spec.specs.Runs.{try_raw, up_to, values};
 ghost use Rattle.lexopt_spec.specs.Steps.{Reply, busy, end, items, long, maybe, missing, no_memory};
 ghost use Rattle.lexopt_spec.specs.Steps.{short, unexpected};
-ghost use Rattle.lexopt_spec.specs.UnreadLine.{IsLine, IsNormal, IsPlain, IsPlainFront, UnreadLine};
-ghost use Rattle.lexopt_spec.specs.UnreadLine.{dash, equals, fresh, invoked, is_plain, no_tail};
-ghost use Rattle.lexopt_spec.specs.UnreadLine.{long_option, pending, short_option};
+ghost use Rattle.lexopt_spec.specs.UnreadLine.{IsLine, IsNormalIn, IsPlain, IsPlainFront};
+ghost use Rattle.lexopt_spec.specs.UnreadLine.{UnreadLine, dash, equals, fresh, invoked};
+ghost use Rattle.lexopt_spec.specs.UnreadLine.{is_plain, long_option, no_tail, pending, short_option};
 ghost use Rattle.lexopt_line_spec.specs.Script.{short_equals_after};
 ghost use Rattle.lexopt_line_spec.specs.Table as table;
 ghost use Rattle.lexopt_line_spec.specs.Table.{Item, Table, flag, kind};
@@ -180,9 +180,9 @@ pub fn views_agree()
         → v ≡ u }
     ensures words_untouched { (u v : UnreadLine) (r : Reply) → StepWithMemory (try_raw 0) u r v
         → v ≡ u }
-    ensures values_found { (u : UnreadLine) → IsLine u
-        → (available u ≢ [] → (pending u ≢ None) ⊎ IsNormal u)
-        × ((pending u ≢ None) ⊎ IsNormal u → available u ≢ []) }
+    ensures values_found { (u : UnreadLine)
+        → (available u ≢ [] → (pending u ≢ None) ⊎ IsNormalIn u.ended u.words)
+        × ((pending u ≢ None) ⊎ IsNormalIn u.ended u.words → available u ≢ []) }
     ensures first_item { (u v : UnreadLine) (now : Stage) → available u ≢ []
         → ValueItem going_on u None v now → ⊥ }
 {}

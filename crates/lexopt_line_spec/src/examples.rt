@@ -1,13 +1,17 @@
 //! Examples of definitions: what they say, and what they deny.
 ghost use Rattle.std.specs.Prelude.{◌≡◌, [], ◌∷◌, ℕ, List, false, true, Some, None, codes};
 ghost use Rattle.lexopt_line_spec.specs.Clusters.{ReadsPieces};
-ghost use Rattle.lexopt_line_spec.specs.Script.{IsOutput, WholeLineText, Written, call};
+ghost use Rattle.lexopt_line_spec.specs.Readings.{items_said};
+ghost use Rattle.lexopt_line_spec.specs.Script.{IsOutput, WholeLineText, Written, bad_line, call};
+ghost use Rattle.lexopt_line_spec.specs.Script.{calls_of, unescaped};
+ghost use Rattle.lexopt_line_spec.specs.Bound.{bound};
 ghost use Rattle.lexopt_line_spec.specs.Spelling.{HaveWholeNames};
 ghost use Rattle.lexopt_line_spec.specs.Table as table;
 ghost use Rattle.lexopt_line_spec.specs.Table.{long, many, one_value, option, positional};
-ghost use Rattle.lexopt_spec.specs.Runs.{next};
-ghost use Rattle.lexopt_spec.specs.Steps.{Reply, end, no_memory, short};
-ghost use Rattle.lexopt_spec.specs.UnreadLine.{UnreadLine, fresh, no_tail, rest, short_option};
+ghost use Rattle.lexopt_spec.specs.Runs.{next, raw, try_raw, values};
+ghost use Rattle.lexopt_spec.specs.Steps.{Reply, end, maybe, no_memory, short};
+ghost use Rattle.lexopt_spec.specs.UnreadLine.{UnreadLine, fresh, joined, long_option, no_tail};
+ghost use Rattle.lexopt_spec.specs.UnreadLine.{rest, short_option};
 
 // On the words `-ab c`, on `-a=` with `short_equals` false, and on `-a` and the byte FF.
 fn clusters_are_read_to_their_end()
@@ -102,4 +106,42 @@ fn lines_are_written_for_replies()
     ensures no_command { Written (one_value [] []) [] true [] (end ∷ []) [] → ⊥ }
     ensures nothing { Written (one_value [] []) [] true [] [] [] }
     ensures something { Written (one_value [] []) [] true [] [] (codes "a") → ⊥ }
+{}
+
+// Lines of a script, and what they mean.
+#[tactic(auto, unfolding(crate::proofs::Computing::computing))]
+fn lines_have_meanings()
+    ensures views { calls_of (codes "values 1\nraw 2\ntry 3") ≡ values 1 ∷ raw 2 ∷ try_raw 3 ∷ [] }
+    ensures byte { unescaped (codes "\\x41") ≡ Some (codes "A") }
+    ensures no_digits { unescaped (codes "\\x") ≡ None }
+    ensures option { bad_line (codes "t -b") ≡ None }
+    ensures no_dash { bad_line (codes "t ab") ≡ Some 1 }
+{}
+
+// The bounds of a line with no words.
+fn tails_are_bounded()
+    ensures cluster { bound (record (fresh []) {
+      tail = rest (codes "bc");
+      last = short_option 0x61;
+    }) ≡ 2 }
+    ensures value { bound (record (fresh []) {
+      tail = joined (codes "bc");
+      last = long_option (codes "a");
+    }) ≡ 1 }
+    ensures nothing { bound (fresh []) ≡ 0 }
+{}
+
+// The options of a table, and what replies say.
+fn tables_and_replies_are_told_apart()
+    ensures one_value { one_value (codes "o") (codes "out" ∷ []) ≡ record {
+      shorts = codes "o";
+      longs = codes "out" ∷ [];
+      optional_shorts = [];
+      optional_longs = [];
+      several_shorts = [];
+      several_longs = [];
+    } }
+    ensures last_option { items_said (short 0x61 ∷ []) ≡ option (table.short 0x61) None ∷ [] }
+    ensures value_left_out { items_said (short 0x61 ∷ maybe None ∷ end ∷ [])
+        ≡ option (table.short 0x61) None ∷ [] }
 {}

@@ -112,7 +112,3 @@ pub record IsPlainFront (ended : Bool) (words front left : List (List ℕ)) : Ty
   pub words_are : words ≡ front ++ left
   pub plain : All (IsPlain ended) front
   pub longest : ¬ IsNormalIn ended left
-
--- no word is half read, and the next one can be one of several values
-abbrev pub IsNormal : UnreadLine → Type 0
-IsNormal u = (u.tail ≡ no_tail) × IsNormalIn u.ended u.words

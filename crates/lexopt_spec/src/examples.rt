@@ -70,7 +70,8 @@ fn fewer_items_are_asked()
     ensures value { up_to 0 value ≡ value }
     ensures optional { up_to 0 optional ≡ optional }
     ensures raw_if { up_to 0 (raw_if (codes "a")) ≡ raw_if (codes "a") }
-    ensures set_short_equals { up_to 0 (set_short_equals true) ≡ set_short_equals true }
+    ensures on { up_to 0 (set_short_equals true) ≡ set_short_equals true }
+    ensures off { up_to 0 (set_short_equals false) ≡ set_short_equals false }
 {}
 
 // Replies with what is handed out of the line as it is: values and words, and no name.

@@ -20,4 +20,4 @@ pub returns-clause-first_item : goal.returns-clause-first_item
 returns-clause-first_item c = λ u v now some item. first_comes u v now some item
 
 pub returns-clause-values_found : goal.returns-clause-values_found
-returns-clause-values_found c = λ u line. values_found u line
+returns-clause-values_found c = λ u. values_found u
