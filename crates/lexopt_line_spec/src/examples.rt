@@ -116,6 +116,7 @@ fn lines_have_meanings()
     ensures no_digits { unescaped (codes "\\x") ≡ None }
     ensures option { bad_line (codes "t -b") ≡ None }
     ensures no_dash { bad_line (codes "t ab") ≡ Some 1 }
+    ensures empty_line { bad_line (codes "\nw a") ≡ None }
 {}
 
 // The bounds of a line with no words.

@@ -1,8 +1,9 @@
 //! Examples of definitions: what they say, and what they deny.
 ghost use Rattle.std.specs.Prelude.{◌≡◌, [], ◌∷◌, true, false, None, Some, codes};
-ghost use Rattle.lexopt_spec.specs.Account.{NamesOption, handed_items};
+ghost use Rattle.lexopt_spec.specs.Account.{NamesOption, damage, given, given_of, handed_items};
+ghost use Rattle.lexopt_spec.specs.Account.{mark};
 ghost use Rattle.lexopt_spec.specs.Pieces.{BeginsWellFormed, IsWellFormed};
-ghost use Rattle.lexopt_spec.specs.Runs.{next, optional, raw, raw_if, set_short_equals, try_raw};
+ghost use Rattle.lexopt_spec.specs.Runs.{AccountedRun, next, optional, raw, raw_if, set_short_equals, try_raw};
 ghost use Rattle.lexopt_spec.specs.Runs.{up_to, value, values};
 ghost use Rattle.lexopt_spec.specs.Steps.{busy, done, end, items, long, maybe, missing, no_memory};
 ghost use Rattle.lexopt_spec.specs.Steps.{positional, short, taken, unexpected};
@@ -82,6 +83,8 @@ fn items_are_handed_out()
     ensures items { handed_items (items (codes "a" ∷ codes "b" ∷ [])) ≡ codes "a" ∷ codes "b" ∷ [] }
     ensures unexpected_value { handed_items (unexpected (codes "-a") (codes "b"))
         ≡ codes "b" ∷ [] }
+    ensures given { given_of (mark (codes "-") ∷ damage (0xFF ∷ []) ∷ given (codes "a") ∷ [])
+        ≡ codes "a" ∷ [] }
     ensures names { (handed_items (short 0x61) ≡ []) × (handed_items (long (codes "a")) ≡ []) }
     ensures no_value { (handed_items (maybe None) ≡ []) × (handed_items (missing None) ≡ []) }
     ensures no_item { (handed_items end ≡ [])
@@ -96,6 +99,16 @@ fn sequences_are_well_formed()
     ensures two_sequences { IsWellFormed (codes "ab") → ⊥ }
     ensures no_bytes { IsWellFormed [] → ⊥ }
     ensures cut { IsWellFormed (0xC2 ∷ []) → ⊥ }
-    ensures begun { BeginsWellFormed (0xC2 ∷ []) }
-    ensures whole { BeginsWellFormed (codes "a") }
+    ensures begins_itself { BeginsWellFormed (codes "a") }
+{}
+
+// Bytes that begin a well-formed sequence, and are none.
+fn sequences_are_begun()
+    ensures { BeginsWellFormed (0xC2 ∷ []) }
+{}
+
+// What a list of no calls reads.
+fn no_other_segments()
+    ensures nothing_read { AccountedRun (fresh []) [] [] (given [] ∷ []) (fresh []) → ⊥ }
+    ensures no_segments { AccountedRun (fresh []) [] [] [] (fresh []) }
 {}
