@@ -1,9 +1,10 @@
 //! Tests of words, arguments, conversions, errors, code points and names, and of items that are
-//! spelled. It has nothing else.
+//! spelled. The crate also has callers with clauses of their own.
 #![tactic(auto)]
 
 #[cfg(test)]
 mod arguments;
+pub mod callers;
 #[cfg(test)]
 mod codepoints;
 #[cfg(test)]

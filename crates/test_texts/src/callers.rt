@@ -1,0 +1,140 @@
+//! Callers of pieces, of errors and of conversions, with clauses of their own. These rest on the
+//! clauses of the public calls alone, and an answer that those exclude has no arm here.
+ghost use Rattle.std.specs.Prelude.{◌≡◌, [], ◌∷◌, Some, Ok, IfSome, IfOk, IfErr, IsUtf8};
+ghost use Rattle.std.specs.Prelude.{MatchOption, slice_get, string_bytes};
+ghost use Rattle.anyhow.specs.Error.{IsMadeOf};
+ghost use Rattle.lexopt_spec.specs.Pieces.{IsFirstPiece};
+ghost use Rattle.lexopt_spec.specs.UnreadLine.{long_option, short_option, spelling};
+ghost use Rattle.lexopt_words.specs.Answered.{AreAnswered};
+
+use lexopt::prelude::ValueExt;
+use lexopt::{Arg, Error, OsString};
+use lexopt_words::codepoint::{FirstCodepoint, first_codepoint};
+use std::alloc::Global;
+use std::str::FromStr;
+
+/// The first piece of some bytes, a character or damage, and its size. `None` if there is no byte.
+pub fn first_piece(bytes: &[u8]) -> Option<(Option<char>, usize)>
+    ensures { MatchOption result (bytes.now ≡ []) (λ piece.
+        IsFirstPiece bytes.now piece.1 piece.0) }
+{
+    match first_codepoint(bytes) {
+        FirstCodepoint::Empty => None,
+        FirstCodepoint::Character(character, size) => Some((Some(character), size)),
+        FirstCodepoint::Damage(size) => Some((None, size)),
+    }
+}
+
+/// How an unknown option of one character is spelled. `None` if memory runs out.
+pub fn unknown_short(alloc: Global, option: char) -> Option<String>
+    ensures { IfSome result (λ text. spelling (short_option option) ≡ Some (string_bytes text)) }
+{
+    match Arg::Short(option).unexpected(alloc) {
+        Error::UnexpectedOption(text) => Some(text),
+        Error::OutOfMemory => None,
+        Error::MissingValue { .. }
+        | Error::UnexpectedArgument(_)
+        | Error::UnexpectedValue { .. }
+        | Error::ParsingFailed { .. }
+        | Error::NonUnicodeValue(_)
+        | Error::Custom(_) => unreachable!(),
+    }
+}
+
+/// How an unknown option with a name is spelled. `None` if memory runs out.
+pub fn unknown_long(alloc: Global, name: &str) -> Option<String>
+    ensures { IfSome result (λ text. spelling (long_option name.now) ≡ Some (string_bytes text)) }
+{
+    match Arg::Long(name).unexpected(alloc) {
+        Error::UnexpectedOption(text) => Some(text),
+        Error::OutOfMemory => None,
+        _ => unreachable!(),
+    }
+}
+
+/// The word that an error tells, for an unknown one.
+pub fn unknown_word(alloc: Global, word: OsString) -> OsString
+    ensures { result ≡ word }
+{
+    match Arg::Value(word).unexpected(alloc) {
+        Error::UnexpectedArgument(word) => word,
+        _ => unreachable!(),
+    }
+}
+
+/// The cause that an error keeps of a text.
+pub fn cause_of_text(text: &str) -> anyhow::Error
+    ensures { IsMadeOf (Some text.now) result }
+{
+    match Error::from(text) {
+        Error::Custom(cause) => cause,
+        Error::MissingValue { .. }
+        | Error::UnexpectedOption(_)
+        | Error::UnexpectedArgument(_)
+        | Error::UnexpectedValue { .. }
+        | Error::ParsingFailed { .. }
+        | Error::NonUnicodeValue(_)
+        | Error::OutOfMemory => unreachable!(),
+    }
+}
+
+/// What the text of a word stands for, or that text if it stands for nothing. `None` if memory runs
+/// out.
+pub fn parsed<T: FromStr>(word: &OsString) -> Option<Result<T, String>>
+where
+    T::Err: Into<anyhow::Error>,
+    requires { IsUtf8 word.now }
+    ensures value { IfSome result (λ answer. IfOk answer (λ value.
+        T.from_str_gives word.now (Ok value))) }
+    ensures text { IfSome result (λ answer. IfErr answer (λ text.
+        string_bytes text ≡ word.now)) }
+{
+    match word.parse::<T>() {
+        Ok(value) => Some(Ok(value)),
+        Err(Error::ParsingFailed { value, .. }) => Some(Err(value)),
+        Err(Error::OutOfMemory) => None,
+        Err(Error::MissingValue { .. })
+        | Err(Error::UnexpectedOption(_))
+        | Err(Error::UnexpectedArgument(_))
+        | Err(Error::UnexpectedValue { .. })
+        | Err(Error::NonUnicodeValue(_))
+        | Err(Error::Custom(_)) => unreachable!(),
+    }
+}
+
+/// The word that an error tells, for one that is not UTF-8. `None` if memory runs out.
+pub fn damaged(word: &OsString) -> Option<OsString>
+    requires { IsUtf8 word.now → ⊥ }
+    ensures { IfSome result (λ told. told ≡ word.now) }
+{
+    match word.parse::<u32>() {
+        Err(Error::NonUnicodeValue(told)) => Some(told),
+        Err(Error::OutOfMemory) => None,
+        _ => unreachable!(),
+    }
+}
+
+/// A copy of an option of one character, which needs no memory.
+pub fn copied_short(option: char) -> Arg<'static>
+    ensures { result ≡ Arg.Short option }
+{
+    match Arg::Short(option).clone() {
+        Ok(copy) => copy,
+        Err(_) => unreachable!(),
+    }
+}
+
+/// Words are answered one after another, up to the first place that has none.
+pub fn two_words_are_answered()
+    ensures both { AreAnswered (λ place word. word ≡ slice_get ((1 ∷ []) ∷ (2 ∷ []) ∷ []) place) 0
+        ((1 ∷ []) ∷ (2 ∷ []) ∷ []) }
+    ensures no_less { AreAnswered
+        (λ place word. word ≡ slice_get ((1 ∷ []) ∷ (2 ∷ []) ∷ []) place) 0
+        ((1 ∷ []) ∷ []) → ⊥ }
+    ensures no_more { AreAnswered
+        (λ place word. word ≡ slice_get ((1 ∷ []) ∷ (2 ∷ []) ∷ []) place) 0
+        ((1 ∷ []) ∷ (2 ∷ []) ∷ (3 ∷ []) ∷ []) → ⊥ }
+    ensures no_other { AreAnswered
+        (λ place word. word ≡ slice_get ((1 ∷ []) ∷ (2 ∷ []) ∷ []) place) 0
+        ((3 ∷ []) ∷ (2 ∷ []) ∷ []) → ⊥ }
+{}
