@@ -8,6 +8,7 @@ pub mod callers;
 mod calls;
 #[cfg(test)]
 mod example;
+pub mod line_callers;
 #[cfg(test)]
 mod replays;
 #[cfg(test)]
