@@ -9,6 +9,7 @@ ghost use Rattle.lexopt_spec.specs.Steps.{Reply as Answer, end};
 ghost use Rattle.lexopt_line_spec.specs.Bound.{bound, replies_count};
 ghost use Rattle.lexopt_line_spec.specs.Clusters.{ReadsPieces};
 ghost use Rattle.lexopt_line_spec.specs.Readings.{IsReading, start};
+ghost use Rattle.lexopt_line_spec.specs.Script.{IsOutput};
 ghost use Rattle.lexopt_line_spec.specs.Speller.{HasFault, IsAtFault, SpelledAs};
 ghost use Rattle.lexopt_line_spec.specs.Spelling.{HaveWholeNames, Shows, Spells};
 ghost use Rattle.lexopt_line_spec.specs.Table as spec;
@@ -18,7 +19,7 @@ ghost use Rattle.lexopt_items.specs.Items.{item_view, table_view};
 ghost use Rattle.lexopt_spell.specs.Models.{reason_view};
 
 use lexopt::items::{Item, Table, read_items};
-use lexopt::replay::{Call, Reply, replay};
+use lexopt::replay::{Call, Reply, RunError, replay, run};
 use lexopt::spell::{Reason, SpellError, spell};
 use lexopt::{Error, OsString, Parser};
 use std::alloc::Global;
@@ -141,4 +142,14 @@ pub fn spell_line(
         Err(SpellError::AtFault { index, reason }) => Err(Some((index, reason))),
         Err(SpellError::OutOfMemory) => Err(None),
     }
+}
+
+/// What a script in memory writes.
+pub fn output_of(alloc: Global, script: &[u8]) -> Result<Vec<u8>, RunError>
+    ensures { IfOk result (λ text. IsOutput script.now text.items) }
+{
+    let mut rest = script;
+    let mut text = Vec::new(alloc);
+    run(alloc, &mut rest, &mut text)?;
+    Ok(text)
 }
