@@ -1,11 +1,12 @@
 //! Callers of whole lines and of lists of calls, with clauses of their own. These rest on the
 //! clauses of the public calls alone, and say what those say by the grammar.
 ghost use Rattle.std.specs.Prelude.{◌≡◌, ◌⊎◌, ◌+◌, ◌++◌, ◌≤◌, ℕ, List, Some, map, IfOk, IfErr};
-ghost use Rattle.std.specs.Prelude.{IfSome, OnErr};
+ghost use Rattle.std.specs.Prelude.{Bool, Err, IfSome, OnErr};
 ghost use Rattle.std.specs.List.{flat_map};
 ghost use Rattle.lexopt_spec.specs.Account.{Segment, bytes_handed_out, bytes_of, flat, shown_of};
-ghost use Rattle.lexopt_spec.specs.Runs.{AccountedRun, Part};
+ghost use Rattle.lexopt_spec.specs.Runs.{AccountedRun, Part, Run};
 ghost use Rattle.lexopt_spec.specs.Steps.{Reply as Answer, end};
+ghost use Rattle.lexopt_spec.specs.UnreadLine.{UnreadLine};
 ghost use Rattle.lexopt_line_spec.specs.Bound.{bound, replies_count};
 ghost use Rattle.lexopt_line_spec.specs.Clusters.{ReadsPieces};
 ghost use Rattle.lexopt_line_spec.specs.Readings.{IsReading, start};
@@ -14,8 +15,11 @@ ghost use Rattle.lexopt_line_spec.specs.Speller.{HasFault, IsAtFault, SpelledAs}
 ghost use Rattle.lexopt_line_spec.specs.Spelling.{HaveWholeNames, Shows, Spells};
 ghost use Rattle.lexopt_line_spec.specs.Table as spec;
 ghost use Rattle.lexopt_base.specs.Replies.{error_reply};
+ghost use Rattle.lexopt_calls.specs.Lists.{Replays};
 ghost use Rattle.lexopt_calls.specs.Replies.{call_view, reply_view};
 ghost use Rattle.lexopt_items.specs.Items.{item_view, table_view};
+ghost use Rattle.lexopt_items.specs.Lines.{IsAnswered, ShowsNothing};
+ghost use Rattle.lexopt_spell.specs.Lines.{NoWordsShow};
 ghost use Rattle.lexopt_spell.specs.Models.{reason_view};
 
 use lexopt::items::{Item, Table, read_items};
@@ -153,3 +157,17 @@ pub fn output_of(alloc: Global, script: &[u8]) -> Result<Vec<u8>, RunError>
     run(alloc, &mut rest, &mut text)?;
     Ok(text)
 }
+
+/// What the clauses of `replay`, `read_items` and `spell` say that follow from their other clauses.
+pub fn clauses_say_the_grammar()
+    ensures run { (u v : UnreadLine) (calls : List Call) (replies : List Reply)
+        → Replays u calls replies v
+        → Run u (map call_view calls) (map reply_view replies) v }
+    ensures error { (l : List spec.Item) (e : Error) → IsAnswered l (Err e)
+        → e ≡ Error.OutOfMemory }
+    ensures no_list { (table : Table) (on : Bool) (words : List (List ℕ)) (l : List spec.Item)
+        → ShowsNothing table on words → Shows (table_view table) on words l → ⊥ }
+    ensures no_words { (table : Table) (on : Bool) (words : List (List ℕ)) (items : List Item)
+        → NoWordsShow table on items
+        → Shows (table_view table) on words (map item_view items) → ⊥ }
+{}

@@ -1,5 +1,5 @@
 //! Callers of pieces, of errors and of conversions, with clauses of their own. These rest on the
-//! clauses of the public calls alone, and an answer that those exclude has no arm here.
+//! clauses of the public calls alone, which exclude every answer that is unreachable here.
 ghost use Rattle.std.specs.Prelude.{◌≡◌, [], ◌∷◌, Some, Ok, IfSome, IfOk, IfErr, IsUtf8};
 ghost use Rattle.std.specs.Prelude.{MatchOption, slice_get, string_bytes};
 ghost use Rattle.anyhow.specs.Error.{IsMadeOf};
