@@ -71,7 +71,10 @@ pub fn spelled_again(
     short_equals: bool,
     table: &Table,
 ) -> Option<Vec<OsString>>
-    ensures { IfSome result (λ again. (final : Answer) (l : List spec.Item)
+    ensures end { IfSome result (λ again. (final : Answer) (l : List spec.Item)
+        → IsReading (table_view table.now) (start short_equals again.items) final l
+        → final ≡ end) }
+    ensures same { IfSome result (λ again. (final : Answer) (l : List spec.Item)
         → IsReading (table_view table.now) (start short_equals again.items) final l
         → IsReading (table_view table.now) (start short_equals words.items) end l) }
 {
