@@ -115,6 +115,10 @@ pub fn read_line(
         → Shows (table_view table.now) short_equals words.items l
         → IfOk result (λ items. map item_view items.items ≡ l)
         × IfErr result (λ e. e ≡ Error.OutOfMemory) }
+    ensures answered_spelled { (l : List spec.Item)
+        → Spells (table_view table.now) short_equals words.items l
+        → IfOk result (λ items. map item_view items.items ≡ l)
+        × IfErr result (λ e. e ≡ Error.OutOfMemory) }
     ensures no_list { IfErr result (λ e. (e ≡ Error.OutOfMemory) ⊎ ((l : List spec.Item)
         → Shows (table_view table.now) short_equals words.items l → ⊥)) }
 {
