@@ -37,6 +37,7 @@ fn clusters_are_read_to_their_end()
         → ReadsPieces (fresh (codes "-ab" ∷ [])) (next ∷ next ∷ []) (short 0x61 ∷ no_memory ∷ []) v
         → ⊥ }
 {}
+
 // Whether an option has U+FFFD in its name: a damaged name has. C2 B5 is another character, and
 // EF BF BD is U+FFFD itself.
 fn names_are_whole()

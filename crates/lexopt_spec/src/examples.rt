@@ -3,8 +3,8 @@ ghost use Rattle.std.specs.Prelude.{◌≡◌, [], ◌∷◌, true, false, None,
 ghost use Rattle.lexopt_spec.specs.Account.{NamesOption, damage, given, given_of, handed_items};
 ghost use Rattle.lexopt_spec.specs.Account.{mark};
 ghost use Rattle.lexopt_spec.specs.Pieces.{BeginsWellFormed, IsWellFormed};
-ghost use Rattle.lexopt_spec.specs.Runs.{AccountedRun, next, optional, raw, raw_if, set_short_equals, try_raw};
-ghost use Rattle.lexopt_spec.specs.Runs.{up_to, value, values};
+ghost use Rattle.lexopt_spec.specs.Runs.{AccountedRun, next, optional, raw, raw_if};
+ghost use Rattle.lexopt_spec.specs.Runs.{set_short_equals, try_raw, up_to, value, values};
 ghost use Rattle.lexopt_spec.specs.Steps.{busy, done, end, items, long, maybe, missing, no_memory};
 ghost use Rattle.lexopt_spec.specs.Steps.{positional, short, taken, unexpected};
 ghost use Rattle.lexopt_spec.specs.UnreadLine.{BeginsWith, IsLine, dash, fresh, joined};
