@@ -1,141 +1,54 @@
-//! A whole line by a table of options: `example_archive OPTION.. [FILE]..`, with the options
-//! `-v|--verbose`, `-o|--output=FILE`, `-b[SUFFIX]|--backup[=SUFFIX]` and `-x|--exclude PATTERN..`.
+//! Options that are declared once: `example_archive OPTION.. [FILE]..`.
 //!
-//! It packs nothing: it prints what it has read, quoted. A word may be of any bytes.
+//! It packs nothing: it prints what it has read, quoted. A word may be of any bytes. Shells ask it
+//! what can be completed by `example_archive __complete WORD.. LAST`, and by the script that
+//! `example_archive __script bash` prints; `zsh` and `fish` have one too.
 //!
-//! The exit status is 0, or 2 where the command line, or memory to read it, was refused, or 1 where
+//! The exit status is 0, or 2 if the command line was refused, or 1 if memory ran out elsewhere or
 //! a line could not be printed; then standard error says why.
 #![tactic(auto)]
 
-use lexopt::items::{Item, Table, read_items};
+use lexopt::options::help::WIDTH;
+use lexopt::options::shell::{Script, Shell};
+use lexopt::options::{Count, Declared, HELP, Kind, Names, Options, Positional, Refused, Said};
 use lexopt::os_string::arguments;
-use lexopt::{Arg, Error, OsString, Quoted};
-use std::alloc::{AllocError, Global};
-use std::env::Env;
+use lexopt::{OsString, Quoted};
 use std::io;
 use std::process::ExitCode;
 
-const HELP: &str = "Usage: example_archive [OPTION].. [FILE]..
+const NAME: &str = "example_archive";
 
-  -v, --verbose       tell more
-  -o, --output=FILE   the archive
-  -b[SUFFIX], --backup[=SUFFIX]
-                      keep an archive that is there, with this suffix
-  -x, --exclude PATTERN..
-                      leave these out: all words up to the next option
-  -h, --help          print this and end";
+static OPTIONS: [Declared<'static>; 5] = [
+    Declared {
+        names: Names::Both('v', "verbose"),
+        kind: Kind::Flag,
+        help: "tell more",
+    },
+    Declared {
+        names: Names::Both('o', "output"),
+        kind: Kind::One("FILE"),
+        help: "the archive",
+    },
+    Declared {
+        names: Names::Both('b', "backup"),
+        kind: Kind::Optional("SUFFIX"),
+        help: "keep an archive that is there, with this suffix",
+    },
+    Declared {
+        names: Names::Both('x', "exclude"),
+        kind: Kind::Several("PATTERN"),
+        help: "leave these out: all words up to the next option",
+    },
+    HELP,
+];
 
-// What becomes of an archive that is there already.
-#[derive(Drop)]
-enum Backup {
-    Kept(OsString),
-    Plain,
-}
+static FILES: [Positional<'static>; 1] = [Positional {
+    placeholder: "FILE",
+    count: Count::AnyNumber,
+}];
 
-#[derive(Drop)]
-struct Options {
-    verbose: bool,
-    output: Option<OsString>,
-    backup: Option<Backup>,
-    excluded: Vec<OsString>,
-    files: Vec<OsString>,
-}
-
-// What a command line asks for.
-#[derive(Drop)]
-enum Request {
-    Help,
-    Print(Options),
-}
-
-// Which options have one value, a value that may be left out, and several values. Any other option
-// is read as one of none.
-fn table(alloc: Global) -> Result<Table, AllocError> {
-    let mut table = Table::new(alloc);
-    table.shorts.push('o')?;
-    table.longs.push(String::from_str(alloc, "output")?)?;
-    table.optional_shorts.push('b')?;
-    table
-        .optional_longs
-        .push(String::from_str(alloc, "backup")?)?;
-    table.several_shorts.push('x')?;
-    table
-        .several_longs
-        .push(String::from_str(alloc, "exclude")?)?;
-    Ok(table)
-}
-
-impl Backup {
-    fn of_value(suffix: Option<OsString>) -> Backup {
-        match suffix {
-            Some(suffix) => Backup::Kept(suffix),
-            None => Backup::Plain,
-        }
-    }
-}
-
-impl Options {
-    fn new(alloc: Global) -> Options {
-        Options {
-            verbose: false,
-            output: None,
-            backup: None,
-            excluded: Vec::new(alloc),
-            files: Vec::new(alloc),
-        }
-    }
-
-    fn set_long(
-        &mut self,
-        alloc: Global,
-        name: &str,
-        value: Option<OsString>,
-    ) -> Result<(), Error> {
-        match name {
-            "verbose" => self.verbose = true,
-            "output" => self.output = value,
-            "backup" => self.backup = Some(Backup::of_value(value)),
-            _ => return Err(Arg::Long(name).unexpected(alloc)),
-        }
-        Ok(())
-    }
-
-    fn set(&mut self, alloc: Global, item: Item) -> Result<(), Error> {
-        match item {
-            Item::Short('v', None) => self.verbose = true,
-            Item::Short('o', file) => self.output = file,
-            Item::Short('b', suffix) => self.backup = Some(Backup::of_value(suffix)),
-            Item::Short(option, _value) => return Err(Arg::Short(option).unexpected(alloc)),
-            Item::Long(name, value) => self.set_long(alloc, name.as_str(), value)?,
-            // The table has one option of several values.
-            Item::ShortMany(_option, patterns) => self.excluded.extend(patterns)?,
-            Item::LongMany(_name, patterns) => self.excluded.extend(patterns)?,
-            Item::Positional(file) => self.files.push(file)?,
-        }
-        Ok(())
-    }
-}
-
-fn is_help(item: &Item) -> bool {
-    match item {
-        Item::Short('h', _) => true,
-        Item::Long(name, _) => name.as_str() == "help",
-        _ => false,
-    }
-}
-
-fn own_request(rt: &(impl Env + AllocGlobal)) -> Result<Request, Error> {
-    let alloc = rt.alloc();
-    let mut options = Options::new(alloc);
-    // The first word is the name that the program was called by.
-    let words: Vec<OsString> = arguments(rt, alloc)?.into_iter().skip(1).collect(alloc)?;
-    for item in read_items(alloc, words, true, &table(alloc)?)? {
-        if is_help(&item) {
-            return Ok(Request::Help);
-        }
-        options.set(alloc, item)?;
-    }
-    Ok(Request::Print(options))
+fn asks_for_help(said: &[Said]) -> bool {
+    said.iter().any(|said| matches!(said, Said::Option(4, _)))
 }
 
 fn print_word(rt: &impl Print, name: &str, word: &OsString) -> io::Result<()> {
@@ -143,46 +56,113 @@ fn print_word(rt: &impl Print, name: &str, word: &OsString) -> io::Result<()> {
     println!(rt; "{name}: {word}")
 }
 
-fn print_words(rt: &impl Print, name: &str, words: &[OsString]) -> io::Result<()> {
-    for word in words {
-        print_word(rt, name, word)?;
+fn print_said(rt: &impl Print, said: &Said) -> io::Result<()> {
+    match said {
+        Said::Option(1, Some(file)) => print_word(rt, "output", file),
+        Said::Option(2, Some(suffix)) => print_word(rt, "backup", suffix),
+        Said::Option(2, None) => rt.println("backup"),
+        Said::Option(_, _) => rt.println("verbose"),
+        Said::Several(_, patterns) => {
+            for pattern in patterns {
+                print_word(rt, "exclude", pattern)?;
+            }
+            Ok(())
+        }
+        Said::Positional(file) => print_word(rt, "file", file),
+    }
+}
+
+// What can stand where the last of these words is typed, one on a line.
+fn print_completion(
+    rt: &(impl Print + AllocGlobal),
+    options: &Options<'_>,
+    words: &[OsString],
+) -> io::Result<()> {
+    if let [before @ .., typed] = words {
+        let completion = options.complete(rt.alloc(), before, typed)?;
+        for spelling in &completion.spellings {
+            println!(rt; "{spelling}")?;
+        }
+        if completion.word.is_some() {
+            rt.println("files")?;
+        }
     }
     Ok(())
 }
 
-fn print_options(rt: &impl Print, options: &Options) -> io::Result<()> {
-    if options.verbose {
-        println!(rt; "verbose")?;
+// The scripts for these shells.
+fn print_scripts(rt: &impl Print, shells: &[OsString]) -> io::Result<()> {
+    for shell in shells {
+        if let Some(shell) = Shell::of_name(shell.to_str().unwrap_or("")) {
+            let program = NAME;
+            let script = Script { shell, program };
+            println!(rt; "{script}")?;
+        }
     }
-    if let Some(output) = &options.output {
-        print_word(rt, "output", output)?;
-    }
-    match &options.backup {
-        Some(Backup::Kept(suffix)) => print_word(rt, "backup", suffix)?,
-        Some(Backup::Plain) => println!(rt; "backup")?,
-        None => {}
-    }
-    print_words(rt, "exclude", options.excluded.as_slice())?;
-    print_words(rt, "file", options.files.as_slice())
+    Ok(())
 }
 
-// Says what is wrong with the command line, and where help is.
-fn refuse(rt: &impl Eprint, error: &Error) -> ExitCode {
-    let _ = eprintln!(rt; "example_archive: {error}");
-    let _ = eprintln!(rt; "Try 'example_archive --help' for more information.");
-    ExitCode::from(2)
+// Answers a line, or hands its refusal back.
+fn answer_line(
+    rt: &(impl Print + AllocGlobal),
+    options: &Options<'static>,
+    words: Vec<OsString>,
+) -> io::Result<Option<Refused<'static>>> {
+    let line = options.read(rt.alloc(), words);
+    let said = match &line {
+        Ok(said) => said,
+        Err(refused) => &refused.before,
+    };
+    if asks_for_help(said) {
+        rt.print(options.help(rt.alloc(), WIDTH)?)?;
+        return Ok(None);
+    }
+    match line {
+        Ok(line) => {
+            for said in &line {
+                print_said(rt, said)?;
+            }
+            Ok(None)
+        }
+        Err(refused) => Ok(Some(refused)),
+    }
+}
+
+// Answers the words after the name of the program.
+fn answer(
+    rt: &(impl Print + AllocGlobal),
+    options: &Options<'static>,
+    words: Vec<OsString>,
+) -> io::Result<Option<Refused<'static>>> {
+    match words.first().map(|word| word.as_bytes()) {
+        Some(b"__complete") => print_completion(rt, options, &words[1..])?,
+        Some(b"__script") => print_scripts(rt, &words[1..])?,
+        _ => return answer_line(rt, options, words),
+    }
+    Ok(None)
+}
+
+fn run(rt: &HostRuntime) -> io::Result<Option<Refused<'static>>> {
+    let alloc = rt.alloc();
+    let words: Vec<OsString> = arguments(rt, alloc)?.into_iter().skip(1).collect(alloc)?;
+    match Options::new(NAME, "Prints what it has read.", &OPTIONS, &FILES) {
+        Ok(options) => answer(rt, &options, words),
+        Err(error) => {
+            println!(rt; "{error:?}")?;
+            Ok(None)
+        }
+    }
 }
 
 fn main(rt: HostRuntime) -> ExitCode {
-    let printed = match own_request(&rt) {
-        Ok(Request::Print(options)) => print_options(&rt, &options),
-        Ok(Request::Help) => rt.println(HELP),
-        Err(error) => return refuse(&rt, &error),
-    };
-    match printed {
-        Ok(()) => ExitCode::SUCCESS,
+    match run(&rt) {
+        Ok(None) => ExitCode::SUCCESS,
+        Ok(Some(refused)) => {
+            let _ = eprintln!(rt; "{refused}");
+            ExitCode::from(Refused::STATUS)
+        }
         Err(error) => {
-            let _ = eprintln!(rt; "example_archive: {error}");
+            let _ = eprintln!(rt; "{NAME}: {error}");
             ExitCode::FAILURE
         }
     }

@@ -3,7 +3,8 @@
 //! `Parser::next` reads the next option or positional argument, and `Parser::value` takes a value
 //! for the option just read. No table of options is needed: a program asks, and decides.
 //! `items::read_items` reads a whole line by a table, and `spell::spell` gives words that spell
-//! what a line is to say.
+//! what a line is to say. `options` declares options once, for reading, messages, help and
+//! completion.
 #![tactic(auto)]
 
 pub use lexopt_base::{
@@ -11,6 +12,7 @@ pub use lexopt_base::{
     raw, values,
 };
 pub use lexopt_items::items;
+pub use lexopt_options as options;
 pub use lexopt_spell::spell;
 pub use lexopt_words::{error, os_string, value_ext};
 

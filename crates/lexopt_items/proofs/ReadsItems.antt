@@ -7,10 +7,10 @@ use Rattle.lexopt_spec.specs.Steps.{Reply, Next}
 use Rattle.lexopt_spec.specs.Runs as calls
 use Rattle.lexopt_spec.specs.Runs.{Call, Step}
 use Rattle.lexopt_line_spec.specs.Table.{Name, short, long, Item, option, positional, Kind, flag, one, optional, several, holds_in, kind, Table}
-use Rattle.lexopt_line_spec.specs.Readings.{IsDue, IsReading, SaysUpTo, start}
+use Rattle.lexopt_line_spec.specs.Readings.{option_reply, IsDue, IsReading, SaysUpTo, start}
 use Rattle.lexopt_line_spec.specs.Bound.{bound}
 use Rattle.lexopt_line_spec.proofs.Bounds.{given_falls, step_bound}
-use Rattle.lexopt_line_spec.proofs.ReadingSteps.{option_reply, says_flag, says_value, says_optional, says_several, says_positional, reads_last, reads_refused}
+use Rattle.lexopt_line_spec.proofs.ReadingSteps.{says_flag, says_value, says_optional, says_several, says_positional, reads_last, reads_refused}
 use Rattle.lexopt_line_spec.specs.Spelling.{Shows}
 use Rattle.lexopt_line_spec.proofs.WholeLines.{shown_said}
 use Rattle.lexopt_base.specs.Replies.{RepliesWith, error_reply}
@@ -25,8 +25,8 @@ use Rattle.lexopt_base.specs.declared.refusal.Refusal.{Refusal}
 use Rattle.lexopt_base.specs.declared.refusal.Refusal.TheVariants.{MissingValue, UnexpectedValue, OutOfMemory}
 use Rattle.lexopt_base.specs.Refusals.{IsErrorOf, refusal_reply}
 use Rattle.lexopt_base.proofs.Refusals.{error_said}
-use Rattle.lexopt_items.specs.declared.items.Values.{Values}
-use Rattle.lexopt_items.specs.declared.items.Values.TheVariants.{AtMostOne, All}
+use Rattle.lexopt_items.specs.declared.values.Values.{Values}
+use Rattle.lexopt_items.specs.declared.values.Values.TheVariants.{AtMostOne, All}
 use Rattle.lexopt_calls.specs.Replies.{next_view}
 use Rattle.lexopt_items.specs.Items.{ReadsItem, ReadsInto, ReadsValues, ValuesEndBy, EndsBy, FailsWith, item_with, kind_view}
 

@@ -22,8 +22,8 @@ use Rattle.lexopt_items.specs.declared.kinds.Kind.TheVariants.{Flag, One, Option
 use Rattle.lexopt_base.specs.declared.refusal.Refusal.{Refusal}
 use Rattle.lexopt_base.specs.declared.refusal.Refusal.TheVariants.{OutOfMemory}
 use Rattle.lexopt_base.specs.Refusals.{refusal_reply}
-use Rattle.lexopt_items.specs.declared.items.Values.{Values}
-use Rattle.lexopt_items.specs.declared.items.Values.TheVariants.{AtMostOne, All}
+use Rattle.lexopt_items.specs.declared.values.Values.{Values}
+use Rattle.lexopt_items.specs.declared.values.Values.TheVariants.{AtMostOne, All}
 
 abbrev pub item_view : Item → spec.Item
 item_view (Short c value) = option (short c) value

@@ -9,17 +9,16 @@ ghost use Rattle.lexopt_line_spec.specs.Table as spec;
 ghost use Rattle.lexopt_line_spec.specs.Table.{one_value};
 ghost use Rattle.lexopt_line_spec.specs.Readings.{IsReading};
 ghost use Rattle.lexopt_base.specs.Refusals.{IsErrorOf};
-ghost use Rattle.lexopt_items.specs.Items.{EndsBy, FailsWith, ReadsInto, ReadsValues};
-ghost use Rattle.lexopt_items.specs.Items.{ValuesEndBy, item_view, item_with};
-ghost use Rattle.lexopt_items.specs.Items.{table_view};
+ghost use Rattle.lexopt_items.specs.Items.{EndsBy, FailsWith, ReadsInto, item_view, table_view};
 ghost use Rattle.lexopt_items.specs.Lines.{IsAnswered, IsSpellable, LineFails, LineReads};
 ghost use Rattle.lexopt_items.specs.Lines.{LineShows, LineSpells, NamesAreWhole, ShowsList};
 ghost use Rattle.lexopt_items.specs.Lines.{ShowsNothing, SpellsList};
 
-use crate::kinds::{Kind, kind_of_long, kind_of_short};
+use crate::kinds::{kind_of_long, kind_of_short};
+use crate::values::read_values;
 use lexopt_base::parser::Parser;
 use lexopt_base::refusal::Refusal;
-use lexopt_calls::replay::{NextReply, call_next, take_values};
+use lexopt_calls::replay::{NextReply, call_next};
 use lexopt_calls::reply::{write_list, write_long, write_positional, write_short, write_word};
 use lexopt_words::error::Error;
 use lexopt_words::os_string::OsString;
@@ -118,13 +117,6 @@ fn write_value<W: fmt::Write>(value: &Option<OsString>, f: &mut fmt::Formatter<W
     }
 }
 
-// The values of an option.
-#[derive(Drop)]
-enum Values {
-    AtMostOne(Option<OsString>),
-    All(Vec<OsString>),
-}
-
 impl Table {
     /// The table of no options. It never allocates.
     pub fn new(alloc: Global) -> Table
@@ -148,61 +140,8 @@ impl Table {
     }
 }
 
-impl Values {
-    // An option of one character with these values.
-    fn of_short(self, option: char) -> Item
-        ensures { item_view result ≡ item_with (spec.short option) self }
-    {
-        match self {
-            Values::AtMostOne(value) => Item::Short(option, value),
-            Values::All(values) => Item::ShortMany(option, values),
-        }
-    }
-
-    // An option with a name and these values.
-    fn of_long(self, name: String) -> Item
-        ensures { item_view result ≡ item_with (spec.long (string_bytes name)) self }
-    {
-        match self {
-            Values::AtMostOne(value) => Item::Long(name, value),
-            Values::All(values) => Item::LongMany(name, values),
-        }
-    }
-}
-
 // For how many items of a longer line there is room before its list grows.
 const FIRST_ROOM: usize = 16;
-
-// All values of the last option, which has several. It stands apart, so that what is inlined for
-// other options stays short.
-#[inline(never)]
-fn read_several(alloc: Global, parser: &mut Parser) -> Result<Vec<OsString>, Refusal>
-    ensures ok { IfOk result (λ values.
-        ReadsValues Kind.Several parser.old (Values.All values) parser.new) }
-    ensures err { IfErr result (λ refusal. ValuesEndBy Kind.Several parser.old refusal) }
-{
-    match parser.values() {
-        Ok(mut view) => Ok(take_values(alloc, &mut view, usize::MAX)?),
-        Err(error) => Err(Refusal::of_error(error)),
-    }
-}
-
-// The values of the last option, which is of this kind.
-#[inline(always)]
-fn read_values(alloc: Global, parser: &mut Parser, kind: Kind) -> Result<Values, Refusal>
-    ensures ok { IfOk result (λ values. ReadsValues kind parser.old values parser.new) }
-    ensures err { IfErr result (λ refusal. ValuesEndBy kind parser.old refusal) }
-{
-    match kind {
-        Kind::Flag => Ok(Values::AtMostOne(None)),
-        Kind::One => match parser.value() {
-            Ok(word) => Ok(Values::AtMostOne(Some(word))),
-            Err(error) => Err(Refusal::of_error(error)),
-        },
-        Kind::Optional => Ok(Values::AtMostOne(parser.optional_value())),
-        Kind::Several => Ok(Values::All(read_several(alloc, parser)?)),
-    }
-}
 
 // Adds an item to a list, after which its line goes on.
 #[inline(always)]

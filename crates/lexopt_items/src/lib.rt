@@ -3,3 +3,4 @@
 
 pub mod items;
 pub mod kinds;
+pub mod values;

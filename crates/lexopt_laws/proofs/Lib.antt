@@ -10,4 +10,3 @@ pub mod WorkedDamage
 pub mod Cuts
 pub mod Stays
 pub mod OneItem
-pub mod OneReading

@@ -8,12 +8,6 @@ use Rattle.lexopt_spec.specs.Runs.{Call, next, value, optional, values, raw, try
 use Rattle.lexopt_line_spec.specs.Script.{short_equals_after}
 use Rattle.lexopt_line_spec.proofs.HandedItems.{HandedItems, hands_nothing, hands_words, hands_pending, value_hands, optional_hands, values_hands, raw_hands, words_hands, word_if_hands, try_raw_hands}
 
--- the option that a reply names, or the one before it
-abbrev pub last_after : LastOption → Reply → LastOption
-last_after last (short c) = short_option c
-last_after last (long name) = long_option name
-last_after last r = last
-
 pub record Stays (on : Bool) (u : UnreadLine) (r : Reply) (v : UnreadLine) : Type 0 where
   pub bin_name : v.bin_name ≡ u.bin_name
   pub short_equals : v.short_equals ≡ on
@@ -115,27 +109,3 @@ open_with_memory (set_short_equals on) u r v step other = ap (λ (k : UnreadLine
 pub stays_open : (call : Call) (u : UnreadLine) (r : Reply) (v : UnreadLine) → Step call u r v → call ≢ next → v.ended ≡ u.ended
 stays_open call u r v (inl step) other = open_with_memory call u r v step other
 stays_open call u r v (inr refused) other = ap (λ (k : UnreadLine). k.ended) refused.after_is
-
--- ---- the option that was read
-
-positional_last : (u : UnreadLine) (r : Reply) (v : UnreadLine) → ReadsPositional u r v → v.last ≡ last_after u.last r
-positional_last u r v (no_word_left is p after) = rw (p, after) refl
-positional_last u r v (word_left x xs is p after) = rw (p, after) refl
-
-word_last : (u : UnreadLine) (r : Reply) (v : UnreadLine) → ReadsWord u r v → v.last ≡ last_after u.last r
-word_last u r v (no_word is p after) = rw (p, after) refl
-word_last u r v (reads_separator ws is reads) = positional_last (record u { words = ws; ended = true }) r v reads
-word_last u r v (reads_long text name tail ws is found option p after) = rw (p, after) refl
-word_last u r v (reads_cluster bytes ws is other reads) = rw (reads.reply_is, reads.after_is) refl
-word_last u r v (reads_positional w ws is plain p after) = rw (p, after) refl
-
-next_last : (u : UnreadLine) (r : Reply) (v : UnreadLine) → NextStep u r v → v.last ≡ last_after u.last r
-next_last u r v (joined_value x o is spelled p after) = rw (p, after) refl
-next_last u r v (equals_value x o is on spelled p after) = rw (p, after) refl
-next_last u r v (next_in_cluster bytes is other reads) = rw (reads.reply_is, reads.after_is) refl
-next_last u r v (after_separator is ended reads) = positional_last u r v reads
-next_last u r v (next_word is ended reads) = word_last u r v reads
-
-pub option_is_last : (u : UnreadLine) (r : Reply) (v : UnreadLine) → Next u r v → v.last ≡ last_after u.last r
-option_is_last u r v (inl step) = next_last u r v step
-option_is_last u r v (inr refused) = rw (refused.reply_is, refused.after_is) refl

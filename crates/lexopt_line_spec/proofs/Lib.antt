@@ -26,6 +26,8 @@ pub mod Readings
 pub mod Existence
 pub mod WholeLines
 pub mod ReadingSteps
+pub mod OneReading
+pub mod LastOption
 pub mod Names
 pub mod SpellerTests
 pub mod SpellerAnswers

@@ -26,7 +26,7 @@ both true b is = (refl, is)
 both false b is = absurd (let e : false ≡ true = is in cc)
 
 -- the characters of UTF-8
-encoded : (cs : List ℕ) → scalars cs ≡ true → lossy_characters (encode_utf8_all cs) ≡ cs
+pub encoded : (cs : List ℕ) → scalars cs ≡ true → lossy_characters (encode_utf8_all cs) ≡ cs
 encoded [] is = ap (map (λ p. shown p.char)) pieces-nil
 encoded (c ∷ cs) is =
     let scalar_and = both (scalar c) (scalars cs) is in

@@ -6,7 +6,7 @@ use Rattle.lexopt_spec.specs.Steps.{Reply, Next, Value}
 use Rattle.lexopt_spec.specs.Runs as calls
 use Rattle.lexopt_spec.specs.Runs.{Call, Step, next, value}
 use Rattle.lexopt_line_spec.specs.Table.{Name, short, long, Item, option, many, positional, Kind, flag, one, optional, several, kind, Table}
-use Rattle.lexopt_line_spec.specs.Readings.{IsDue, IsFull, IsLast, GoesOn, last, more, item_after, items_said, IsReading, SaysUpTo}
+use Rattle.lexopt_line_spec.specs.Readings.{IsDue, IsFull, IsLast, GoesOn, last, more, item_after, items_said, option_reply, IsReading, SaysUpTo}
 use Rattle.lexopt_line_spec.proofs.Readings.{flag_item}
 
 pub says_positional : (t : Table) (u v : UnreadLine) (word : List ℕ) → Next u (steps.positional word) v → SaysUpTo t u (positional word ∷ []) v
@@ -18,11 +18,6 @@ says_positional t u v word step = λ final m reading. record {
   asked = more flag flag next (steps.positional word) reading.calls reading.replies refl tt refl reading.asked;
   items_are = ap (λ l. positional word ∷ l) reading.items_are;
 }
-
--- the reply that gives an option of this name
-abbrev pub option_reply : Name → Reply
-option_reply (short c) = steps.short c
-option_reply (long name) = steps.long name
 
 goes_on : (t : Table) (name : Name) (k : Kind) → kind t name ≡ k → GoesOn t (option_reply name) k
 goes_on t (short c) k is = sym is

@@ -58,6 +58,11 @@ pub data AskedAfter (t : Table) (final : Reply) : Kind → List Call → List Re
 abbrev pub Asked : Table → List Call → List Reply → Reply → Type 0
 Asked t calls replies final = AskedAfter t final flag calls replies
 
+-- the reply of `next` that gives the option of this name
+abbrev pub option_reply : Name → Reply
+option_reply (short c) = steps.short c
+option_reply (long name) = steps.long name
+
 -- an option, where these replies follow
 abbrev pub item_after : Name → List Reply → Item
 item_after name [] = option name None

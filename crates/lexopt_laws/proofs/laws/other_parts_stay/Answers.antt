@@ -1,5 +1,6 @@
 use Rattle.lexopt_spec.specs.Steps.{short, long}
-use Rattle.lexopt_laws.proofs.Stays.{step_stays, stays_open, option_is_last}
+use Rattle.lexopt_line_spec.proofs.LastOption.{option_is_last}
+use Rattle.lexopt_laws.proofs.Stays.{step_stays, stays_open}
 use Rattle.lexopt_laws.proofs.laws.other_parts_stay.Goals as goal
 
 pub returns-clause-bin_name : goal.returns-clause-bin_name

@@ -1,0 +1,46 @@
+-- Why an option that was just read has no value.
+use Rattle.std.proofs.Common.{◌≡◌, ◌≢◌, ℕ, List, Some, None, string_bytes, refl, sym, subst, ◌∙◌, inl, inr}
+use Rattle.lexopt_spec.specs.UnreadLine.{UnreadLine}
+use Rattle.lexopt_spec.specs.Steps as steps
+use Rattle.lexopt_spec.specs.Steps.{Reply, Next, missing, unexpected}
+use Rattle.lexopt_spec.specs.Views.{ValuesStep, no_values, some_values}
+use Rattle.lexopt_spec.specs.Runs.{Call, Step, StepWithMemory}
+use Rattle.lexopt_line_spec.specs.Table.{Name}
+use Rattle.lexopt_line_spec.specs.Readings.{IsDue, option_reply}
+use Rattle.lexopt_line_spec.proofs.LastOption.{missing_names}
+use Rattle.lexopt_line_spec.proofs.ReplyKinds.{value_reply, optional_reply}
+use Rattle.lexopt_base.specs.declared.refusal.Refusal.TheVariants.{MissingValue, UnexpectedValue, OutOfMemory}
+use Rattle.lexopt_items.specs.Items.{ValuesEndBy, kind_view}
+use Rattle.std.proofs.Common.{String, Global}
+use Rattle.lexopt_options.specs.Reading.{LacksValue}
+use Rattle.lexopt_options.specs.declared.read.Stop.TheVariants as stop
+use Rattle.lexopt_items.specs.declared.kinds.Kind.{Kind}
+use Rattle.lexopt_items.specs.declared.kinds.Kind.TheVariants.{Flag, One, Optional, Several}
+
+several_values : (n : ℕ) (u v : UnreadLine) (r : Reply) (o x : List ℕ) → r ≡ unexpected o x → ValuesStep n u r v → ⊥
+several_values n u v r o x is (no_values none p after) = let e : missing _ ≡ unexpected o x = sym p ∙ is in cc
+several_values n u v r o x is (some_values some p after) = let e : steps.items _ ≡ unexpected o x = sym p ∙ is in cc
+
+-- a call for values never answers a value that was not expected
+never_unexpected : (k : Kind) (call : Call) (u v : UnreadLine) (o x : List ℕ) → k ≢ Flag → IsDue (kind_view k) call → Step call u (unexpected o x) v → ⊥
+never_unexpected k call u v o x other due (inr refused) = let e : unexpected o x ≡ steps.no_memory = refused.reply_is in cc
+never_unexpected Flag call u v o x other due (inl step) = other refl
+never_unexpected One call u v o x other due (inl step) = value_reply u v (unexpected o x) (subst (λ c. StepWithMemory c u (unexpected o x) v) due step)
+never_unexpected Optional call u v o x other due (inl step) = optional_reply u v (unexpected o x) (subst (λ c. StepWithMemory c u (unexpected o x) v) due step)
+never_unexpected Several call u v o x other due (inl step) =
+    several_values due.0 u v (unexpected o x) o x refl (subst (λ c. StepWithMemory c u (unexpected o x) v) due.1 step)
+
+pub unexpected_never : (k : Kind) (u : UnreadLine) (o : _) (x : List ℕ) → k ≢ Flag → ValuesEndBy k u (UnexpectedValue o x) → ⊥
+unexpected_never k u o x other (inl is) = let e : UnexpectedValue o x ≡ OutOfMemory = is in cc
+unexpected_never k u o x other (inr r) = never_unexpected k r.0 u r.1 (string_bytes o) x other r.2 r.3
+
+pub unnamed_never : (k : Kind) (u v : UnreadLine) (name : Name) → Next u (option_reply name) v → ValuesEndBy k v (MissingValue None) → ⊥
+unnamed_never k u v name read (inl is) = let e : MissingValue None ≡ OutOfMemory = is in cc
+unnamed_never k u v name read (inr r) =
+    let named = missing_names (kind_view k) r.0 u v r.1 name None read r.2 r.3 in
+    let e : None ≡ Some named.0 = named.1 in cc
+
+-- a value that is missing
+pub lacks : (k : Kind) (u : UnreadLine) (index : ℕ) (option : String Global) → ValuesEndBy k u (MissingValue (Some option)) → LacksValue k index u (stop.MissingValue index option)
+lacks k u index option (inl is) = absurd (let e : MissingValue (Some option) ≡ OutOfMemory = is in cc)
+lacks k u index option (inr r) = (refl, (r.0, r.1, r.2, r.3))

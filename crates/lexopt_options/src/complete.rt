@@ -1,0 +1,262 @@
+//! What can stand where a word is typed, for shells.
+ghost use Rattle.std.specs.Prelude.{◌≡◌, ◌∷◌, ◌++◌, ℕ, IfOk, List, MatchBool, MatchOption, OnOk, [], filter, map, option_map};
+ghost use Rattle.std.specs.Prelude.{nat_eq, string_bytes};
+ghost use Rattle.std.specs.Char.{IsScalar};
+ghost use Rattle.std.specs.List.{starts_with};
+ghost use Rattle.std.specs.Str.{IsUtf8};
+ghost use Rattle.lexopt_line_spec.specs.Table as table;
+ghost use Rattle.lexopt_options_spec.specs.Completion as spec;
+ghost use Rattle.lexopt_options_spec.specs.Completion.{AreText, IsOpen, spelling};
+ghost use Rattle.lexopt_options_spec.specs.Legal as legal;
+ghost use Rattle.lexopt_options.specs.Completions.{SameLength};
+ghost use Rattle.lexopt_options.specs.Reading.{said_view};
+ghost use Rattle.lexopt_options.specs.declared.said.Said.{Said};
+ghost use Rattle.lexopt_options.specs.Roles.{role_view};
+ghost use Rattle.lexopt_options.specs.Models.{option_view};
+
+use crate::declaration::{Declared, Options};
+use crate::said::Said;
+use lexopt_words::os_string::OsString;
+use std::alloc::{AllocError, Global};
+
+/// What a word that is no option is.
+#[derive(Debug, Clone, Copy, PartialEq, Eq)]
+pub enum Role {
+    /// A value of the option of this index.
+    Value(usize),
+    /// A positional argument.
+    Argument,
+}
+
+/// What can stand where a word is typed.
+#[derive(Debug, Drop)]
+pub struct Completion {
+    /// The spellings of declared options that can stand there and begin with what was typed.
+    pub spellings: Vec<String>,
+    /// What an empty word would be there, if anything: it is no option.
+    pub word: Option<Role>,
+    /// What was typed is not UTF-8. No spelling begins with it.
+    pub is_damaged: bool,
+}
+
+// The word `-c`.
+fn short_spelling(alloc: Global, character: char) -> Result<String, AllocError>
+    ensures text { IsScalar character }
+    ensures spelled { IfOk result (λ s. string_bytes s ≡ spelling (table.short character)) }
+{
+    format!(in alloc; "-{character}")
+}
+
+// The word `--name`.
+fn long_spelling(alloc: Global, name: &str) -> Result<String, AllocError>
+    ensures text { IsUtf8 name.now }
+    ensures spelled { IfOk result (λ s. string_bytes s ≡ spelling (table.long name.now)) }
+{
+    format!(in alloc; "--{name}")
+}
+
+// Adds a spelling if it begins with what was typed.
+fn add_spelling(
+    spellings: &mut Vec<String>,
+    spelled: String,
+    typed: &[u8],
+) -> Result<(), AllocError>
+    ensures { OnOk result (map string_bytes spellings.new.items
+        ≡ map string_bytes spellings.old.items
+        ++ filter (λ s. starts_with nat_eq s typed.now) (string_bytes spelled ∷ [])) }
+{
+    if spelled.as_bytes().starts_with(typed) {
+        spellings.push(spelled)?;
+    }
+    Ok(())
+}
+
+// Adds those of an option's spellings that begin with what was typed.
+fn add_spellings(
+    alloc: Global,
+    spellings: &mut Vec<String>,
+    option: &Declared<'_>,
+    typed: &[u8],
+) -> Result<(), AllocError>
+    ensures text { OnOk result (AreText (option_view option.now ∷ [])) }
+    ensures added { OnOk result (map string_bytes spellings.new.items
+        ≡ map string_bytes spellings.old.items
+        ++ filter (λ s. starts_with nat_eq s typed.now)
+        (map spelling (spec.names_of (option_view option.now)))) }
+{
+    if let Some(character) = option.names.short() {
+        add_spelling(spellings, short_spelling(alloc, character)?, typed)?;
+    }
+    if let Some(name) = option.names.long() {
+        add_spelling(spellings, long_spelling(alloc, name)?, typed)?;
+    }
+    Ok(())
+}
+
+// The spellings of these options that begin with what was typed.
+fn spellings_of(
+    alloc: Global,
+    options: &[Declared<'_>],
+    typed: &[u8],
+) -> Result<Vec<String>, AllocError>
+    ensures text { OnOk result (AreText (map option_view options.now)) }
+    ensures spellings { IfOk result (λ spellings. map string_bytes spellings.items
+        ≡ filter (λ s. starts_with nat_eq s typed.now)
+        (spec.spellings (map option_view options.now))) }
+{
+    let mut spellings = Vec::new(alloc);
+    for option in options {
+        add_spellings(alloc, &mut spellings, option, typed)?;
+    }
+    Ok(spellings)
+}
+
+// A copy of these words, and one word more.
+fn with_word(alloc: Global, words: &[OsString], word: &str) -> Result<Vec<OsString>, AllocError>
+    ensures { IfOk result (λ copy. copy.items ≡ words.now ++ word.now ∷ []) }
+{
+    let mut copy = copy_words(alloc, words)?;
+    copy.push(OsString::from_text(alloc, word)?)?;
+    Ok(copy)
+}
+
+// A copy of these words.
+fn copy_words(alloc: Global, words: &[OsString]) -> Result<Vec<OsString>, AllocError>
+    ensures { IfOk result (λ copy. copy.items ≡ words.now) }
+{
+    let mut copy = Vec::new(alloc);
+    for word in words {
+        copy.push(word.clone()?)?;
+    }
+    Ok(copy)
+}
+
+// Whether two lists are there and have as many items.
+fn have_same_length(one: &Option<Vec<Said>>, other: &Option<Vec<Said>>) -> bool
+    ensures { MatchBool result (SameLength one.now other.now) (SameLength one.now other.now → ⊥) }
+{
+    match (one, other) {
+        (Some(one), Some(other)) => one.len() == other.len(),
+        _ => false,
+    }
+}
+
+// What the last word is, by the last of what is said.
+fn role_of(said: &Said) -> Role
+    ensures { role_view result ≡ spec.role_of (said_view said.now) }
+{
+    match said {
+        Said::Option(index, _) | Said::Several(index, _) => Role::Value(*index),
+        Said::Positional(_) => Role::Argument,
+    }
+}
+
+// The same, if something is said.
+fn last_role(mut said: Vec<Said>) -> Option<Role>
+    ensures { MatchOption result (said.items ≡ []) (λ role. (before : List Said) × (last : Said)
+        × (said.items ≡ before ++ last ∷ [])
+        × (spec.role_of (said_view last) ≡ role_view role)) }
+{
+    match said.pop() {
+        Some(last) => Some(role_of(&last)),
+        None => None,
+    }
+}
+
+impl Options<'_> {
+    ghost use Rattle.std.specs.Prelude.{◌≡◌, ◌↔◌, ℕ, Contains, IfOk, IsTrue, List, MatchBool};
+    ghost use Rattle.std.specs.Prelude.{map, option_map, string_bytes};
+    ghost use Rattle.std.specs.Str.{IsUtf8};
+    ghost use Rattle.lexopt_options_spec.specs.Completion.{Completes, IsOpen, HasRole};
+    ghost use Rattle.lexopt_options_spec.specs.Legal as legal;
+    ghost use Rattle.lexopt_options.specs.Declarations.{declaration_of};
+    ghost use Rattle.lexopt_options.specs.Roles.{role_view};
+
+    // Whether an option can stand after these words.
+    fn is_open(&self, alloc: Global, words: &[OsString]) -> Result<bool, AllocError>
+        ensures { IfOk result (λ opens. MatchBool opens
+            ((l : List legal.Said) × IsOpen (declaration_of self.now) words.now l)
+            ((l : List legal.Said) → ¬ IsOpen (declaration_of self.now) words.now l)) }
+    {
+        let without = self.read_part(alloc, copy_words(alloc, words)?)?;
+        let with = self.read_part(alloc, with_word(alloc, words, "--")?)?;
+        Ok(have_same_length(&without, &with))
+    }
+
+    // What an empty word would be after these words.
+    fn role_after(&self, alloc: Global, words: &[OsString]) -> Result<Option<Role>, AllocError>
+        ensures { IfOk result (λ role. HasRole (declaration_of self.now) words.now
+            (option_map role_view role)) }
+    {
+        match self.read_part(alloc, with_word(alloc, words, "")?)? {
+            Some(said) => Ok(last_role(said)),
+            None => Ok(None),
+        }
+    }
+
+    // The spellings that can stand after these words and begin with what was typed.
+    fn spellings_after(
+        &self,
+        alloc: Global,
+        words: &[OsString],
+        typed: &OsString,
+    ) -> Result<Vec<String>, AllocError>
+        requires { IsUtf8 typed.now }
+        ensures sound { IfOk result (λ spellings. (s : List ℕ)
+            → Contains (map string_bytes spellings.items) s
+            → Completes (declaration_of self.now) words.now typed.now s) }
+        ensures complete { IfOk result (λ spellings. (s : List ℕ)
+            → Completes (declaration_of self.now) words.now typed.now s
+            → Contains (map string_bytes spellings.items) s) }
+    {
+        if self.is_open(alloc, words)? {
+            spellings_of(alloc, self.options(), typed.as_bytes())
+        } else {
+            Ok(Vec::new(alloc))
+        }
+    }
+
+    /// What can stand where a word is typed: after these words, the name of the program not among
+    /// them, and this much of it was typed.
+    ///
+    /// Under options `v|verbose`, a flag, and `o|output` of one value, after `-v` and with `--` it
+    /// is `--verbose` and `--output`; after `-o` no option can stand, but a value of the option with
+    /// the index 1.
+    ///
+    /// The only error is that memory ran out.
+    pub fn complete(
+        &self,
+        alloc: Global,
+        words: &[OsString],
+        typed: &OsString,
+    ) -> Result<Completion, AllocError>
+        // What is offered are the spellings of declared options that begin with what was typed, and
+        // after which some words make a legal line where that option stands; and all of them.
+        ensures sound { IfOk result (λ completion. (s : List ℕ)
+            → Contains (map string_bytes completion.spellings.items) s
+            → Completes (declaration_of self.now) words.now typed.now s) }
+        ensures complete { IfOk result (λ completion. (s : List ℕ)
+            → Completes (declaration_of self.now) words.now typed.now s
+            → Contains (map string_bytes completion.spellings.items) s) }
+
+        // What a word that is no option would be, as the empty one.
+        ensures word { IfOk result (λ completion. HasRole (declaration_of self.now) words.now
+            (option_map role_view completion.word)) }
+
+        // Nothing is offered for damage.
+        ensures damaged { IfOk result (λ completion.
+            IsTrue completion.is_damaged ↔ (¬ IsUtf8 typed.now)) }
+    {
+        let is_damaged = typed.to_str().is_none();
+        let spellings = if is_damaged {
+            Vec::new(alloc)
+        } else {
+            self.spellings_after(alloc, words, typed)?
+        };
+        Ok(Completion {
+            spellings,
+            word: self.role_after(alloc, words)?,
+            is_damaged,
+        })
+    }
+}

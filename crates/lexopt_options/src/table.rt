@@ -1,0 +1,103 @@
+//! The table of declared options, by which the line is read.
+ghost use Rattle.std.specs.Prelude.{◌≡◌, IfOk, OnOk, map, position};
+ghost use Rattle.lexopt_line_spec.specs.Table as table;
+ghost use Rattle.lexopt_options_spec.specs.Declaration.{index_of};
+ghost use Rattle.lexopt_options_spec.specs.Declaration as spec;
+ghost use Rattle.lexopt_items.specs.Items.{table_view};
+ghost use Rattle.lexopt_options.specs.Models.{option_view};
+ghost use Rattle.lexopt_options.specs.Tables.{AddsNames, AddsOption};
+ghost use Rattle.lexopt_options.specs.Declarations.{declaration_of};
+
+use crate::declaration::{Declared, Kind, Options};
+use lexopt_items::items::Table;
+use std::alloc::{AllocError, Global};
+
+// The place of the first option with this character.
+fn place_of_short(options: &[Declared<'_>], character: char) -> Option<usize>
+    ensures { result
+        ≡ position (λ o. spec.has_name (table.short character) (option_view o)) options.now }
+{
+    options
+        .iter()
+        .position(|option| option.names.is_short(character))
+}
+
+// The place of the first option with this name.
+fn place_of_long(options: &[Declared<'_>], name: &str) -> Option<usize>
+    ensures { result
+        ≡ position (λ o. spec.has_name (table.long name.now) (option_view o)) options.now }
+{
+    options.iter().position(|option| option.names.is_long(name))
+}
+
+/// Which option has this character, counted from 0: the first.
+pub fn index_of_short(options: &[Declared<'_>], character: char) -> Option<usize>
+    ensures { result ≡ index_of (map option_view options.now) (table.short character) }
+{
+    place_of_short(options, character)
+}
+
+/// Which option has this name, counted from 0: the first.
+pub fn index_of_long(options: &[Declared<'_>], name: &str) -> Option<usize>
+    ensures { result ≡ index_of (map option_view options.now) (table.long name.now) }
+{
+    place_of_long(options, name)
+}
+
+// Adds the names of an option to these.
+fn add_names(
+    alloc: Global,
+    option: &Declared<'_>,
+    shorts: &mut Vec<char>,
+    longs: &mut Vec<String>,
+) -> Result<(), AllocError>
+    ensures { OnOk result (AddsNames (option_view option.now) shorts.old.items longs.old.items
+        shorts.new.items longs.new.items) }
+{
+    if let Some(character) = option.names.short() {
+        shorts.push(character)?;
+    }
+    if let Some(name) = option.names.long() {
+        longs.push(String::from_str(alloc, name)?)?;
+    }
+    Ok(())
+}
+
+// Adds an option to the table.
+fn add_option(alloc: Global, option: &Declared<'_>, table: &mut Table) -> Result<(), AllocError>
+    ensures { OnOk result (AddsOption (option_view option.now) (table_view table.old)
+        (table_view table.new)) }
+{
+    match option.kind {
+        Kind::Flag => Ok(()),
+        Kind::One(_) => add_names(alloc, option, &mut table.shorts, &mut table.longs),
+        Kind::Optional(_) => add_names(
+            alloc,
+            option,
+            &mut table.optional_shorts,
+            &mut table.optional_longs,
+        ),
+        Kind::Several(_) => add_names(
+            alloc,
+            option,
+            &mut table.several_shorts,
+            &mut table.several_longs,
+        ),
+    }
+}
+
+impl Options<'_> {
+    /// The table that `read_items` takes: which of the options have values, and how many.
+    ///
+    /// The only error is that memory ran out.
+    pub fn table(&self, alloc: Global) -> Result<Table, AllocError>
+        ensures { IfOk result (λ made.
+            table_view made ≡ spec.table (declaration_of self.now).options) }
+    {
+        let mut table = Table::new(alloc);
+        for option in self.options() {
+            add_option(alloc, option, &mut table)?;
+        }
+        Ok(table)
+    }
+}

@@ -1,0 +1,37 @@
+-- What is wrong with each of some options.
+use Rattle.std.proofs.Common.{◌≡◌, ℕ, zero, suc, ◌+◌, ◌<◌, ◌≤◌, true, ◌&&◌, List, [], ◌∷◌, ◌++◌, length, take, get_or, Option, Some, None, is_none, if◌then◌else◌, refl, sym, ap, ◌∙◌, arith, append_assoc}
+use Rattle.std.specs.List.{list_all, list_any}
+use Rattle.std.proofs.lemmas.List.Folds.{list_all_more}
+use Rattle.std.proofs.lemmas.List.{take_all}
+use Rattle.lexopt_options_spec.specs.Declaration.{Declared, Reason, same_name, or_else, short_fault, long_fault, placeholder_fault, shares_name, fault, faults, is_sound}
+
+pub faults_length : (before os : List Declared) → length (faults before os) ≡ length os
+faults_length before [] = refl
+faults_length before (o ∷ os) = ap suc (faults_length (before ++ o ∷ []) os)
+
+append_nil : (l : List Declared) → l ++ [] ≡ l
+append_nil [] = refl
+append_nil (o ∷ l) = ap (λ m. o ∷ m) (append_nil l)
+
+pub fault_at : (before os : List Declared) (i : ℕ) (d : Declared) → i < length os → get_or (faults before os) i None ≡ fault (before ++ take i os) (get_or os i d)
+fault_at before [] i d within = absurd (omega arith)
+fault_at before (o ∷ os) zero d within = ap (λ l. fault l o) (sym (append_nil before))
+fault_at before (o ∷ os) (suc i) d within = fault_at (before ++ o ∷ []) os i d (omega arith) ∙ ap (λ l. fault l (get_or os i d)) (append_assoc before (o ∷ []) (take i os))
+
+-- one option more that can be declared
+pub sound_more : (os : List Declared) (i : ℕ) (d : Declared) → i < length os → list_all is_none (take i (faults [] os)) ≡ true → fault (take i os) (get_or os i d) ≡ None
+    → list_all is_none (take (i + 1) (faults [] os)) ≡ true
+sound_more os i d within so none =
+    list_all_more is_none (faults [] os) i None (omega (arith, faults_length [] os)) ∙ ap (λ b. b && is_none (get_or (faults [] os) i None)) so ∙ ap is_none (fault_at [] os i d within ∙ none)
+
+-- all of them
+pub sound_all : (os : List Declared) (n : ℕ) → length os ≤ n → list_all is_none (take n (faults [] os)) ≡ true → is_sound os ≡ true
+sound_all os n all so = sym (ap (list_all is_none) (take_all n (faults [] os) (omega (arith, faults_length [] os)))) ∙ so
+
+-- ---- one option
+
+pub fault_is : (before : List Declared) (o : Declared) (s l p q : Option Reason) → s ≡ short_fault o.short_name → l ≡ long_fault o.long_name → p ≡ placeholder_fault o.kind o.placeholder
+    → q ≡ (if list_any (shares_name o) before then Some same_name else None) → or_else s (or_else l (or_else p q)) ≡ fault before o
+fault_is before o s l p q is js ks ls = ap (λ x. or_else x (or_else l (or_else p q))) is ∙ ap (λ x. or_else (short_fault o.short_name) (or_else x (or_else p q))) js
+    ∙ ap (λ x. or_else (short_fault o.short_name) (or_else (long_fault o.long_name) (or_else x q))) ks
+    ∙ ap (λ x. or_else (short_fault o.short_name) (or_else (long_fault o.long_name) (or_else (placeholder_fault o.kind o.placeholder) x))) ls

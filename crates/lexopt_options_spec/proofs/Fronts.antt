@@ -1,0 +1,140 @@
+-- What words say, and where their reading stops.
+use Rattle.std.proofs.Common.{◌≡◌, ◌≤◌, ℕ, ◌+◌, suc, true, List, [], ◌∷◌, ◌++◌, map, Option, Some, None, refl, sym, ap, subst, ◌∙◌, arith}
+use Rattle.std.specs.Option.{option_map}
+use Rattle.lexopt_spec.specs.UnreadLine.{UnreadLine}
+use Rattle.lexopt_spec.specs.Steps as steps
+use Rattle.lexopt_spec.specs.Steps.{Reply, Next}
+use Rattle.lexopt_spec.specs.Runs.{next}
+use Rattle.lexopt_line_spec.specs.Table as spec
+use Rattle.lexopt_line_spec.specs.Table.{Item, Name, Table, kind}
+use Rattle.lexopt_line_spec.specs.Readings.{IsReading, item_after, items_said, option_reply, start}
+use Rattle.lexopt_line_spec.specs.Speller.{IsOf}
+use Rattle.lexopt_line_spec.proofs.Existence.{only_one}
+use Rattle.lexopt_line_spec.proofs.Names.{shown_spells, spelled_shows}
+use Rattle.lexopt_line_spec.proofs.OneReading.{option_reading, some_reading}
+use Rattle.lexopt_line_spec.proofs.ReadingSteps.{says_positional, reads_last, reads_refused}
+use Rattle.lexopt_line_spec.proofs.RunAccounts.{step_line}
+use Rattle.lexopt_line_spec.proofs.WholeLines.{said_shows, shown_said}
+use Rattle.lexopt_options_spec.specs.Declaration.{Declaration, Declared, index_of, is_sound, table}
+use Rattle.lexopt_options_spec.specs.Legal.{Said, said_item, positional, positional_count, least, most, IsWithin, SaysFront, Says}
+use Rattle.lexopt_options_spec.specs.Stops.{Mistake, Stops, not_declared, value_of_flag, no_value, one_too_many, too_few, StopsAt, missing_argument}
+use Rattle.lexopt_options_spec.proofs.Sound.{whole_names}
+use Rattle.lexopt_options_spec.proofs.Lists.{Later, split, first_none, first_is, same_somes, count_append}
+
+-- ---- an option by its name
+
+pub item_of : (name : Name) (replies : List Reply) → IsOf name (item_after name replies)
+item_of name [] = refl
+item_of name (steps.taken word ∷ replies) = refl
+item_of name (steps.maybe word ∷ replies) = refl
+item_of name (steps.items words ∷ replies) = refl
+item_of name (reply ∷ replies) = refl
+
+pub undeclared : (options : List Declared) (name : Name) (item : Item) → IsOf name item → index_of options name ≡ None → said_item options item ≡ None
+undeclared options name (spec.option other value) is none = ap (option_map (λ i. _)) (ap (index_of options) is ∙ none)
+undeclared options name (spec.many other values) is none = ap (option_map (λ i. _)) (ap (index_of options) is ∙ none)
+undeclared options name (spec.positional word) is none = absurd is
+
+-- ---- what is said is one list
+
+pub one_front : (d : Declaration) (words : List (List ℕ)) (l m : List Said) → SaysFront d words l → SaysFront d words m → l ≡ m
+one_front d words l m says other =
+    let same = only_one (table d.options) (start d.short_equals words) says.items other.items tt
+    (spelled_shows (table d.options) d.short_equals words says.items says.spelled) (spelled_shows (table d.options) d.short_equals words other.items other.spelled) in
+    same_somes l m (sym says.said ∙ ap (map (said_item d.options)) same ∙ other.said)
+
+-- a reading that comes to the end says it
+pub front_said : (d : Declaration) → is_sound d.options ≡ true → (words : List (List ℕ)) (items : List Item) (l : List Said) → IsReading (table d.options) (start d.short_equals words) steps.end items
+    → map (said_item d.options) items ≡ map (λ s. Some s) l → IsWithin (positional_count l) (most d.positionals) → SaysFront d words l
+front_said d sound words items l reading said within = record {
+  items = items;
+  spelled = shown_spells (table d.options) d.short_equals words items (said_shows (table d.options) d.short_equals words items reading) (whole_names d.options sound items l said);
+  said = said;
+  within = within;
+}
+
+-- ---- where a reading stops, nothing is said
+
+-- every reading of the line that is left is the end of one of the whole, so it says what the words spell
+record Ends (d : Declaration) (before : List Item) (spelled : List Item) (final : Reply) (m : List Item) : Type 0 where
+  final_is : final ≡ steps.end
+  items_are : spelled ≡ before ++ m
+
+ends : (d : Declaration) (words : List (List ℕ)) (before : List Said) (mistake : Mistake) (there : StopsAt d words before mistake) (l : List Said) (says : SaysFront d words l)
+    → (final : Reply) (m : List Item) → IsReading (table d.options) there.there final m → Ends d there.read.items says.items final m
+ends d words before mistake there l says final m reading =
+    let whole = there.read.read final m reading in
+    let said = shown_said (table d.options) d.short_equals words says.items (there.read.items ++ m) final
+    (spelled_shows (table d.options) d.short_equals words says.items says.spelled) whole in
+    record { final_is = said.0; items_are = said.1 }
+
+later : (d : Declaration) (words : List (List ℕ)) (before : List Said) (mistake : Mistake) (there : StopsAt d words before mistake) (l : List Said) (says : SaysFront d words l)
+    → (m : List Item) → says.items ≡ there.read.items ++ m → Later (said_item d.options) m before l
+later d words before mistake there l says m is =
+    split (said_item d.options) there.read.items m before l there.read.said (sym (ap (map (said_item d.options)) is) ∙ says.said)
+
+above : (n k : ℕ) (limit : Option ℕ) → limit ≡ Some n → IsWithin (n + suc k) limit → ⊥
+above n k None is within = let e : None ≡ Some n = is in cc
+above n k (Some m) is within = let e : m ≡ n = (let f : Some m ≡ Some n = is in cc) in omega arith
+
+stops_front : (d : Declaration) (words : List (List ℕ)) (before : List Said) (mistake other : Mistake) (there : StopsAt d words before mistake) → mistake ≡ other
+    → ((count : ℕ) → other ≡ missing_argument count → ⊥) → Stops d (positional_count before) there.there other → (l : List Said) → SaysFront d words l → ⊥
+stops_front d words before mistake other there is not (not_declared name v step none) l says =
+    let t = table d.options in
+    let r = option_reading t there.there v name (step_line next there.there (option_reply name) v there.read.line step) step in
+    let e = ends d words before mistake there l says r.0 (item_after name r.1 ∷ items_said r.1) r.2 in
+    let rest = later d words before mistake there l says (item_after name r.1 ∷ items_said r.1) e.items_are in
+    first_none (said_item d.options) (item_after name r.1) (items_said r.1) rest.later (undeclared d.options name (item_after name r.1) (item_of name r.1) none) rest.are
+stops_front d words before mistake other there is not (value_of_flag option value v step) l says =
+    let e = ends d words before mistake there l says (steps.unexpected option value) _ (reads_last (table d.options) there.there v (steps.unexpected option value) tt step) in
+    let f : steps.unexpected option value ≡ steps.end = e.final_is in cc
+stops_front d words before mistake other there is not (no_value name index option call v w step found due takes) l says =
+    let e = ends d words before mistake there l says (steps.missing (Some option)) _
+    (reads_refused (table d.options) there.there v w name (kind (table d.options) name) call (steps.missing (Some option)) refl due tt step takes) in
+    let f : steps.missing (Some option) ≡ steps.end = e.final_is in cc
+stops_front d words before mistake other there is not (one_too_many word v step limit) l says =
+    let t = table d.options in
+    let r = some_reading t v (step_line next there.there (steps.positional word) v there.read.line step) in
+    let e = ends d words before mistake there l says r.0 _ (says_positional t there.there v word step r.0 r.1 r.2) in
+    let rest = later d words before mistake there l says (spec.positional word ∷ r.1) e.items_are in
+    let first = first_is (said_item d.options) (spec.positional word) (positional word) r.1 rest.later refl rest.are in
+    let count : positional_count l ≡ positional_count before + suc (positional_count first.0) =
+    ap positional_count rest.all_are ∙ count_append before rest.later ∙ ap (λ m. positional_count before + positional_count m) first.1 ∙ ap (λ n. positional_count before + n) (omega arith) in
+    above (positional_count before) (positional_count first.0) (most d.positionals) limit (subst (λ n. IsWithin n (most d.positionals)) count says.within)
+stops_front d words before mistake other there is not (too_few v step few) l says = absurd (not (positional_count before) refl)
+
+-- no front of a line is said by these words, but where a positional is missing
+pub no_front : (d : Declaration) (words : List (List ℕ)) (before : List Said) (mistake : Mistake) → StopsAt d words before mistake
+    → ((count : ℕ) → mistake ≡ missing_argument count → ⊥) → (l : List Said) → SaysFront d words l → ⊥
+no_front d words before mistake there not l says = stops_front d words before mistake mistake there refl not there.stops l says
+
+-- where a positional is missing, what was read is all that is said
+front_is : (d : Declaration) (words : List (List ℕ)) (before : List Said) (mistake : Mistake) (there : StopsAt d words before mistake) (v : UnreadLine) → Next there.there steps.end v
+    → (l : List Said) → SaysFront d words l → l ≡ before
+front_is d words before mistake there v step l says =
+    let e = ends d words before mistake there l says steps.end [] (reads_last (table d.options) there.there v steps.end tt step) in
+    let rest = later d words before mistake there l says [] e.items_are in
+    rest.all_are ∙ ap (λ m. before ++ m) (sym (same_somes [] rest.later rest.are)) ∙ append_nil before
+  where
+    append_nil : (l : List Said) → l ++ [] ≡ l
+    append_nil [] = refl
+    append_nil (s ∷ l) = ap (λ m. s ∷ m) (append_nil l)
+
+stops_whole : (d : Declaration) (words : List (List ℕ)) (before : List Said) (mistake other : Mistake) (there : StopsAt d words before mistake) → mistake ≡ other
+    → Stops d (positional_count before) there.there other → (l : List Said) → Says d words l → ⊥
+stops_whole d words before mistake other there is (too_few v step few) l says =
+    let same = front_is d words before mistake there v step l says.front in
+    let enough : least d.positionals ≤ positional_count before = subst (λ m. least d.positionals ≤ positional_count m) same says.enough in
+    omega arith
+stops_whole d words before mistake other there is (not_declared name v step none) l says =
+    stops_front d words before mistake other there is (λ count same. cc) (not_declared name v step none) l says.front
+stops_whole d words before mistake other there is (value_of_flag option value v step) l says =
+    stops_front d words before mistake other there is (λ count same. cc) (value_of_flag option value v step) l says.front
+stops_whole d words before mistake other there is (no_value name index option call v w step found due takes) l says =
+    stops_front d words before mistake other there is (λ count same. cc) (no_value name index option call v w step found due takes) l says.front
+stops_whole d words before mistake other there is (one_too_many word v step limit) l says =
+    stops_front d words before mistake other there is (λ count same. cc) (one_too_many word v step limit) l says.front
+
+-- nothing is said by words whose reading stops
+pub nothing_said : (d : Declaration) (words : List (List ℕ)) (before : List Said) (mistake : Mistake) → StopsAt d words before mistake → (l : List Said) → Says d words l → ⊥
+nothing_said d words before mistake there l says = stops_whole d words before mistake mistake there refl there.stops l says

@@ -1,0 +1,130 @@
+-- A declaration has one help.
+use Rattle.std.proofs.Common.{◌≡◌, ◌≤◌, ◌<◌, ◌⊎◌, ℕ, ◌+◌, ◌-◌, suc, zero, cond, List, [], ◌∷◌, ◌++◌, length, take, drop, refl, sym, ap, subst, ◌∙◌, arith, inl, inr, append_assoc, length-append}
+use Rattle.std.proofs.lemmas.Bool.{le-leb, lt-leb}
+use Rattle.std.proofs.lemmas.List.{append_cancel_left, take-append-le, take-append-drop}
+use Rattle.std.proofs.lemmas.List.Sums.{sum_by-append}
+use Rattle.std.proofs.Math.Seq.{take-append_seam}
+use Rattle.std.specs.Prelude.{Contains}
+use Rattle.std.specs.List.{AllZip, concat, flat_map, sum_by}
+use Rattle.lexopt_options_spec.specs.Declaration.{Declared, Declaration}
+use Rattle.lexopt_options_spec.specs.Help.{columns, help_column, blanks, Line, line_columns, Fits, AllFit, AreFull, gap, entry, label, words_of, IsEntry, IsHelp, usage, about_line, before_entries, line_feed}
+use Rattle.lexopt_options_spec.proofs.Wrapping.{some_wrapping}
+
+abbrev words_in : List Line → List (List ℕ)
+words_in lines = flat_map (λ (line : Line). line) lines
+
+-- a longer line is no narrower
+wider : (front more : Line) → line_columns front ≤ line_columns (front ++ more)
+wider front more =
+    let s : sum_by columns (front ++ more) ≡ sum_by columns front + sum_by columns more = sum_by-append columns front more in
+    let n : length (front ++ more) ≡ length front + length more = length-append front more in
+    omega arith
+
+-- the first words of a line
+front_of : (front : Line) (word : List ℕ) (rest : List (List ℕ)) (line : Line) (others : List (List ℕ)) → front ++ word ∷ rest ≡ line ++ others → length front < length line
+    → (more : Line) × (line ≡ (front ++ word ∷ []) ++ more)
+front_of front word rest line others same shorter =
+    let one : length (front ++ word ∷ []) ≡ length front + length (word ∷ []) = length-append front (word ∷ []) in
+    let n = length (front ++ word ∷ []) in
+    let within : n ≤ length line = omega arith in
+    let left : take n (front ++ word ∷ rest) ≡ front ++ word ∷ [] = ap (take n) (sym (append_assoc front (word ∷ []) rest)) ∙ take-append_seam (front ++ word ∷ []) rest in
+    let right : take n (line ++ others) ≡ take n line = take-append-le n line others within in
+    let e : take n line ≡ front ++ word ∷ [] = sym right ∙ sym (ap (take n) same) ∙ left in
+    (drop n line, sym (take-append-drop n line) ∙ ap (λ l. l ++ drop n line) e)
+
+not_both : (limit : ℕ) (l : Line) (w : List ℕ) (m : Line) → limit < line_columns (l ++ w ∷ []) → line_columns (l ++ w ∷ []) ≤ line_columns m → (line_columns m ≤ limit) ⊎ (length m ≡ 1) → 0 < length l → length l < length m → ⊥
+not_both limit l w m over wide (inl narrow) some shorter = absurd (omega arith)
+not_both limit l w m over wide (inr one) some shorter = absurd (omega arith)
+
+same_length : (a b : ℕ) → ¬ (a < b) → ¬ (b < a) → a ≡ b
+same_length a b f g = omega (arith, f, g)
+
+full_tail : (limit : ℕ) (l : Line) (ls : List Line) → AreFull limit (l ∷ ls) → AreFull limit ls
+full_tail limit l [] full = tt
+full_tail limit l (m ∷ ms) full = full.1
+
+-- where both begin the same words, a line that is full is no shorter than one that fits
+not_shorter : (limit : ℕ) (l : Line) (ls : List Line) (m : Line) (others : List (List ℕ)) → AllFit limit (l ∷ ls) → AreFull limit (l ∷ ls) → Fits limit m → l ++ words_in ls ≡ m ++ others → length l < length m → ⊥
+not_shorter limit l [] m others fit full fits same shorter =
+    let a : length (l ++ []) ≡ length l + length {A = List ℕ} [] = length-append l [] in
+    let b : length (m ++ others) ≡ length m + length others = length-append m others in
+    let c : length (l ++ []) ≡ length (m ++ others) = ap length same in
+    absurd (omega arith)
+not_shorter limit l ([] ∷ ls) m others fit full fits same shorter = absurd (omega (arith, fit.1.0.words))
+not_shorter limit l ((w ∷ ws) ∷ ls) m others fit full fits same shorter =
+    let p = front_of l w (ws ++ words_in ls) m others same shorter in
+    let wide : line_columns (l ++ w ∷ []) ≤ line_columns m = subst (λ (x : Line). line_columns (l ++ w ∷ []) ≤ line_columns x) (sym p.1) (wider (l ++ w ∷ []) p.0) in
+    not_both limit l w m full.0 wide fits.narrow fit.0.words shorter
+
+one_wrapping : (limit : ℕ) (ls ms : List Line) → words_in ls ≡ words_in ms → AllFit limit ls → AllFit limit ms → AreFull limit ls → AreFull limit ms → ls ≡ ms
+one_wrapping limit [] [] same f g h k = refl
+one_wrapping limit [] ([] ∷ ms) same f g h k = absurd (omega (arith, g.0.words))
+one_wrapping limit [] ((w ∷ ws) ∷ ms) same f g h k = absurd (let e : [] ≡ w ∷ (ws ++ words_in ms) = same in cc)
+one_wrapping limit ([] ∷ ls) [] same f g h k = absurd (omega (arith, f.0.words))
+one_wrapping limit ((w ∷ ws) ∷ ls) [] same f g h k = absurd (let e : w ∷ (ws ++ words_in ls) ≡ [] = same in cc)
+one_wrapping limit (l ∷ ls) (m ∷ ms) same f g h k =
+    let a : length l ≡ length m = same_length (length l) (length m) (not_shorter limit l ls m (words_in ms) f h g.0 same) (not_shorter limit m ms l (words_in ls) g k f.0 (sym same)) in
+    let e : l ≡ m = sym (take-append_seam l (words_in ls)) ∙ ap (take (length l)) same ∙ ap (λ n. take n (m ++ words_in ms)) a ∙ take-append_seam m (words_in ms) in
+    let rest : words_in ls ≡ words_in ms = append_cancel_left m (words_in ls) (words_in ms) (ap (λ (x : Line). x ++ words_in ls) (sym e) ∙ same) in
+    ap (λ (x : Line). x ∷ ls) e ∙ ap (λ (x : List Line). m ∷ x) (one_wrapping limit ls ms rest f.1 g.1 (full_tail limit l ls h) (full_tail limit m ms k))
+
+one_entry : (width : ℕ) (o : Declared) (s t : List ℕ) → IsEntry width o s → IsEntry width o t → s ≡ t
+one_entry width o s t a b =
+    a.written
+    ∙ ap (entry (help_column width) (label o)) (one_wrapping (width - help_column width) a.lines b.lines (a.wrapped.in_order ∙ sym b.wrapped.in_order) a.wrapped.fit b.wrapped.fit a.wrapped.full b.wrapped.full)
+    ∙ sym b.written
+
+same_entries : (width : ℕ) (os : List Declared) (es fs : List (List ℕ)) → AllZip (IsEntry width) os es → AllZip (IsEntry width) os fs → es ≡ fs
+same_entries width [] [] [] a b = refl
+same_entries width [] [] (f ∷ fs) a b = absurd b
+same_entries width [] (e ∷ es) fs a b = absurd a
+same_entries width (o ∷ os) [] fs a b = absurd a
+same_entries width (o ∷ os) (e ∷ es) [] a b = absurd b
+same_entries width (o ∷ os) (e ∷ es) (f ∷ fs) a b = ap (λ (x : List ℕ). x ∷ es) (one_entry width o e f a.0 b.0) ∙ ap (λ (x : List (List ℕ)). f ∷ x) (same_entries width os es fs a.1 b.1)
+
+pub one_help : (d : Declaration) (width : ℕ) (s t : List ℕ) → IsHelp d width s → IsHelp d width t → s ≡ t
+one_help d width s t a b =
+    a.written ∙ ap (λ (l : List (List ℕ)). usage d ++ about_line d.about ++ before_entries d.options ++ concat l) (same_entries width d.options a.entries b.entries a.one_for_each b.one_for_each) ∙ sym b.written
+
+-- ---- a declaration has a help
+
+some_entry : (width : ℕ) (o : Declared) → (text : List ℕ) × IsEntry width o text
+some_entry width o =
+    let w = some_wrapping (width - help_column width) (words_of o.help) in
+    (entry (help_column width) (label o) w.0, record { lines = w.0; wrapped = w.1; written = refl })
+
+some_entries : (width : ℕ) (os : List Declared) → (es : List (List ℕ)) × AllZip (IsEntry width) os es
+some_entries width [] = ([], tt)
+some_entries width (o ∷ os) =
+    let e = some_entry width o in
+    let es = some_entries width os in
+    (e.0 ∷ es.0, (e.1, es.1))
+
+pub some_help : (d : Declaration) (width : ℕ) → (text : List ℕ) × IsHelp d width text
+some_help d width =
+    let es = some_entries width d.options in
+    (usage d ++ about_line d.about ++ before_entries d.options ++ concat es.0, record { entries = es.0; one_for_each = es.1; written = refl })
+
+-- ---- widths
+
+fits_at : (limit : ℕ) (lines : List Line) (line : Line) → AllFit limit lines → Contains lines line → Fits limit line
+fits_at limit [] line fit there = absurd (omega (arith, there.1))
+fits_at limit (l ∷ ls) line fit (zero, within, is) = subst (λ (x : Line). Fits limit x) is fit.0
+fits_at limit (l ∷ ls) line fit (suc k, within, is) = fits_at limit ls line fit.1 (k, omega arith, is)
+
+narrow_by : (width column wide n : ℕ) → column ≤ width → (wide ≤ width - column) ⊎ (n ≡ 1) → (column + wide ≤ width) ⊎ (n ≡ 1)
+narrow_by width column wide n within (inl fits) = inl (omega arith)
+narrow_by width column wide n within (inr one) = inr one
+
+narrow : (width : ℕ) (line : Line) → Fits (width - help_column width) line → (help_column width + line_columns line ≤ width) ⊎ (length line ≡ 1)
+narrow width line fits = narrow_by width (help_column width) (line_columns line) (length line) (omega arith) fits.narrow
+
+pub narrow_lines : (width : ℕ) (o : Declared) (text : List ℕ) (e : IsEntry width o text) (line : Line) → Contains e.lines line → (help_column width + line_columns line ≤ width) ⊎ (length line ≡ 1)
+narrow_lines width o text e line there = narrow width line (fits_at (width - help_column width) e.lines line e.wrapped.fit there)
+
+pub gap_same_line : (column : ℕ) (text : List ℕ) → columns text + 4 ≤ column → (n : ℕ) × (2 ≤ n) × (gap column text ≡ blanks n) × (2 + columns text + n ≡ column)
+gap_same_line column text room =
+    (column - (columns text + 2), omega arith, ap (λ b. cond b (blanks (column - (columns text + 2))) (line_feed ∷ blanks column)) (le-leb _ _ room), omega arith)
+
+pub gap_next_line : (column : ℕ) (text : List ℕ) → column < columns text + 4 → gap column text ≡ line_feed ∷ blanks column
+gap_next_line column text none = ap (λ b. cond b (blanks (column - (columns text + 2))) (line_feed ∷ blanks column)) (lt-leb _ _ none)

@@ -1,0 +1,118 @@
+-- What holds of the names of options that can be declared together.
+use Rattle.std.proofs.Common.{◌≡◌, ◌≢◌, ℕ, Bool, true, false, ◌==◌, ◌||◌, ◌&&◌, List, [], ◌∷◌, ◌++◌, map, position, Option, Some, None, is_none, cond, refl, sym, subst, ◌∙◌}
+use Rattle.std.specs.List.{Contains, list_any, list_all}
+use Rattle.std.specs.Cmp.Lexicographic.{same_text}
+use Rattle.std.proofs.lemmas.Bool.{false≢true, eqb-true, eq-eqb}
+use Rattle.std.proofs.lemmas.List.Folds.{list_any_at}
+use Rattle.std.proofs.lemmas.List.Quantifiers.{position-Some}
+use Rattle.lexopt_spec.specs.Pieces.{replacement, lossy_characters}
+use Rattle.lexopt_spec.specs.UnreadLine.{dash, equals}
+use Rattle.lexopt_line_spec.specs.Table as spec
+use Rattle.lexopt_line_spec.specs.Table.{Name, short, long, Kind, Item}
+use Rattle.lexopt_line_spec.specs.Spelling.{IsWholeName, HaveWholeNames}
+use Rattle.lexopt_options_spec.specs.Declaration.{Declared, Reason, has, has_name, is_empty, is_short, is_long, index_of, short_fault, long_fault, or_else, fault, faults, is_sound}
+use Rattle.std.specs.Option.{option_map}
+use Rattle.lexopt_options_spec.specs.Legal.{Said, option, several, said_item}
+
+-- a name that can be declared
+abbrev pub IsGoodName : Name → Type 0
+IsGoodName (short c) = (c ≢ dash) × (c ≢ replacement)
+IsGoodName (long name) = (name ≢ []) × (¬ Contains name equals) × (¬ Contains (lossy_characters name) replacement)
+
+none_and : (b : Bool) (r : Reason) (rest : Option Reason) → cond b (Some r) rest ≡ None → (b ≡ false) × (rest ≡ None)
+none_and true r rest is = absurd (let e : Some r ≡ None = is in cc)
+none_and false r rest is = (refl, is)
+
+neither : (a b : Option Reason) → or_else a b ≡ None → (a ≡ None) × (b ≡ None)
+neither None b is = (refl, is)
+neither (Some r) b is = absurd (let e : Some r ≡ None = is in cc)
+
+both : (a b : Bool) → (a && b) ≡ true → (a ≡ true) × (b ≡ true)
+both true b is = (refl, is)
+both false b is = absurd (false≢true is)
+
+differ : (a b : ℕ) → (a == b) ≡ false → a ≢ b
+differ a b is same = false≢true (sym is ∙ eq-eqb a b same)
+
+no_fault : (f : Option Reason) → is_none f ≡ true → f ≡ None
+no_fault None is = refl
+no_fault (Some r) is = absurd (false≢true is)
+
+not_among : (c : ℕ) (l : List ℕ) → has c l ≡ false → ¬ Contains l c
+not_among c l is among =
+    false≢true (sym is ∙ list_any_at (λ b. b == c) l among.0 c among.1 (eq-eqb _ c among.2))
+
+good_short : (c : ℕ) (o : Option ℕ) → is_short c o ≡ true → short_fault o ≡ None → IsGoodName (short c)
+good_short c None is none = absurd (false≢true is)
+good_short c (Some d) is none =
+    let same : d ≡ c = eqb-true d c is in
+    let first = none_and (d == dash) _ _ none in
+    let second = none_and (d == replacement) _ _ first.1 in
+    ((λ e. differ d dash first.0 (same ∙ e)), (λ e. differ d replacement second.0 (same ∙ e)))
+
+some_bytes : (name : List ℕ) → is_empty name ≡ false → name ≢ []
+some_bytes [] is same = false≢true (sym is)
+some_bytes (b ∷ bs) is same = let e : b ∷ bs ≡ [] = same in cc
+
+good_long : (name : List ℕ) (o : Option (List ℕ)) → is_long name o ≡ true → long_fault o ≡ None → IsGoodName (long name)
+good_long name None is none = absurd (false≢true is)
+good_long name (Some n) is none =
+    let same : n ≡ name = same_text n name (sym is) in
+    let first = none_and (is_empty n) _ _ none in
+    let second = none_and (has equals n) _ _ first.1 in
+    let third = none_and (has replacement (lossy_characters n)) _ _ second.1 in
+    subst (λ (m : List ℕ). IsGoodName (long m)) same (some_bytes n first.0, not_among equals n second.0, not_among replacement (lossy_characters n) third.0)
+
+good_name : (before : List Declared) (o : Declared) (name : Name) → fault before o ≡ None → has_name name o ≡ true → IsGoodName name
+good_name before o (short c) none is = good_short c o.short_name is (neither (short_fault o.short_name) _ none).0
+good_name before o (long name) none is = good_long name o.long_name is (neither (long_fault o.long_name) _ (neither (short_fault o.short_name) _ none).1).0
+
+pub either : (a b : Bool) (P : Type 0) → (a || b) ≡ true → (a ≡ true → P) → (b ≡ true → P) → P
+either true b P is one other = one refl
+either false b P is one other = other is
+
+good_after : (before os : List Declared) (name : Name) → list_all is_none (faults before os) ≡ true → list_any (has_name name) os ≡ true → IsGoodName name
+good_after before [] name sound is = absurd (false≢true is)
+good_after before (o ∷ os) name sound is =
+    let parts = both (is_none (fault before o)) _ sound in
+    either (has_name name o) (list_any (has_name name) os) (IsGoodName name) is
+    (λ here. good_name before o name (no_fault (fault before o) parts.0) here)
+    (λ later. good_after (before ++ o ∷ []) os name parts.1 later)
+
+pub found : (p : Declared → Bool) (os : List Declared) (i : ℕ) → position p os ≡ Some i → list_any p os ≡ true
+found p [] i is = absurd (let e : None ≡ Some i = is in cc)
+found p (o ∷ os) i is =
+    let at = position-Some p (o ∷ os) i o is in
+    list_any_at p (o ∷ os) i o at.0 at.1
+
+-- a name of one of them can be declared
+pub good : (options : List Declared) (name : Name) (i : ℕ) → is_sound options ≡ true → index_of options name ≡ Some i → IsGoodName name
+good options name i sound is = good_after [] options name sound (found (has_name name) options i is)
+
+-- ---- what is said names options that can be declared
+
+whole : (name : Name) → IsGoodName name → IsWholeName name
+whole (short c) is = is.1
+whole (long name) is = is.2
+
+known : {X Y : Type 0} (f : X → Y) (o : Option X) (y : Y) → option_map f o ≡ Some y → (x : X) × (o ≡ Some x)
+known f None y is = absurd (let e : None ≡ Some y = is in cc)
+known f (Some x) y is = (x, refl)
+
+head_is : {X : Type 0} (x y : X) (xs ys : List X) → x ∷ xs ≡ y ∷ ys → (x ≡ y) × (xs ≡ ys)
+head_is x y xs ys is = (cc, cc)
+
+pub whole_names : (options : List Declared) → is_sound options ≡ true → (items : List Item) (l : List Said) → map (said_item options) items ≡ map (λ s. Some s) l → HaveWholeNames items
+whole_names options sound [] l is = tt
+whole_names options sound (item ∷ items) [] is = absurd (let e : said_item options item ∷ map (said_item options) items ≡ [] = is in cc)
+whole_names options sound (spec.option name value ∷ items) (s ∷ l) is =
+    let parts = head_is _ (Some s) (map (said_item options) items) (map (λ s. Some s) l) is in
+    let index = known (λ i. option i value) (index_of options name) s parts.0 in
+    (whole name (good options name index.0 sound index.1), whole_names options sound items l parts.1)
+whole_names options sound (spec.many name values ∷ items) (s ∷ l) is =
+    let parts = head_is _ (Some s) (map (said_item options) items) (map (λ s. Some s) l) is in
+    let index = known (λ i. several i values) (index_of options name) s parts.0 in
+    (whole name (good options name index.0 sound index.1), whole_names options sound items l parts.1)
+whole_names options sound (spec.positional word ∷ items) (s ∷ l) is =
+    let parts = head_is _ (Some s) (map (said_item options) items) (map (λ s. Some s) l) is in
+    whole_names options sound items l parts.1

@@ -1,0 +1,281 @@
+-- Where an option can stand.
+use Rattle.std.proofs.Common.{◌≡◌, ◌≢◌, ◌<◌, ◌≤◌, ◌+◌, ◌-◌, ℕ, zero, suc, Bool, true, false, List, [], ◌∷◌, ◌++◌, map, length, filter, slice_index_or, Option, Some, None, if◌then◌else◌, encode_utf8, refl, sym, ap, subst, ◌∙◌, arith, inr, append_assoc, length-append}
+use Rattle.std.specs.Char.{IsScalar}
+use Rattle.std.specs.List.{list_any}
+use Rattle.std.specs.Option.{option_map}
+use Rattle.lexopt_spec.specs.UnreadLine.{dash, IsPlain, IsNormalIn}
+use Rattle.lexopt_line_spec.specs.Table as spec
+use Rattle.lexopt_line_spec.specs.Table.{Name, short, long, Item, Kind, flag, one, optional, several, kind, Table}
+use Rattle.lexopt_line_spec.specs.Spelling as lines
+use Rattle.lexopt_line_spec.specs.Spelling.{exact, nothing, Completes, no_value, no_optional, next_word, several_words, Group, cluster, last_option, nothing_more, name_alone, Line, no_words, group, separator}
+use Rattle.lexopt_line_spec.specs.Readings.{start}
+use Rattle.lexopt_line_spec.proofs.Existence.{only_one}
+use Rattle.lexopt_line_spec.proofs.Names.{spelled_shows}
+use Rattle.lexopt_line_spec.proofs.SpellerTests.{dash_first, some_bytes}
+use Rattle.lexopt_line_spec.proofs.SpellerSound.{not_plain}
+use Rattle.lexopt_options_spec.specs.Declaration.{Declaration, Declared, Positional, index_of, is_sound, table}
+use Rattle.lexopt_options_spec.specs.Legal.{Said, option, several, positional, said_item, positional_count, least, most, is_once, is_any_number, IsWithin, SaysFront}
+use Rattle.lexopt_options_spec.specs.Completion.{spelling, IsOption, IsOpen, IsText, CanStand}
+use Rattle.lexopt_options_spec.proofs.Lists.{count_append, first_same, same_somes}
+use Rattle.lexopt_options_spec.proofs.Sound.{IsGoodName, good}
+use Rattle.lexopt_options_spec.proofs.OpenLines.{OpenLine, Parts, open_to_the_end, up_to_separator, dashes, goes_on, parts}
+
+-- ---- words that are no values
+
+encoded_some : (c : ℕ) → IsScalar c → encode_utf8 c ≢ []
+encoded_some c scalar none = some_bytes c [] scalar (ap (λ (l : List ℕ). l ++ []) none)
+
+not_normal : (name : Name) → IsText name → (rest : List (List ℕ)) → ¬ IsNormalIn false (spelling name ∷ rest)
+not_normal (short c) is rest = not_plain (encode_utf8 c) (encoded_some c is)
+not_normal (long name) is rest = not_plain (dash ∷ name) (λ same. let e : dash ∷ name ≡ [] = same in cc)
+
+dashes_calm : (rest : List (List ℕ)) → ¬ IsNormalIn false (dashes ∷ rest)
+dashes_calm rest = not_plain (dash ∷ []) (λ same. let e : dash ∷ [] ≡ [] = same in cc)
+
+-- ---- an option alone, with empty words for its values
+
+values_of : Kind → List (List ℕ)
+values_of flag = []
+values_of one = [] ∷ []
+values_of optional = []
+values_of several = [] ∷ []
+
+item_for : Kind → Name → Item
+item_for flag name = spec.option name None
+item_for one name = spec.option name (Some [])
+item_for optional name = spec.option name None
+item_for several name = spec.many name ([] ∷ [])
+
+one_plain : (k : ℕ) (d : List ℕ) → k < 1 → IsPlain false (slice_index_or ([] ∷ []) k d)
+one_plain zero d within = inr (inr (λ b. b))
+one_plain (suc k) d within = absurd (omega arith)
+
+completed : (k : Kind) (name : Name) (tail : List (List ℕ)) → ¬ IsNormalIn false tail → Completes k name nothing (values_of k ++ tail) (item_for k name) tail
+unfolding values_of item_for
+completed flag name tail calm = no_value refl refl refl
+completed one name tail calm = next_word [] refl refl refl
+completed optional name tail calm = no_optional refl refl refl
+completed several name tail calm =
+    several_words ([] ∷ []) refl (record { words_are = refl; plain = one_plain; longest = calm }) (λ none. let e : [] ∷ [] ≡ [] = none in cc) refl
+
+append_nil : {X : Type 0} (l : List X) → l ≡ l ++ []
+append_nil [] = refl
+append_nil (x ∷ l) = ap (λ m. x ∷ m) (append_nil l)
+
+spelled_group : (t : Table) (on : Bool) (name : Name) (tail : List (List ℕ)) → IsText name → IsGoodName name → ¬ IsNormalIn false tail
+    → Group exact t on (spelling name ∷ values_of (kind t name) ++ tail) (item_for (kind t name) name ∷ []) tail
+spelled_group t on (short c) tail text is calm =
+    cluster (encode_utf8 c ++ []) (values_of (kind t (short c)) ++ tail) (ap (λ (l : List ℕ). (dash ∷ l) ∷ values_of (kind t (short c)) ++ tail) (append_nil (encode_utf8 c)))
+    (λ begins. is.0 (dash_first c [] begins))
+    (last_option c (encode_utf8 c) [] nothing (item_for (kind t (short c)) (short c)) (text, refl) (nothing_more refl refl) (completed (kind t (short c)) (short c) tail calm))
+spelled_group t on (long name) tail text is calm =
+    lines.long_option name name name nothing (item_for (kind t (long name)) (long name)) (values_of (kind t (long name)) ++ tail) refl (name_alone is.0 refl refl) is.1 (text, refl)
+    (completed (kind t (long name)) (long name) tail calm) refl
+
+-- so many empty words
+blanks : ℕ → List (List ℕ)
+blanks zero = []
+blanks (suc n) = [] ∷ blanks n
+
+-- the option, and then so many positionals after a separator
+spelled_line : (t : Table) (on : Bool) (name : Name) (n : ℕ) → IsText name → IsGoodName name
+    → Line exact t on (spelling name ∷ values_of (kind t name) ++ dashes ∷ blanks n) (item_for (kind t name) name ∷ map spec.positional (blanks n))
+spelled_line t on name n text is =
+    group (spelling name ∷ values_of (kind t name) ++ dashes ∷ blanks n) (dashes ∷ blanks n) (item_for (kind t name) name ∷ []) (map spec.positional (blanks n))
+    (spelled_group t on name (dashes ∷ blanks n) text is (dashes_calm (blanks n))) (separator (blanks n))
+
+-- ---- what is said of it
+
+said_for : ℕ → Kind → Said
+said_for i flag = option i None
+said_for i one = option i (Some [])
+said_for i optional = option i None
+said_for i several = several i ([] ∷ [])
+
+is_said : (options : List Declared) (name : Name) (i : ℕ) (k : Kind) → index_of options name ≡ Some i → said_item options (item_for k name) ≡ Some (said_for i k)
+unfolding item_for said_for
+is_said options name i flag found = ap (option_map (λ j. option j None)) found
+is_said options name i one found = ap (option_map (λ j. option j (Some []))) found
+is_said options name i optional found = ap (option_map (λ j. option j None)) found
+is_said options name i several found = ap (option_map (λ j. several j ([] ∷ []))) found
+
+is_option : (i : ℕ) (k : Kind) → IsOption i (said_for i k)
+unfolding said_for
+is_option i flag = refl
+is_option i one = refl
+is_option i optional = refl
+is_option i several = refl
+
+counts_none : (i : ℕ) (k : Kind) (l : List Said) → positional_count (said_for i k ∷ l) ≡ positional_count l
+unfolding said_for
+counts_none i flag l = omega arith
+counts_none i one l = omega arith
+counts_none i optional l = omega arith
+counts_none i several l = omega arith
+
+words_said : (options : List Declared) (words : List (List ℕ)) → map (said_item options) (map spec.positional words) ≡ map (λ s. Some s) (map positional words)
+words_said options [] = refl
+words_said options (w ∷ ws) = ap (λ l. Some (positional w) ∷ l) (words_said options ws)
+
+blank_count : (n : ℕ) → positional_count (map positional (blanks n)) ≡ n
+unfolding blanks
+blank_count zero = refl
+blank_count (suc n) = let rest = blank_count n in omega arith
+
+-- two lists in a row
+both_said : (options : List Declared) (xs ys : List Item) (l m : List Said) → map (said_item options) xs ≡ map (λ s. Some s) l → map (said_item options) ys ≡ map (λ s. Some s) m
+    → map (said_item options) (xs ++ ys) ≡ map (λ s. Some s) (l ++ m)
+both_said options [] ys [] m is other = other
+both_said options [] ys (s ∷ l) m is other = absurd (let e : [] ≡ Some s ∷ map (λ s. Some s) l = is in cc)
+both_said options (x ∷ xs) ys [] m is other = absurd (let e : said_item options x ∷ map (said_item options) xs ≡ [] = is in cc)
+both_said options (x ∷ xs) ys (s ∷ l) m is other =
+    let parts = first_same (said_item options x) (Some s) (map (said_item options) xs) (map (λ s. Some s) l) is in
+    ap (λ z. z ∷ map (said_item options) (xs ++ ys)) parts.0 ∙ ap (λ zs. Some s ∷ zs) (both_said options xs ys l m parts.1 other)
+
+-- ---- how many positionals
+
+filter_small : (p : Positional → Bool) (ps : List Positional) → length (filter p ps) ≤ length ps
+filter_small p [] = omega arith
+filter_small p (x ∷ ps) = small (p x) (filter_small p ps)
+  where
+    small : (b : Bool) → length (filter p ps) ≤ length ps → length (if b then x ∷ filter p ps else filter p ps) ≤ suc (length ps)
+    small true le = omega arith
+    small false le = omega arith
+
+least_within : (ps : List Positional) → IsWithin (least ps) (most ps)
+least_within ps = within (list_any (λ p. is_any_number p.count) ps)
+  where
+    within : (b : Bool) → IsWithin (least ps) (if b then None else Some (length ps))
+    within true = tt
+    within false = filter_small (λ p. is_once p.count) ps
+
+-- as many more as are missing
+enough_within : (ps : List Positional) (n : ℕ) → IsWithin n (most ps) → IsWithin (n + (least ps - n)) (most ps)
+enough_within ps n within = go (most ps) within (least_within ps)
+  where
+    go : (limit : Option ℕ) → IsWithin n limit → IsWithin (least ps) limit → IsWithin (n + (least ps - n)) limit
+    go None a b = tt
+    go (Some m) a b = omega arith
+
+-- ---- where the words are open, each declared option can stand
+
+longer : {X : Type 0} (l : List X) (x : X) (m : List X) → l ++ x ∷ m ≢ l
+longer l x m is = let e = ap length is in let f = length-append l (x ∷ m) in absurd (omega (arith, e, f))
+
+positionals_append : (xs ys : List (List ℕ)) → map spec.positional (xs ++ ys) ≡ map spec.positional xs ++ map spec.positional ys
+positionals_append [] ys = refl
+positionals_append (x ∷ xs) ys = ap (λ l. spec.positional x ∷ l) (positionals_append xs ys)
+
+-- after a separator each word is a positional
+more_positionals : (t : Table) (on : Bool) (words before rest more : List (List ℕ)) (items front : List Item) → words ≡ before ++ dashes ∷ rest → items ≡ front ++ map spec.positional rest
+    → OpenLine exact t on before front → Line exact t on (words ++ more) (items ++ map spec.positional more)
+more_positionals t on words before rest more items front are items_are opens =
+    subst (λ ws. Line exact t on ws (items ++ map spec.positional more)) (sym (ap (λ ws. ws ++ more) are ∙ append_assoc before (dashes ∷ rest) more))
+    (subst (Line exact t on (before ++ dashes ∷ (rest ++ more)))
+    (ap (λ is. front ++ is) (positionals_append rest more) ∙ sym (append_assoc front (map spec.positional rest) (map spec.positional more)) ∙ sym (ap (λ is. is ++ map spec.positional more) items_are))
+    (goes_on exact t on before (dashes ∷ (rest ++ more)) front (map spec.positional (rest ++ more)) (dashes_calm (rest ++ more)) opens (separator (rest ++ more))))
+
+-- what is said then
+later_positionals : (d : Declaration) (words before rest more : List (List ℕ)) (front : List Item) (l all : List Said) (says : SaysFront d words l) → words ≡ before ++ dashes ∷ rest
+    → says.items ≡ front ++ map spec.positional rest → OpenLine exact (table d.options) d.short_equals before front → (whole : SaysFront d (words ++ more) all) → all ≡ l ++ map positional more
+later_positionals d words before rest more front l all says are items_are opens whole =
+    let t = table d.options in
+    let line = more_positionals t d.short_equals words before rest more says.items front are items_are opens in
+    let same = only_one t (start d.short_equals (words ++ more)) whole.items (says.items ++ map spec.positional more) tt
+    (spelled_shows t d.short_equals (words ++ more) whole.items whole.spelled) (spelled_shows t d.short_equals (words ++ more) (says.items ++ map spec.positional more) line) in
+    let said = both_said d.options says.items (map spec.positional more) l (map positional more) says.said (words_said d.options more) in
+    same_somes all (l ++ map positional more) (sym whole.said ∙ ap (map (said_item d.options)) same ∙ said)
+
+pub open_line : (d : Declaration) (words : List (List ℕ)) (l : List Said) → (is : IsOpen d words l) → OpenLine exact (table d.options) d.short_equals words is.front.items
+open_line d words l is = go (parts exact (table d.options) d.short_equals words is.front.items is.front.spelled)
+  where
+    go : Parts exact (table d.options) d.short_equals words is.front.items → OpenLine exact (table d.options) d.short_equals words is.front.items
+    go (open_to_the_end opens) = opens
+    go (up_to_separator before rest front are items_are opens) =
+        absurd (longer l (positional dashes) [] (sym (later_positionals d words before rest (dashes ∷ []) front l l is.front are items_are opens is.with_separator)))
+
+pub can_stand : (d : Declaration) (words : List (List ℕ)) (l : List Said) (name : Name) (i : ℕ) → is_sound d.options ≡ true → IsOpen d words l → index_of d.options name ≡ Some i → IsText name
+    → CanStand d words (spelling name)
+can_stand d words l name i sound is found text =
+    let t = table d.options in
+    let k = kind t name in
+    let n = least d.positionals - positional_count l in
+    let opens = open_line d words l is in
+    let rest = values_of k ++ dashes ∷ blanks n in
+    let named = good d.options name i sound found in
+    let counted : positional_count (l ++ said_for i k ∷ map positional (blanks n)) ≡ positional_count l + n =
+    count_append l (said_for i k ∷ map positional (blanks n)) ∙ ap (λ m. positional_count l + m) (counts_none i k (map positional (blanks n)) ∙ blank_count n) in
+    record {
+      name = name;
+      index = i;
+      declared = found;
+      spelled = refl;
+      before = l;
+      said = said_for i k;
+      later = map positional (blanks n);
+      rest = rest;
+      is = is_option i k;
+      words_say = is.front;
+      line_says = record {
+        front = record {
+          items = is.front.items ++ item_for k name ∷ map spec.positional (blanks n);
+          spelled = goes_on exact t d.short_equals words (spelling name ∷ rest) is.front.items (item_for k name ∷ map spec.positional (blanks n)) (not_normal name text rest) opens
+              (spelled_line t d.short_equals name n text named);
+          said = both_said d.options is.front.items (item_for k name ∷ map spec.positional (blanks n)) l (said_for i k ∷ map positional (blanks n)) is.front.said
+              (both_said d.options (item_for k name ∷ []) (map spec.positional (blanks n)) (said_for i k ∷ []) (map positional (blanks n))
+              (ap (λ s. s ∷ []) (is_said d.options name i k found)) (words_said d.options (blanks n)));
+          within = subst (λ m. IsWithin m (most d.positionals)) (sym counted) (enough_within d.positionals (positional_count l) is.front.within);
+        };
+        enough = subst (λ m. least d.positionals ≤ m) (sym counted) (omega arith);
+      };
+    }
+
+-- ---- and elsewhere none can
+
+same_later : (l : List Said) (s : Said) (ss ts : List Said) → l ++ s ∷ ss ≡ l ++ ts → s ∷ ss ≡ ts
+same_later [] s ss ts is = is
+same_later (x ∷ l) s ss ts is = same_later l s ss ts (first_same x x (l ++ s ∷ ss) (l ++ ts) is).1
+
+no_positional : (i : ℕ) (s : Said) (ss : List Said) (w : List ℕ) (ws : List (List ℕ)) → IsOption i s → s ∷ ss ≡ map positional (w ∷ ws) → ⊥
+no_positional i s ss w ws is same =
+    let e : s ≡ positional w = (first_same s (positional w) ss (map positional ws) same).0 in subst (IsOption i) e is
+
+pub stands_open : (d : Declaration) (words : List (List ℕ)) (s : List ℕ) → (stands : CanStand d words s) → IsOpen d words stands.before
+stands_open d words s stands = go (parts exact (table d.options) d.short_equals words stands.words_say.items stands.words_say.spelled)
+  where
+    t : Table
+    t = table d.options
+
+    go : Parts exact (table d.options) d.short_equals words stands.words_say.items → IsOpen d words stands.before
+    go (open_to_the_end opens) = record {
+      front = stands.words_say;
+      with_separator = record {
+        items = stands.words_say.items ++ [];
+        spelled = goes_on exact (table d.options) d.short_equals words (dashes ∷ []) stands.words_say.items [] (dashes_calm []) opens (separator []);
+        said = ap (map (said_item d.options)) (sym (append_nil stands.words_say.items)) ∙ stands.words_say.said;
+        within = stands.words_say.within;
+      };
+    }
+    go (up_to_separator before rest front are items_are opens) =
+        absurd (no_positional stands.index stands.said stands.later s stands.rest stands.is
+        (same_later stands.before stands.said stands.later (map positional (s ∷ stands.rest))
+        (later_positionals d words before rest (s ∷ stands.rest) front stands.before _ stands.words_say are items_are opens stands.line_says.front)))
+
+-- where as much is said with a separator as without
+pub same_open : (d : Declaration) (words : List (List ℕ)) (l m : List Said) → SaysFront d words l → SaysFront d (words ++ dashes ∷ []) m → length l ≡ length m → IsOpen d words l
+same_open d words l m says with_separator same = go (parts exact (table d.options) d.short_equals words says.items says.spelled)
+  where
+    go : Parts exact (table d.options) d.short_equals words says.items → IsOpen d words l
+    go (open_to_the_end opens) = record {
+      front = says;
+      with_separator = record {
+        items = says.items ++ [];
+        spelled = goes_on exact (table d.options) d.short_equals words (dashes ∷ []) says.items [] (dashes_calm []) opens (separator []);
+        said = ap (map (said_item d.options)) (sym (append_nil says.items)) ∙ says.said;
+        within = says.within;
+      };
+    }
+    go (up_to_separator before rest front are items_are opens) =
+        let e = later_positionals d words before rest (dashes ∷ []) front l m says are items_are opens with_separator in
+        let f = length-append l (positional dashes ∷ []) in
+        absurd (let g : length m ≡ length (l ++ positional dashes ∷ []) = ap length e in omega (arith, f, g, same))

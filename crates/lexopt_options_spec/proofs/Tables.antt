@@ -1,0 +1,212 @@
+-- In the table of a sound declaration each option has its own kind.
+use Rattle.std.proofs.Common.{◌≡◌, ◌⊎◌, ℕ, ◌==◌, ◌||◌, ◌&&◌, suc, zero, Bool, true, false, cond, List, [], ◌∷◌, ◌++◌, Option, Some, None, refl, sym, ap, subst, ◌∙◌, arith, inl, inr, true≢false}
+use Rattle.std.proofs.lemmas.Bool.{eq-eqb, eqb-true, and_parts, or_parts}
+use Rattle.std.specs.Prelude.{Contains, is_none}
+use Rattle.std.specs.Option.{option_to_list}
+use Rattle.std.specs.List.{list_all, list_any}
+use Rattle.std.specs.Cmp.Lexicographic.{pointwise, same_text}
+use Rattle.lexopt_line_spec.specs.Table.{Name, short, long, Kind, flag, one, optional, several, holds_in, kind}
+use Rattle.lexopt_options_spec.specs.Declaration.{Declared, has_name, is_short, is_long, if_kind, shorts_of, longs_of, table, Reason, same_name, fault, faults, is_sound, shares_name, shares_short, shares_long, or_else, short_fault, long_fault, placeholder_fault}
+
+-- ---- lists
+
+list_any-append : {X : Type 0} (p : X → Bool) (xs ys : List X) → list_any p (xs ++ ys) ≡ (list_any p xs || list_any p ys)
+list_any-append p [] ys = refl
+list_any-append p (x ∷ xs) ys = elim (p x) as (λ v. (v || list_any p (xs ++ ys)) ≡ ((v || list_any p xs) || list_any p ys)) [ true ↦ refl | false ↦ list_any-append p xs ys ]
+
+or_right : (x : Bool) → (x || true) ≡ true
+or_right true = refl
+or_right false = refl
+
+or_false : (x : Bool) → (x || false) ≡ x
+or_false true = refl
+or_false false = refl
+
+and_true : (x : Bool) → (x && true) ≡ x
+and_true true = refl
+and_true false = refl
+
+and_false : (x : Bool) → (x && false) ≡ false
+and_false true = refl
+and_false false = refl
+
+-- ---- the lists of the table
+
+-- both kinds are the same one, and one that has values
+abbrev is_kind : Kind → Kind → Bool
+is_kind one one = true
+is_kind optional optional = true
+is_kind several several = true
+is_kind k l = false
+
+-- an option of this kind has this name
+abbrev is_held : Kind → Name → Declared → Bool
+is_held k name o = is_kind k o.kind && has_name name o
+
+abbrev holds : Kind → List Declared → Name → Bool
+holds k options name = holds_in (shorts_of k options) (longs_of k options) name
+
+any_short : (c : ℕ) (k l : Kind) (n : Option ℕ) → list_any (λ d. d == c) (if_kind k l (option_to_list n)) ≡ (is_kind k l && is_short c n)
+any_short c one one None = refl
+any_short c one one (Some d) = or_false (d == c)
+any_short c optional optional None = refl
+any_short c optional optional (Some d) = or_false (d == c)
+any_short c several several None = refl
+any_short c several several (Some d) = or_false (d == c)
+any_short c flag l n = refl
+any_short c one flag n = refl
+any_short c one optional n = refl
+any_short c one several n = refl
+any_short c optional flag n = refl
+any_short c optional one n = refl
+any_short c optional several n = refl
+any_short c several flag n = refl
+any_short c several one n = refl
+any_short c several optional n = refl
+
+any_long : (name : List ℕ) (k l : Kind) (n : Option (List ℕ)) → list_any (λ m. pointwise ◌==◌ m name) (if_kind k l (option_to_list n)) ≡ (is_kind k l && is_long name n)
+any_long name one one None = refl
+any_long name one one (Some m) = or_false (pointwise ◌==◌ m name)
+any_long name optional optional None = refl
+any_long name optional optional (Some m) = or_false (pointwise ◌==◌ m name)
+any_long name several several None = refl
+any_long name several several (Some m) = or_false (pointwise ◌==◌ m name)
+any_long name flag l n = refl
+any_long name one flag n = refl
+any_long name one optional n = refl
+any_long name one several n = refl
+any_long name optional flag n = refl
+any_long name optional one n = refl
+any_long name optional several n = refl
+any_long name several flag n = refl
+any_long name several one n = refl
+any_long name several optional n = refl
+
+-- the lists of a kind hold a name that an option of the kind has, and no other
+holds_any : (k : Kind) (name : Name) (options : List Declared) → holds k options name ≡ list_any (is_held k name) options
+holds_any k (short c) [] = refl
+holds_any k (long name) [] = refl
+holds_any k (short c) (o ∷ os) =
+    list_any-append (λ d. d == c) (if_kind k o.kind (option_to_list o.short_name)) (shorts_of k os)
+    ∙ ap (λ x. x || list_any (λ d. d == c) (shorts_of k os)) (any_short c k o.kind o.short_name)
+    ∙ ap (λ x. (is_kind k o.kind && is_short c o.short_name) || x) (holds_any k (short c) os)
+holds_any k (long name) (o ∷ os) =
+    list_any-append (λ m. pointwise ◌==◌ m name) (if_kind k o.kind (option_to_list o.long_name)) (longs_of k os)
+    ∙ ap (λ x. x || list_any (λ m. pointwise ◌==◌ m name) (longs_of k os)) (any_long name k o.kind o.long_name)
+    ∙ ap (λ x. (is_kind k o.kind && is_long name o.long_name) || x) (holds_any k (long name) os)
+
+-- ---- no two options have one name
+
+pub pointwise_refl : (xs : List ℕ) → pointwise ◌==◌ xs xs ≡ true
+pointwise_refl [] = refl
+pointwise_refl (x ∷ xs) = ap (λ b. b && pointwise ◌==◌ xs xs) (eq-eqb x x refl) ∙ pointwise_refl xs
+
+both_short : (c : ℕ) (m n : Option ℕ) → is_short c m ≡ true → is_short c n ≡ true → shares_short n m ≡ true
+both_short c None n e f = absurd (true≢false (sym e))
+both_short c (Some d) None e f = absurd (true≢false (sym f))
+both_short c (Some d) (Some x) e f = eq-eqb x d (eqb-true x c f ∙ sym (eqb-true d c e))
+
+both_long : (name : List ℕ) (m n : Option (List ℕ)) → is_long name m ≡ true → is_long name n ≡ true → shares_long n m ≡ true
+both_long name None n e f = absurd (true≢false (sym e))
+both_long name (Some d) None e f = absurd (true≢false (sym f))
+both_long name (Some d) (Some x) e f =
+    let P : List ℕ → Type 0 = λ l. pointwise ◌==◌ l d ≡ true in
+    let Q : List ℕ → Type 0 = λ l. pointwise ◌==◌ name l ≡ true in
+    subst P (sym (same_text x name (sym f))) (subst Q (sym (same_text d name (sym e))) (pointwise_refl name))
+
+-- two options that have one name share it
+shared : (name : Name) (o p : Declared) → has_name name o ≡ true → has_name name p ≡ true → shares_name o p ≡ true
+shared (short c) o p e f = ap (λ b. b || shares_long p.long_name o.long_name) (both_short c o.short_name p.short_name e f)
+shared (long name) o p e f = ap (λ b. shares_short p.short_name o.short_name || b) (both_long name o.long_name p.long_name e f) ∙ or_right (shares_short p.short_name o.short_name)
+
+any_shared : (name : Name) (o : Declared) (before : List Declared) → has_name name o ≡ true → list_any (has_name name) before ≡ true → list_any (shares_name o) before ≡ true
+any_shared name o [] e f = absurd (true≢false (sym f))
+any_shared name o (p ∷ ps) e f =
+    elim (has_name name p) as (λ v. has_name name p ≡ v → (v || list_any (has_name name) ps) ≡ true → (shares_name o p || list_any (shares_name o) ps) ≡ true) [
+      | true ↦ λ is h. ap (λ b. b || list_any (shares_name o) ps) (shared name o p e is)
+      | false ↦ λ is h. ap (λ b. shares_name o p || b) (any_shared name o ps e h) ∙ or_right (shares_name o p)
+    ] refl f
+
+not_shared : (f g h : Option Reason) (b : Bool) → is_none (or_else f (or_else g (or_else h (cond b (Some same_name) None)))) ≡ true → b ≡ false
+not_shared f g h false e = refl
+not_shared None None None true e = sym e
+not_shared None None (Some r) true e = sym e
+not_shared None (Some r) h true e = sym e
+not_shared (Some r) g h true e = sym e
+
+-- an option that can be declared has no name of one before it
+new_names : (name : Name) (before : List Declared) (o : Declared) → is_none (fault before o) ≡ true → list_any (has_name name) before ≡ true → has_name name o ≡ false
+new_names name before o sound there =
+    elim (has_name name o) as (λ v. has_name name o ≡ v → v ≡ false) [
+      | true ↦ λ is. sym (any_shared name o before is there) ∙ not_shared (short_fault o.short_name) (long_fault o.long_name) (placeholder_fault o.kind o.placeholder) (list_any (shares_name o) before) sound
+      | false ↦ λ is. refl
+    ] refl
+
+any_more : (p : Declared → Bool) (before : List Declared) (o : Declared) → list_any p before ≡ true → list_any p (before ++ o ∷ []) ≡ true
+any_more p before o e = list_any-append p before (o ∷ []) ∙ ap (λ b. b || (p o || false)) e
+
+any_last : (p : Declared → Bool) (before : List Declared) (o : Declared) → p o ≡ true → list_any p (before ++ o ∷ []) ≡ true
+any_last p before o e = list_any-append p before (o ∷ []) ∙ ap (λ b. list_any p before || (b || false)) e ∙ or_right (list_any p before)
+
+-- nor have any after it
+none_after : (name : Name) (before os : List Declared) → list_all is_none (faults before os) ≡ true → list_any (has_name name) before ≡ true → list_any (has_name name) os ≡ false
+none_after name before [] sound there = refl
+none_after name before (o ∷ os) sound there =
+    let parts = and_parts (is_none (fault before o)) (list_all is_none (faults (before ++ o ∷ []) os)) sound in
+    ap (λ b. b || list_any (has_name name) os) (new_names name before o parts.0 there)
+    ∙ none_after name (before ++ o ∷ []) os parts.1 (any_more (has_name name) before o there)
+
+none_held : (k : Kind) (name : Name) (os : List Declared) → list_any (has_name name) os ≡ false → list_any (is_held k name) os ≡ false
+none_held k name [] e = refl
+none_held k name (o ∷ os) e =
+    let parts = or_parts (has_name name o) (list_any (has_name name) os) e in
+    ap (λ b. (is_kind k o.kind && b) || list_any (is_held k name) os) parts.0
+    ∙ elim (is_kind k o.kind) as (λ v. ((v && false) || list_any (is_held k name) os) ≡ false) [ true ↦ none_held k name os parts.1 | false ↦ none_held k name os parts.1 ]
+
+-- ---- an option of a list
+
+abbrev pub IsIn : Declared → List Declared → Type 0
+IsIn o [] = ⊥
+IsIn o (p ∷ ps) = (p ≡ o) ⊎ IsIn o ps
+
+any_of : (p : Declared → Bool) (os : List Declared) (o : Declared) → IsIn o os → p o ≡ true → list_any p os ≡ true
+any_of p [] o here e = absurd here
+any_of p (q ∷ os) o (inl is) e = ap (λ (x : Declared). p x || list_any p os) is ∙ ap (λ b. b || list_any p os) e
+any_of p (q ∷ os) o (inr more) e = ap (λ b. p q || b) (any_of p os o more e) ∙ or_right (p q)
+
+-- the one option that has this name decides
+held_by : (k : Kind) (name : Name) (before os : List Declared) (o : Declared) → list_all is_none (faults before os) ≡ true → IsIn o os → has_name name o ≡ true → list_any (is_held k name) os ≡ is_kind k o.kind
+held_by k name before [] o sound here has = absurd here
+held_by k name before (q ∷ os) o sound (inl is) has =
+    let parts = and_parts (is_none (fault before q)) (list_all is_none (faults (before ++ q ∷ []) os)) sound in
+    let named : has_name name q ≡ true = ap (has_name name) is ∙ has in
+    let rest = none_held k name os (none_after name (before ++ q ∷ []) os parts.1 (any_last (has_name name) before q named)) in
+    ap (λ b. is_held k name q || b) rest ∙ or_false (is_held k name q)
+    ∙ ap (λ b. is_kind k q.kind && b) named ∙ and_true (is_kind k q.kind) ∙ ap (λ (x : Declared). is_kind k x.kind) is
+held_by k name before (q ∷ os) o sound (inr more) has =
+    let parts = and_parts (is_none (fault before q)) (list_all is_none (faults (before ++ q ∷ []) os)) sound in
+    elim (has_name name q) as (λ v. has_name name q ≡ v → list_any (is_held k name) (q ∷ os) ≡ is_kind k o.kind) [
+      | true ↦ λ is. absurd (true≢false (sym (any_of (has_name name) os o more has) ∙ none_after name (before ++ q ∷ []) os parts.1 (any_last (has_name name) before q is)))
+      | false ↦ λ is. ap (λ b. (is_kind k q.kind && b) || list_any (is_held k name) os) is ∙ ap (λ b. b || list_any (is_held k name) os) (and_false (is_kind k q.kind)) ∙ held_by k name (before ++ q ∷ []) os o parts.1 more has
+    ] refl
+
+pub contains_in : (os : List Declared) (o : Declared) → Contains os o → IsIn o os
+contains_in [] o (k, below, at) = absurd (omega arith)
+contains_in (q ∷ os) o (zero, below, at) = inl at
+contains_in (q ∷ os) o (suc k, below, at) = inr (contains_in os o (k, omega arith, at))
+
+chosen : (k : Kind) → cond (is_kind one k) one (cond (is_kind optional k) optional (cond (is_kind several k) several flag)) ≡ k
+chosen flag = refl
+chosen one = refl
+chosen optional = refl
+chosen several = refl
+
+-- by the table an option's name has the option's kind
+pub kind_of_name : (options : List Declared) (o : Declared) → is_sound options ≡ true → Contains options o → (name : Name) → has_name name o ≡ true → kind (table options) name ≡ o.kind
+unfolding kind
+kind_of_name options o sound there name has =
+    let held : (k : Kind) → holds k options name ≡ is_kind k o.kind = λ k. holds_any k name options ∙ held_by k name [] options o sound (contains_in options o there) has in
+    ap (λ b. cond b one (cond (holds optional options name) optional (cond (holds several options name) several flag))) (held one)
+    ∙ ap (λ b. cond (is_kind one o.kind) one (cond b optional (cond (holds several options name) several flag))) (held optional)
+    ∙ ap (λ b. cond (is_kind one o.kind) one (cond (is_kind optional o.kind) optional (cond b several flag))) (held several)
+    ∙ chosen o.kind

@@ -1,0 +1,90 @@
+-- What can stand where a word is typed, after words that stand before it.
+-- The source is `docs/behaviour.md`.
+use Rattle.std.specs.Prelude.{◌≡◌, ◌++◌, ℕ, true, nat_eq, List, [], ◌∷◌, map, Option, Some, None}
+use Rattle.std.specs.Prelude.{encode_utf8}
+use Rattle.std.specs.Char.{IsScalar}
+use Rattle.std.specs.List.{flat_map, list_any, starts_with}
+use Rattle.std.specs.Option.{option_to_list}
+use Rattle.std.specs.Str.{IsUtf8}
+use Rattle.lexopt_spec.specs.UnreadLine.{dash}
+use Rattle.lexopt_line_spec.specs.Table.{Name, short, long}
+use Rattle.lexopt_options_spec.specs.Declaration.{Declaration, Declared, has_name, index_of}
+use Rattle.lexopt_options_spec.specs.Legal.{Said, option, several, positional, Says, SaysFront}
+
+-- the word that is an option of this name, and nothing else
+abbrev pub spelling : Name → List ℕ
+spelling (short c) = dash ∷ encode_utf8 c
+spelling (long name) = dash ∷ dash ∷ name
+
+-- what is said is the option of this index
+abbrev pub IsOption : ℕ → Said → Type 0
+IsOption i (option j value) = j ≡ i
+IsOption i (several j values) = j ≡ i
+IsOption i (positional word) = ⊥
+
+-- after these words, s can stand as the spelling of a declared option: the words say something, and
+-- with some words after s, they and s legally say that, then this option, and then what may come
+pub record CanStand (d : Declaration) (words : List (List ℕ)) (s : List ℕ) : Type 0 where
+  pub name : Name
+  pub index : ℕ
+  pub declared : index_of d.options name ≡ Some index
+  pub spelled : s ≡ spelling name
+  pub before : List Said
+  pub said : Said
+  pub later : List Said
+  pub rest : List (List ℕ)
+  pub is : IsOption index said
+  pub words_say : SaysFront d words before
+  pub line_says : Says d (words ++ s ∷ rest) (before ++ said ∷ later)
+
+-- after these words, s can stand where this was typed so far, which is no damaged text
+pub record Completes (d : Declaration) (words : List (List ℕ)) (typed s : List ℕ) : Type 0 where
+  pub text : IsUtf8 typed
+  pub begins : starts_with nat_eq s typed ≡ true
+  pub stands : CanStand d words s
+
+-- ---- where an option can stand
+
+-- the words say this, and a separator after them says nothing more: the separator is not among
+-- them, and no value is due
+pub record IsOpen (d : Declaration) (words : List (List ℕ)) (l : List Said) : Type 0 where
+  pub front : SaysFront d words l
+  pub with_separator : SaysFront d (words ++ (dash ∷ dash ∷ []) ∷ []) l
+
+-- the names of an option
+abbrev pub names_of : Declared → List Name
+names_of o = map short (option_to_list o.short_name) ++ map long (option_to_list o.long_name)
+
+-- the spellings of these options, in order
+abbrev pub spellings : List Declared → List (List ℕ)
+spellings options = flat_map (λ o. map spelling (names_of o)) options
+
+-- a name is text, as each `char` and `&str` is
+abbrev pub IsText : Name → Type 0
+IsText (short c) = IsScalar c
+IsText (long name) = IsUtf8 name
+
+-- the names of these options are text
+abbrev pub AreText : List Declared → Type 0
+AreText options = (name : Name) → list_any (has_name name) options ≡ true → IsText name
+
+-- ---- a word that is no option
+
+-- what a word is
+pub data Role : Type 0 where
+  -- a value of the option of this index
+  value : ℕ → Role
+  argument : Role
+
+-- what the last word is, by the last of what is said
+abbrev pub role_of : Said → Role
+role_of (option i v) = value i
+role_of (several i values) = value i
+role_of (positional word) = argument
+
+-- the empty word, which is no option, would be this after these words; or nothing is said with it
+abbrev pub HasRole : Declaration → List (List ℕ) → Option Role → Type 0
+HasRole d words None =
+    (before : List Said) (s : Said) → ¬ SaysFront d (words ++ [] ∷ []) (before ++ s ∷ [])
+HasRole d words (Some role) = (before : List Said) × (s : Said)
+    × SaysFront d (words ++ [] ∷ []) (before ++ s ∷ []) × (role_of s ≡ role)

@@ -1,0 +1,169 @@
+-- What a program declares: its options, in order, and its positional arguments.
+-- The source is `docs/behaviour.md`. Names are without their dashes, texts are their UTF-8.
+use Rattle.std.specs.Prelude.{◌≡◌, ℕ, Bool, true, false, ◌==◌, ◌||◌, ◌&&◌, not, List, [], ◌∷◌, ◌++◌}
+use Rattle.std.specs.Prelude.{Option, Some, None, is_none, position, slice_get, take, if◌then◌else◌}
+use Rattle.std.specs.Option.{option_to_list}
+use Rattle.std.specs.List.{flat_map, list_all, list_any}
+use Rattle.std.specs.Cmp.Lexicographic.{pointwise}
+use Rattle.lexopt_spec.specs.Pieces.{replacement, lossy_characters}
+use Rattle.lexopt_spec.specs.UnreadLine.{dash, equals}
+use Rattle.lexopt_line_spec.specs.Table.{Name, short, long, Kind, flag, one, optional, several, Table}
+
+-- an option: with one name at least
+pub record Declared : Type 0 where
+  pub short_name : Option ℕ
+  pub long_name : Option (List ℕ)
+  pub kind : Kind
+  -- what stands for its value in messages and in the help: empty if it is a flag
+  pub placeholder : List ℕ
+  -- what the help says of it
+  pub help : List ℕ
+
+-- how often a positional argument may stand
+pub data Count : Type 0 where
+  once : Count
+  at_most_once : Count
+  any_number : Count
+
+pub record Positional : Type 0 where
+  pub placeholder : List ℕ
+  pub count : Count
+
+pub record Declaration : Type 0 where
+  -- the program's name
+  pub program : List ℕ
+  -- what it does
+  pub about : List ℕ
+  pub options : List Declared
+  pub positionals : List Positional
+  -- in a cluster, `=` stands between an option and its value
+  pub short_equals : Bool
+
+-- ---- an option by its name
+
+abbrev pub is_short : ℕ → Option ℕ → Bool
+is_short c None = false
+is_short c (Some d) = d == c
+
+abbrev pub is_long : List ℕ → Option (List ℕ) → Bool
+is_long name None = false
+is_long name (Some n) = pointwise ◌==◌ n name
+
+-- the option has this name
+abbrev pub has_name : Name → Declared → Bool
+has_name (short c) o = is_short c o.short_name
+has_name (long name) o = is_long name o.long_name
+
+-- which option has this name, counted from 0: the first
+abbrev pub index_of : List Declared → Name → Option ℕ
+index_of options name = position (has_name name) options
+
+-- ---- the table of the options
+
+-- these, if both kinds are the same one, and one that has values
+abbrev pub if_kind : {X : Type 0} → Kind → Kind → List X → List X
+if_kind one one xs = xs
+if_kind optional optional xs = xs
+if_kind several several xs = xs
+if_kind k l xs = []
+
+-- the characters of the options of this kind, in order
+abbrev pub shorts_of : Kind → List Declared → List ℕ
+shorts_of k options = flat_map (λ o. if_kind k o.kind (option_to_list o.short_name)) options
+
+-- and the names
+abbrev pub longs_of : Kind → List Declared → List (List ℕ)
+longs_of k options = flat_map (λ o. if_kind k o.kind (option_to_list o.long_name)) options
+
+-- the options that have values, by how many
+abbrev pub table : List Declared → Table
+table options = record {
+  shorts = shorts_of one options;
+  longs = longs_of one options;
+  optional_shorts = shorts_of optional options;
+  optional_longs = longs_of optional options;
+  several_shorts = shorts_of several options;
+  several_longs = longs_of several options;
+}
+
+-- ---- what is wrong with a declaration
+
+-- why an option cannot be declared
+pub data Reason : Type 0 where
+  -- the character `-`: `--` is the separator, and `--name` a long option
+  dash_name : Reason
+  -- no name after the dashes
+  empty_name : Reason
+  -- `--a=b` is `a` with a value
+  equals_in_name : Reason
+  -- U+FFFD stands for damage in what was typed
+  replacement_in_name : Reason
+  -- what stands for its value is empty, or begins with `-` or `=`: it could not stand there
+  bad_placeholder : Reason
+  -- an option before it has one of its names
+  same_name : Reason
+
+abbrev pub short_fault : Option ℕ → Option Reason
+short_fault None = None
+short_fault (Some c) = if c == dash then Some dash_name
+    else (if c == replacement then Some replacement_in_name else None)
+
+abbrev pub is_empty : List ℕ → Bool
+is_empty [] = true
+is_empty (b ∷ bs) = false
+
+abbrev pub has : ℕ → List ℕ → Bool
+has c list = list_any (λ b. b == c) list
+
+abbrev pub long_fault : Option (List ℕ) → Option Reason
+long_fault None = None
+long_fault (Some name) = if is_empty name then Some empty_name
+    else (if has equals name then Some equals_in_name
+    else (if has replacement (lossy_characters name) then Some replacement_in_name else None))
+
+abbrev pub is_placeholder : List ℕ → Bool
+is_placeholder [] = false
+is_placeholder (b ∷ bs) = not (b == dash) && not (b == equals)
+
+abbrev pub placeholder_fault : Kind → List ℕ → Option Reason
+placeholder_fault flag placeholder = None
+placeholder_fault k placeholder =
+    if is_placeholder placeholder then None else Some bad_placeholder
+
+-- the first of these reasons
+abbrev pub or_else : Option Reason → Option Reason → Option Reason
+or_else None other = other
+or_else (Some reason) other = Some reason
+
+abbrev pub shares_short : Option ℕ → Option ℕ → Bool
+shares_short other None = false
+shares_short other (Some c) = is_short c other
+
+abbrev pub shares_long : Option (List ℕ) → Option (List ℕ) → Bool
+shares_long other None = false
+shares_long other (Some name) = is_long name other
+
+-- the other option has a name of this one
+abbrev pub shares_name : Declared → Declared → Bool
+shares_name o other =
+    shares_short other.short_name o.short_name || shares_long other.long_name o.long_name
+
+-- why this option cannot be declared after those before it, if it cannot
+abbrev pub fault : List Declared → Declared → Option Reason
+fault before o = or_else (short_fault o.short_name) (or_else (long_fault o.long_name)
+    (or_else (placeholder_fault o.kind o.placeholder)
+    (if list_any (shares_name o) before then Some same_name else None)))
+
+-- the same of each of these options, where others stand before them
+abbrev pub faults : List Declared → List Declared → List (Option Reason)
+faults before [] = []
+faults before (o ∷ os) = fault before o ∷ faults (before ++ o ∷ []) os
+
+-- all of these options can be declared together
+abbrev pub is_sound : List Declared → Bool
+is_sound options = list_all is_none (faults [] options)
+
+-- this option, counted from 0, is the first that cannot be declared after those before it, and why
+pub record IsFirstFault (options : List Declared) (index : ℕ) (reason : Reason) : Type 0 where
+  pub here : slice_get (faults [] options) index ≡ Some (Some reason)
+  pub before : list_all is_none (take index (faults [] options)) ≡ true

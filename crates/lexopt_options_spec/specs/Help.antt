@@ -1,0 +1,222 @@
+-- The help of declared options: its usage line, its labels, and lines of words.
+-- The source is `docs/behaviour.md`, after the GNU Coding Standards and what `ls --help` prints.
+-- Texts are their UTF-8. Columns are counted from 0.
+use Rattle.std.specs.Prelude.{◌≡◌, ◌≤◌, ◌<◌, ◌⊎◌, ℕ, ◌+◌, ◌-◌, ◌/◌, min, nat_le, ◌==◌, not}
+use Rattle.std.specs.Prelude.{if◌then◌else◌, List, [], ◌∷◌, ◌++◌, length, take, filter, replicate}
+use Rattle.std.specs.Prelude.{codes, encode_utf8, Option, Some, None}
+use Rattle.std.specs.Char.{IsScalar}
+use Rattle.std.specs.Str.{IsUtf8}
+use Rattle.std.specs.List.{AllZip, concat, flat_map, join_by, join_with_byte, slice_split, sum_by}
+use Rattle.bstr.specs.Unicode.{grapheme_spans}
+use Rattle.lexopt_spec.specs.UnreadLine.{dash, equals}
+use Rattle.lexopt_line_spec.specs.Table.{Item, option, many, short, long}
+use Rattle.lexopt_line_spec.specs.Table.{Kind, flag, one, optional, several}
+use Rattle.lexopt_options_spec.specs.Declaration.{Declared, Declaration, Positional, Count, once}
+use Rattle.lexopt_options_spec.specs.Declaration.{at_most_once, any_number, is_empty}
+
+-- ---- columns
+
+-- how many columns a text takes: one for each grapheme cluster
+unfoldable pub columns : List ℕ → ℕ
+columns text = length (grapheme_spans text)
+
+-- the column where the help of an option begins: 24, or a third of the width if that is less
+abbrev pub help_column : ℕ → ℕ
+help_column width = min 24 (width / 3)
+
+abbrev pub blank : ℕ
+blank = 0x20
+
+abbrev pub blanks : ℕ → List ℕ
+blanks n = replicate n blank
+
+abbrev pub line_feed : ℕ
+line_feed = 0x0A
+
+-- ---- the label of an option
+
+-- after a long name
+abbrev pub after_long : Kind → List ℕ → List ℕ
+after_long flag value = []
+after_long one value = codes "=" ++ value
+after_long optional value = codes "[=" ++ value ++ codes "]"
+after_long several value = codes "=" ++ value ++ codes "..."
+
+-- after a character, if there is no long name
+abbrev pub after_short : Kind → List ℕ → List ℕ
+after_short flag value = []
+after_short one value = codes " " ++ value
+after_short optional value = codes "[" ++ value ++ codes "]"
+after_short several value = codes " " ++ value ++ codes "..."
+
+-- after a character, if a long name follows: a value that may be left out is shown after either
+-- name, since it is typed after each in another way, and any other value after the long name alone
+abbrev pub before_long : Kind → List ℕ → List ℕ
+before_long optional value = codes "[" ++ value ++ codes "]"
+before_long k value = []
+
+-- a long name alone is put below the long names of other options
+abbrev pub label_of : Option ℕ → Option (List ℕ) → Kind → List ℕ → List ℕ
+label_of None None k value = []
+label_of (Some c) None k value = codes "-" ++ encode_utf8 c ++ after_short k value
+label_of None (Some name) k value = codes "    --" ++ name ++ after_long k value
+label_of (Some c) (Some name) k value =
+    codes "-" ++ encode_utf8 c ++ before_long k value ++ codes ", --" ++ name ++ after_long k value
+
+abbrev pub label : Declared → List ℕ
+label o = label_of o.short_name o.long_name o.kind o.placeholder
+
+-- ---- the forms that a label shows
+
+abbrev pub short_word : ℕ → List ℕ → List ℕ
+short_word c value = dash ∷ encode_utf8 c ++ value
+
+abbrev pub long_word : List ℕ → List ℕ
+long_word name = dash ∷ dash ∷ name
+
+abbrev pub long_word_with : List ℕ → List ℕ → List ℕ
+long_word_with name value = dash ∷ dash ∷ name ++ equals ∷ value
+
+-- a form that the label shows, with the placeholder for the value: its words, and the item that
+-- they are to say
+pub data LabelForm (o : Declared) : List (List ℕ) → Item → Type 0 where
+  -- `-v`
+  short_flag : (c : ℕ) → o.short_name ≡ Some c → o.kind ≡ flag
+      → LabelForm o (short_word c [] ∷ []) (option (short c) None)
+  -- `-o FILE`
+  short_one : (c : ℕ) → o.short_name ≡ Some c → o.kind ≡ one
+      → LabelForm o (short_word c [] ∷ o.placeholder ∷ []) (option (short c) (Some o.placeholder))
+  -- `-b[SUFFIX]`, without what is in brackets
+  short_optional : (c : ℕ) → o.short_name ≡ Some c → o.kind ≡ optional
+      → LabelForm o (short_word c [] ∷ []) (option (short c) None)
+  -- `-b[SUFFIX]`, with it
+  short_optional_value : (c : ℕ) → o.short_name ≡ Some c → o.kind ≡ optional
+      → LabelForm o (short_word c o.placeholder ∷ []) (option (short c) (Some o.placeholder))
+  -- `-x PATTERN...`
+  short_several : (c : ℕ) → o.short_name ≡ Some c → o.kind ≡ several
+      → LabelForm o (short_word c [] ∷ o.placeholder ∷ []) (many (short c) (o.placeholder ∷ []))
+  -- `--verbose`
+  long_flag : (name : List ℕ) → o.long_name ≡ Some name → o.kind ≡ flag
+      → LabelForm o (long_word name ∷ []) (option (long name) None)
+  -- `--output=FILE`
+  long_one : (name : List ℕ) → o.long_name ≡ Some name → o.kind ≡ one
+      → LabelForm o (long_word_with name o.placeholder ∷ [])
+      (option (long name) (Some o.placeholder))
+  -- `--backup[=SUFFIX]`, without what is in brackets
+  long_optional : (name : List ℕ) → o.long_name ≡ Some name → o.kind ≡ optional
+      → LabelForm o (long_word name ∷ []) (option (long name) None)
+  -- `--backup[=SUFFIX]`, with it
+  long_optional_value : (name : List ℕ) → o.long_name ≡ Some name → o.kind ≡ optional
+      → LabelForm o (long_word_with name o.placeholder ∷ [])
+      (option (long name) (Some o.placeholder))
+  -- `--exclude=PATTERN...`
+  long_several : (name : List ℕ) → o.long_name ≡ Some name → o.kind ≡ several
+      → LabelForm o (long_word_with name o.placeholder ∷ [])
+      (many (long name) (o.placeholder ∷ []))
+
+-- its names are texts, as a `char` and a `&str` are
+pub record HasTextNames (o : Declared) : Type 0 where
+  pub short_scalar : (c : ℕ) → o.short_name ≡ Some c → IsScalar c
+  pub long_text : (name : List ℕ) → o.long_name ≡ Some name → IsUtf8 name
+
+-- ---- words on lines
+
+-- what stands between the blanks of a text
+abbrev pub words_of : List ℕ → List (List ℕ)
+words_of text = filter (λ word. not (is_empty word)) (slice_split (λ b. b == blank) text)
+
+-- words with a blank between each two
+abbrev pub Line : Type 0
+Line = List (List ℕ)
+
+abbrev pub line_text : Line → List ℕ
+line_text line = join_with_byte blank line
+
+-- the columns of the words and of the blanks
+abbrev pub line_columns : Line → ℕ
+line_columns line = sum_by columns line + (length line - 1)
+
+-- it has words, and takes so many columns at most, or is one word, which cannot be broken
+pub record Fits (limit : ℕ) (line : Line) : Type 0 where
+  pub words : 0 < length line
+  pub narrow : (line_columns line ≤ limit) ⊎ (length line ≡ 1)
+
+abbrev pub AllFit : ℕ → List Line → Type 0
+AllFit limit [] = Unit {0}
+AllFit limit (line ∷ lines) = Fits limit line × AllFit limit lines
+
+-- no line has room for the first word of the next one
+abbrev pub AreFull : ℕ → List Line → Type 0
+AreFull limit [] = Unit {0}
+AreFull limit (line ∷ []) = Unit {0}
+AreFull limit (line ∷ next ∷ lines) =
+    (limit < line_columns (line ++ take 1 next)) × AreFull limit (next ∷ lines)
+
+-- the lines, of at most so many columns, are these words in order
+pub record Wraps (limit : ℕ) (words : List (List ℕ)) (lines : List Line) : Type 0 where
+  pub in_order : flat_map (λ line. line) lines ≡ words
+  pub fit : AllFit limit lines
+  pub full : AreFull limit lines
+
+-- lines one below another, each but the first after so many blanks
+abbrev pub below : ℕ → List Line → List ℕ
+below column lines = join_by line_text (line_feed ∷ blanks column) lines
+
+-- ---- the entry of an option
+
+-- what stands between a label and its help, which begins at this column: on the same line, if the
+-- label and the two blanks before it end two columns before that; else on the next one
+abbrev pub gap : ℕ → List ℕ → List ℕ
+gap column text =
+    if nat_le (columns text + 4) column then blanks (column - (columns text + 2))
+    else (line_feed ∷ blanks column)
+
+-- what stands after a label: the lines of its help, if there are any
+abbrev pub beside : ℕ → List ℕ → List Line → List ℕ
+beside column text [] = []
+beside column text (line ∷ lines) = gap column text ++ below column (line ∷ lines)
+
+-- a label, and the lines of its help
+abbrev pub entry : ℕ → List ℕ → List Line → List ℕ
+entry column text lines = codes "  " ++ text ++ beside column text lines ++ line_feed ∷ []
+
+-- the text is the entry of this option
+pub record IsEntry (width : ℕ) (o : Declared) (text : List ℕ) : Type 0 where
+  pub lines : List Line
+  pub wrapped : Wraps (width - help_column width) (words_of o.help) lines
+  pub written : text ≡ entry (help_column width) (label o) lines
+
+-- ---- the whole text
+
+abbrev pub options_mark : List Declared → List ℕ
+options_mark [] = []
+options_mark (o ∷ os) = codes " [OPTION]..."
+
+abbrev pub counted : Count → List ℕ → List ℕ
+counted once placeholder = codes " " ++ placeholder
+counted at_most_once placeholder = codes " [" ++ placeholder ++ codes "]"
+counted any_number placeholder = codes " [" ++ placeholder ++ codes "]..."
+
+abbrev pub positional_mark : Positional → List ℕ
+positional_mark p = counted p.count p.placeholder
+
+-- the usage line
+abbrev pub usage : Declaration → List ℕ
+usage d = codes "Usage: " ++ d.program ++ options_mark d.options
+    ++ flat_map positional_mark d.positionals ++ line_feed ∷ []
+
+-- a line of its own, if there is something to say
+abbrev pub about_line : List ℕ → List ℕ
+about_line [] = []
+about_line (b ∷ bs) = (b ∷ bs) ++ line_feed ∷ []
+
+-- an empty line before the entries, if there are any
+abbrev pub before_entries : List Declared → List ℕ
+before_entries [] = []
+before_entries (o ∷ os) = line_feed ∷ []
+
+-- the text is the help: after its head one entry for each option, in order
+pub record IsHelp (d : Declaration) (width : ℕ) (text : List ℕ) : Type 0 where
+  pub entries : List (List ℕ)
+  pub one_for_each : AllZip (IsEntry width) d.options entries
+  pub written : text ≡ usage d ++ about_line d.about ++ before_entries d.options ++ concat entries

@@ -1,0 +1,70 @@
+-- Where the reading of a line stops that says nothing legal, and why.
+-- The source is `docs/behaviour.md`.
+use Rattle.std.specs.Prelude.{◌≡◌, ◌<◌, ℕ, List, [], map, Some, None, slice_get}
+use Rattle.std.specs.Prelude.{slice_index_or, unwrap_or}
+use Rattle.std.specs.Option.{option_map}
+use Rattle.lexopt_spec.specs.UnreadLine.{UnreadLine, IsLine}
+use Rattle.lexopt_spec.specs.Steps as steps
+use Rattle.lexopt_spec.specs.Steps.{Next}
+use Rattle.lexopt_spec.specs.Runs.{Call, Step}
+use Rattle.lexopt_line_spec.specs.Table.{Item, Name, kind}
+use Rattle.lexopt_line_spec.specs.Readings.{IsDue, SaysUpTo, option_reply, start}
+use Rattle.lexopt_options_spec.specs.Declaration.{Declaration, Declared, Positional, index_of}
+use Rattle.lexopt_options_spec.specs.Declaration.{table}
+use Rattle.lexopt_options_spec.specs.Legal.{IsWithin, Said, least, most, positional_count}
+use Rattle.lexopt_options_spec.specs.Legal.{required, said_item}
+
+-- what is wrong with a line
+pub data Mistake : Type 0 where
+  -- an option that is not declared
+  unknown_option : Name → Mistake
+  -- an option, with its dashes, has a value that it does not take
+  unexpected_value : List ℕ → List ℕ → Mistake
+  -- an option of this index, with its dashes, has no value
+  missing_value : ℕ → List ℕ → Mistake
+  -- one positional more than are declared
+  unexpected_argument : List ℕ → Mistake
+  -- fewer positionals than are declared: so many stand there
+  missing_argument : ℕ → Mistake
+
+-- the line u was read up to the line v, and what was read says this: options that are declared, and
+-- no more positionals than are declared
+pub record ReadsUpTo (d : Declaration) (u : UnreadLine) (l : List Said) (v : UnreadLine)
+    : Type 0 where
+  pub items : List Item
+  pub read : SaysUpTo (table d.options) u items v
+  pub line : IsLine v
+  pub said : map (said_item d.options) items ≡ map (λ s. Some s) l
+  pub within : IsWithin (positional_count l) (most d.positionals)
+
+-- With so many positionals before it, the line cannot be read on, and this is why. Of an option
+-- that is not declared nothing more is read than its name.
+pub data Stops (d : Declaration) (count : ℕ) (u : UnreadLine) : Mistake → Type 0 where
+  not_declared : (name : Name) (v : UnreadLine) → Next u (option_reply name) v
+      → index_of d.options name ≡ None → Stops d count u (unknown_option name)
+  value_of_flag : (option value : List ℕ) (v : UnreadLine) → Next u (steps.unexpected option value) v
+      → Stops d count u (unexpected_value option value)
+  no_value : (name : Name) (index : ℕ) (option : List ℕ) (call : Call) (v w : UnreadLine)
+      → Next u (option_reply name) v → index_of d.options name ≡ Some index
+      → IsDue (kind (table d.options) name) call → Step call v (steps.missing (Some option)) w
+      → Stops d count u (missing_value index option)
+  one_too_many : (word : List ℕ) (v : UnreadLine) → Next u (steps.positional word) v
+      → most d.positionals ≡ Some count → Stops d count u (unexpected_argument word)
+  too_few : (v : UnreadLine) → Next u steps.end v → count < least d.positionals
+      → Stops d count u (missing_argument count)
+
+-- These words are read up to this mistake, and say this before it.
+pub record StopsAt (d : Declaration) (words : List (List ℕ)) (before : List Said)
+    (mistake : Mistake) : Type 0 where
+  pub there : UnreadLine
+  pub read : ReadsUpTo d (start d.short_equals words) before there
+  pub stops : Stops d (positional_count before) there mistake
+
+-- what stands for the value of the option of this index
+abbrev pub placeholder_at : List Declared → ℕ → List ℕ
+placeholder_at options index =
+    unwrap_or (option_map (λ o. o.placeholder) (slice_get options index)) []
+
+-- what stands for this one, counted from 0, of the positionals that cannot be left out
+abbrev pub required_placeholder : List Positional → ℕ → List ℕ
+required_placeholder ps n = slice_index_or (map (λ p. p.placeholder) (required ps)) n []

@@ -1,0 +1,70 @@
+//! Worked examples of the help, computed by the definitions.
+ghost use Rattle.std.specs.Prelude.{◌≡◌, ◌∷◌, ◌++◌, [], None, Some, codes, true};
+ghost use Rattle.lexopt_line_spec.specs.Table.{flag, one, optional, several};
+ghost use Rattle.lexopt_options_spec.specs.Declaration.{any_number, at_most_once, once};
+ghost use Rattle.lexopt_options_spec.specs.Help.{below, columns, help_column, label_of, line_feed};
+ghost use Rattle.lexopt_options_spec.specs.Help.{usage, words_of};
+
+/// The labels of options with one name and with both.
+pub fn labels_look_so()
+    ensures both { label_of (Some 0x76) (Some (codes "verbose")) flag [] ≡ codes "-v, --verbose" }
+    ensures both_one { label_of (Some 0x6F) (Some (codes "output")) one (codes "FILE")
+        ≡ codes "-o, --output=FILE" }
+    ensures both_optional { label_of (Some 0x62) (Some (codes "backup")) optional (codes "SUFFIX")
+        ≡ codes "-b[SUFFIX], --backup[=SUFFIX]" }
+    ensures both_several { label_of (Some 0x78) (Some (codes "exclude")) several (codes "PATTERN")
+        ≡ codes "-x, --exclude=PATTERN..." }
+    ensures long { label_of None (Some (codes "quiet")) flag [] ≡ codes "    --quiet" }
+    ensures long_one { label_of None (Some (codes "tone")) one (codes "NAME")
+        ≡ codes "    --tone=NAME" }
+    ensures long_optional { label_of None (Some (codes "color")) optional (codes "WHEN")
+        ≡ codes "    --color[=WHEN]" }
+    ensures long_several { label_of None (Some (codes "with")) several (codes "PART")
+        ≡ codes "    --with=PART..." }
+    ensures short { label_of (Some 0x71) None flag [] ≡ codes "-q" }
+    ensures short_one { label_of (Some 0x6E) None one (codes "NUMBER") ≡ codes "-n NUMBER" }
+    ensures short_optional { label_of (Some 0x63) None optional (codes "WHEN") ≡ codes "-c[WHEN]" }
+    ensures short_several { label_of (Some 0x77) None several (codes "PART") ≡ codes "-w PART..." }
+{}
+
+/// Words are what stands between blanks. Lines begin at one column, which is the 24th at most.
+pub fn words_stand_in_columns()
+    ensures words { words_of (codes " tell  more ") ≡ codes "tell" ∷ codes "more" ∷ [] }
+    ensures none { words_of (codes "  ") ≡ [] }
+    ensures lines { below 2 ((codes "tell" ∷ codes "me" ∷ []) ∷ (codes "more" ∷ []) ∷ [])
+        ≡ codes "tell me" ++ line_feed ∷ codes "  more" }
+    ensures wide { help_column 80 ≡ 24 }
+    ensures narrow { help_column 40 ≡ 13 }
+{}
+
+/// The usage line of a program with no options, and of one with an option.
+pub fn usage_lines_look_so()
+    ensures positionals { usage (record {
+      program = codes "pack";
+      about = codes "Packs.";
+      options = [];
+      positionals = record { placeholder = codes "MODE"; count = once }
+          ∷ record { placeholder = codes "TARGET"; count = at_most_once }
+          ∷ record { placeholder = codes "FILE"; count = any_number } ∷ [];
+      short_equals = true;
+    }) ≡ codes "Usage: pack MODE [TARGET] [FILE]..." ++ line_feed ∷ [] }
+    ensures options { usage (record {
+      program = codes "pack";
+      about = [];
+      options = record {
+        short_name = Some 0x76;
+        long_name = None;
+        kind = flag;
+        placeholder = [];
+        help = [];
+      } ∷ [];
+      positionals = [];
+      short_equals = true;
+    }) ≡ codes "Usage: pack [OPTION]..." ++ line_feed ∷ [] }
+{}
+
+/// A cluster of several characters takes one column: `e` and an acute accent, in three bytes.
+pub fn clusters_are_columns()
+    ensures letters { columns (codes "FILE") ≡ 4 }
+    ensures accent { columns (0x65 ∷ 0xCC ∷ 0x81 ∷ []) ≡ 1 }
+{}
