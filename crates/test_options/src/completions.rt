@@ -1,0 +1,194 @@
+//! What can stand where a word is typed.
+use crate::archive::{FILES, OPTIONS, archive, words_of};
+use lexopt::OsString;
+use lexopt_options::{Options, Role};
+use std::alloc::{AllocError, Global};
+use std::test::Fail;
+
+// What was typed after which words, and what can stand there.
+struct Row {
+    words: &'static [u8],
+    typed: &'static [u8],
+    spellings: &'static str,
+    word: Option<Role>,
+}
+
+const ALL: &str = "-v --verbose -o --output -b --backup -x --exclude -h --help";
+
+const ROWS: [Row; 16] = [
+    Row {
+        words: b"",
+        typed: b"",
+        spellings: ALL,
+        word: Some(Role::Argument),
+    },
+    Row {
+        words: b"",
+        typed: b"-",
+        spellings: ALL,
+        word: Some(Role::Argument),
+    },
+    Row {
+        words: b"",
+        typed: b"--",
+        spellings: "--verbose --output --backup --exclude --help",
+        word: Some(Role::Argument),
+    },
+    Row {
+        words: b"",
+        typed: b"--o",
+        spellings: "--output",
+        word: Some(Role::Argument),
+    },
+    Row {
+        words: b"",
+        typed: b"-o",
+        spellings: "-o",
+        word: Some(Role::Argument),
+    },
+    Row {
+        words: b"",
+        typed: b"-vo",
+        spellings: "",
+        word: Some(Role::Argument),
+    },
+    Row {
+        words: b"-o",
+        typed: b"",
+        spellings: "",
+        word: Some(Role::Value(1)),
+    },
+    Row {
+        words: b"-o --",
+        typed: b"--v",
+        spellings: "--verbose",
+        word: Some(Role::Argument),
+    },
+    Row {
+        words: b"a --",
+        typed: b"",
+        spellings: "",
+        word: Some(Role::Argument),
+    },
+    Row {
+        words: b"-b",
+        typed: b"--b",
+        spellings: "--backup",
+        word: Some(Role::Argument),
+    },
+    Row {
+        words: b"-x",
+        typed: b"",
+        spellings: "",
+        word: Some(Role::Value(3)),
+    },
+    Row {
+        words: b"-x a",
+        typed: b"",
+        spellings: ALL,
+        word: Some(Role::Value(3)),
+    },
+    Row {
+        words: b"-x a",
+        typed: b"--v",
+        spellings: "--verbose",
+        word: Some(Role::Value(3)),
+    },
+    Row {
+        words: b"--bogus",
+        typed: b"",
+        spellings: "",
+        word: None,
+    },
+    Row {
+        words: b"--verbose=x",
+        typed: b"--v",
+        spellings: "",
+        word: None,
+    },
+    Row {
+        words: b"\xFF",
+        typed: b"-h",
+        spellings: "-h",
+        word: Some(Role::Argument),
+    },
+];
+
+// Whether these are the spellings, with blanks between them.
+fn are_spellings(alloc: Global, spellings: &[String], wanted: &str) -> Result<bool, AllocError> {
+    let mut text = String::new(alloc);
+    for spelling in spellings {
+        if !text.is_empty() {
+            text.push(' ')?;
+        }
+        text.push_str(spelling.as_str())?;
+    }
+    Ok(text.as_str() == wanted)
+}
+
+// Whether a row is as it says.
+fn is_offered(alloc: Global, options: &Options<'_>, row: &Row) -> Result<bool, AllocError> {
+    let words = words_of(alloc, row.words)?;
+    let typed = OsString::from_bytes(alloc, row.typed)?;
+    let completion = options.complete(alloc, &words, &typed)?;
+    Ok(
+        !completion.is_damaged
+            && completion.word == row.word
+            && are_spellings(alloc, &completion.spellings, row.spellings)?,
+    )
+}
+
+// The row of these that is not as it says, or none.
+fn first_wrong(alloc: Global, rows: &[Row]) -> Result<Option<usize>, AllocError> {
+    let Some(options) = archive(&OPTIONS, &FILES) else {
+        return Ok(Some(rows.len()));
+    };
+    for (index, row) in rows.iter().enumerate() {
+        if !is_offered(alloc, &options, row)? {
+            return Ok(Some(index));
+        }
+    }
+    Ok(None)
+}
+
+#[test]
+fn rows(rt: HostRuntime) -> Result<(), Fail> {
+    assert_eq!(rt; first_wrong(rt.alloc(), &ROWS)?, None);
+    Ok(())
+}
+
+// Whether nothing is offered for damage, and a file can stand there.
+fn is_nothing_offered(alloc: Global, typed: &[u8]) -> Result<bool, AllocError> {
+    let Some(options) = archive(&OPTIONS, &FILES) else {
+        return Ok(false);
+    };
+    let typed = OsString::from_bytes(alloc, typed)?;
+    let completion = options.complete(alloc, &[], &typed)?;
+    Ok(
+        completion.is_damaged
+            && completion.spellings.is_empty()
+            && completion.word == Some(Role::Argument),
+    )
+}
+
+#[test]
+fn damage(rt: HostRuntime) -> Result<(), Fail> {
+    assert!(rt; is_nothing_offered(rt.alloc(), b"\xFF")?);
+    assert!(rt; is_nothing_offered(rt.alloc(), b"--v\xFF")?);
+    Ok(())
+}
+
+// Whether an option can stand where a further argument cannot.
+fn is_option_alone(alloc: Global) -> Result<bool, AllocError> {
+    let Some(options) = archive(&OPTIONS, &[]) else {
+        return Ok(false);
+    };
+    let completion = options.complete(alloc, &[], &OsString::from_bytes(alloc, b"--h")?)?;
+    Ok(completion.word.is_none() && are_spellings(alloc, &completion.spellings, "--help")?)
+}
+
+#[test]
+fn no_arguments(rt: HostRuntime) -> Result<(), Fail> {
+    assert!(rt; is_option_alone(rt.alloc())?);
+    Ok(())
+}

@@ -1,0 +1,158 @@
+//! What is printed of lines that are refused, and what they say before.
+use crate::archive::{FILES, OPTIONS, SOURCE_AND_TARGET, archive, words_of};
+use lexopt::{Error, OsString, ValueExt};
+use lexopt_options::{Mistake, Options, Refused};
+use std::alloc::{AllocError, Global};
+use std::test::Fail;
+
+// Whether a refusal prints this mistake, and where help is.
+fn prints(alloc: Global, refused: &Refused<'_>, mistake: &str) -> Result<bool, AllocError> {
+    let wanted = format!(in alloc;
+        "archive: {mistake}\nTry 'archive --help' for more information."
+    )?;
+    Ok(refused.to_string(alloc)?.as_str() == wanted.as_str())
+}
+
+// Whether a line is refused with this mistake, and says this before.
+fn is_refused(
+    alloc: Global,
+    options: &Options<'_>,
+    line: &[u8],
+    before: &str,
+    mistake: &str,
+) -> Result<bool, AllocError> {
+    match options.read(alloc, words_of(alloc, line)?) {
+        Ok(_) => Ok(false),
+        Err(refused) => {
+            let said = format!(in alloc; "{:?}", refused.before)?;
+            Ok(said.as_str() == before && prints(alloc, &refused, mistake)?)
+        }
+    }
+}
+
+const MISTAKES: [(&[u8], &str, &str); 11] = [
+    (
+        b"--verbsoe",
+        "[]",
+        "invalid option '--verbsoe'; did you mean '--verbose'?",
+    ),
+    (
+        b"a --colour always",
+        "[Positional(\"a\")]",
+        "invalid option '--colour'",
+    ),
+    (b"--colour=always", "[]", "invalid option '--colour'"),
+    (
+        b"--help --bogus",
+        "[Option(4, None)]",
+        "invalid option '--bogus'",
+    ),
+    (b"-vqo", "[Option(0, None)]", "invalid option '-q'"),
+    // An option with a value that it does not take is said before its mistake.
+    (
+        b"-h --verbose=x -o",
+        "[Option(4, None), Option(0, None)]",
+        "unexpected argument for option '--verbose': \"x\"",
+    ),
+    (
+        b"a -v -o",
+        "[Positional(\"a\"), Option(0, None)]",
+        "missing argument FILE for option '-o'",
+    ),
+    (
+        b"--exclude -v",
+        "[]",
+        "missing argument PATTERN for option '--exclude'",
+    ),
+    (
+        b"a b c d",
+        "[Positional(\"a\"), Positional(\"b\")]",
+        "unexpected argument \"c\"",
+    ),
+    (b"", "[]", "missing argument SOURCE"),
+    (b"-v --", "[Option(0, None)]", "missing argument SOURCE"),
+];
+
+// The row of these that is not as it says, or none.
+fn first_wrong(
+    alloc: Global,
+    rows: &[(&[u8], &'static str, &'static str)],
+) -> Result<Option<usize>, AllocError> {
+    let Some(options) = archive(&OPTIONS, &SOURCE_AND_TARGET) else {
+        return Ok(Some(rows.len()));
+    };
+    for (row, (line, before, mistake)) in rows.iter().enumerate() {
+        if !is_refused(alloc, &options, line, before, mistake)? {
+            return Ok(Some(row));
+        }
+    }
+    Ok(None)
+}
+
+#[test]
+fn mistakes(rt: HostRuntime) -> Result<(), Fail> {
+    assert_eq!(rt; first_wrong(rt.alloc(), &MISTAKES)?, None);
+    assert_eq!(rt; Refused::STATUS, 2);
+    Ok(())
+}
+
+// The error of a word that is no number.
+fn error_of(alloc: Global, word: &[u8]) -> Result<Option<Error>, AllocError> {
+    Ok(OsString::from_bytes(alloc, word)?.parse::<u32>().err())
+}
+
+// Whether a word that is no number is refused with this mistake, for this option.
+fn is_invalid(
+    alloc: Global,
+    index: Option<usize>,
+    word: &[u8],
+    mistake: &str,
+) -> Result<bool, AllocError> {
+    let Some(options) = archive(&OPTIONS, &FILES) else {
+        return Ok(false);
+    };
+    match error_of(alloc, word)? {
+        Some(error) => prints(alloc, &options.invalid(alloc, index, error), mistake),
+        None => Ok(false),
+    }
+}
+
+#[test]
+fn invalid_values(rt: HostRuntime) -> Result<(), Fail> {
+    for (index, word, mistake) in [
+        (
+            Some(1),
+            b"x".as_slice(),
+            "invalid value \"x\" for '--output': invalid digit found in string",
+        ),
+        (
+            None,
+            b"",
+            "invalid value \"\": cannot parse integer from empty string",
+        ),
+        (
+            Some(2),
+            b"7\xFF",
+            "invalid value \"7\\xFF\" for '--backup': not UTF-8",
+        ),
+    ] {
+        assert!(rt; is_invalid(rt.alloc(), index, word, mistake)?, "{mistake}");
+    }
+    Ok(())
+}
+
+// Whether refused memory is told of.
+fn tells_of_memory(alloc: Global) -> Result<bool, AllocError> {
+    let refused = Refused {
+        program: "archive",
+        before: Vec::new(alloc),
+        mistake: Mistake::OutOfMemory,
+    };
+    prints(alloc, &refused, "out of memory")
+}
+
+#[test]
+fn no_memory(rt: HostRuntime) -> Result<(), Fail> {
+    assert!(rt; tells_of_memory(rt.alloc())?);
+    Ok(())
+}
