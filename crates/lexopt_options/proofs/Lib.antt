@@ -7,3 +7,4 @@ pub mod WholeLines
 pub mod Rows
 pub mod Candidates
 pub mod Completing
+pub mod Answering

@@ -13,3 +13,4 @@ pub mod Roles
 pub mod Invalid
 pub mod Values
 pub mod Scripts
+pub mod Answers

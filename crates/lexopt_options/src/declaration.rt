@@ -61,7 +61,7 @@ impl<'a> Names<'a> {
     }
 
     // Whether this is its character.
-    pub fn is_short(self, character: char) -> bool
+    pub(crate) fn is_short(self, character: char) -> bool
         ensures { result ≡ spec.is_short character (short_name self.entry) }
     {
         match self.short() {
@@ -71,7 +71,7 @@ impl<'a> Names<'a> {
     }
 
     // Whether this is its name.
-    pub fn is_long(self, name: &str) -> bool
+    pub(crate) fn is_long(self, name: &str) -> bool
         ensures { result ≡ spec.is_long name.now (long_name self.entry) }
     {
         match self.long() {
@@ -106,6 +106,66 @@ pub struct Declared<'a> {
     pub help: &'a str,
 }
 
+impl<'a> Declared<'a> {
+    ghost use Rattle.std.specs.Prelude.{◌≡◌};
+
+    /// An option with no value: `-v`, `--verbose`.
+    pub fn flag(names: Names<'a>, help: &'a str) -> Declared<'a>
+        ensures { result ≡ record { names = names.entry; kind = Kind.Flag; help = help.entry } }
+    {
+        Declared {
+            names,
+            kind: Kind::Flag,
+            help,
+        }
+    }
+
+    /// An option with one value: `-o FILE`, `--output=FILE`.
+    pub fn one(names: Names<'a>, placeholder: &'a str, help: &'a str) -> Declared<'a>
+        ensures { result ≡ record {
+          names = names.entry;
+          kind = Kind.One placeholder.entry;
+          help = help.entry;
+        } }
+    {
+        Declared {
+            names,
+            kind: Kind::One(placeholder),
+            help,
+        }
+    }
+
+    /// An option with a value that may be left out: `-c[WHEN]`, `--color[=WHEN]`.
+    pub fn optional(names: Names<'a>, placeholder: &'a str, help: &'a str) -> Declared<'a>
+        ensures { result ≡ record {
+          names = names.entry;
+          kind = Kind.Optional placeholder.entry;
+          help = help.entry;
+        } }
+    {
+        Declared {
+            names,
+            kind: Kind::Optional(placeholder),
+            help,
+        }
+    }
+
+    /// An option with several values: `-x PATTERN...`.
+    pub fn several(names: Names<'a>, placeholder: &'a str, help: &'a str) -> Declared<'a>
+        ensures { result ≡ record {
+          names = names.entry;
+          kind = Kind.Several placeholder.entry;
+          help = help.entry;
+        } }
+    {
+        Declared {
+            names,
+            kind: Kind::Several(placeholder),
+            help,
+        }
+    }
+}
+
 /// The options `-h` and `--help`, which take no value.
 pub const HELP: Declared<'static> = Declared {
     names: Names::Both('h', "help"),
@@ -138,6 +198,40 @@ pub struct Positional<'a> {
     pub placeholder: &'a str,
     /// How often it may stand.
     pub count: Count,
+}
+
+impl<'a> Positional<'a> {
+    ghost use Rattle.std.specs.Prelude.{◌≡◌};
+
+    /// One that has to stand once: `FILE`.
+    pub fn once(placeholder: &'a str) -> Positional<'a>
+        ensures { result ≡ record { placeholder = placeholder.entry; count = Count.Once } }
+    {
+        Positional {
+            placeholder,
+            count: Count::Once,
+        }
+    }
+
+    /// One that may be left out: `[FILE]`.
+    pub fn at_most_once(placeholder: &'a str) -> Positional<'a>
+        ensures { result ≡ record { placeholder = placeholder.entry; count = Count.AtMostOnce } }
+    {
+        Positional {
+            placeholder,
+            count: Count::AtMostOnce,
+        }
+    }
+
+    /// Any number of them: `[FILE]...`.
+    pub fn any_number(placeholder: &'a str) -> Positional<'a>
+        ensures { result ≡ record { placeholder = placeholder.entry; count = Count.AnyNumber } }
+    {
+        Positional {
+            placeholder,
+            count: Count::AnyNumber,
+        }
+    }
 }
 
 /// Why an option cannot be declared.

@@ -219,7 +219,7 @@ fn long_name_at<'a>(options: &'a [Declared<'a>], found: Option<usize>) -> Option
 /// The nearest declared name to one that is not declared.
 ///
 /// The only error is that memory ran out.
-pub fn hint<'a>(
+pub(crate) fn hint<'a>(
     alloc: Global,
     options: &'a [Declared<'a>],
     name: &OptionName,
@@ -234,7 +234,7 @@ pub fn hint<'a>(
 }
 
 /// What stands for this one, counted from 0, of the positional arguments that have to stand.
-pub fn argument_placeholder<'a>(positionals: &'a [Positional<'a>], n: usize) -> &'a str
+pub(crate) fn argument_placeholder<'a>(positionals: &'a [Positional<'a>], n: usize) -> &'a str
     ensures { result.now ≡ required_placeholder (map positional_view positionals.now) n }
 {
     let mut left = n;
@@ -250,7 +250,7 @@ pub fn argument_placeholder<'a>(positionals: &'a [Positional<'a>], n: usize) -> 
 }
 
 /// What stands for the value of the option of this index: nothing if there is none.
-pub fn option_placeholder<'a>(options: &'a [Declared<'a>], index: usize) -> &'a str
+pub(crate) fn option_placeholder<'a>(options: &'a [Declared<'a>], index: usize) -> &'a str
     ensures { result.now ≡ placeholder_at (map option_view options.now) index }
 {
     match options.get(index) {

@@ -18,7 +18,7 @@ fn is_any_number(positional: &Positional<'_>) -> bool
 }
 
 /// Whether a positional argument has to stand.
-pub fn is_required(positional: &Positional<'_>) -> bool
+pub(crate) fn is_required(positional: &Positional<'_>) -> bool
     ensures { result ≡ legal.is_once (count_view positional.now.count) }
 {
     match positional.count {
@@ -38,7 +38,7 @@ fn is_unlimited(positionals: &[Positional<'_>]) -> bool
 }
 
 /// How many positional arguments may stand at most, if there is a limit.
-pub fn most_of(positionals: &[Positional<'_>]) -> Option<usize>
+pub(crate) fn most_of(positionals: &[Positional<'_>]) -> Option<usize>
     ensures { result ≡ most (map positional_view positionals.now) }
 {
     if is_unlimited(positionals) {
@@ -60,7 +60,7 @@ fn required_count(positionals: &[Positional<'_>]) -> usize
 }
 
 /// How many positional arguments have to stand.
-pub fn least_of(positionals: &[Positional<'_>]) -> usize
+pub(crate) fn least_of(positionals: &[Positional<'_>]) -> usize
     ensures { result ≡ least (map positional_view positionals.now) }
 {
     required_count(positionals)

@@ -31,7 +31,7 @@ impl Said {
     }
 
     // An option with these values.
-    pub fn of_values(index: usize, values: Values) -> Said
+    pub(crate) fn of_values(index: usize, values: Values) -> Said
         ensures { said_view result ≡ said_with index values }
     {
         match values {

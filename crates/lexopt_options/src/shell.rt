@@ -29,15 +29,27 @@ impl Shell {
             _ => None,
         }
     }
+
+    // The same of a word.
+    pub(crate) fn of_bytes(name: &[u8]) -> Option<Shell>
+        ensures { (shell : Shell) → (result ≡ Some shell) ↔ (name.now ≡ shell_name shell) }
+    {
+        match name {
+            b"bash" => Some(Shell::Bash),
+            b"zsh" => Some(Shell::Zsh),
+            b"fish" => Some(Shell::Fish),
+            _ => None,
+        }
+    }
 }
 
 /// A script by which a shell completes the lines of a program, as `Display` writes it. No end of
 /// line stands after its last line.
 ///
 /// A shell that has read it calls the program with the hidden first word `__complete`, the words
-/// before the one that is typed, and what is typed of that one. Of the answer it offers each line
-/// that begins with a dash, and for a line `files` the names of files. A value after the `=` of a
-/// long option is asked for as a word of its own, and then files alone are offered.
+/// before the one that is typed, and what is typed of that one. [`Options::answer`] has the answer
+/// to that. The script offers each line that begins with a dash; for a line `files` the names of
+/// files; and for a line `value` the names of files after the `=` of the word.
 #[derive(Clone, Copy, PartialEq, Eq, Debug)]
 pub struct Script<'a> {
     /// The shell that reads the script.
@@ -49,12 +61,16 @@ pub struct Script<'a> {
 
 // What stands in each script after the name of its function.
 const BASH_BODY: &str = r#"() {
-    local program=${1/#\~\//$HOME/} line=$COMP_LINE words=() last=$2 piece
-    local value='' start='' answer
+    local program=${1//[\"\'\\]/} line=$COMP_LINE words=() last=$2 piece
+    local start='' answer
 
-    # Bash splits words at `=` and `:` too: join pieces that no blank separates.
+    program=${program/#\~\//$HOME/}
+    # An alias is no command: then ask the program itself.
+    type -P -- "$program" >/dev/null || program=${FUNCNAME[0]#_complete_}
+
+    # Bash splits words at `=`, `:` and `@` too: join pieces that no blank separates.
     piece=${COMP_WORDS[COMP_CWORD]}
-    [[ -z $2 && $piece == [=:]* ]] && last=$piece
+    [[ -z $2 && $piece == [=:@]* ]] && last=$piece
     for piece in "${COMP_WORDS[@]:0:COMP_CWORD}" "$last"; do
         if [[ ${#words[@]} -gt 0 && $line != [[:blank:]]* ]]; then
             words[-1]+=$piece
@@ -65,48 +81,48 @@ const BASH_BODY: &str = r#"() {
         line=${line#"$piece"}
     done
 
-    # Drop quotes: what can stand here does not depend on them.
+    # Drop quotes, and those that belong to a word too.
     words=("${words[@]//[\"\'\\]/}")
     last=${words[-1]}
     words=("${words[@]:1:${#words[@]}-2}")
-    # Ask for a value after `=` as for a word of its own.
-    if [[ $last == --*=* ]]; then
-        words+=("${last%%=*}")
-        last=${last#*=}
-        value=yes
-        # In quotes, bash does not split at `=`.
-        [[ $2 == --*=* ]] && start=${2%%=*}=
-    fi
+    # What stands before the part of the word that bash replaces.
+    piece=''
+    [[ $last == *"$2" ]] && piece=${last%"$2"}
+    # In quotes, bash does not split at `=`.
+    [[ $2 == --*=* ]] && start=${2%%=*}=
 
     COMPREPLY=()
     while IFS= read -r answer; do
-        if [[ $answer == files ]]; then
-            compopt -o filenames
-            mapfile -t -O ${#COMPREPLY[@]} COMPREPLY < <(
-                compgen -P "$start" -f -- "${2#"$start"}"
-            )
-        elif [[ -z $value ]]; then
-            COMPREPLY+=("$answer")
-        fi
+        case $answer in
+            files)
+                compopt -o filenames
+                while IFS= read -r answer; do
+                    COMPREPLY+=("${answer#"$piece"}")
+                done < <(compgen -f -- "$piece$2")
+                ;;
+            value)
+                compopt -o filenames
+                mapfile -t -O ${#COMPREPLY[@]} COMPREPLY < <(
+                    compgen -P "$start" -f -- "${2#"$start"}"
+                )
+                ;;
+            *) COMPREPLY+=("${answer#"$piece"}") ;;
+        esac
     done < <("$program" __complete "${words[@]}" "$last" 2>/dev/null)
 }
 "#;
 
 const ZSH_BODY: &str = r#"() {
     local -a words_before answers
-    local value='' ret=1
+    local ret=1
 
     words_before=("${(@Q)words[2,CURRENT-1]}")
-    # Ask for a value after `=` as for a word of its own.
-    if compset -P 1 '--*='; then
-        words_before+=("${(Q)IPREFIX%=}")
-        value=yes
-    fi
     answers=("${(@f)$("${(Q)words[1]/#\~\//$HOME/}" __complete \
         "${(@)words_before}" "${(Q)PREFIX}" 2>/dev/null)}")
 
-    [[ -z $value ]] && compadd -- ${(M)answers:#-*} && ret=0
+    compadd -- ${(M)answers:#-*} && ret=0
     (( $answers[(Ie)files] )) && _files && ret=0
+    (( $answers[(Ie)value] )) && compset -P 1 '--*=' && _files && ret=0
     return ret
 }
 "#;
@@ -116,15 +132,9 @@ const FISH_BODY: &str = r#"
     set -l last (commandline --current-token --cut-at-cursor)
     set -l program (string replace --regex '^~/' "$HOME/" -- $words[1])
     type --query $program; or return
-    # Drop quotes: what can stand here does not depend on them.
+    # Drop quotes, and those that belong to the word too.
     set last (string replace --all --regex '["\'\\\\]' '' -- "$last")
-    # Ask for a value after `=` as for a word of its own.
-    if string match --quiet -- '--*=*' "$last"
-        set -l value (string split --max 1 = -- $last)
-        $program __complete $words[2..] $value 2>/dev/null | string match files
-    else
-        $program __complete $words[2..] "$last" 2>/dev/null
-    end
+    $program __complete $words[2..] "$last" 2>/dev/null
 end
 "#;
 
@@ -187,7 +197,7 @@ fn write_fish_rest<W: fmt::Write>(program: &str, f: &mut fmt::Formatter<W>) -> f
         "{FISH_BODY}complete --command {program} --no-files --arguments \
         '(__complete_{program} | string match -- \"-*\")'\n\
         complete --command {program} --force-files --condition \
-        '__complete_{program} | string match --quiet files'"
+        '__complete_{program} | string match --quiet --regex \"^files|^value\"'"
     )
 }
 

@@ -31,14 +31,14 @@ fn place_of_long(options: &[Declared<'_>], name: &str) -> Option<usize>
 }
 
 /// Which option has this character, counted from 0: the first.
-pub fn index_of_short(options: &[Declared<'_>], character: char) -> Option<usize>
+pub(crate) fn index_of_short(options: &[Declared<'_>], character: char) -> Option<usize>
     ensures { result ≡ index_of (map option_view options.now) (table.short character) }
 {
     place_of_short(options, character)
 }
 
 /// Which option has this name, counted from 0: the first.
-pub fn index_of_long(options: &[Declared<'_>], name: &str) -> Option<usize>
+pub(crate) fn index_of_long(options: &[Declared<'_>], name: &str) -> Option<usize>
     ensures { result ≡ index_of (map option_view options.now) (table.long name.now) }
 {
     place_of_long(options, name)

@@ -1,14 +1,14 @@
 -- What can stand where a word is typed, after words that stand before it.
 -- The source is `docs/behaviour.md`.
-use Rattle.std.specs.Prelude.{◌≡◌, ◌++◌, ℕ, true, nat_eq, List, [], ◌∷◌, map, Option, Some, None}
+use Rattle.std.specs.Prelude.{◌≡◌, ◌++◌, ◌==◌, ◌&&◌, ℕ, Bool, true, false, nat_eq, List, [], ◌∷◌, map, Option, Some, None}
 use Rattle.std.specs.Prelude.{encode_utf8}
 use Rattle.std.specs.Char.{IsScalar}
 use Rattle.std.specs.List.{flat_map, list_any, starts_with}
 use Rattle.std.specs.Option.{option_to_list}
 use Rattle.std.specs.Str.{IsUtf8}
-use Rattle.lexopt_spec.specs.UnreadLine.{dash}
+use Rattle.lexopt_spec.specs.UnreadLine.{dash, equals, BeginsWith}
 use Rattle.lexopt_line_spec.specs.Table.{Name, short, long}
-use Rattle.lexopt_options_spec.specs.Declaration.{Declaration, Declared, has_name, index_of}
+use Rattle.lexopt_options_spec.specs.Declaration.{Declaration, Declared, has, has_name, index_of}
 use Rattle.lexopt_options_spec.specs.Legal.{Said, option, several, positional, Says, SaysFront}
 
 -- the word that is an option of this name, and nothing else
@@ -83,8 +83,42 @@ role_of (several i values) = value i
 role_of (positional word) = argument
 
 -- the empty word, which is no option, would be this after these words; or nothing is said with it
-abbrev pub HasRole : Declaration → List (List ℕ) → Option Role → Type 0
-HasRole d words None =
+abbrev pub IsPlainRole : Declaration → List (List ℕ) → Option Role → Type 0
+IsPlainRole d words None =
     (before : List Said) (s : Said) → ¬ SaysFront d (words ++ [] ∷ []) (before ++ s ∷ [])
-HasRole d words (Some role) = (before : List Said) × (s : Said)
+IsPlainRole d words (Some role) = (before : List Said) × (s : Said)
     × SaysFront d (words ++ [] ∷ []) (before ++ s ∷ []) × (role_of s ≡ role)
+
+-- the word `--` would be this after these words, and not the separator; or nothing is said with it
+-- that is not said without it
+abbrev pub IsDashedRole : Declaration → List (List ℕ) → Option Role → Type 0
+IsDashedRole d words None = (before : List Said) (s : Said)
+    → SaysFront d (words ++ (dash ∷ dash ∷ []) ∷ []) (before ++ s ∷ [])
+    → SaysFront d words (before ++ s ∷ [])
+IsDashedRole d words (Some role) = (before : List Said) × (s : Said)
+    × SaysFront d (words ++ (dash ∷ dash ∷ []) ∷ []) (before ++ s ∷ [])
+    × (¬ SaysFront d words (before ++ s ∷ [])) × (role_of s ≡ role)
+
+-- A word that is no option, and longer than what was typed of it, would be this: by the empty word,
+-- or by `--` where a dash was typed first.
+pub record HasRole (d : Declaration) (words : List (List ℕ)) (typed : List ℕ) (role : Option Role)
+    : Type 0 where
+  pub plain : ¬ BeginsWith dash typed → IsPlainRole d words role
+  pub dashed : BeginsWith dash typed → IsDashedRole d words role
+
+-- ---- a value after `=`
+
+-- a long option, and `=`
+abbrev pub is_long_with_equals : List ℕ → Bool
+is_long_with_equals [] = false
+is_long_with_equals (b ∷ []) = false
+is_long_with_equals (b ∷ c ∷ rest) = b == dash && c == dash && has equals rest
+
+-- an option can stand after these words, and what was typed is this one, with a value after `=`
+abbrev pub IsJoined : Declaration → List (List ℕ) → List ℕ → Option ℕ → Type 0
+IsJoined d words typed None = (l : List Said) (i : ℕ) (s : Said)
+    → is_long_with_equals typed ≡ true → IsOpen d words l → SaysFront d (typed ∷ []) (s ∷ [])
+    → ¬ IsOption i s
+IsJoined d words typed (Some i) = (l : List Said) × (s : Said)
+    × (is_long_with_equals typed ≡ true) × IsOpen d words l × SaysFront d (typed ∷ []) (s ∷ [])
+    × IsOption i s

@@ -26,7 +26,8 @@ pub fn each_declaration_has_one_help()
 {}
 
 /// A line of the help of an option ends within the width, unless it is one word. It begins at the
-/// same column as the others: beside its label, after two blanks at least, or below it.
+/// same column as the others: beside its label, after two blanks at least, or below it. So it is if
+/// no line feed is among its words.
 pub fn lines_are_in_columns()
     ensures narrow { (width : ℕ) (o : Declared) (text : List ℕ) (e : IsEntry width o text)
         (line : Line) → Contains e.lines line

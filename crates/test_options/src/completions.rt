@@ -15,7 +15,7 @@ struct Row {
 
 const ALL: &str = "-v --verbose -o --output -b --backup -x --exclude -h --help";
 
-const ROWS: [Row; 16] = [
+const ROWS: [Row; 20] = [
     Row {
         words: b"",
         typed: b"",
@@ -26,31 +26,31 @@ const ROWS: [Row; 16] = [
         words: b"",
         typed: b"-",
         spellings: ALL,
-        word: Some(Role::Argument),
+        word: None,
     },
     Row {
         words: b"",
         typed: b"--",
         spellings: "--verbose --output --backup --exclude --help",
-        word: Some(Role::Argument),
+        word: None,
     },
     Row {
         words: b"",
         typed: b"--o",
         spellings: "--output",
-        word: Some(Role::Argument),
+        word: None,
     },
     Row {
         words: b"",
         typed: b"-o",
         spellings: "-o",
-        word: Some(Role::Argument),
+        word: None,
     },
     Row {
         words: b"",
         typed: b"-vo",
         spellings: "",
-        word: Some(Role::Argument),
+        word: None,
     },
     Row {
         words: b"-o",
@@ -62,7 +62,32 @@ const ROWS: [Row; 16] = [
         words: b"-o --",
         typed: b"--v",
         spellings: "--verbose",
+        word: None,
+    },
+    // A dash was typed first: a value and an argument after the separator may begin so.
+    Row {
+        words: b"-o",
+        typed: b"-",
+        spellings: "",
+        word: Some(Role::Value(1)),
+    },
+    Row {
+        words: b"-o",
+        typed: b"--v",
+        spellings: "",
+        word: Some(Role::Value(1)),
+    },
+    Row {
+        words: b"-v --",
+        typed: b"-",
+        spellings: "",
         word: Some(Role::Argument),
+    },
+    Row {
+        words: b"-x",
+        typed: b"-",
+        spellings: "",
+        word: None,
     },
     Row {
         words: b"a --",
@@ -74,7 +99,7 @@ const ROWS: [Row; 16] = [
         words: b"-b",
         typed: b"--b",
         spellings: "--backup",
-        word: Some(Role::Argument),
+        word: None,
     },
     Row {
         words: b"-x",
@@ -92,7 +117,7 @@ const ROWS: [Row; 16] = [
         words: b"-x a",
         typed: b"--v",
         spellings: "--verbose",
-        word: Some(Role::Value(3)),
+        word: None,
     },
     Row {
         words: b"--bogus",
@@ -110,7 +135,7 @@ const ROWS: [Row; 16] = [
         words: b"\xFF",
         typed: b"-h",
         spellings: "-h",
-        word: Some(Role::Argument),
+        word: None,
     },
 ];
 
@@ -157,24 +182,20 @@ fn rows(rt: HostRuntime) -> Result<(), Fail> {
     Ok(())
 }
 
-// Whether nothing is offered for damage, and a file can stand there.
-fn is_nothing_offered(alloc: Global, typed: &[u8]) -> Result<bool, AllocError> {
+// Whether no spelling is offered for damage, and a word that is no option would be this.
+fn is_nothing_offered(alloc: Global, typed: &[u8], word: Option<Role>) -> Result<bool, AllocError> {
     let Some(options) = archive(&OPTIONS, &FILES) else {
         return Ok(false);
     };
     let typed = OsString::from_bytes(alloc, typed)?;
     let completion = options.complete(alloc, &[], &typed)?;
-    Ok(
-        completion.is_damaged
-            && completion.spellings.is_empty()
-            && completion.word == Some(Role::Argument),
-    )
+    Ok(completion.is_damaged && completion.spellings.is_empty() && completion.word == word)
 }
 
 #[test]
 fn damage(rt: HostRuntime) -> Result<(), Fail> {
-    assert!(rt; is_nothing_offered(rt.alloc(), b"\xFF")?);
-    assert!(rt; is_nothing_offered(rt.alloc(), b"--v\xFF")?);
+    assert!(rt; is_nothing_offered(rt.alloc(), b"\xFF", Some(Role::Argument))?);
+    assert!(rt; is_nothing_offered(rt.alloc(), b"--v\xFF", None)?);
     Ok(())
 }
 

@@ -1,7 +1,7 @@
 //! What is printed of lines that are refused, and what they say before.
 use crate::archive::{FILES, OPTIONS, SOURCE_AND_TARGET, archive, words_of};
 use lexopt::{Error, OsString, ValueExt};
-use lexopt_options::{Mistake, Options, Refused};
+use lexopt_options::{Declared, Mistake, Names, Options, Refused};
 use std::alloc::{AllocError, Global};
 use std::test::Fail;
 
@@ -99,6 +99,31 @@ fn mistakes(rt: HostRuntime) -> Result<(), Fail> {
 // The error of a word that is no number.
 fn error_of(alloc: Global, word: &[u8]) -> Result<Option<Error>, AllocError> {
     Ok(OsString::from_bytes(alloc, word)?.parse::<u32>().err())
+}
+
+// Whether a value of an option without a long name, and a value that is wrong in another way, are
+// refused with these mistakes.
+fn are_invalid(alloc: Global) -> Result<bool, AllocError> {
+    let jobs = [Declared::one(Names::Short('k'), "NUMBER", "")];
+    let Some(options) = archive(&jobs, &[]) else {
+        return Ok(false);
+    };
+    let Some(error) = error_of(alloc, b"x")? else {
+        return Ok(false);
+    };
+    let is_number = prints(
+        alloc,
+        &options.invalid(alloc, Some(0), error),
+        "invalid value \"x\" for '-k': invalid digit found in string",
+    )?;
+    let other = options.invalid(alloc, Some(0), Error::from("no such key"));
+    Ok(is_number && prints(alloc, &other, "invalid value for '-k': no such key")?)
+}
+
+#[test]
+fn other_invalid_values(rt: HostRuntime) -> Result<(), Fail> {
+    assert!(rt; are_invalid(rt.alloc())?);
+    Ok(())
 }
 
 // Whether a word that is no number is refused with this mistake, for this option.

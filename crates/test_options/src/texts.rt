@@ -1,6 +1,7 @@
 //! The help and the usage line.
 use crate::archive::{FILES, OPTIONS, SOURCE_AND_TARGET, archive};
-use lexopt_options::Declared;
+use lexopt_options::help::WIDTH;
+use lexopt_options::{Declared, Names, VERSION};
 use std::alloc::{AllocError, Global};
 use std::test::Fail;
 
@@ -74,6 +75,83 @@ fn is_help(alloc: Global, width: usize, wanted: &str) -> Result<bool, AllocError
 fn help(rt: HostRuntime) -> Result<(), Fail> {
     assert!(rt; is_help(rt.alloc(), 80, HELP_AT_80)?);
     assert!(rt; is_help(rt.alloc(), 0, HELP_AT_0)?);
+    Ok(())
+}
+
+// Whether the help of these options, with no arguments, is this, at the usual width.
+fn is_help_of(alloc: Global, declared: &[Declared<'_>], wanted: &str) -> Result<bool, AllocError> {
+    match archive(declared, &[]) {
+        Some(options) => Ok(options.help(alloc, WIDTH)?.as_str() == wanted),
+        None => Ok(false),
+    }
+}
+
+#[test]
+fn no_options(rt: HostRuntime) -> Result<(), Fail> {
+    assert!(rt; is_help_of(rt.alloc(), &[], "Usage: archive\nPacks files.\n")?);
+    Ok(())
+}
+
+// A name of 200 characters.
+const LONG: &str =
+    "aaaaaaaaaaaaaaaaaaaaaaaaaaaaaaaaaaaaaaaaaaaaaaaaaaaaaaaaaaaaaaaaaaaaaaaaaaaaaaaa\
+    aaaaaaaaaaaaaaaaaaaaaaaaaaaaaaaaaaaaaaaaaaaaaaaaaaaaaaaaaaaaaaaaaaaaaaaaaaaaaaaa\
+    aaaaaaaaaaaaaaaaaaaaaaaaaaaaaaaaaaaaaaaa";
+
+// Whether it stands on a line of its own, unbroken, with its help below.
+fn is_on_one_line(alloc: Global) -> Result<bool, AllocError> {
+    let declared = [Declared::flag(Names::Long(LONG), "say it")];
+    let wanted = format!(in alloc;
+        "Usage: archive [OPTION]...\nPacks files.\n\n      --{LONG}\n                        say it\n"
+    )?;
+    is_help_of(alloc, &declared, wanted.as_str())
+}
+
+#[test]
+fn long_name(rt: HostRuntime) -> Result<(), Fail> {
+    assert_eq!(rt; LONG.len(), 200);
+    assert!(rt; is_on_one_line(rt.alloc())?);
+    Ok(())
+}
+
+// Labels of one kind each, with one name. An accent that is a character of its own takes no column.
+const LABELS: &str = "Usage: archive [OPTION]...
+Packs files.
+
+  -n NUMBER             as many
+      --tone=NAME       as loud
+  -c[WHEN]
+      --color[=WHEN]    in color
+  -w PART...            with these
+      --with=PART...    with those
+  -q                    be quiet
+      --version         print the version and exit
+      --caf\u{65}\u{301}            strong
+      --twenty-columns  just room
+      --twenty-1-columns
+                        no room
+";
+
+fn are_labels(alloc: Global) -> Result<bool, AllocError> {
+    let declared = [
+        Declared::one(Names::Short('n'), "NUMBER", "as many"),
+        Declared::one(Names::Long("tone"), "NAME", " as  loud "),
+        Declared::optional(Names::Short('c'), "WHEN", ""),
+        Declared::optional(Names::Long("color"), "WHEN", "in color"),
+        Declared::several(Names::Short('w'), "PART", "with these"),
+        Declared::several(Names::Long("with"), "PART", "with those"),
+        Declared::flag(Names::Short('q'), "be quiet"),
+        VERSION,
+        Declared::flag(Names::Long("caf\u{65}\u{301}"), "strong"),
+        Declared::flag(Names::Long("twenty-columns"), "just room"),
+        Declared::flag(Names::Long("twenty-1-columns"), "no room"),
+    ];
+    is_help_of(alloc, &declared, LABELS)
+}
+
+#[test]
+fn labels(rt: HostRuntime) -> Result<(), Fail> {
+    assert!(rt; are_labels(rt.alloc())?);
     Ok(())
 }
 

@@ -4,6 +4,7 @@
 //! One request of a test is refused in a run. Each test checks what stands afterwards, and then
 //! fails and says which call was refused. Where nothing is refused, each test passes.
 use lexopt::items::read_items;
+use lexopt::options::{Answer, Declared, HELP, Mistake, Names, Options, Positional};
 use lexopt::os_string::arguments;
 use lexopt::replay::{Call, Reply, RunError, replay, run};
 use lexopt::spell::{Reason, SpellError, spell};
@@ -815,5 +816,79 @@ fn items_at_fault(rt: HostRuntime) -> Result<(), Fail> {
         rt.alloc(),
         &[ShortValue('o', b"x"), Positional(b"-f"), Short('v')],
         Wanted::Fault(2, Reason::PastSeparator),
+    )
+}
+
+// What a program with declared options is to do about these words, or that it was refused memory:
+// then it says so, and nothing of the line.
+fn answers_so(alloc: Global, lines: &[u8], wanted: &str) -> Result<(), Fail> {
+    let declared = [
+        Declared::flag(Names::Both('v', "verbose"), "tell more"),
+        Declared::one(Names::Both('o', "output"), "FILE", "write to this file"),
+        HELP,
+    ];
+    let files = [Positional::any_number("FILE")];
+    let Ok(options) = Options::new("pack", "Packs.", &declared, &files) else {
+        return Err(Fail::new("the options cannot be declared"));
+    };
+    let Ok(words) = split_words(alloc, lines) else {
+        return told(true, "the list");
+    };
+    let mut text = String::with_capacity(alloc, 300)?;
+    match options.answer(alloc, words, 40) {
+        Answer::Said(said) => write!(text, "{said:?}")?,
+        Answer::Text(given) => write!(text, "{given}")?,
+        Answer::Refused(refused) => {
+            if matches!(refused.mistake, Mistake::OutOfMemory) && refused.before.is_empty() {
+                return told(true, "answer");
+            }
+            write!(text, "{refused}")?;
+        }
+    }
+    if text.as_str() == wanted {
+        Ok(())
+    } else {
+        Err(Fail::new("answer was another one"))
+    }
+}
+
+#[test]
+fn declared_line(rt: HostRuntime) -> Result<(), Fail> {
+    answers_so(
+        rt.alloc(),
+        b"-vo=x\n--output\ny\n--\n-f",
+        "[Option(0, None), Option(1, Some(\"x\")), Option(1, Some(\"y\")), Positional(\"-f\")]",
+    )
+}
+
+// A mistake after something is said, with the nearest name.
+#[test]
+fn declared_mistake(rt: HostRuntime) -> Result<(), Fail> {
+    answers_so(
+        rt.alloc(),
+        b"-v\na\n--verbsoe",
+        "pack: invalid option '--verbsoe'; did you mean '--verbose'?\n\
+        Try 'pack --help' for more information.",
+    )
+}
+
+#[test]
+fn declared_help(rt: HostRuntime) -> Result<(), Fail> {
+    answers_so(
+        rt.alloc(),
+        b"-h\n--verbsoe",
+        "Usage: pack [OPTION]... [FILE]...\nPacks.\n\n  \
+        -v, --verbose\n             tell more\n  \
+        -o, --output=FILE\n             write to this file\n  \
+        -h, --help\n             print this help and exit\n",
+    )
+}
+
+#[test]
+fn declared_completion(rt: HostRuntime) -> Result<(), Fail> {
+    answers_so(
+        rt.alloc(),
+        b"__complete\n-v\n-o\nx\n--",
+        "--verbose\n--output\n--help\n",
     )
 }

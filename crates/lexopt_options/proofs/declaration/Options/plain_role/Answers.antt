@@ -3,7 +3,7 @@ use Rattle.std.specs.Global.{Global}
 use Rattle.lexopt_options.specs.declared.said.Said.{Said}
 use Rattle.lexopt_options.specs.Fronts.{IsPart}
 use Rattle.lexopt_options.proofs.Completing.{no_role, some_role}
-use Rattle.lexopt_options.proofs.declaration.Options.role_after.Goals as goal
+use Rattle.lexopt_options.proofs.declaration.Options.plain_role.Goals as goal
 
 pub returns-in-Some : goal.returns-in-Some
 returns-in-Some c =
