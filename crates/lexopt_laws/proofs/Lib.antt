@@ -10,3 +10,4 @@ pub mod WorkedDamage
 pub mod Cuts
 pub mod Stays
 pub mod OneItem
+pub mod OneStop

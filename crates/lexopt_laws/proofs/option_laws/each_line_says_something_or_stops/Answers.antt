@@ -1,0 +1,12 @@
+use Rattle.lexopt_options_spec.proofs.Fronts.{one_front, nothing_said}
+use Rattle.lexopt_laws.proofs.OneStop.{one_stop}
+use Rattle.lexopt_laws.proofs.option_laws.each_line_says_something_or_stops.Goals as goal
+
+pub returns-clause-one_list : goal.returns-clause-one_list
+returns-clause-one_list c d words l k says other = one_front d words l k says.front other.front
+
+pub returns-clause-one_stop : goal.returns-clause-one_stop
+returns-clause-one_stop c = one_stop
+
+pub returns-clause-not_both : goal.returns-clause-not_both
+returns-clause-not_both c d words l k m says stops = nothing_said d words k m stops l says
