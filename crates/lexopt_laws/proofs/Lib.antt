@@ -11,3 +11,4 @@ pub mod Cuts
 pub mod Stays
 pub mod OneItem
 pub mod OneStop
+pub mod SomeAnswer

@@ -1,12 +1,16 @@
 //! Laws of declared options.
-ghost use Rattle.std.specs.Prelude.{◌≡◌, ℕ, List};
-ghost use Rattle.lexopt_options_spec.specs.Declaration.{Declaration};
+ghost use Rattle.std.specs.Prelude.{◌≡◌, ◌⊎◌, ℕ, List, true};
+ghost use Rattle.lexopt_options_spec.specs.Declaration.{Declaration, is_sound};
 ghost use Rattle.lexopt_options_spec.specs.Legal.{Said, Says};
 ghost use Rattle.lexopt_options_spec.specs.Stops.{Mistake, StopsAt};
 
-/// Words never say two lists. Where their reading stops there is one mistake, after one list, and
-/// they say nothing then.
+/// Under a declaration words say exactly one list, or their reading stops at exactly one mistake,
+/// and never both. That one of the two holds is claimed of options that can be declared together;
+/// that there is no other answer, of any.
 pub fn each_line_says_something_or_stops()
+    ensures some { (d : Declaration) (words : List (List ℕ)) → is_sound d.options ≡ true
+        → ((l : List Said) × Says d words l)
+        ⊎ ((l : List Said) × (m : Mistake) × StopsAt d words l m) }
     ensures one_list { (d : Declaration) (words : List (List ℕ)) (l k : List Said) → Says d words l
         → Says d words k → l ≡ k }
     ensures one_stop { (d : Declaration) (words : List (List ℕ)) (l k : List Said) (m n : Mistake)

@@ -1,6 +1,10 @@
 use Rattle.lexopt_options_spec.proofs.Fronts.{one_front, nothing_said}
 use Rattle.lexopt_laws.proofs.OneStop.{one_stop}
+use Rattle.lexopt_laws.proofs.SomeAnswer.{some_answer}
 use Rattle.lexopt_laws.proofs.option_laws.each_line_says_something_or_stops.Goals as goal
+
+pub returns-clause-some : goal.returns-clause-some
+returns-clause-some c = some_answer
 
 pub returns-clause-one_list : goal.returns-clause-one_list
 returns-clause-one_list c d words l k says other = one_front d words l k says.front other.front
