@@ -1,1 +1,2 @@
 pub mod OneValueSpelling
+pub mod Sample

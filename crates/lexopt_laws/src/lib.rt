@@ -12,6 +12,8 @@ mod examples;
 mod laws;
 #[cfg(test)]
 mod line_examples;
+#[cfg(test)]
+mod option_examples;
 mod option_laws;
 #[cfg(test)]
 mod spell_examples;

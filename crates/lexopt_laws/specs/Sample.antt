@@ -1,0 +1,64 @@
+-- The options of the worked examples, as `docs/behaviour.md` and `docs/formats.md` have them.
+use Rattle.std.specs.Prelude.{Bool, List, [], ◌∷◌, Some, codes}
+use Rattle.lexopt_line_spec.specs.Table.{flag, one, optional, several}
+use Rattle.lexopt_options_spec.specs.Declaration.{Declared, Declaration, Positional, once}
+use Rattle.lexopt_options_spec.specs.Declaration.{at_most_once, any_number}
+
+abbrev pub verbose : Declared
+verbose = record {
+  short_name = Some 0x76;
+  long_name = Some (codes "verbose");
+  kind = flag;
+  placeholder = [];
+  help = codes "tell more";
+}
+
+abbrev pub output : Declared
+output = record {
+  short_name = Some 0x6F;
+  long_name = Some (codes "output");
+  kind = one;
+  placeholder = codes "FILE";
+  help = codes "the archive";
+}
+
+abbrev pub backup : Declared
+backup = record {
+  short_name = Some 0x62;
+  long_name = Some (codes "backup");
+  kind = optional;
+  placeholder = codes "SUFFIX";
+  help = codes "keep an archive that is there, with this suffix";
+}
+
+abbrev pub exclude : Declared
+exclude = record {
+  short_name = Some 0x78;
+  long_name = Some (codes "exclude");
+  kind = several;
+  placeholder = codes "PATTERN";
+  help = codes "leave these out: all words up to the next option";
+}
+
+abbrev pub sample_options : List Declared
+sample_options = verbose ∷ output ∷ backup ∷ exclude ∷ []
+
+-- positionals: one that has to stand, one that may be left out, and any number
+abbrev pub mode : Positional
+mode = record { placeholder = codes "MODE"; count = once }
+
+abbrev pub target : Positional
+target = record { placeholder = codes "TARGET"; count = at_most_once }
+
+abbrev pub files : Positional
+files = record { placeholder = codes "FILE"; count = any_number }
+
+-- these options, with these positionals
+abbrev pub sample : List Positional → Bool → Declaration
+sample positionals short_equals = record {
+  program = codes "example_archive";
+  about = codes "Prints what it has read.";
+  options = sample_options;
+  positionals = positionals;
+  short_equals = short_equals;
+}

@@ -1,0 +1,167 @@
+//! Worked examples of declared options: what the definitions say of short lines and small
+//! declarations, and what they deny. Most are about the options of `Sample`: v|verbose is a flag,
+//! o|output has one value, b|backup has one or none, and x|exclude has several.
+ghost use Rattle.std.specs.Prelude.{◌≡◌, ◌++◌, [], ◌∷◌, ℕ, List, Option, Some, None, true, false};
+ghost use Rattle.std.specs.Prelude.{codes};
+ghost use Rattle.lexopt_line_spec.specs.Table as spec;
+ghost use Rattle.lexopt_line_spec.specs.Table.{flag, long, many, one, optional, short};
+ghost use Rattle.lexopt_options_spec.specs.Declaration.{IsFirstFault, bad_placeholder, dash_name};
+ghost use Rattle.lexopt_options_spec.specs.Declaration.{empty_name, equals_in_name, index_of};
+ghost use Rattle.lexopt_options_spec.specs.Declaration.{Reason, is_sound, replacement_in_name};
+ghost use Rattle.lexopt_options_spec.specs.Declaration.{same_name, table};
+ghost use Rattle.lexopt_options_spec.specs.Legal.{Said, Says, SaysFront, least, most, option};
+ghost use Rattle.lexopt_options_spec.specs.Legal.{positional, positional_count, said_item, several};
+ghost use Rattle.lexopt_options_spec.specs.Stops.{Mistake, StopsAt, missing_argument};
+ghost use Rattle.lexopt_options_spec.specs.Stops.{missing_value, placeholder_at};
+ghost use Rattle.lexopt_options_spec.specs.Stops.{required_placeholder, unexpected_argument};
+ghost use Rattle.lexopt_options_spec.specs.Stops.{unexpected_value, unknown_option};
+ghost use Rattle.lexopt_laws.specs.Sample.{backup, exclude, files, mode, output, sample};
+ghost use Rattle.lexopt_laws.specs.Sample.{sample_options, target, verbose};
+
+#[test]
+fn declarations_have_these_meanings() {
+    options_have_names();
+    options_are_put_into_tables();
+    options_are_refused();
+    options_are_declared();
+    items_are_said_by_index();
+    positionals_are_counted();
+    placeholders_stand_for_values();
+}
+
+// The option of a name, by its index: the first one, if two have the name. A name is typed whole.
+fn options_have_names()
+    ensures by_character { index_of sample_options (short 0x6F) ≡ Some 1 }
+    ensures by_long_name { index_of sample_options (long (codes "output")) ≡ Some 1 }
+    ensures no_character { index_of sample_options (short 0x7A) ≡ None }
+    ensures no_long_name { index_of sample_options (long (codes "colour")) ≡ None }
+    ensures not_a_front { index_of sample_options (long (codes "verb")) ≡ None }
+    ensures not_a_part { index_of sample_options (long (codes "outputs")) ≡ None }
+    ensures not_the_other { index_of sample_options (long (codes "o")) ≡ None }
+    ensures no_character_for_a_long_name { index_of
+        (record output { long_name = Some (codes "v") } ∷ []) (short 0x76) ≡ None }
+    ensures first { index_of (output ∷ verbose ∷ output ∷ []) (short 0x6F) ≡ Some 0 }
+    ensures without_a_character { index_of (record output { short_name = None } ∷ []) (short 0x6F)
+        ≡ None }
+    ensures without_a_long_name { index_of (record output { long_name = None } ∷ [])
+        (long (codes "output")) ≡ None }
+{}
+
+// Flags are not in the table.
+fn options_are_put_into_tables()
+    ensures sample { table sample_options ≡ record {
+      shorts = codes "o";
+      longs = codes "output" ∷ [];
+      optional_shorts = codes "b";
+      optional_longs = codes "backup" ∷ [];
+      several_shorts = codes "x";
+      several_longs = codes "exclude" ∷ [];
+    } }
+    ensures several_of_a_kind { table (record output { short_name = None } ∷ verbose ∷ output
+        ∷ record exclude { long_name = None } ∷ []) ≡ record {
+      shorts = codes "o";
+      longs = codes "output" ∷ codes "output" ∷ [];
+      optional_shorts = [];
+      optional_longs = [];
+      several_shorts = codes "x";
+      several_longs = [];
+    } }
+{}
+
+// The first option that cannot be declared, and why.
+#[tactic(auto, unfolding(lexopt_line_spec::proofs::Computing::computing))]
+fn options_are_refused()
+    ensures dash { IsFirstFault (record verbose { short_name = Some 0x2D } ∷ []) 0 dash_name }
+    ensures character { IsFirstFault (record verbose { short_name = Some 0xFFFD } ∷ []) 0
+        replacement_in_name }
+    ensures no_name { IsFirstFault (record verbose { long_name = Some [] } ∷ []) 0 empty_name }
+    ensures equals_sign { IsFirstFault (record verbose { long_name = Some (codes "a=b") } ∷ []) 0
+        equals_in_name }
+    ensures long_name { IsFirstFault (record verbose {
+      long_name = Some (0x61 ∷ 0xEF ∷ 0xBF ∷ 0xBD ∷ []);
+    } ∷ []) 0 replacement_in_name }
+    ensures no_placeholder { IsFirstFault (record output { placeholder = [] } ∷ []) 0
+        bad_placeholder }
+    ensures placeholder_with_dash { IsFirstFault
+        (record backup { placeholder = codes "-n" } ∷ []) 0 bad_placeholder }
+    ensures placeholder_with_equals { IsFirstFault
+        (record exclude { placeholder = codes "=n" } ∷ []) 0 bad_placeholder }
+    ensures same_character { IsFirstFault
+        (verbose ∷ record output { short_name = Some 0x76 } ∷ []) 1 same_name }
+    ensures same_long_name { IsFirstFault
+        (verbose ∷ backup ∷ record output { long_name = Some (codes "verbose") } ∷ []) 2 same_name }
+    ensures same_as_the_second { IsFirstFault
+        (output ∷ verbose ∷ record backup { short_name = Some 0x76 } ∷ []) 2 same_name }
+    ensures first_reason { IsFirstFault (verbose ∷ record output {
+      short_name = Some 0x2D;
+      long_name = Some [];
+      placeholder = [];
+    } ∷ []) 1 dash_name }
+    ensures second_reason { IsFirstFault (verbose ∷ record output {
+      short_name = Some 0x76;
+      long_name = Some (codes "=");
+      placeholder = [];
+    } ∷ []) 1 equals_in_name }
+    ensures third_reason { IsFirstFault (verbose ∷ record output {
+      short_name = Some 0x76;
+      placeholder = [];
+    } ∷ []) 1 bad_placeholder }
+    ensures not_the_second { (reason : Reason)
+        → IsFirstFault (record verbose { short_name = Some 0x2D }
+        ∷ record output { placeholder = [] } ∷ []) 1 reason → ⊥ }
+    ensures no_fault { (reason : Reason) → IsFirstFault sample_options 1 reason → ⊥ }
+    ensures none_past_the_end { (reason : Reason) → IsFirstFault sample_options 4 reason → ⊥ }
+{}
+
+// Options that can be declared together. A flag may have any placeholder.
+#[tactic(auto, unfolding(lexopt_line_spec::proofs::Computing::computing))]
+fn options_are_declared()
+    ensures none { is_sound [] ≡ true }
+    ensures sample { is_sound sample_options ≡ true }
+    ensures flag { is_sound (record verbose { placeholder = codes "-" } ∷ []) ≡ true }
+    ensures dash_inside { is_sound (record output { long_name = Some (codes "out-put") } ∷ []) ≡ true }
+    ensures dash_in_placeholder { is_sound (record output { placeholder = codes "A-B=C" } ∷ [])
+        ≡ true }
+    ensures no_characters { is_sound (record verbose { short_name = None }
+        ∷ record output { short_name = None } ∷ []) ≡ true }
+    ensures no_long_names { is_sound (record verbose { long_name = None }
+        ∷ record output { long_name = None } ∷ []) ≡ true }
+    ensures a_character_is_no_long_name { is_sound (verbose
+        ∷ record output { long_name = Some (codes "v") } ∷ []) ≡ true }
+    ensures not_the_last { is_sound (verbose ∷ output ∷ verbose ∷ []) ≡ false }
+{}
+
+// Items with the index of their option.
+fn items_are_said_by_index()
+    ensures option { said_item sample_options (spec.option (short 0x6F) (Some (codes "f")))
+        ≡ Some (option 1 (Some (codes "f"))) }
+    ensures several { said_item sample_options
+        (many (long (codes "exclude")) (codes "a" ∷ codes "b" ∷ []))
+        ≡ Some (several 3 (codes "a" ∷ codes "b" ∷ [])) }
+    ensures positional { said_item sample_options (spec.positional (codes "f"))
+        ≡ Some (positional (codes "f")) }
+    ensures not_declared { said_item sample_options (spec.option (short 0x7A) None) ≡ None }
+    ensures several_not_declared { said_item sample_options
+        (many (short 0x7A) (codes "a" ∷ [])) ≡ None }
+{}
+
+// How many positionals stand in a list, and how many may.
+fn positionals_are_counted()
+    ensures count { positional_count (option 0 None ∷ positional (codes "a")
+        ∷ several 3 (codes "b" ∷ codes "c" ∷ []) ∷ positional [] ∷ []) ≡ 2 }
+    ensures none { positional_count [] ≡ 0 }
+    ensures least { least (mode ∷ target ∷ files ∷ mode ∷ []) ≡ 2 }
+    ensures most { most (mode ∷ target ∷ mode ∷ []) ≡ Some 3 }
+    ensures no_limit { most (mode ∷ files ∷ target ∷ []) ≡ None }
+    ensures nothing_declared { most [] ≡ Some 0 }
+{}
+
+// What stands for the value of an option, and for a positional that cannot be left out.
+fn placeholders_stand_for_values()
+    ensures option { placeholder_at sample_options 3 ≡ codes "PATTERN" }
+    ensures no_option { placeholder_at sample_options 4 ≡ [] }
+    ensures positional { required_placeholder (target ∷ mode ∷ files
+        ∷ record mode { placeholder = codes "KEY" } ∷ []) 1 ≡ codes "KEY" }
+    ensures first { required_placeholder (target ∷ mode ∷ []) 0 ≡ codes "MODE" }
+    ensures no_positional { required_placeholder (target ∷ mode ∷ []) 1 ≡ [] }
+{}
