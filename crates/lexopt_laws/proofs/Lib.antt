@@ -12,3 +12,5 @@ pub mod Stays
 pub mod OneItem
 pub mod OneStop
 pub mod SomeAnswer
+pub mod WorkedStops
+pub mod WorkedSays

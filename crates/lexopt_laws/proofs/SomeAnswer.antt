@@ -59,7 +59,7 @@ several_item (long n) words replies = refl
 
 -- ---- what was read, and one item more
 
-nothing_read : (d : Declaration) (u : UnreadLine) → IsLine u → ReadsUpTo d u [] u
+pub nothing_read : (d : Declaration) (u : UnreadLine) → IsLine u → ReadsUpTo d u [] u
 nothing_read d u line = record {
   items = [];
   read = λ final m reading. reading;
@@ -72,7 +72,7 @@ nothing_read d u line = record {
     zero_within None = tt
     zero_within (Some n) = omega arith
 
-one_more : (d : Declaration) (u v w : UnreadLine) (l : List Said) (item : Item) (s : Said) → ReadsUpTo d u l v → SaysUpTo (table d.options) v (item ∷ []) w → IsLine w
+pub one_more : (d : Declaration) (u v w : UnreadLine) (l : List Said) (item : Item) (s : Said) → ReadsUpTo d u l v → SaysUpTo (table d.options) v (item ∷ []) w → IsLine w
     → said_item d.options item ≡ Some s → IsWithin (positional_count l + counts s) (most d.positionals) → ReadsUpTo d u (l ++ s ∷ []) w
 one_more d u v w l item s read says line said within = record {
   items = read.items ++ item ∷ [];

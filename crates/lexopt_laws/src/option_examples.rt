@@ -165,3 +165,88 @@ fn placeholders_stand_for_values()
     ensures first { required_placeholder (target ∷ mode ∷ []) 0 ≡ codes "MODE" }
     ensures no_positional { required_placeholder (target ∷ mode ∷ []) 1 ≡ [] }
 {}
+
+#[test]
+fn lines_have_these_meanings() {
+    lines_say_these_lists();
+    lines_do_not_say_these();
+    lines_stop_at_these_mistakes();
+    lines_do_not_stop_elsewhere();
+}
+
+// What lines say.
+fn lines_say_these_lists()
+    ensures every_item { Says (sample (files ∷ []) true)
+        (codes "-vo=x" ∷ codes "--output" ∷ codes "y" ∷ codes "--" ∷ codes "file" ∷ [])
+        (option 0 None ∷ option 1 (Some (codes "x")) ∷ option 1 (Some (codes "y"))
+        ∷ positional (codes "file") ∷ []) }
+    ensures several_values { Says (sample [] true) (codes "-x" ∷ codes "a" ∷ codes "b" ∷ [])
+        (several 3 (codes "a" ∷ codes "b" ∷ []) ∷ []) }
+    ensures optional_value { Says (sample [] true) (codes "-b" ∷ codes "--backup=z" ∷ [])
+        (option 2 None ∷ option 2 (Some (codes "z")) ∷ []) }
+    ensures under_its_setting { Says (sample [] false) (codes "-o=x" ∷ [])
+        (option 1 (Some (codes "=x")) ∷ []) }
+    ensures as_many_as_declared { Says (sample (mode ∷ target ∷ []) true)
+        (codes "a" ∷ codes "b" ∷ []) (positional (codes "a") ∷ positional (codes "b") ∷ []) }
+    ensures left_out { Says (sample (target ∷ []) true) [] [] }
+    ensures any_number { Says (sample (files ∷ []) true) (codes "a" ∷ codes "b" ∷ [])
+        (positional (codes "a") ∷ positional (codes "b") ∷ []) }
+    ensures front { SaysFront (sample (mode ∷ []) true) (codes "-v" ∷ []) (option 0 None ∷ []) }
+{}
+
+// What they do not say.
+fn lines_do_not_say_these()
+    ensures not_declared { (l : List Said) → SaysFront (sample (files ∷ []) true)
+        (codes "-z" ∷ []) l → ⊥ }
+    ensures value_of_a_flag { (l : List Said) → SaysFront (sample (files ∷ []) true)
+        (codes "--verbose=1" ∷ []) l → ⊥ }
+    ensures one_too_many { (l : List Said) → SaysFront (sample (target ∷ []) true)
+        (codes "a" ∷ codes "b" ∷ []) l → ⊥ }
+    ensures one_too_few { (l : List Said) → Says (sample (mode ∷ mode ∷ []) true)
+        (codes "a" ∷ []) l → ⊥ }
+    ensures nothing_else { (l : List Said) → Says (sample (mode ∷ target ∷ []) true)
+        (codes "a" ∷ codes "b" ∷ []) l
+        → l ≡ positional (codes "a") ∷ positional (codes "b") ∷ [] }
+{}
+
+// Where the reading of lines stops.
+fn lines_stop_at_these_mistakes()
+    ensures unknown { StopsAt (sample (files ∷ []) true) (codes "-z" ∷ []) []
+        (unknown_option (short 0x7A)) }
+    ensures unknown_with_a_value { StopsAt (sample (files ∷ []) true)
+        (codes "--colour=always" ∷ []) [] (unknown_option (long (codes "colour"))) }
+    ensures damaged { StopsAt (sample (files ∷ []) true) ((0x2D ∷ 0xFF ∷ []) ∷ []) []
+        (unknown_option (short 0xFFFD)) }
+    ensures value_of_a_flag { StopsAt (sample (files ∷ []) true) (codes "--verbose=1" ∷ [])
+        (option 0 None ∷ []) (unexpected_value (codes "--verbose") (codes "1")) }
+    ensures value_of_a_character { StopsAt (sample (files ∷ []) true) (codes "-v=1" ∷ [])
+        (option 0 None ∷ []) (unexpected_value (codes "-v") (codes "1")) }
+    ensures under_its_setting { StopsAt (sample (files ∷ []) false) (codes "-v=1" ∷ [])
+        (option 0 None ∷ []) (unknown_option (short 0x3D)) }
+    ensures no_value { StopsAt (sample (files ∷ []) true) (codes "-o" ∷ []) []
+        (missing_value 1 (codes "-o")) }
+    ensures none_of_several { StopsAt (sample (files ∷ []) true) (codes "-x" ∷ codes "-v" ∷ []) []
+        (missing_value 3 (codes "-x")) }
+    ensures none_of_a_long_name { StopsAt (sample (files ∷ []) true) (codes "--output" ∷ []) []
+        (missing_value 1 (codes "--output")) }
+    ensures no_positional { StopsAt (sample [] true) (codes "a" ∷ []) []
+        (unexpected_argument (codes "a")) }
+    ensures one_too_many { StopsAt (sample (target ∷ []) true) (codes "a" ∷ codes "b" ∷ [])
+        (positional (codes "a") ∷ []) (unexpected_argument (codes "b")) }
+    ensures one_too_few { StopsAt (sample (mode ∷ mode ∷ []) true) (codes "a" ∷ [])
+        (positional (codes "a") ∷ []) (missing_argument 1) }
+    ensures another_mistake_first { StopsAt (sample (mode ∷ []) true) (codes "-z" ∷ []) []
+        (unknown_option (short 0x7A)) }
+{}
+
+// Where it does not stop.
+fn lines_do_not_stop_elsewhere()
+    ensures nowhere { (l : List Said) (m : Mistake)
+        → StopsAt (sample (mode ∷ target ∷ []) true) (codes "a" ∷ codes "b" ∷ []) l m → ⊥ }
+    ensures at_the_first_mistake { (l : List Said) (m : Mistake)
+        → StopsAt (sample (mode ∷ []) true) (codes "-z" ∷ codes "--verbose=1" ∷ []) l m
+        → (l ≡ []) × (m ≡ unknown_option (short 0x7A)) }
+    ensures what_is_missing { (l : List Said) (m : Mistake)
+        → StopsAt (sample (mode ∷ mode ∷ []) true) (codes "a" ∷ []) l m
+        → (l ≡ positional (codes "a") ∷ []) × (m ≡ missing_argument 1) }
+{}

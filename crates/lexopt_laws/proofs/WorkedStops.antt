@@ -1,0 +1,42 @@
+-- Where short lines stop.
+use Rattle.std.proofs.Common.{◌≡◌, ℕ, ◌+◌, List, [], ◌∷◌, Some, None, refl}
+use Rattle.lexopt_spec.specs.UnreadLine.{UnreadLine}
+use Rattle.lexopt_spec.specs.Steps as steps
+use Rattle.lexopt_spec.specs.Steps.{Next}
+use Rattle.lexopt_spec.specs.Runs.{next}
+use Rattle.lexopt_line_spec.specs.Table as spec
+use Rattle.lexopt_line_spec.specs.Table.{Item, Name, flag, kind}
+use Rattle.lexopt_line_spec.specs.Readings.{SaysUpTo, option_reply, start}
+use Rattle.lexopt_line_spec.proofs.ReadingSteps.{says_flag, says_positional}
+use Rattle.lexopt_line_spec.proofs.RunAccounts.{step_line}
+use Rattle.lexopt_options_spec.specs.Declaration.{Declaration, index_of, table}
+use Rattle.lexopt_options_spec.specs.Legal.{Said, option, positional, said_item, counts, positional_count, most, IsWithin}
+use Rattle.lexopt_options_spec.specs.Stops.{Mistake, Stops, StopsAt}
+use Rattle.lexopt_laws.proofs.SomeAnswer.{nothing_read, one_more}
+
+-- at the first word
+pub at_first : {d : Declaration} {words : List (List ℕ)} {m : Mistake} → Stops d 0 (start d.short_equals words) m → StopsAt d words [] m
+at_first {d = d} {words = words} stops = record { there = start d.short_equals words; read = nothing_read d (start d.short_equals words) tt; stops = stops }
+
+-- after a flag
+pub after_flag : {d : Declaration} {words : List (List ℕ)} {m : Mistake} (name : Name) (i : ℕ) (v : UnreadLine) → kind (table d.options) name ≡ flag
+    → said_item d.options (spec.option name None) ≡ Some (option i None) → IsWithin 0 (most d.positionals) → Next (start d.short_equals words) (option_reply name) v → Stops d 0 v m
+    → StopsAt d words (option i None ∷ []) m
+after_flag {d = d} {words = words} name i v k said within step stops =
+    let u = start d.short_equals words in
+    record {
+      there = v;
+      read = one_more d u u v [] (spec.option name None) (option i None) (nothing_read d u tt) (says_flag (table d.options) u v name k step) (step_line next u (option_reply name) v tt step) said within;
+      stops = stops;
+    }
+
+-- after a positional
+pub after_positional : {d : Declaration} {words : List (List ℕ)} {m : Mistake} (word : List ℕ) (v : UnreadLine) → IsWithin 1 (most d.positionals)
+    → Next (start d.short_equals words) (steps.positional word) v → Stops d 1 v m → StopsAt d words (positional word ∷ []) m
+after_positional {d = d} {words = words} word v within step stops =
+    let u = start d.short_equals words in
+    record {
+      there = v;
+      read = one_more d u u v [] (spec.positional word) (positional word) (nothing_read d u tt) (says_positional (table d.options) u v word step) (step_line next u (steps.positional word) v tt step) refl within;
+      stops = stops;
+    }
