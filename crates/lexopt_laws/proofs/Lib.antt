@@ -14,3 +14,6 @@ pub mod OneStop
 pub mod SomeAnswer
 pub mod WorkedStops
 pub mod WorkedSays
+pub mod WorkedDistances
+pub mod WorkedNames
+pub mod WorkedOpen

@@ -1,5 +1,5 @@
 -- The options of the worked examples, as `docs/behaviour.md` and `docs/formats.md` have them.
-use Rattle.std.specs.Prelude.{Bool, List, [], ◌∷◌, Some, codes}
+use Rattle.std.specs.Prelude.{Bool, List, [], ◌∷◌, ℕ, Some, None, codes}
 use Rattle.lexopt_line_spec.specs.Table.{flag, one, optional, several}
 use Rattle.lexopt_options_spec.specs.Declaration.{Declared, Declaration, Positional, once}
 use Rattle.lexopt_options_spec.specs.Declaration.{at_most_once, any_number}
@@ -62,3 +62,7 @@ sample positionals short_equals = record {
   positionals = positionals;
   short_equals = short_equals;
 }
+
+-- a flag of this long name alone
+abbrev pub named : List ℕ → Declared
+named name = record verbose { short_name = None; long_name = Some name }

@@ -5,6 +5,10 @@ ghost use Rattle.std.specs.Prelude.{◌≡◌, ◌++◌, [], ◌∷◌, ℕ, Lis
 ghost use Rattle.std.specs.Prelude.{codes};
 ghost use Rattle.lexopt_line_spec.specs.Table as spec;
 ghost use Rattle.lexopt_line_spec.specs.Table.{flag, long, many, one, optional, short};
+ghost use Rattle.lexopt_options_spec.specs.Completion.{AreText, CanStand, Completes, IsOpen};
+ghost use Rattle.lexopt_options_spec.specs.Completion.{IsOption, IsText, names_of, spelling};
+ghost use Rattle.lexopt_options_spec.specs.Completion.{spellings};
+ghost use Rattle.lexopt_options_spec.specs.Declaration.{Declaration};
 ghost use Rattle.lexopt_options_spec.specs.Declaration.{IsFirstFault, bad_placeholder, dash_name};
 ghost use Rattle.lexopt_options_spec.specs.Declaration.{empty_name, equals_in_name, index_of};
 ghost use Rattle.lexopt_options_spec.specs.Declaration.{Reason, is_sound, replacement_in_name};
@@ -16,7 +20,8 @@ ghost use Rattle.lexopt_options_spec.specs.Stops.{missing_value, placeholder_at}
 ghost use Rattle.lexopt_options_spec.specs.Stops.{required_placeholder, unexpected_argument};
 ghost use Rattle.lexopt_options_spec.specs.Stops.{unexpected_value, unknown_option};
 ghost use Rattle.lexopt_laws.specs.Sample.{backup, exclude, files, mode, output, sample};
-ghost use Rattle.lexopt_laws.specs.Sample.{sample_options, target, verbose};
+ghost use Rattle.lexopt_options_spec.specs.Nearest.{IsDistance, IsHint, IsNearest, long_name_at};
+ghost use Rattle.lexopt_laws.specs.Sample.{named, sample_options, target, verbose};
 
 #[test]
 fn declarations_have_these_meanings() {
@@ -249,4 +254,146 @@ fn lines_do_not_stop_elsewhere()
     ensures what_is_missing { (l : List Said) (m : Mistake)
         → StopsAt (sample (mode ∷ mode ∷ []) true) (codes "a" ∷ []) l m
         → (l ≡ positional (codes "a") ∷ []) × (m ≡ missing_argument 1) }
+{}
+
+#[test]
+fn names_have_these_distances() {
+    texts_are_so_far_apart();
+    names_are_near();
+    names_are_hinted_at();
+}
+
+// How far two lists of characters are from each other. A swap is one edit, and what was swapped is
+// not edited again.
+fn texts_are_so_far_apart()
+    ensures swapped { IsDistance (codes "verbsoe") (codes "verbose") 1 }
+    ensures not_edited_again { IsDistance (codes "ca") (codes "abc") 3 }
+    ensures replaced { IsDistance (codes "kitten") (codes "sitting") 3 }
+    ensures left_out { IsDistance (codes "outtput") (codes "output") 1 }
+    ensures inserted { IsDistance (codes "outpt") (codes "output") 1 }
+    ensures from_nothing { IsDistance [] (codes "abc") 3 }
+    ensures same { IsDistance (codes "abc") (codes "abc") 0 }
+    ensures no_more { IsDistance (codes "verbsoe") (codes "verbose") 2 → ⊥ }
+{}
+
+// Which long name is nearest to one that was typed. It is near at a third of the characters that
+// were typed, and of two that are as near it is the first. C3 A9 is one character.
+fn names_are_near()
+    ensures of_four { IsNearest sample_options (codes "verbsoe") (Some 0) }
+    ensures tie { IsNearest (named (codes "bar") ∷ named (codes "baz") ∷ []) (codes "bax")
+        (Some 0) }
+    ensures nearer { IsNearest (named (codes "outputs") ∷ named (codes "output") ∷ [])
+        (codes "ouptut") (Some 1) }
+    ensures a_third { IsNearest (named (codes "abd") ∷ []) (codes "abc") (Some 0) }
+    ensures more_than_a_third { IsNearest (named (codes "abc") ∷ []) (codes "ab") None }
+    ensures characters { IsNearest (named (0xC3 ∷ 0xA9 ∷ codes "ab") ∷ []) (codes "eab") (Some 0) }
+    ensures typed_characters { IsNearest (named (codes "eab") ∷ []) (0xC3 ∷ 0xA9 ∷ codes "ab")
+        (Some 0) }
+    ensures far { IsNearest sample_options (codes "colour") None }
+    ensures no_long_name { IsNearest (record verbose { long_name = None } ∷ []) (codes "verbose")
+        None }
+    ensures not_the_second { IsNearest (named (codes "bar") ∷ named (codes "baz") ∷ [])
+        (codes "bax") (Some 1) → ⊥ }
+    ensures not_the_farther { IsNearest (named (codes "outputs") ∷ named (codes "output") ∷ [])
+        (codes "ouptut") (Some 0) → ⊥ }
+    ensures not_none { IsNearest sample_options (codes "verbsoe") None → ⊥ }
+{}
+
+// The long name that is hinted at.
+fn names_are_hinted_at()
+    ensures near { IsHint sample_options (long (codes "verbsoe")) (Some (codes "verbose")) }
+    ensures far { IsHint sample_options (long (codes "colour")) None }
+    ensures character { IsHint sample_options (short 0x77) None }
+    ensures no_character { IsHint sample_options (short 0x77) (Some (codes "verbose")) → ⊥ }
+    ensures not_far { IsHint sample_options (long (codes "colour")) (Some (codes "output")) → ⊥ }
+    ensures at { long_name_at sample_options (Some 1) ≡ Some (codes "output") }
+    ensures at_none { long_name_at sample_options None ≡ None }
+    ensures at_no_option { long_name_at sample_options (Some 4) ≡ None }
+    ensures at_a_character { long_name_at (record verbose { long_name = None } ∷ []) (Some 0)
+        ≡ None }
+{}
+
+#[test]
+fn completions_have_these_meanings() {
+    spellings_are_listed();
+    names_are_text();
+    options_can_stand();
+    options_cannot_stand();
+    what_is_typed_is_completed();
+}
+
+// The spellings of options, and which option is said.
+#[tactic(auto, unfolding(lexopt_line_spec::proofs::Computing::computing))]
+fn spellings_are_listed()
+    ensures character { spelling (short 0x76) ≡ codes "-v" }
+    ensures two_bytes { spelling (short 0xE9) ≡ 0x2D ∷ 0xC3 ∷ 0xA9 ∷ [] }
+    ensures long_name { spelling (long (codes "verbose")) ≡ codes "--verbose" }
+    ensures both { names_of verbose ≡ short 0x76 ∷ long (codes "verbose") ∷ [] }
+    ensures long_name_alone { names_of (named (codes "quiet")) ≡ long (codes "quiet") ∷ [] }
+    ensures character_alone { names_of (record verbose { long_name = None }) ≡ short 0x76 ∷ [] }
+    ensures all { spellings sample_options ≡ codes "-v" ∷ codes "--verbose" ∷ codes "-o"
+        ∷ codes "--output" ∷ codes "-b" ∷ codes "--backup" ∷ codes "-x" ∷ codes "--exclude" ∷ [] }
+    ensures option { IsOption 1 (option 1 (Some (codes "x"))) }
+    ensures several { IsOption 3 (several 3 (codes "a" ∷ [])) }
+    ensures not_another { IsOption 1 (option 2 None) → ⊥ }
+    ensures several_of_another { IsOption 1 (several 3 (codes "a" ∷ [])) → ⊥ }
+    ensures no_positional { IsOption 1 (positional (codes "a")) → ⊥ }
+{}
+
+// Names that are text. U+D800 is no character, and FF no UTF-8.
+fn names_are_text()
+    ensures character { IsText (short 0xE9) }
+    ensures no_character { IsText (short 0xD800) → ⊥ }
+    ensures long_name { IsText (long (0xC3 ∷ 0xA9 ∷ [])) }
+    ensures no_text { IsText (long (0xFF ∷ [])) → ⊥ }
+    ensures sample { AreText sample_options }
+    ensures not_the_second { AreText (verbose ∷ named (0xFF ∷ []) ∷ []) → ⊥ }
+{}
+
+// Which words are open to an option after them, and which options can stand there.
+fn options_can_stand()
+    ensures at_the_start { IsOpen (sample [] true) [] [] }
+    ensures after_a_flag { IsOpen (sample [] true) (codes "-v" ∷ []) (option 0 None ∷ []) }
+    ensures after_an_optional_value { IsOpen (sample [] true) (codes "-b" ∷ [])
+        (option 2 None ∷ []) }
+    ensures after_a_value { IsOpen (sample [] true) (codes "-o" ∷ codes "f" ∷ [])
+        (option 1 (Some (codes "f")) ∷ []) }
+    ensures after_several_values { IsOpen (sample [] true) (codes "-x" ∷ codes "a" ∷ [])
+        (several 3 (codes "a" ∷ []) ∷ []) }
+    ensures before_a_positional { IsOpen (sample (mode ∷ []) true) [] [] }
+    ensures first { CanStand (sample (mode ∷ []) true) [] (codes "--output") }
+    ensures again { CanStand (sample [] true) (codes "-v" ∷ []) (codes "-v") }
+    ensures another { CanStand (sample [] true) (codes "-b" ∷ []) (codes "-x") }
+    ensures past_values { CanStand (sample [] true) (codes "-x" ∷ codes "a" ∷ [])
+        (codes "--verbose") }
+{}
+
+// Which are not, and which options cannot stand.
+fn options_cannot_stand()
+    ensures not_declared { CanStand (sample [] true) [] (codes "-z") → ⊥ }
+    ensures cluster { CanStand (sample [] true) [] (codes "-vo") → ⊥ }
+    ensures joined_value { CanStand (sample [] true) [] (codes "--output=f") → ⊥ }
+    ensures separator { CanStand (sample [] true) [] (codes "--") → ⊥ }
+    ensures value_due { (s : List ℕ) → CanStand (sample [] true) (codes "-o" ∷ []) s → ⊥ }
+    ensures first_value_due { (s : List ℕ) → CanStand (sample [] true) (codes "-x" ∷ []) s → ⊥ }
+    ensures after_the_separator { (s : List ℕ)
+        → CanStand (sample (files ∷ []) true) (codes "--" ∷ []) s → ⊥ }
+    ensures past_the_separator { (s : List ℕ)
+        → CanStand (sample (files ∷ []) true) (codes "--" ∷ codes "a" ∷ []) s → ⊥ }
+    ensures after_a_mistake { (s : List ℕ) → CanStand (sample [] true) (codes "-z" ∷ []) s → ⊥ }
+    ensures not_open { (l : List Said) → IsOpen (sample (files ∷ []) true) (codes "--" ∷ []) l
+        → ⊥ }
+    ensures not_open_to_an_option { (l : List Said) → IsOpen (sample [] true) (codes "-o" ∷ []) l
+        → ⊥ }
+{}
+
+// What was typed, and what it can become. C3 begins a character of two bytes.
+fn what_is_typed_is_completed()
+    ensures front { Completes (sample [] true) [] (codes "--out") (codes "--output") }
+    ensures whole { Completes (sample [] true) [] (codes "-v") (codes "-v") }
+    ensures nothing { Completes (sample [] true) (codes "-v" ∷ []) [] (codes "--backup") }
+    ensures another { Completes (sample [] true) [] (codes "--in") (codes "--output") → ⊥ }
+    ensures no_option { Completes (sample [] true) [] (codes "-z") (codes "-z") → ⊥ }
+    ensures part_of_a_character { (d : Declaration) (words : List (List ℕ))
+        → Completes d words (0x2D ∷ 0xC3 ∷ []) (0x2D ∷ 0xC3 ∷ 0xA9 ∷ []) → ⊥ }
 {}

@@ -5,7 +5,6 @@ pub mod Sound
 pub mod Fronts
 pub mod Distance
 pub mod Nearest
-mod WorkedDistances
 pub mod OpenLines
 pub mod Stands
 pub mod Offered

@@ -1,6 +1,5 @@
--- Distances that are computed: what the definition says of a few words.
-use Rattle.std.proofs.Common.{ℕ, zero, suc, ◌+◌, ◌<◌, min, cond, eqb, List, [], ◌∷◌, length, ap, arith, ⊎_elim, lit<}
-use Rattle.std.specs.Prelude.{codes}
+-- Distances that are computed, for the worked examples.
+use Rattle.std.proofs.Common.{ℕ, zero, suc, ◌+◌, ◌<◌, min, cond, eqb, List, [], ◌∷◌, length, ap, arith, ⊎_elim}
 use Rattle.std.proofs.lemmas.Bool.Decides.{eqb_tells}
 use Rattle.lexopt_options_spec.specs.Nearest.{IsDistance}
 use Rattle.lexopt_options_spec.proofs.Distance.{unswapped, from_nothing, to_nothing, one_more_unswapped, one_more_swapped}
@@ -45,16 +44,8 @@ computes : (most : ℕ) → IsDistanceBelow (computed most) most
 computes zero = record { is = λ a b few. absurd (omega arith) }
 computes (suc most) = record { is = λ a b few. computes_more most (computes most) a b few }
 
--- ---- words
+abbrev pub distance : List ℕ → List ℕ → ℕ
+distance a b = computed (suc (length a + length b)) a b
 
--- a swap is one edit
-swapped : IsDistance (codes "verbsoe") (codes "verbose") 1
-swapped = (computes 15).is _ _ (lit< tt)
-
--- two characters that were swapped are not edited again: the Damerau-Levenshtein distance is 2 here
-not_edited_again : IsDistance (codes "ca") (codes "abc") 3
-not_edited_again = (computes 6).is _ _ (lit< tt)
-
--- one character is replaced, another replaced, and one inserted
-replaced : IsDistance (codes "kitten") (codes "sitting") 3
-replaced = (computes 14).is _ _ (lit< tt)
+pub distance_of : (a b : List ℕ) → IsDistance a b (distance a b)
+distance_of a b = (computes (suc (length a + length b))).is a b (omega arith)

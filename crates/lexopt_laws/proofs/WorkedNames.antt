@@ -1,0 +1,116 @@
+-- Which name is nearest, computed for the worked examples.
+use Rattle.std.proofs.Common.{◌≡◌, ℕ, zero, suc, ◌<◌, ◌≤◌, ◌*◌, Bool, true, false, ◌&&◌, not, ◌==◌, cond, List, [], ◌∷◌, length, map, Option, Some, None, refl, sym, ap, subst, ◌∙◌, arith, true≢false}
+use Rattle.std.proofs.Math.Dec.{leb}
+use Rattle.std.proofs.lemmas.Bool.{leb-true, le-leb, eq-eqb, and_parts}
+use Rattle.std.proofs.lemmas.Option.{slice_get-map}
+use Rattle.std.specs.List.{slice_get}
+use Rattle.std.specs.Option.{option_map}
+use Rattle.std.specs.Str.{chars}
+use Rattle.lexopt_options_spec.specs.Declaration.{Declared}
+use Rattle.lexopt_options_spec.specs.Nearest.{IsDistance, IsNear, IsNearAt, IsNearestAt, IsNearest}
+use Rattle.lexopt_options_spec.proofs.Distance.{one_distance}
+use Rattle.lexopt_options_spec.proofs.Nearest.{one_nearest}
+use Rattle.lexopt_laws.proofs.WorkedDistances.{distance, distance_of}
+
+-- how far the name is, if it is near
+abbrev pub near_name : List ℕ → Option (List ℕ) → Option ℕ
+near_name typed None = None
+near_name typed (Some name) = cond (leb (3 * distance typed (chars name)) (length typed)) (Some (distance typed (chars name))) None
+
+near_is : (o : Declared) (typed : List ℕ) (n : ℕ) → IsNear o typed n → near_name typed o.long_name ≡ Some n
+near_is o typed n near =
+    let same : n ≡ distance typed (chars near.name) = one_distance typed (chars near.name) n (distance typed (chars near.name)) near.distance (distance_of typed (chars near.name)) in
+    let third : 3 * distance typed (chars near.name) ≤ length typed = subst (λ m. 3 * m ≤ length typed) same near.third in
+    ap (near_name typed) near.has ∙ ap (λ b. cond b (Some (distance typed (chars near.name))) None) (le-leb (3 * distance typed (chars near.name)) (length typed) third) ∙ ap (λ m. Some m) (sym same)
+
+is_near : (o : Declared) (typed : List ℕ) (n : ℕ) (name : Option (List ℕ)) → o.long_name ≡ name → near_name typed name ≡ Some n → IsNear o typed n
+is_near o typed n None has is = absurd (let e : None ≡ Some n = is in cc)
+is_near o typed n (Some name) has is =
+    let d = distance typed (chars name) in
+    by (leb (3 * d) (length typed)) refl is
+  where
+    by : (b : Bool) → leb (3 * distance typed (chars name)) (length typed) ≡ b → cond b (Some (distance typed (chars name))) None ≡ Some n → IsNear o typed n
+    by true least some =
+        let same : distance typed (chars name) ≡ n = (let e : Some (distance typed (chars name)) ≡ Some n = some in cc) in
+        record {
+          name = name;
+          has = has;
+          distance = subst (IsDistance typed (chars name)) same (distance_of typed (chars name));
+          third = subst (λ m. 3 * m ≤ length typed) same (leb-true (3 * distance typed (chars name)) (length typed) least);
+        }
+    by false least some = absurd (let e : None ≡ Some n = some in cc)
+
+-- the same of each option
+abbrev pub near_names : List Declared → List ℕ → List (Option ℕ)
+near_names options typed = map (λ o. near_name typed o.long_name) options
+
+at_is : (options : List Declared) (typed : List ℕ) (i n : ℕ) → IsNearAt options typed i n → slice_get (near_names options typed) i ≡ Some (Some n)
+at_is options typed i n at =
+    slice_get-map (λ o. near_name typed o.long_name) options i ∙ ap (option_map (λ (o : Declared). near_name typed o.long_name)) at.at ∙ ap (λ m. Some m) (near_is at.option typed n at.near)
+
+is_at : (options : List Declared) (typed : List ℕ) (i n : ℕ) (o : Declared) → slice_get options i ≡ Some o → near_name typed o.long_name ≡ Some n → IsNearAt options typed i n
+is_at options typed i n o at is = record { option = o; at = at; near = is_near o typed n o.long_name refl is }
+
+-- no name is nearer
+abbrev pub is_least : ℕ → List (Option ℕ) → Bool
+is_least n [] = true
+is_least n (None ∷ l) = is_least n l
+is_least n (Some m ∷ l) = leb n m && is_least n l
+
+least_holds : (n : ℕ) (l : List (Option ℕ)) (j m : ℕ) → is_least n l ≡ true → slice_get l j ≡ Some (Some m) → n ≤ m
+least_holds n [] j m is at = absurd (let e : None ≡ Some (Some m) = at in cc)
+least_holds n (None ∷ l) zero m is at = absurd (let e : Some None ≡ Some (Some m) = at in cc)
+least_holds n (None ∷ l) (suc j) m is at = least_holds n l j m is at
+least_holds n (Some k ∷ l) zero m is at = let e : Some (Some k) ≡ Some (Some m) = at in let same : k ≡ m = cc in subst (λ x. n ≤ x) same (leb-true n k (and_parts (leb n k) (is_least n l) is).0)
+least_holds n (Some k ∷ l) (suc j) m is at = least_holds n l j m (and_parts (leb n k) (is_least n l) is).1 at
+
+-- none of the first i is as near
+abbrev pub is_first : ℕ → ℕ → List (Option ℕ) → Bool
+is_first n zero l = true
+is_first n (suc i) [] = true
+is_first n (suc i) (None ∷ l) = is_first n i l
+is_first n (suc i) (Some m ∷ l) = not (m == n) && is_first n i l
+
+first_holds : (n i : ℕ) (l : List (Option ℕ)) (j : ℕ) → is_first n i l ≡ true → j < i → slice_get l j ≡ Some (Some n) → ⊥
+first_holds n zero l j is less at = omega arith
+first_holds n (suc i) [] j is less at = let e : None ≡ Some (Some n) = at in cc
+first_holds n (suc i) (None ∷ l) zero is less at = let e : Some None ≡ Some (Some n) = at in cc
+first_holds n (suc i) (None ∷ l) (suc j) is less at = first_holds n i l j is (omega arith) at
+first_holds n (suc i) (Some m ∷ l) zero is less at =
+    let e : Some (Some m) ≡ Some (Some n) = at in let same : m ≡ n = cc in true≢false (sym (and_parts (not (m == n)) (is_first n i l) is).0 ∙ ap not (eq-eqb m n same))
+first_holds n (suc i) (Some m ∷ l) (suc j) is less at = first_holds n i l j (and_parts (not (m == n)) (is_first n i l) is).1 (omega arith) at
+
+-- no name is near
+abbrev pub none_near : List (Option ℕ) → Bool
+none_near [] = true
+none_near (None ∷ l) = none_near l
+none_near (Some m ∷ l) = false
+
+none_holds : (l : List (Option ℕ)) (j m : ℕ) → none_near l ≡ true → slice_get l j ≡ Some (Some m) → ⊥
+none_holds [] j m is at = let e : None ≡ Some (Some m) = at in cc
+none_holds (None ∷ l) zero m is at = let e : Some None ≡ Some (Some m) = at in cc
+none_holds (None ∷ l) (suc j) m is at = none_holds l j m is at
+none_holds (Some k ∷ l) j m is at = true≢false (sym is)
+
+pub nearest_is : {options : List Declared} (name : List ℕ) (i n : ℕ) (o : Declared) → slice_get options i ≡ Some o → near_name (chars name) o.long_name ≡ Some n
+    → is_least n (near_names options (chars name)) ≡ true → is_first n i (near_names options (chars name)) ≡ true → IsNearest options name (Some i)
+nearest_is {options = options} name i n o at is least first = (
+  n,
+  record {
+    here = is_at options (chars name) i n o at is;
+    least = λ j m near. least_holds n (near_names options (chars name)) j m least (at_is options (chars name) j m near);
+    first = λ j less near. first_holds n i (near_names options (chars name)) j first less (at_is options (chars name) j n near);
+  },
+)
+
+pub nothing_near : {options : List Declared} (name : List ℕ) → none_near (near_names options (chars name)) ≡ true → IsNearest options name None
+nothing_near {options = options} name none i n near = none_holds (near_names options (chars name)) i n none (at_is options (chars name) i n near)
+
+-- ---- and no other
+
+pub not_this : {options : List Declared} (name : List ℕ) (i j : ℕ) → i == j ≡ false → IsNearest options name (Some j) → IsNearest options name (Some i) → ⊥
+not_this {options = options} name i j other is again =
+    let same : i ≡ j = (let e : Some i ≡ Some j = one_nearest options name (Some i) (Some j) again is in cc) in true≢false (sym (eq-eqb i j same) ∙ other)
+
+pub not_none : {options : List Declared} (name : List ℕ) (j : ℕ) → IsNearest options name (Some j) → IsNearest options name None → ⊥
+not_none {options = options} name j is none = let e : None ≡ Some j = one_nearest options name None (Some j) none is in cc

@@ -1,0 +1,125 @@
+-- What can stand after short lines.
+use Rattle.std.proofs.Common.{◌≡◌, ℕ, ◌==◌, ◌||◌, Bool, true, false, List, [], ◌∷◌, ◌++◌, length, map, Option, Some, None, codes, refl, sym, ap, subst, ◌∙◌, true≢false, lit≤, lit<}
+use Rattle.std.specs.Prelude.{Contains}
+use Rattle.std.specs.Char.{IsScalar}
+use Rattle.std.specs.Str.{IsUtf8, is_utf8}
+use Rattle.std.specs.List.{list_any}
+use Rattle.std.specs.Cmp.Lexicographic.{pointwise, same_text}
+use Rattle.std.proofs.lemmas.Bool.{eqb-true}
+use Rattle.std.proofs.lemmas.List.Folds.{list_any_at}
+use Rattle.std.proofs.lemmas.Str.{is_utf8-from_IsUtf8, IsUtf8-from_is_utf8}
+use Rattle.lexopt_spec.specs.UnreadLine.{dash}
+use Rattle.lexopt_line_spec.specs.Table as spec
+use Rattle.lexopt_line_spec.specs.Table.{Item, Name, short, long, kind}
+use Rattle.lexopt_line_spec.specs.Spelling.{Spells, nothing, no_value, next_word, no_optional, several_words, nothing_more, no_words, separator}
+use Rattle.lexopt_line_spec.proofs.Computing.{computing}
+use Rattle.lexopt_line_spec.proofs.Worked.{last_of, cluster_line, plain_front_is, some}
+use Rattle.lexopt_options_spec.specs.Declaration.{Declaration, Declared, has_name, is_short, is_long, is_sound, table}
+use Rattle.lexopt_options_spec.specs.Legal.{Said, option, several, said_item, positional_count, most, IsWithin}
+use Rattle.lexopt_options_spec.specs.Completion.{AreText, CanStand, IsOpen, IsText, spellings}
+use Rattle.lexopt_options_spec.proofs.Offered.{offered_stands, stands_offered}
+use Rattle.lexopt_options_spec.proofs.Sound.{either}
+use Rattle.lexopt_options_spec.proofs.Tables.{pointwise_refl}
+use Rattle.lexopt_laws.specs.Sample.{sample, sample_options, verbose, output, backup, exclude, mode}
+use Rattle.lexopt_laws.proofs.WorkedSays.{front_of}
+
+-- ---- names that are text
+
+-- the names of this option
+record HasText (o : Declared) : Type 0 where
+  short_text : (c : ℕ) → o.short_name ≡ Some c → IsScalar c
+  long_text : (name : List ℕ) → o.long_name ≡ Some name → IsUtf8 name
+
+short_is : (c : ℕ) (n : Option ℕ) → is_short c n ≡ true → n ≡ Some c
+short_is c None is = absurd (true≢false (sym is))
+short_is c (Some d) is = ap (λ x. Some x) (eqb-true d c is)
+
+long_is : (name : List ℕ) (n : Option (List ℕ)) → is_long name n ≡ true → n ≡ Some name
+long_is name None is = absurd (true≢false (sym is))
+long_is name (Some m) is = ap (λ x. Some x) (same_text m name (sym is))
+
+one_text : (o : Declared) (name : Name) → HasText o → has_name name o ≡ true → IsText name
+one_text o (short c) text is = text.short_text c (short_is c o.short_name is)
+one_text o (long name) text is = text.long_text name (long_is name o.long_name is)
+
+-- of all of them
+abbrev AllText : List Declared → Type 0
+AllText [] = Unit {0}
+AllText (o ∷ os) = HasText o × AllText os
+
+all_text : (os : List Declared) → AllText os → AreText os
+all_text [] text name is = absurd (true≢false (sym is))
+all_text (o ∷ os) text name is =
+    either (has_name name o) (list_any (has_name name) os) (IsText name) is (λ here. one_text o name text.0 here) (λ later. all_text os text.1 name later)
+
+text_of : (o : Declared) (c : ℕ) (name : List ℕ) → o.short_name ≡ Some c → o.long_name ≡ Some name → IsScalar c → is_utf8 name ≡ true → HasText o
+text_of o c name short_name long_name scalar text = record {
+  short_text = λ d is. let e : Some c ≡ Some d = sym short_name ∙ is in let same : c ≡ d = cc in subst IsScalar same scalar;
+  long_text = λ n is. let e : Some name ≡ Some n = sym long_name ∙ is in let same : name ≡ n = cc in subst IsUtf8 same (IsUtf8-from_is_utf8 name text);
+}
+
+pub sample_text : AreText sample_options
+unfolding computing
+sample_text = all_text sample_options (
+  text_of verbose 0x76 (codes "verbose") refl refl refl refl,
+  (
+    text_of output 0x6F (codes "output") refl refl refl refl,
+    (text_of backup 0x62 (codes "backup") refl refl refl refl, (text_of exclude 0x78 (codes "exclude") refl refl refl refl, tt)),
+  ),
+)
+
+pub no_utf8 : (bs : List ℕ) → is_utf8 bs ≡ false → IsUtf8 bs → ⊥
+no_utf8 bs is text = true≢false (sym (is_utf8-from_IsUtf8 bs text) ∙ is)
+
+-- ---- open lines
+
+pub open_of : {d : Declaration} {words : List (List ℕ)} {l : List Said} (items : List Item) → Spells (table d.options) d.short_equals words items
+    → Spells (table d.options) d.short_equals (words ++ (dash ∷ dash ∷ []) ∷ []) items → map (said_item d.options) items ≡ map (λ s. Some s) l → IsWithin (positional_count l) (most d.positionals)
+    → IsOpen d words l
+open_of items spelled more said within = record { front = front_of items spelled said within; with_separator = front_of items more said within }
+
+pub at_the_start : IsOpen (sample [] true) [] []
+at_the_start = open_of [] no_words (separator []) refl (lit≤ tt)
+
+pub before_a_positional : IsOpen (sample (mode ∷ []) true) [] []
+before_a_positional = open_of [] no_words (separator []) refl (lit≤ tt)
+
+-- `-v`
+pub after_a_flag : IsOpen (sample [] true) (codes "-v" ∷ []) (option 0 None ∷ [])
+unfolding kind computing
+after_a_flag = open_of (spec.option (short 0x76) None ∷ []) (cluster_line (codes "v") _ refl (last_of 0x76 [] nothing _ refl (nothing_more refl refl) (no_value refl refl refl)) no_words)
+    (cluster_line (codes "v") _ refl (last_of 0x76 [] nothing _ refl (nothing_more refl refl) (no_value refl refl refl)) (separator [])) refl (lit≤ tt)
+
+-- `-b`
+pub after_an_optional_value : IsOpen (sample [] true) (codes "-b" ∷ []) (option 2 None ∷ [])
+unfolding kind computing
+after_an_optional_value = open_of (spec.option (short 0x62) None ∷ [])
+    (cluster_line (codes "b") _ refl (last_of 0x62 [] nothing _ refl (nothing_more refl refl) (no_optional refl refl refl)) no_words)
+    (cluster_line (codes "b") _ refl (last_of 0x62 [] nothing _ refl (nothing_more refl refl) (no_optional refl refl refl)) (separator [])) refl (lit≤ tt)
+
+-- `-o f`
+pub after_a_value : IsOpen (sample [] true) (codes "-o" ∷ codes "f" ∷ []) (option 1 (Some (codes "f")) ∷ [])
+unfolding kind computing
+after_a_value = open_of (spec.option (short 0x6F) (Some (codes "f")) ∷ [])
+    (cluster_line (codes "o") _ refl (last_of 0x6F [] nothing _ refl (nothing_more refl refl) (next_word (codes "f") refl refl refl)) no_words)
+    (cluster_line (codes "o") _ refl (last_of 0x6F [] nothing _ refl (nothing_more refl refl) (next_word (codes "f") refl refl refl)) (separator [])) refl (lit≤ tt)
+
+-- `-x a`
+pub after_several_values : IsOpen (sample [] true) (codes "-x" ∷ codes "a" ∷ []) (several 3 (codes "a" ∷ []) ∷ [])
+unfolding kind computing
+after_several_values = open_of (spec.many (short 0x78) (codes "a" ∷ []) ∷ [])
+    (cluster_line (codes "x") _ refl (last_of 0x78 [] nothing _ refl (nothing_more refl refl) (several_words (codes "a" ∷ []) refl (plain_front_is _ [] refl refl) (some _ _) refl)) no_words)
+    (cluster_line (codes "x") _ refl
+    (last_of 0x78 [] nothing _ refl (nothing_more refl refl) (several_words (codes "a" ∷ []) refl (plain_front_is _ (codes "--" ∷ []) refl refl) (some _ _) refl)) (separator []))
+    refl (lit≤ tt)
+
+-- ---- spellings
+
+not_listed : (s : List ℕ) (xs : List (List ℕ)) → list_any (λ w. pointwise ◌==◌ w s) xs ≡ false → Contains xs s → ⊥
+not_listed s xs is (i, within, same) =
+    let P : List ℕ → Type 0 = λ w. pointwise ◌==◌ w s ≡ true in
+    true≢false (sym (list_any_at (λ w. pointwise ◌==◌ w s) xs i s within (subst P (sym same) (pointwise_refl s))) ∙ is)
+
+-- no other spelling can stand
+pub not_offered : (d : Declaration) (words : List (List ℕ)) (s : List ℕ) → list_any (λ w. pointwise ◌==◌ w s) (spellings d.options) ≡ false → CanStand d words s → ⊥
+not_offered d words s none stands = not_listed s (spellings d.options) none (stands_offered d words s stands)

@@ -1,0 +1,28 @@
+use Rattle.std.proofs.Common.{◌≡◌, [], ◌∷◌, Some, None, codes, refl, ap, ◌∙◌}
+use Rattle.lexopt_line_spec.proofs.Computing.{computing}
+use Rattle.lexopt_options_spec.specs.Nearest.{IsNearest, long_name_at}
+use Rattle.lexopt_options_spec.proofs.Nearest.{one_nearest}
+use Rattle.lexopt_laws.specs.Sample.{sample_options}
+use Rattle.lexopt_laws.proofs.WorkedNames.{nearest_is, nothing_near}
+use Rattle.lexopt_laws.proofs.option_examples.names_are_hinted_at.Goals as goal
+
+pub returns-clause-near : goal.returns-clause-near
+unfolding computing
+returns-clause-near c = (Some 0, nearest_is (codes "verbsoe") 0 1 _ refl refl refl refl, refl)
+
+pub returns-clause-far : goal.returns-clause-far
+unfolding computing
+returns-clause-far c = (None, nothing_near (codes "colour") refl, refl)
+
+pub returns-clause-character : goal.returns-clause-character
+returns-clause-character c = refl
+
+pub returns-clause-no_character : goal.returns-clause-no_character
+returns-clause-no_character c is = let e : Some (codes "verbose") ≡ None = is in cc
+
+pub returns-clause-not_far : goal.returns-clause-not_far
+unfolding computing
+returns-clause-not_far c is =
+    let none : IsNearest sample_options (codes "colour") None = nothing_near (codes "colour") refl in
+    let same = one_nearest sample_options (codes "colour") is.0 None is.1 none in
+    let e : Some (codes "output") ≡ None = is.2 ∙ ap (long_name_at sample_options) same in cc

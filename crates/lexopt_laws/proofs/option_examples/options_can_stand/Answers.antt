@@ -1,0 +1,40 @@
+use Rattle.std.proofs.Common.{refl, lit<}
+use Rattle.lexopt_line_spec.proofs.Computing.{computing}
+use Rattle.lexopt_options_spec.proofs.Offered.{offered_stands}
+use Rattle.lexopt_laws.proofs.WorkedOpen as worked
+use Rattle.lexopt_laws.proofs.WorkedOpen.{sample_text}
+use Rattle.lexopt_laws.proofs.option_examples.options_can_stand.Goals as goal
+
+pub returns-clause-at_the_start : goal.returns-clause-at_the_start
+returns-clause-at_the_start c = worked.at_the_start
+
+pub returns-clause-after_a_flag : goal.returns-clause-after_a_flag
+returns-clause-after_a_flag c = worked.after_a_flag
+
+pub returns-clause-after_an_optional_value : goal.returns-clause-after_an_optional_value
+returns-clause-after_an_optional_value c = worked.after_an_optional_value
+
+pub returns-clause-after_a_value : goal.returns-clause-after_a_value
+returns-clause-after_a_value c = worked.after_a_value
+
+pub returns-clause-after_several_values : goal.returns-clause-after_several_values
+returns-clause-after_several_values c = worked.after_several_values
+
+pub returns-clause-before_a_positional : goal.returns-clause-before_a_positional
+returns-clause-before_a_positional c = worked.before_a_positional
+
+pub returns-clause-first : goal.returns-clause-first
+unfolding computing
+returns-clause-first c = offered_stands _ _ _ _ refl sample_text worked.before_a_positional (3, lit< tt, refl)
+
+pub returns-clause-again : goal.returns-clause-again
+unfolding computing
+returns-clause-again c = offered_stands _ _ _ _ refl sample_text worked.after_a_flag (0, lit< tt, refl)
+
+pub returns-clause-another : goal.returns-clause-another
+unfolding computing
+returns-clause-another c = offered_stands _ _ _ _ refl sample_text worked.after_an_optional_value (6, lit< tt, refl)
+
+pub returns-clause-past_values : goal.returns-clause-past_values
+unfolding computing
+returns-clause-past_values c = offered_stands _ _ _ _ refl sample_text worked.after_several_values (1, lit< tt, refl)

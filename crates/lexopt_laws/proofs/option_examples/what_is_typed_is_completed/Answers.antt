@@ -1,0 +1,43 @@
+use Rattle.std.proofs.Common.{◌≡◌, [], ◌∷◌, true, false, codes, refl, sym, ◌∙◌, lit<, true≢false}
+use Rattle.std.proofs.lemmas.Str.{IsUtf8-from_is_utf8}
+use Rattle.lexopt_line_spec.proofs.Computing.{computing}
+use Rattle.lexopt_options_spec.proofs.Offered.{offered_stands}
+use Rattle.lexopt_laws.proofs.WorkedOpen as worked
+use Rattle.lexopt_laws.proofs.WorkedOpen.{sample_text, not_offered, no_utf8}
+use Rattle.lexopt_laws.proofs.option_examples.what_is_typed_is_completed.Goals as goal
+
+pub returns-clause-front : goal.returns-clause-front
+unfolding computing
+returns-clause-front c = record {
+  text = IsUtf8-from_is_utf8 (codes "--out") refl;
+  begins = refl;
+  stands = offered_stands _ _ _ _ refl sample_text worked.at_the_start (3, lit< tt, refl);
+}
+
+pub returns-clause-whole : goal.returns-clause-whole
+unfolding computing
+returns-clause-whole c = record {
+  text = IsUtf8-from_is_utf8 (codes "-v") refl;
+  begins = refl;
+  stands = offered_stands _ _ _ _ refl sample_text worked.at_the_start (0, lit< tt, refl);
+}
+
+pub returns-clause-nothing : goal.returns-clause-nothing
+unfolding computing
+returns-clause-nothing c = record {
+  text = IsUtf8-from_is_utf8 [] refl;
+  begins = refl;
+  stands = offered_stands _ _ _ _ refl sample_text worked.after_a_flag (5, lit< tt, refl);
+}
+
+pub returns-clause-another : goal.returns-clause-another
+unfolding computing
+returns-clause-another c is = let e : false ≡ true = is.begins in true≢false (sym e)
+
+pub returns-clause-no_option : goal.returns-clause-no_option
+unfolding computing
+returns-clause-no_option c is = not_offered _ _ (codes "-z") refl is.stands
+
+pub returns-clause-part_of_a_character : goal.returns-clause-part_of_a_character
+unfolding computing
+returns-clause-part_of_a_character c d words is = no_utf8 (0x2D ∷ 0xC3 ∷ []) refl is.text
