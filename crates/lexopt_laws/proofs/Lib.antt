@@ -17,3 +17,4 @@ pub mod WorkedSays
 pub mod WorkedDistances
 pub mod WorkedNames
 pub mod WorkedOpen
+pub mod WorkedLines

@@ -66,3 +66,12 @@ sample positionals short_equals = record {
 -- a flag of this long name alone
 abbrev pub named : List ℕ → Declared
 named name = record verbose { short_name = None; long_name = Some name }
+
+abbrev pub asks_for_help : Declared
+asks_for_help = record {
+  short_name = Some 0x68;
+  long_name = Some (codes "help");
+  kind = flag;
+  placeholder = [];
+  help = codes "print this help and exit";
+}

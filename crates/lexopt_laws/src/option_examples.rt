@@ -19,7 +19,10 @@ ghost use Rattle.lexopt_options_spec.specs.Stops.{Mistake, StopsAt, missing_argu
 ghost use Rattle.lexopt_options_spec.specs.Stops.{missing_value, placeholder_at};
 ghost use Rattle.lexopt_options_spec.specs.Stops.{required_placeholder, unexpected_argument};
 ghost use Rattle.lexopt_options_spec.specs.Stops.{unexpected_value, unknown_option};
-ghost use Rattle.lexopt_laws.specs.Sample.{backup, exclude, files, mode, output, sample};
+ghost use Rattle.lexopt_options_spec.specs.Help.{HasTextNames, IsEntry, IsHelp, LabelForm, Wraps};
+ghost use Rattle.lexopt_options_spec.specs.Help.{beside, blanks, entry, gap, label, label_of};
+ghost use Rattle.lexopt_options_spec.specs.Help.{line_columns, line_text};
+ghost use Rattle.lexopt_laws.specs.Sample.{asks_for_help, backup, exclude, files, mode, output, sample};
 ghost use Rattle.lexopt_options_spec.specs.Nearest.{IsDistance, IsHint, IsNearest, long_name_at};
 ghost use Rattle.lexopt_laws.specs.Sample.{named, sample_options, target, verbose};
 
@@ -396,4 +399,109 @@ fn what_is_typed_is_completed()
     ensures no_option { Completes (sample [] true) [] (codes "-z") (codes "-z") → ⊥ }
     ensures part_of_a_character { (d : Declaration) (words : List (List ℕ))
         → Completes d words (0x2D ∷ 0xC3 ∷ []) (0x2D ∷ 0xC3 ∷ 0xA9 ∷ []) → ⊥ }
+{}
+
+#[test]
+fn helps_have_these_texts() {
+    forms_are_shown();
+    texts_are_laid_out();
+    words_are_put_on_lines();
+    entries_are_written();
+    helps_are_written();
+}
+
+// The forms that labels show.
+fn forms_are_shown()
+    ensures short_flag { LabelForm verbose (codes "-v" ∷ []) (spec.option (short 0x76) None) }
+    ensures short_one { LabelForm output (codes "-o" ∷ codes "FILE" ∷ [])
+        (spec.option (short 0x6F) (Some (codes "FILE"))) }
+    ensures short_optional { LabelForm backup (codes "-b" ∷ []) (spec.option (short 0x62) None) }
+    ensures short_optional_value { LabelForm backup (codes "-bSUFFIX" ∷ [])
+        (spec.option (short 0x62) (Some (codes "SUFFIX"))) }
+    ensures short_several { LabelForm exclude (codes "-x" ∷ codes "PATTERN" ∷ [])
+        (many (short 0x78) (codes "PATTERN" ∷ [])) }
+    ensures long_flag { LabelForm verbose (codes "--verbose" ∷ [])
+        (spec.option (long (codes "verbose")) None) }
+    ensures long_one { LabelForm output (codes "--output=FILE" ∷ [])
+        (spec.option (long (codes "output")) (Some (codes "FILE"))) }
+    ensures long_optional { LabelForm backup (codes "--backup" ∷ [])
+        (spec.option (long (codes "backup")) None) }
+    ensures long_optional_value { LabelForm backup (codes "--backup=SUFFIX" ∷ [])
+        (spec.option (long (codes "backup")) (Some (codes "SUFFIX"))) }
+    ensures long_several { LabelForm exclude (codes "--exclude=PATTERN" ∷ [])
+        (many (long (codes "exclude")) (codes "PATTERN" ∷ [])) }
+    ensures text_names { HasTextNames verbose }
+    ensures no_character { HasTextNames (record verbose { short_name = Some 0xD800 }) → ⊥ }
+    ensures no_text { HasTextNames (named (0xFF ∷ [])) → ⊥ }
+{}
+
+// Labels, and texts in columns. A label of 20 columns leaves room for two blanks before column 24.
+fn texts_are_laid_out()
+    ensures label_of_verbose { label verbose ≡ codes "-v, --verbose" }
+    ensures label_of_output { label output ≡ codes "-o, --output=FILE" }
+    ensures no_label { label_of None None flag [] ≡ [] }
+    ensures line { line_text (codes "tell" ∷ codes "me" ∷ codes "more" ∷ [])
+        ≡ codes "tell me more" }
+    ensures columns_of_a_line { line_columns (codes "tell" ∷ (0x65 ∷ 0xCC ∷ 0x81 ∷ []) ∷ []) ≡ 6 }
+    ensures no_columns { line_columns [] ≡ 0 }
+    ensures three_blanks { blanks 3 ≡ codes "   " }
+    ensures next_to_it { gap 24 (codes "-v, --verbose") ≡ codes "         " }
+    ensures two_blanks { gap 24 (codes "-x, --exclude=ABCDEF") ≡ codes "  " }
+    ensures on_the_next_line { gap 24 (codes "-x, --exclude=ABCDEFG")
+        ≡ codes "\n                        " }
+    ensures nothing_beside { beside 24 (codes "-v") [] ≡ [] }
+    ensures two_lines { beside 6 (codes "-v") ((codes "tell" ∷ []) ∷ (codes "more" ∷ []) ∷ [])
+        ≡ codes "  tell\n      more" }
+    ensures entry { entry 6 (codes "-v") ((codes "tell" ∷ []) ∷ []) ≡ codes "  -v  tell\n" }
+    ensures label_alone { entry 6 (codes "-v") [] ≡ codes "  -v\n" }
+{}
+
+// How words are put on lines, and how they are not.
+fn words_are_put_on_lines()
+    ensures two_lines { Wraps 8 (codes "tell" ∷ codes "me" ∷ codes "more" ∷ [])
+        ((codes "tell" ∷ codes "me" ∷ []) ∷ (codes "more" ∷ []) ∷ []) }
+    ensures exactly { Wraps 7 (codes "tell" ∷ codes "me" ∷ [])
+        ((codes "tell" ∷ codes "me" ∷ []) ∷ []) }
+    ensures long_word { Wraps 3 (codes "leave" ∷ codes "me" ∷ [])
+        ((codes "leave" ∷ []) ∷ (codes "me" ∷ []) ∷ []) }
+    ensures no_words { Wraps 8 [] [] }
+    ensures not_full { Wraps 8 (codes "tell" ∷ codes "me" ∷ [])
+        ((codes "tell" ∷ []) ∷ (codes "me" ∷ []) ∷ []) → ⊥ }
+    ensures not_full_later { Wraps 4
+        (codes "tell" ∷ codes "me" ∷ codes "a" ∷ [])
+        ((codes "tell" ∷ []) ∷ (codes "me" ∷ []) ∷ (codes "a" ∷ []) ∷ []) → ⊥ }
+    ensures too_wide { Wraps 6 (codes "tell" ∷ codes "me" ∷ [])
+        ((codes "tell" ∷ codes "me" ∷ []) ∷ []) → ⊥ }
+    ensures too_wide_later { Wraps 6 (codes "leave" ∷ codes "tell" ∷ codes "me" ∷ [])
+        ((codes "leave" ∷ []) ∷ (codes "tell" ∷ codes "me" ∷ []) ∷ []) → ⊥ }
+    ensures empty_line { Wraps 8 [] ([] ∷ []) → ⊥ }
+    ensures out_of_order { Wraps 8 (codes "me" ∷ codes "tell" ∷ [])
+        ((codes "tell" ∷ codes "me" ∷ []) ∷ []) → ⊥ }
+{}
+
+// The entries of options at 80 columns, at 40, where the help begins at column 13, and at 36, where
+// it begins at column 12.
+fn entries_are_written()
+    ensures next_to_it { IsEntry 80 verbose (codes "  -v, --verbose         tell more\n") }
+    ensures below_it { IsEntry 80 backup (codes "  -b[SUFFIX], --backup[=SUFFIX]\n                        keep an archive that is there, with this suffix\n") }
+    ensures narrow { IsEntry 40 (record verbose { long_name = None; help = codes "tell more of what is done" })
+        (codes "  -v         tell more of what is done\n") }
+    ensures two_lines { IsEntry 36 (record verbose { long_name = None; help = codes "tell more of what is done" })
+        (codes "  -v        tell more of what is\n            done\n") }
+    ensures nothing_to_say { IsEntry 80 (record verbose { help = codes "  " })
+        (codes "  -v, --verbose\n") }
+{}
+
+// Whole helps: the sample of `docs/formats.md`, and that of a program with nothing to say.
+fn helps_are_written()
+    ensures sample { IsHelp
+        (record (sample (files ∷ []) true) { options = sample_options ++ asks_for_help ∷ [] }) 80
+        (codes "Usage: example_archive [OPTION]... [FILE]...\nPrints what it has read.\n\n  -v, --verbose         tell more\n  -o, --output=FILE     the archive\n  -b[SUFFIX], --backup[=SUFFIX]\n                        keep an archive that is there, with this suffix\n  -x, --exclude=PATTERN...\n                        leave these out: all words up to the next option\n  -h, --help            print this help and exit\n") }
+    ensures nothing { IsHelp (record (sample [] true) { options = []; about = [] }) 80
+        (codes "Usage: example_archive\n") }
+    ensures about_alone { IsHelp (record (sample [] true) { options = [] }) 80
+        (codes "Usage: example_archive\nPrints what it has read.\n") }
+    ensures positionals { IsHelp
+        (record (sample (mode ∷ target ∷ files ∷ []) true) { options = []; about = [] }) 80
+        (codes "Usage: example_archive MODE [TARGET] [FILE]...\n") }
 {}
