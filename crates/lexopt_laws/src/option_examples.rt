@@ -465,8 +465,10 @@ fn words_are_put_on_lines()
     ensures long_word { Wraps 3 (codes "leave" ∷ codes "me" ∷ [])
         ((codes "leave" ∷ []) ∷ (codes "me" ∷ []) ∷ []) }
     ensures no_words { Wraps 8 [] [] }
-    ensures not_full { Wraps 8 (codes "tell" ∷ codes "me" ∷ [])
+    ensures not_full { Wraps 7 (codes "tell" ∷ codes "me" ∷ [])
         ((codes "tell" ∷ []) ∷ (codes "me" ∷ []) ∷ []) → ⊥ }
+    ensures room_for_one_word { Wraps 8 (codes "tell" ∷ codes "me" ∷ codes "more" ∷ [])
+        ((codes "tell" ∷ []) ∷ (codes "me" ∷ codes "more" ∷ []) ∷ []) → ⊥ }
     ensures not_full_later { Wraps 4
         (codes "tell" ∷ codes "me" ∷ codes "a" ∷ [])
         ((codes "tell" ∷ []) ∷ (codes "me" ∷ []) ∷ (codes "a" ∷ []) ∷ []) → ⊥ }

@@ -21,7 +21,11 @@ returns-clause-no_words c = record { in_order = refl; fit = tt; full = tt }
 
 pub returns-clause-not_full : goal.returns-clause-not_full
 unfolding columns computing
-returns-clause-not_full c is = let room : 8 < 7 = is.full.0 in omega arith
+returns-clause-not_full c is = let room : 7 < 7 = is.full.0 in omega arith
+
+pub returns-clause-room_for_one_word : goal.returns-clause-room_for_one_word
+unfolding columns computing
+returns-clause-room_for_one_word c is = let room : 8 < 7 = is.full.0 in omega arith
 
 pub returns-clause-not_full_later : goal.returns-clause-not_full_later
 unfolding columns computing
