@@ -12,7 +12,7 @@ ghost use Rattle.lexopt_options_spec.specs.Help.{line_feed};
 /// the label of one shows, with the placeholder for the value, is legal, whether `=` is a mark in
 /// clusters or not, and says that option, with the placeholder for its value.
 pub fn labels_are_spelled()
-    ensures spelled { (options : List Declared) (o : Declared) (short_equals : Bool)
+    ensures { (options : List Declared) (o : Declared) (short_equals : Bool)
         (words : List (List ℕ)) (item : Item)
         → is_sound options ≡ true → Contains options o → HasTextNames o
         → LabelForm o words item → Spells (table options) short_equals words (item ∷ []) }
