@@ -412,23 +412,27 @@ fn helps_have_these_texts() {
 
 // The forms that labels show.
 fn forms_are_shown()
-    ensures short_flag { LabelForm verbose (codes "-v" ∷ []) (spec.option (short 0x76) None) }
-    ensures short_one { LabelForm output (codes "-o" ∷ codes "FILE" ∷ [])
+    ensures short_flag {
+        LabelForm verbose (codes "-v") (codes "-v" ∷ []) (spec.option (short 0x76) None) }
+    ensures short_one { LabelForm output (codes "-o") (codes "-o" ∷ codes "FILE" ∷ [])
         (spec.option (short 0x6F) (Some (codes "FILE"))) }
-    ensures short_optional { LabelForm backup (codes "-b" ∷ []) (spec.option (short 0x62) None) }
-    ensures short_optional_value { LabelForm backup (codes "-bSUFFIX" ∷ [])
+    ensures short_optional {
+        LabelForm backup (codes "-b[SUFFIX]") (codes "-b" ∷ []) (spec.option (short 0x62) None) }
+    ensures short_optional_value { LabelForm backup (codes "-b[SUFFIX]") (codes "-bSUFFIX" ∷ [])
         (spec.option (short 0x62) (Some (codes "SUFFIX"))) }
-    ensures short_several { LabelForm exclude (codes "-x" ∷ codes "PATTERN" ∷ [])
+    ensures short_several { LabelForm exclude (codes "-x") (codes "-x" ∷ codes "PATTERN" ∷ [])
         (many (short 0x78) (codes "PATTERN" ∷ [])) }
-    ensures long_flag { LabelForm verbose (codes "--verbose" ∷ [])
+    ensures long_flag { LabelForm verbose (codes "--verbose") (codes "--verbose" ∷ [])
         (spec.option (long (codes "verbose")) None) }
-    ensures long_one { LabelForm output (codes "--output=FILE" ∷ [])
+    ensures long_one { LabelForm output (codes "--output=FILE") (codes "--output=FILE" ∷ [])
         (spec.option (long (codes "output")) (Some (codes "FILE"))) }
-    ensures long_optional { LabelForm backup (codes "--backup" ∷ [])
+    ensures long_optional { LabelForm backup (codes "--backup[=SUFFIX]") (codes "--backup" ∷ [])
         (spec.option (long (codes "backup")) None) }
-    ensures long_optional_value { LabelForm backup (codes "--backup=SUFFIX" ∷ [])
+    ensures long_optional_value {
+        LabelForm backup (codes "--backup[=SUFFIX]") (codes "--backup=SUFFIX" ∷ [])
         (spec.option (long (codes "backup")) (Some (codes "SUFFIX"))) }
-    ensures long_several { LabelForm exclude (codes "--exclude=PATTERN" ∷ [])
+    ensures long_several {
+        LabelForm exclude (codes "--exclude=PATTERN...") (codes "--exclude=PATTERN" ∷ [])
         (many (long (codes "exclude")) (codes "PATTERN" ∷ [])) }
     ensures text_names { HasTextNames verbose }
     ensures no_character { HasTextNames (record verbose { short_name = Some 0xD800 }) → ⊥ }

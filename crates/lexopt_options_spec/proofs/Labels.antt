@@ -134,26 +134,26 @@ module _ (options : List Declared) (o : Declared) (e : Bool) (sound : is_sound o
   attached_here : (k : Kind) → o.kind ≡ k → k ≢ flag → IsAfterLast e o.placeholder (attached o.placeholder)
   attached_here k is some = let v = value k is some in a_value v.some (λ mark. v.no_mark mark.1) refl
 
-  pub form_spelled : (words : List (List ℕ)) (item : Item) → LabelForm o words item → Spells (table options) e words (item ∷ [])
-  form_spelled words item (short_flag c named is) =
+  pub form_spelled : (shown : List ℕ) (words : List (List ℕ)) (item : Item) → LabelForm o shown words item → Spells (table options) e words (item ∷ [])
+  form_spelled shown words item (short_flag c named is) =
       short_form c flag [] [] nothing _ named is (nothing_more refl refl) (no_value refl refl refl)
-  form_spelled words item (short_one c named is) =
+  form_spelled shown words item (short_one c named is) =
       short_form c one [] (o.placeholder ∷ []) nothing _ named is (nothing_more refl refl) (next_word o.placeholder refl refl refl)
-  form_spelled words item (short_optional c named is) =
+  form_spelled shown words item (short_optional c named is) =
       short_form c optional [] [] nothing _ named is (nothing_more refl refl) (no_optional refl refl refl)
-  form_spelled words item (short_optional_value c named is) =
+  form_spelled shown words item (short_optional_value c named is) =
       short_form c optional o.placeholder [] (attached o.placeholder) _ named is (attached_here optional is (λ same. cc)) (attached_optional o.placeholder refl refl refl)
-  form_spelled words item (short_several c named is) =
+  form_spelled shown words item (short_several c named is) =
       short_form c several [] (o.placeholder ∷ []) nothing _ named is (nothing_more refl refl)
       (several_words (o.placeholder ∷ []) refl
       (record { words_are = refl; plain = one_plain o.placeholder (inr (inr ((value several is (λ same. cc)).no_option))); longest = λ none. none }) (λ same. cc) refl)
-  form_spelled words item (long_flag name named is) =
+  form_spelled shown words item (long_flag name named is) =
       long_form name flag name nothing _ named is (alone name named) (no_value refl refl refl)
-  form_spelled words item (long_one name named is) =
+  form_spelled shown words item (long_one name named is) =
       long_form name one (name ++ equals ∷ o.placeholder) (joined o.placeholder) _ named is (name_and_value o.placeholder refl refl) (joined_value o.placeholder refl refl refl)
-  form_spelled words item (long_optional name named is) =
+  form_spelled shown words item (long_optional name named is) =
       long_form name optional name nothing _ named is (alone name named) (no_optional refl refl refl)
-  form_spelled words item (long_optional_value name named is) =
+  form_spelled shown words item (long_optional_value name named is) =
       long_form name optional (name ++ equals ∷ o.placeholder) (joined o.placeholder) _ named is (name_and_value o.placeholder refl refl) (joined_optional o.placeholder refl refl refl)
-  form_spelled words item (long_several name named is) =
+  form_spelled shown words item (long_several name named is) =
       long_form name several (name ++ equals ∷ o.placeholder) (joined o.placeholder) _ named is (name_and_value o.placeholder refl refl) (joined_several o.placeholder refl refl refl)

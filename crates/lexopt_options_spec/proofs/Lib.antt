@@ -10,5 +10,6 @@ pub mod Stands
 pub mod Offered
 pub mod Tables
 pub mod Labels
+pub mod LabelTexts
 pub mod Wrapping
 pub mod OneHelp

@@ -9,7 +9,8 @@ use Rattle.std.specs.Str.{IsUtf8}
 use Rattle.std.specs.List.{AllZip, concat, flat_map, join_by, join_with_byte, slice_split, sum_by}
 use Rattle.bstr.specs.Unicode.{grapheme_spans}
 use Rattle.lexopt_spec.specs.UnreadLine.{dash, equals}
-use Rattle.lexopt_line_spec.specs.Table.{Item, option, many, short, long}
+use Rattle.lexopt_line_spec.specs.Spelling.{After, Completes}
+use Rattle.lexopt_line_spec.specs.Table.{Item, Name, option, many, positional, short, long}
 use Rattle.lexopt_line_spec.specs.Table.{Kind, flag, one, optional, several}
 use Rattle.lexopt_options_spec.specs.Declaration.{Declared, Declaration, Positional, Count, once}
 use Rattle.lexopt_options_spec.specs.Declaration.{at_most_once, any_number, is_empty}
@@ -77,42 +78,75 @@ long_word name = dash ∷ dash ∷ name
 abbrev pub long_word_with : List ℕ → List ℕ → List ℕ
 long_word_with name value = dash ∷ dash ∷ name ++ equals ∷ value
 
--- a form that the label shows, with the placeholder for the value: its words, and the item that
--- they are to say
-pub data LabelForm (o : Declared) : List (List ℕ) → Item → Type 0 where
+-- what may be left out
+abbrev pub in_brackets : List ℕ → List ℕ
+in_brackets text = codes "[" ++ text ++ codes "]"
+
+-- this after a character, unless a long name follows: then the value is shown after that alone
+abbrev pub if_alone : Option (List ℕ) → List ℕ → List ℕ
+if_alone None text = text
+if_alone (Some name) text = []
+
+-- a form that the label shows, with the placeholder for the value: the text that shows it, its
+-- words, and the item that they are to say
+pub data LabelForm (o : Declared) : List ℕ → List (List ℕ) → Item → Type 0 where
   -- `-v`
   short_flag : (c : ℕ) → o.short_name ≡ Some c → o.kind ≡ flag
-      → LabelForm o (short_word c [] ∷ []) (option (short c) None)
-  -- `-o FILE`
+      → LabelForm o (short_word c []) (short_word c [] ∷ []) (option (short c) None)
+  -- `-o FILE`, or `-o` before a long name
   short_one : (c : ℕ) → o.short_name ≡ Some c → o.kind ≡ one
-      → LabelForm o (short_word c [] ∷ o.placeholder ∷ []) (option (short c) (Some o.placeholder))
+      → LabelForm o (short_word c (if_alone o.long_name (codes " " ++ o.placeholder)))
+      (short_word c [] ∷ o.placeholder ∷ []) (option (short c) (Some o.placeholder))
   -- `-b[SUFFIX]`, without what is in brackets
   short_optional : (c : ℕ) → o.short_name ≡ Some c → o.kind ≡ optional
-      → LabelForm o (short_word c [] ∷ []) (option (short c) None)
+      → LabelForm o (short_word c (in_brackets o.placeholder))
+      (short_word c [] ∷ []) (option (short c) None)
   -- `-b[SUFFIX]`, with it
   short_optional_value : (c : ℕ) → o.short_name ≡ Some c → o.kind ≡ optional
-      → LabelForm o (short_word c o.placeholder ∷ []) (option (short c) (Some o.placeholder))
-  -- `-x PATTERN...`
+      → LabelForm o (short_word c (in_brackets o.placeholder))
+      (short_word c o.placeholder ∷ []) (option (short c) (Some o.placeholder))
+  -- `-x PATTERN...`, or `-x` before a long name
   short_several : (c : ℕ) → o.short_name ≡ Some c → o.kind ≡ several
-      → LabelForm o (short_word c [] ∷ o.placeholder ∷ []) (many (short c) (o.placeholder ∷ []))
+      → LabelForm o
+      (short_word c (if_alone o.long_name (codes " " ++ o.placeholder ++ codes "...")))
+      (short_word c [] ∷ o.placeholder ∷ []) (many (short c) (o.placeholder ∷ []))
   -- `--verbose`
   long_flag : (name : List ℕ) → o.long_name ≡ Some name → o.kind ≡ flag
-      → LabelForm o (long_word name ∷ []) (option (long name) None)
+      → LabelForm o (long_word name) (long_word name ∷ []) (option (long name) None)
   -- `--output=FILE`
   long_one : (name : List ℕ) → o.long_name ≡ Some name → o.kind ≡ one
-      → LabelForm o (long_word_with name o.placeholder ∷ [])
-      (option (long name) (Some o.placeholder))
+      → LabelForm o (long_word_with name o.placeholder)
+      (long_word_with name o.placeholder ∷ []) (option (long name) (Some o.placeholder))
   -- `--backup[=SUFFIX]`, without what is in brackets
   long_optional : (name : List ℕ) → o.long_name ≡ Some name → o.kind ≡ optional
-      → LabelForm o (long_word name ∷ []) (option (long name) None)
+      → LabelForm o (long_word name ++ in_brackets (equals ∷ o.placeholder))
+      (long_word name ∷ []) (option (long name) None)
   -- `--backup[=SUFFIX]`, with it
   long_optional_value : (name : List ℕ) → o.long_name ≡ Some name → o.kind ≡ optional
-      → LabelForm o (long_word_with name o.placeholder ∷ [])
-      (option (long name) (Some o.placeholder))
+      → LabelForm o (long_word name ++ in_brackets (equals ∷ o.placeholder))
+      (long_word_with name o.placeholder ∷ []) (option (long name) (Some o.placeholder))
   -- `--exclude=PATTERN...`
   long_several : (name : List ℕ) → o.long_name ≡ Some name → o.kind ≡ several
-      → LabelForm o (long_word_with name o.placeholder ∷ [])
-      (many (long name) (o.placeholder ∷ []))
+      → LabelForm o (long_word_with name o.placeholder ++ codes "...")
+      (long_word_with name o.placeholder ∷ []) (many (long name) (o.placeholder ∷ []))
+
+-- by this name, with whatever stands after it, an option of this kind can say this item
+abbrev pub CanSay : Kind → Name → Item → Type 0
+CanSay k name item = (after : After) × (words : List (List ℕ)) × (left : List (List ℕ))
+    × Completes k name after words item left
+
+-- an item of an option that has no value, or this one alone
+abbrev pub HasOnly : List ℕ → Item → Type 0
+HasOnly value (option name None) = Unit {0}
+HasOnly value (option name (Some v)) = v ≡ value
+HasOnly value (many name values) = values ≡ value ∷ []
+HasOnly value (positional word) = ⊥
+
+-- by this text the label shows all that the option can say by this name, with the placeholder for
+-- the value
+abbrev pub ShowsName : Declared → Name → List ℕ → Type 0
+ShowsName o name shown = (item : Item) → CanSay o.kind name item → HasOnly o.placeholder item
+    → (words : List (List ℕ)) × LabelForm o shown words item
 
 -- its names are texts, as a `char` and a `&str` are
 pub record HasTextNames (o : Declared) : Type 0 where

@@ -1,21 +1,43 @@
 //! Laws of the definitions.
-ghost use Rattle.std.specs.Prelude.{◌≡◌, ◌≤◌, ◌<◌, ◌⊎◌, ◌+◌, ◌∷◌, [], Bool, Contains, List, ℕ};
-ghost use Rattle.std.specs.Prelude.{length, true};
-ghost use Rattle.lexopt_line_spec.specs.Table.{Item};
+ghost use Rattle.std.specs.Prelude.{◌≡◌, ◌≤◌, ◌<◌, ◌⊎◌, ◌+◌, ◌∷◌, ◌++◌, [], Bool, Contains, List};
+ghost use Rattle.std.specs.Prelude.{ℕ, codes, length, true};
+ghost use Rattle.lexopt_line_spec.specs.Table.{Item, long, short};
 ghost use Rattle.lexopt_line_spec.specs.Spelling.{Spells};
 ghost use Rattle.lexopt_options_spec.specs.Declaration.{Declaration, Declared, is_sound, table};
 ghost use Rattle.lexopt_options_spec.specs.Help.{HasTextNames, IsEntry, IsHelp, LabelForm, Line};
-ghost use Rattle.lexopt_options_spec.specs.Help.{blanks, columns, gap, help_column, line_columns};
-ghost use Rattle.lexopt_options_spec.specs.Help.{line_feed};
+ghost use Rattle.lexopt_options_spec.specs.Help.{ShowsName, blanks, columns, gap, help_column};
+ghost use Rattle.lexopt_options_spec.specs.Help.{label, line_columns, line_feed};
 
 /// What the help shows can be typed. Among options that can be declared together, each form that
 /// the label of one shows, with the placeholder for the value, is legal, whether `=` is a mark in
 /// clusters or not, and says that option, with the placeholder for its value.
 pub fn labels_are_spelled()
     ensures { (options : List Declared) (o : Declared) (short_equals : Bool)
-        (words : List (List ℕ)) (item : Item)
+        (shown : List ℕ) (words : List (List ℕ)) (item : Item)
         → is_sound options ≡ true → Contains options o → HasTextNames o
-        → LabelForm o words item → Spells (table options) short_equals words (item ∷ []) }
+        → LabelForm o shown words item → Spells (table options) short_equals words (item ∷ []) }
+{}
+
+/// The text by which a label shows a form is a part of the label.
+pub fn forms_stand_in_labels()
+    ensures { (o : Declared) (shown : List ℕ) (words : List (List ℕ)) (item : Item)
+        → LabelForm o shown words item
+        → (before : List ℕ) × (after : List ℕ) × (label o ≡ before ++ shown ++ after) }
+{}
+
+/// A label shows the names of its option and nothing else: the character alone, the long name alone
+/// after four blanks, or both with a comma and a blank between them. By the text of each name it
+/// shows all that the option can say by that name, with the placeholder for the value.
+pub fn labels_show_their_names()
+    ensures short { (o : Declared) (c : ℕ) → o.short_name ≡ Some c → o.long_name ≡ None
+        → ShowsName o (short c) (label o) }
+    ensures long { (o : Declared) (name : List ℕ) → o.short_name ≡ None
+        → o.long_name ≡ Some name → (shown : List ℕ) × ShowsName o (long name) shown
+        × (label o ≡ codes "    " ++ shown) }
+    ensures both { (o : Declared) (c : ℕ) (name : List ℕ) → o.short_name ≡ Some c
+        → o.long_name ≡ Some name → (first : List ℕ) × (second : List ℕ)
+        × ShowsName o (short c) first × ShowsName o (long name) second
+        × (label o ≡ first ++ codes ", " ++ second) }
 {}
 
 /// At each width a declaration has exactly one help.

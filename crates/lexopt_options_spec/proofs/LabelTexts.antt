@@ -1,0 +1,167 @@
+-- The texts by which labels show their forms.
+use Rattle.std.proofs.Common.{◌≡◌, ℕ, List, [], ◌∷◌, ◌++◌, ◌⊎◌, inl, inr, Option, Some, None, codes, refl, sym, ap, subst, ◌∙◌, append_assoc, append-nil}
+use Rattle.lexopt_spec.specs.UnreadLine.{equals}
+use Rattle.lexopt_line_spec.specs.Table.{short, long, Name, Item, option, many, Kind, flag, one, optional, several}
+use Rattle.lexopt_line_spec.specs.Spelling.{no_value, attached_value, joined_value, next_word, no_optional, attached_optional, joined_optional, joined_several, attached_several, several_words}
+use Rattle.lexopt_options_spec.specs.Declaration.{Declared}
+use Rattle.lexopt_options_spec.specs.Help.{label, label_of, short_word, long_word, long_word_with, in_brackets, if_alone, after_long, before_long, CanSay, HasOnly, ShowsName}
+use Rattle.lexopt_options_spec.specs.Help.{LabelForm, short_flag, short_one, short_optional, short_optional_value, short_several, long_flag, long_one, long_optional, long_optional_value, long_several}
+
+-- ---- the text of a name
+
+abbrev short_text : Kind → ℕ → Option (List ℕ) → List ℕ → List ℕ
+short_text flag c after value = short_word c []
+short_text one c after value = short_word c (if_alone after (codes " " ++ value))
+short_text optional c after value = short_word c (in_brackets value)
+short_text several c after value = short_word c (if_alone after (codes " " ++ value ++ codes "..."))
+
+abbrev long_text : Kind → List ℕ → List ℕ → List ℕ
+long_text flag name value = long_word name
+long_text one name value = long_word_with name value
+long_text optional name value = long_word name ++ in_brackets (equals ∷ value)
+long_text several name value = long_word_with name value ++ codes "..."
+
+after_name : (k : Kind) (name value : List ℕ) → long_text k name value ≡ long_word name ++ after_long k value
+after_name flag name value = sym (append-nil (long_word name))
+after_name one name value = refl
+after_name optional name value = refl
+after_name several name value = append_assoc (long_word name) (equals ∷ value) (codes "...")
+
+short_alone : (k : Kind) (c : ℕ) (value : List ℕ) → label_of (Some c) None k value ≡ short_text k c None value
+short_alone flag c value = refl
+short_alone one c value = refl
+short_alone optional c value = refl
+short_alone several c value = refl
+
+short_before : (k : Kind) (c : ℕ) (name value : List ℕ) → short_text k c (Some name) value ≡ short_word c (before_long k value)
+short_before flag c name value = refl
+short_before one c name value = refl
+short_before optional c name value = refl
+short_before several c name value = refl
+
+long_alone : (k : Kind) (name value : List ℕ) → label_of None (Some name) k value ≡ codes "    " ++ long_text k name value
+long_alone k name value = ap (λ text. codes "    " ++ text) (sym (after_name k name value))
+
+regrouped : (first name rest : List ℕ) → ((first ++ codes ", --") ++ name) ++ rest ≡ (first ++ codes ", ") ++ (long_word name ++ rest)
+regrouped first name rest = simp append_assoc
+
+with_both : (k : Kind) (c : ℕ) (name value : List ℕ) → label_of (Some c) (Some name) k value ≡ short_text k c (Some name) value ++ codes ", " ++ long_text k name value
+with_both k c name value =
+    regrouped (short_word c (before_long k value)) name (after_long k value)
+    ∙ sym (ap (λ text. (text ++ codes ", ") ++ long_text k name value) (short_before k c name value)
+    ∙ ap (λ text. (short_word c (before_long k value) ++ codes ", ") ++ text) (after_name k name value))
+
+-- ---- what an option can say
+
+-- the items that an option of this kind says, with this for its value
+abbrev OneOf : Kind → Name → List ℕ → Item → Type 0
+OneOf flag name value item = item ≡ option name None
+OneOf one name value item = item ≡ option name (Some value)
+OneOf optional name value item = (item ≡ option name None) ⊎ (item ≡ option name (Some value))
+OneOf several name value item = item ≡ many name (value ∷ [])
+
+with_value : (name : Name) (value v : List ℕ) (item : Item) → item ≡ option name (Some v) → HasOnly value item → item ≡ option name (Some value)
+with_value name value v item is only = let e : v ≡ value = subst (λ (x : Item). HasOnly value x) is only in is ∙ ap (λ x. option name (Some x)) e
+
+with_values : (name : Name) (value : List ℕ) (values : List (List ℕ)) (item : Item) → item ≡ many name values → HasOnly value item → item ≡ many name (value ∷ [])
+with_values name value values item is only = let e : values ≡ value ∷ [] = subst (λ (x : Item). HasOnly value x) is only in is ∙ ap (λ x. many name x) e
+
+one_of : (k : Kind) (name : Name) (value : List ℕ) (item : Item) → CanSay k name item → HasOnly value item → OneOf k name value item
+one_of flag name value item (after, words, left, no_value at is rest) only = is
+one_of one name value item (after, words, left, attached_value v at is rest) only = with_value name value v item is only
+one_of one name value item (after, words, left, joined_value v at is rest) only = with_value name value v item is only
+one_of one name value item (after, words, left, next_word v at is rest) only = with_value name value v item is only
+one_of optional name value item (after, words, left, no_optional at is rest) only = inl is
+one_of optional name value item (after, words, left, attached_optional v at is rest) only = inr (with_value name value v item is only)
+one_of optional name value item (after, words, left, joined_optional v at is rest) only = inr (with_value name value v item is only)
+one_of several name value item (after, words, left, joined_several v at is rest) only = with_values name value (v ∷ []) item is only
+one_of several name value item (after, words, left, attached_several v front at plain is) only = with_values name value (v ∷ front) item is only
+one_of several name value item (after, words, left, several_words front at plain some is) only = with_values name value front item is only
+
+-- ---- the label, by its names
+
+module _ (o : Declared) where
+  abbrev short_shown : ℕ → List ℕ
+  short_shown c = short_text o.kind c o.long_name o.placeholder
+
+  abbrev long_shown : List ℕ → List ℕ
+  long_shown name = long_text o.kind name o.placeholder
+
+  is_short : (c : ℕ) → o.short_name ≡ Some c → o.long_name ≡ None → label o ≡ short_shown c
+  is_short c named none = rw (named, none) (short_alone o.kind c o.placeholder)
+
+  is_long : (name : List ℕ) → o.short_name ≡ None → o.long_name ≡ Some name → label o ≡ codes "    " ++ long_shown name
+  is_long name none named = rw (none, named) (long_alone o.kind name o.placeholder)
+
+  is_both : (c : ℕ) (name : List ℕ) → o.short_name ≡ Some c → o.long_name ≡ Some name → label o ≡ short_shown c ++ codes ", " ++ long_shown name
+  is_both c name short_named long_named = rw (short_named, long_named) (with_both o.kind c name o.placeholder)
+
+  -- ---- what each name shows
+
+  abbrev Shown : List ℕ → Item → Type 0
+  Shown text item = (words : List (List ℕ)) × LabelForm o text words item
+
+  shown_as : (text : List ℕ) (is item : Item) → item ≡ is → Shown text is → Shown text item
+  shown_as text is item same shown = subst (λ (x : Item). Shown text x) (sym same) shown
+
+  short_by : (c : ℕ) (k : Kind) → o.short_name ≡ Some c → o.kind ≡ k → (item : Item) → OneOf k (short c) o.placeholder item → Shown (short_text k c o.long_name o.placeholder) item
+  short_by c flag named is item same = shown_as _ _ item same (_, short_flag c named is)
+  short_by c one named is item same = shown_as _ _ item same (_, short_one c named is)
+  short_by c optional named is item (inl same) = shown_as _ _ item same (_, short_optional c named is)
+  short_by c optional named is item (inr same) = shown_as _ _ item same (_, short_optional_value c named is)
+  short_by c several named is item same = shown_as _ _ item same (_, short_several c named is)
+
+  long_by : (name : List ℕ) (k : Kind) → o.long_name ≡ Some name → o.kind ≡ k → (item : Item) → OneOf k (long name) o.placeholder item → Shown (long_text k name o.placeholder) item
+  long_by name flag named is item same = shown_as _ _ item same (_, long_flag name named is)
+  long_by name one named is item same = shown_as _ _ item same (_, long_one name named is)
+  long_by name optional named is item (inl same) = shown_as _ _ item same (_, long_optional name named is)
+  long_by name optional named is item (inr same) = shown_as _ _ item same (_, long_optional_value name named is)
+  long_by name several named is item same = shown_as _ _ item same (_, long_several name named is)
+
+  short_shows : (c : ℕ) → o.short_name ≡ Some c → ShowsName o (short c) (short_shown c)
+  short_shows c named = λ item can only. short_by c o.kind named refl item (one_of o.kind (short c) o.placeholder item can only)
+
+  long_shows : (name : List ℕ) → o.long_name ≡ Some name → ShowsName o (long name) (long_shown name)
+  long_shows name named = λ item can only. long_by name o.kind named refl item (one_of o.kind (long name) o.placeholder item can only)
+
+  pub shows_short : (c : ℕ) → o.short_name ≡ Some c → o.long_name ≡ None → ShowsName o (short c) (label o)
+  shows_short c named none = subst (ShowsName o (short c)) (sym (is_short c named none)) (short_shows c named)
+
+  pub shows_long : (name : List ℕ) → o.short_name ≡ None → o.long_name ≡ Some name → (shown : List ℕ) × ShowsName o (long name) shown × (label o ≡ codes "    " ++ shown)
+  shows_long name none named = (long_shown name, long_shows name named, is_long name none named)
+
+  pub shows_both : (c : ℕ) (name : List ℕ) → o.short_name ≡ Some c → o.long_name ≡ Some name
+      → (first : List ℕ) × (second : List ℕ) × ShowsName o (short c) first × ShowsName o (long name) second × (label o ≡ first ++ codes ", " ++ second)
+  shows_both c name short_named long_named =
+      (short_shown c, long_shown name, short_shows c short_named, long_shows name long_named, is_both c name short_named long_named)
+
+  -- ---- where each form stands
+
+  abbrev Stands : List ℕ → Type 0
+  Stands text = (before : List ℕ) × (after : List ℕ) × (label o ≡ before ++ text ++ after)
+
+  short_stands : (c : ℕ) (k : Kind) → o.short_name ≡ Some c → o.kind ≡ k → Stands (short_text k c o.long_name o.placeholder)
+  short_stands c k named is = subst (λ (x : Kind). Stands (short_text x c o.long_name o.placeholder)) is (by o.long_name refl)
+    where
+      by : (other : Option (List ℕ)) → o.long_name ≡ other → Stands (short_shown c)
+      by None none = ([], [], is_short c named none ∙ sym (append-nil (short_shown c)))
+      by (Some name) long_named = ([], codes ", " ++ long_shown name, is_both c name named long_named ∙ append_assoc (short_shown c) (codes ", ") (long_shown name))
+
+  long_stands : (name : List ℕ) (k : Kind) → o.long_name ≡ Some name → o.kind ≡ k → Stands (long_text k name o.placeholder)
+  long_stands name k named is = subst (λ (x : Kind). Stands (long_text x name o.placeholder)) is (by o.short_name refl)
+    where
+      by : (other : Option ℕ) → o.short_name ≡ other → Stands (long_shown name)
+      by None none = (codes "    ", [], is_long name none named ∙ sym (append-nil (codes "    " ++ long_shown name)))
+      by (Some c) short_named = (short_shown c ++ codes ", ", [], is_both c name short_named named ∙ sym (append-nil (short_shown c ++ codes ", " ++ long_shown name)))
+
+  pub form_stands : (shown : List ℕ) (words : List (List ℕ)) (item : Item) → LabelForm o shown words item → Stands shown
+  form_stands shown words item (short_flag c named is) = short_stands c flag named is
+  form_stands shown words item (short_one c named is) = short_stands c one named is
+  form_stands shown words item (short_optional c named is) = short_stands c optional named is
+  form_stands shown words item (short_optional_value c named is) = short_stands c optional named is
+  form_stands shown words item (short_several c named is) = short_stands c several named is
+  form_stands shown words item (long_flag name named is) = long_stands name flag named is
+  form_stands shown words item (long_one name named is) = long_stands name one named is
+  form_stands shown words item (long_optional name named is) = long_stands name optional named is
+  form_stands shown words item (long_optional_value name named is) = long_stands name optional named is
+  form_stands shown words item (long_several name named is) = long_stands name several named is
