@@ -1,5 +1,6 @@
 //! What can stand where a word is typed, for shells.
-ghost use Rattle.std.specs.Prelude.{◌≡◌, ◌∷◌, ◌++◌, ℕ, IfOk, List, MatchBool, MatchOption, OnOk, [], filter, map, option_map};
+ghost use Rattle.std.specs.Prelude.{◌≡◌, ◌∷◌, ◌++◌, ℕ, IfOk, List, MatchBool, MatchOption, OnOk};
+ghost use Rattle.std.specs.Prelude.{[], filter, map, option_map};
 ghost use Rattle.std.specs.Prelude.{nat_eq, string_bytes};
 ghost use Rattle.std.specs.Char.{IsScalar};
 ghost use Rattle.std.specs.List.{starts_with};

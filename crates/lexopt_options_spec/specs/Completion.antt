@@ -1,6 +1,7 @@
 -- What can stand where a word is typed, after words that stand before it.
 -- The source is `docs/behaviour.md`.
-use Rattle.std.specs.Prelude.{◌≡◌, ◌++◌, ◌==◌, ◌&&◌, ℕ, Bool, true, false, nat_eq, List, [], ◌∷◌, map, Option, Some, None}
+use Rattle.std.specs.Prelude.{◌≡◌, ◌++◌, ◌==◌, ◌&&◌, ℕ}
+use Rattle.std.specs.Prelude.{Bool, true, false, nat_eq, List, [], ◌∷◌, map, Option, Some, None}
 use Rattle.std.specs.Prelude.{encode_utf8}
 use Rattle.std.specs.Char.{IsScalar}
 use Rattle.std.specs.List.{flat_map, list_any, starts_with}

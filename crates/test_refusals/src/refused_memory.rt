@@ -4,7 +4,7 @@
 //! One request of a test is refused in a run. Each test checks what stands afterwards, and then
 //! fails and says which call was refused. Where nothing is refused, each test passes.
 use lexopt::items::read_items;
-use lexopt::options::{Answer, Declared, HELP, Mistake, Names, Options, Positional};
+use lexopt::options::{self, Answer, Declared, HELP, Mistake, Names, Options};
 use lexopt::os_string::arguments;
 use lexopt::replay::{Call, Reply, RunError, replay, run};
 use lexopt::spell::{Reason, SpellError, spell};
@@ -827,7 +827,7 @@ fn answers_so(alloc: Global, lines: &[u8], wanted: &str) -> Result<(), Fail> {
         Declared::one(Names::Both('o', "output"), "FILE", "write to this file"),
         HELP,
     ];
-    let files = [Positional::any_number("FILE")];
+    let files = [options::Positional::any_number("FILE")];
     let Ok(options) = Options::new("pack", "Packs.", &declared, &files) else {
         return Err(Fail::new("the options cannot be declared"));
     };
