@@ -67,13 +67,13 @@ fn options_are_put_into_tables()
     } }
     ensures several_of_a_kind { table (record output { short_name = None } ∷ verbose ∷ output
         ∷ record exclude { long_name = None } ∷ []) ≡ record {
-      shorts = codes "o";
-      longs = codes "output" ∷ codes "output" ∷ [];
-      optional_shorts = [];
-      optional_longs = [];
-      several_shorts = codes "x";
-      several_longs = [];
-    } }
+          shorts = codes "o";
+          longs = codes "output" ∷ codes "output" ∷ [];
+          optional_shorts = [];
+          optional_longs = [];
+          several_shorts = codes "x";
+          several_longs = [];
+        } }
 {}
 
 // The first option that cannot be declared, and why.
@@ -412,12 +412,10 @@ fn helps_have_these_texts() {
 
 // The forms that labels show.
 fn forms_are_shown()
-    ensures short_flag {
-        LabelForm verbose (codes "-v") (codes "-v" ∷ []) (spec.option (short 0x76) None) }
+    ensures short_flag { LabelForm verbose (codes "-v") (codes "-v" ∷ []) (spec.option (short 0x76) None) }
     ensures short_one { LabelForm output (codes "-o") (codes "-o" ∷ codes "FILE" ∷ [])
         (spec.option (short 0x6F) (Some (codes "FILE"))) }
-    ensures short_optional {
-        LabelForm backup (codes "-b[SUFFIX]") (codes "-b" ∷ []) (spec.option (short 0x62) None) }
+    ensures short_optional { LabelForm backup (codes "-b[SUFFIX]") (codes "-b" ∷ []) (spec.option (short 0x62) None) }
     ensures short_optional_value { LabelForm backup (codes "-b[SUFFIX]") (codes "-bSUFFIX" ∷ [])
         (spec.option (short 0x62) (Some (codes "SUFFIX"))) }
     ensures short_several { LabelForm exclude (codes "-x") (codes "-x" ∷ codes "PATTERN" ∷ [])
@@ -428,11 +426,9 @@ fn forms_are_shown()
         (spec.option (long (codes "output")) (Some (codes "FILE"))) }
     ensures long_optional { LabelForm backup (codes "--backup[=SUFFIX]") (codes "--backup" ∷ [])
         (spec.option (long (codes "backup")) None) }
-    ensures long_optional_value {
-        LabelForm backup (codes "--backup[=SUFFIX]") (codes "--backup=SUFFIX" ∷ [])
+    ensures long_optional_value { LabelForm backup (codes "--backup[=SUFFIX]") (codes "--backup=SUFFIX" ∷ [])
         (spec.option (long (codes "backup")) (Some (codes "SUFFIX"))) }
-    ensures long_several {
-        LabelForm exclude (codes "--exclude=PATTERN...") (codes "--exclude=PATTERN" ∷ [])
+    ensures long_several { LabelForm exclude (codes "--exclude=PATTERN...") (codes "--exclude=PATTERN" ∷ [])
         (many (long (codes "exclude")) (codes "PATTERN" ∷ [])) }
     ensures text_names { HasTextNames verbose }
     ensures no_character { HasTextNames (record verbose { short_name = Some 0xD800 }) → ⊥ }
