@@ -17,4 +17,5 @@ pub mod WorkedSays
 pub mod WorkedDistances
 pub mod WorkedNames
 pub mod WorkedOpen
+pub mod WorkedRoles
 pub mod WorkedLines

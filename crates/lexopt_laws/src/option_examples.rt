@@ -7,7 +7,10 @@ ghost use Rattle.lexopt_line_spec.specs.Table as spec;
 ghost use Rattle.lexopt_line_spec.specs.Table.{flag, long, many, one, optional, short};
 ghost use Rattle.lexopt_options_spec.specs.Completion.{AreText, CanStand, Completes, IsOpen};
 ghost use Rattle.lexopt_options_spec.specs.Completion.{IsOption, IsText, names_of, spelling};
-ghost use Rattle.lexopt_options_spec.specs.Completion.{spellings};
+ghost use Rattle.lexopt_options_spec.specs.Completion.{HasRole, IsDashedRole, IsJoined};
+ghost use Rattle.lexopt_options_spec.specs.Completion.{IsPlainRole, Role, argument};
+ghost use Rattle.lexopt_options_spec.specs.Completion.{is_long_with_equals, role_of, spellings};
+ghost use Rattle.lexopt_options_spec.specs.Completion.{value};
 ghost use Rattle.lexopt_options_spec.specs.Declaration.{Declaration};
 ghost use Rattle.lexopt_options_spec.specs.Declaration.{IsFirstFault, bad_placeholder, dash_name};
 ghost use Rattle.lexopt_options_spec.specs.Declaration.{empty_name, equals_in_name, index_of};
@@ -323,6 +326,14 @@ fn completions_have_these_meanings() {
     options_can_stand();
     options_cannot_stand();
     what_is_typed_is_completed();
+    roles_are_by_the_last_of_what_is_said();
+    values_are_joined();
+    values_are_not_joined();
+    plain_words_have_roles();
+    plain_words_have_no_other_role();
+    dashed_words_have_roles();
+    dashed_words_have_no_other_role();
+    words_have_roles();
 }
 
 // The spellings of options, and which option is said.
@@ -399,6 +410,120 @@ fn what_is_typed_is_completed()
     ensures no_option { Completes (sample [] true) [] (codes "-z") (codes "-z") → ⊥ }
     ensures part_of_a_character { (d : Declaration) (words : List (List ℕ))
         → Completes d words (0x2D ∷ 0xC3 ∷ []) (0x2D ∷ 0xC3 ∷ 0xA9 ∷ []) → ⊥ }
+{}
+
+// What a word is by what it says, and which words are a long option with `=`.
+fn roles_are_by_the_last_of_what_is_said()
+    ensures of_an_option { role_of (option 1 (Some (codes "x"))) ≡ value 1 }
+    ensures of_several { role_of (several 3 (codes "a" ∷ [])) ≡ value 3 }
+    ensures positional { role_of (positional (codes "a")) ≡ argument }
+    ensures long_with_equals { is_long_with_equals (codes "--output=fi") ≡ true }
+    ensures nothing_after_it { is_long_with_equals (codes "--output=") ≡ true }
+    ensures no_equals { is_long_with_equals (codes "--output") ≡ false }
+    ensures character { is_long_with_equals (codes "-o=fi") ≡ false }
+    ensures second_dash { is_long_with_equals (codes "o-=fi") ≡ false }
+    ensures equals_alone { is_long_with_equals (codes "=") ≡ false }
+    ensures nothing { is_long_with_equals [] ≡ false }
+{}
+
+// Values that are typed after `=`.
+fn values_are_joined()
+    ensures after_no_words { IsJoined (sample [] true) [] (codes "--output=fi") (Some 1) }
+    ensures after_a_flag { IsJoined (sample [] true) (codes "-v" ∷ []) (codes "--output=fi")
+        (Some 1) }
+    ensures flag { IsJoined (sample [] true) [] (codes "--verbose=fi") None }
+    ensures after_the_separator { IsJoined (sample (files ∷ []) true) (codes "--" ∷ [])
+        (codes "--output=fi") None }
+    ensures value_due { IsJoined (sample [] true) (codes "-o" ∷ []) (codes "--output=fi") None }
+    ensures without_equals { IsJoined (sample [] true) [] (codes "--backup") None }
+{}
+
+// What is no such value, or not of that option.
+fn values_are_not_joined()
+    ensures not_none { IsJoined (sample [] true) [] (codes "--output=fi") None → ⊥ }
+    ensures not_another { IsJoined (sample [] true) [] (codes "--output=fi") (Some 2) → ⊥ }
+    ensures flag { IsJoined (sample [] true) [] (codes "--verbose=fi") (Some 0) → ⊥ }
+    ensures after_the_separator { IsJoined (sample (files ∷ []) true) (codes "--" ∷ [])
+        (codes "--output=fi") (Some 1) → ⊥ }
+    ensures without_equals { IsJoined (sample [] true) [] (codes "--backup") (Some 2) → ⊥ }
+{}
+
+// What a word that is no option would be.
+fn plain_words_have_roles()
+    ensures after_a_flag { IsPlainRole (sample (files ∷ []) true) (codes "-v" ∷ [])
+        (Some argument) }
+    ensures no_more_positionals { IsPlainRole (sample [] true) (codes "-v" ∷ []) None }
+    ensures after_an_optional_value { IsPlainRole (sample (files ∷ []) true) (codes "-b" ∷ [])
+        (Some argument) }
+    ensures value_due { IsPlainRole (sample [] true) (codes "-o" ∷ []) (Some (value 1)) }
+    ensures first_value_due { IsPlainRole (sample [] true) (codes "-x" ∷ []) (Some (value 3)) }
+    ensures one_more_value { IsPlainRole (sample [] true) (codes "-x" ∷ codes "a" ∷ [])
+        (Some (value 3)) }
+    ensures after_the_separator { IsPlainRole (sample (files ∷ []) true) (codes "--" ∷ [])
+        (Some argument) }
+    ensures after_a_mistake { IsPlainRole (sample (files ∷ []) true) (codes "-z" ∷ []) None }
+{}
+
+// What it would not be.
+fn plain_words_have_no_other_role()
+    ensures after_a_flag { IsPlainRole (sample (files ∷ []) true) (codes "-v" ∷ []) None → ⊥ }
+    ensures no_more_positionals { (role : Role)
+        → IsPlainRole (sample [] true) (codes "-v" ∷ []) (Some role) → ⊥ }
+    ensures after_an_optional_value { IsPlainRole (sample (files ∷ []) true) (codes "-b" ∷ [])
+        (Some (value 2)) → ⊥ }
+    ensures value_due { IsPlainRole (sample [] true) (codes "-o" ∷ []) (Some argument) → ⊥ }
+    ensures first_value_due { IsPlainRole (sample [] true) (codes "-x" ∷ []) None → ⊥ }
+    ensures one_more_value { IsPlainRole (sample (files ∷ []) true)
+        (codes "-x" ∷ codes "a" ∷ []) (Some argument) → ⊥ }
+    ensures after_the_separator { IsPlainRole (sample (files ∷ []) true) (codes "--" ∷ []) None
+        → ⊥ }
+    ensures after_a_mistake { (role : Role)
+        → IsPlainRole (sample (files ∷ []) true) (codes "-z" ∷ []) (Some role) → ⊥ }
+{}
+
+// What a word that begins with a dash would be.
+fn dashed_words_have_roles()
+    ensures after_a_flag { IsDashedRole (sample (files ∷ []) true) (codes "-v" ∷ []) None }
+    ensures after_an_optional_value { IsDashedRole (sample (files ∷ []) true) (codes "-b" ∷ [])
+        None }
+    ensures value_due { IsDashedRole (sample [] true) (codes "-o" ∷ []) (Some (value 1)) }
+    ensures first_value_due { IsDashedRole (sample [] true) (codes "-x" ∷ []) None }
+    ensures one_more_value { IsDashedRole (sample [] true) (codes "-x" ∷ codes "a" ∷ []) None }
+    ensures after_the_separator { IsDashedRole (sample (files ∷ []) true) (codes "--" ∷ [])
+        (Some argument) }
+    ensures after_a_mistake { IsDashedRole (sample (files ∷ []) true) (codes "-z" ∷ []) None }
+{}
+
+// What it would not be.
+fn dashed_words_have_no_other_role()
+    ensures after_a_flag { (role : Role)
+        → IsDashedRole (sample (files ∷ []) true) (codes "-v" ∷ []) (Some role) → ⊥ }
+    ensures after_an_optional_value { (role : Role)
+        → IsDashedRole (sample (files ∷ []) true) (codes "-b" ∷ []) (Some role) → ⊥ }
+    ensures value_due { IsDashedRole (sample [] true) (codes "-o" ∷ []) None → ⊥ }
+    ensures not_an_argument { IsDashedRole (sample [] true) (codes "-o" ∷ []) (Some argument)
+        → ⊥ }
+    ensures first_value_due { (role : Role)
+        → IsDashedRole (sample [] true) (codes "-x" ∷ []) (Some role) → ⊥ }
+    ensures one_more_value { (role : Role)
+        → IsDashedRole (sample [] true) (codes "-x" ∷ codes "a" ∷ []) (Some role) → ⊥ }
+    ensures after_the_separator { IsDashedRole (sample (files ∷ []) true) (codes "--" ∷ []) None
+        → ⊥ }
+    ensures after_a_mistake { (role : Role)
+        → IsDashedRole (sample (files ∷ []) true) (codes "-z" ∷ []) (Some role) → ⊥ }
+{}
+
+// What was typed first decides which of the two counts.
+fn words_have_roles()
+    ensures plain { HasRole (sample (files ∷ []) true) (codes "-v" ∷ []) (codes "f")
+        (Some argument) }
+    ensures nothing_typed { HasRole (sample (files ∷ []) true) (codes "-v" ∷ []) []
+        (Some argument) }
+    ensures dash { HasRole (sample (files ∷ []) true) (codes "-v" ∷ []) (codes "-") None }
+    ensures not_none { HasRole (sample (files ∷ []) true) (codes "-v" ∷ []) (codes "f") None
+        → ⊥ }
+    ensures not_after_a_dash { HasRole (sample (files ∷ []) true) (codes "-v" ∷ []) (codes "-")
+        (Some argument) → ⊥ }
 {}
 
 #[test]

@@ -1,18 +1,17 @@
-use Rattle.std.proofs.Common.{◌≡◌, ℕ, List, [], ◌∷◌, ◌++◌, true, Some, None, codes, refl, sym, ◌∙◌, inl}
-use Rattle.lexopt_spec.specs.Steps.{nothing_to_take}
-use Rattle.lexopt_spec.specs.Runs.{value, values}
+use Rattle.std.proofs.Common.{◌≡◌, [], ◌∷◌, true, codes, refl, sym, ◌∙◌, inl}
+use Rattle.lexopt_spec.specs.Runs.{values}
 use Rattle.lexopt_line_spec.specs.Table as spec
 use Rattle.lexopt_line_spec.specs.Table.{short, kind}
 use Rattle.lexopt_line_spec.specs.Spelling.{separator}
 use Rattle.lexopt_line_spec.proofs.Computing.{computing}
 use Rattle.lexopt_line_spec.proofs.Worked.{reads_first, misses_values}
-use Rattle.lexopt_options_spec.specs.Legal.{Said, SaysFront, positional}
+use Rattle.lexopt_options_spec.specs.Legal.{SaysFront, positional}
 use Rattle.lexopt_options_spec.specs.Stops.{StopsAt, unknown_option, missing_value, missing_argument, not_declared, no_value}
-use Rattle.lexopt_options_spec.specs.Completion.{CanStand, IsOpen}
 use Rattle.lexopt_options_spec.proofs.Fronts.{no_front, one_front}
 use Rattle.lexopt_options_spec.proofs.Stands.{stands_open}
 use Rattle.lexopt_laws.specs.Sample.{sample, files}
 use Rattle.lexopt_laws.proofs.WorkedOpen.{not_offered}
+use Rattle.lexopt_laws.proofs.WorkedRoles.{says_no_value, closed}
 use Rattle.lexopt_laws.proofs.WorkedSays.{front_of}
 use Rattle.lexopt_laws.proofs.WorkedStops.{at_first}
 use Rattle.lexopt_laws.proofs.option_examples.options_cannot_stand.Goals as goal
@@ -34,13 +33,6 @@ unfolding computing
 returns-clause-separator c = not_offered _ _ (codes "--") refl
 
 -- `-o`
-says_no_value : (l : List Said) → SaysFront (sample [] true) (codes "-o" ∷ []) l → ⊥
-unfolding kind computing
-says_no_value l says =
-    let stops : StopsAt (sample [] true) (codes "-o" ∷ []) [] (missing_value 1 (codes "-o")) =
-    at_first (no_value (short 0x6F) 1 (codes "-o") value _ _ (inl (reads_first _ 0x6F [] [] refl refl refl refl)) refl refl (inl (nothing_to_take refl refl refl refl))) in
-    no_front _ _ [] (missing_value 1 (codes "-o")) stops (λ count same. let e : missing_value 1 (codes "-o") ≡ missing_argument count = same in cc) l says
-
 pub returns-clause-value_due : goal.returns-clause-value_due
 returns-clause-value_due c s stands = says_no_value stands.before stands.words_say
 
@@ -64,13 +56,6 @@ returns-clause-after_a_mistake c s stands =
     no_front _ _ [] (unknown_option (short 0x7A)) stops (λ count same. let e : unknown_option (short 0x7A) ≡ missing_argument count = same in cc) stands.before stands.words_say
 
 -- `--`, and with another one
-closed : (l : List Said) → IsOpen (sample (files ∷ []) true) (codes "--" ∷ []) l → ⊥
-closed l is =
-    let one : SaysFront (sample (files ∷ []) true) (codes "--" ∷ []) [] = front_of [] (separator []) refl tt in
-    let two : SaysFront (sample (files ∷ []) true) (codes "--" ∷ codes "--" ∷ []) (positional (codes "--") ∷ []) =
-    front_of (spec.positional (codes "--") ∷ []) (separator (codes "--" ∷ [])) refl tt in
-    let e : [] ≡ positional (codes "--") ∷ [] = sym (one_front _ _ l [] is.front one) ∙ one_front _ _ l (positional (codes "--") ∷ []) is.with_separator two in cc
-
 pub returns-clause-not_open : goal.returns-clause-not_open
 returns-clause-not_open c = closed
 

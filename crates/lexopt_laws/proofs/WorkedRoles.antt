@@ -1,0 +1,171 @@
+-- What a word would be after short lines.
+use Rattle.std.proofs.Common.{◌≡◌, ℕ, true, List, [], ◌∷◌, ◌++◌, Some, None, codes, refl, ap, subst, ◌∙◌, inl, lit≤}
+use Rattle.lexopt_spec.specs.UnreadLine.{dash}
+use Rattle.lexopt_spec.specs.Steps.{nothing_to_take, joined_value}
+use Rattle.lexopt_spec.specs.Runs.{value, values}
+use Rattle.lexopt_line_spec.specs.Table as spec
+use Rattle.lexopt_line_spec.specs.Table.{Item, short, long, kind}
+use Rattle.lexopt_line_spec.specs.Spelling as lines
+use Rattle.lexopt_line_spec.specs.Spelling.{nothing, no_value, no_optional, several_words, nothing_more, no_words, separator}
+use Rattle.lexopt_line_spec.proofs.Computing.{computing}
+use Rattle.lexopt_line_spec.proofs.Worked.{last_of, cluster_line, joined_line, plain_line, plain_front_is, some, reads_first, reads_joined, reads_plain, misses_values}
+use Rattle.lexopt_options_spec.specs.Declaration.{Declaration, Positional}
+use Rattle.lexopt_options_spec.specs.Legal.{Said, SaysFront, IsWithin, most, option, several, positional}
+use Rattle.lexopt_options_spec.specs.Stops.{Mistake, StopsAt, unknown_option, missing_value, unexpected_value, unexpected_argument, missing_argument, not_declared, value_of_flag, one_too_many}
+use Rattle.lexopt_options_spec.specs.Stops as stop
+use Rattle.lexopt_options_spec.specs.Completion.{IsOpen, IsPlainRole, IsDashedRole, Role, role_of}
+use Rattle.lexopt_options_spec.proofs.Fronts.{no_front, one_front}
+use Rattle.lexopt_laws.specs.Sample.{sample, files}
+use Rattle.lexopt_laws.proofs.WorkedSays.{front_of}
+use Rattle.lexopt_laws.proofs.WorkedOpen.{open_of}
+use Rattle.lexopt_laws.proofs.WorkedStops.{at_first, after_flag}
+
+-- ---- the last of what is said
+
+no_last : (l : List Said) (s : Said) → [] ≡ l ++ s ∷ [] → ⊥
+no_last [] s is = let e : [] ≡ s ∷ [] = is in cc
+no_last (x ∷ l) s is = let e : [] ≡ x ∷ (l ++ s ∷ []) = is in cc
+
+same_last : (l m : List Said) (s t : Said) → l ++ s ∷ [] ≡ m ++ t ∷ [] → s ≡ t
+same_last [] [] s t is = let e : s ∷ [] ≡ t ∷ [] = is in cc
+same_last [] (y ∷ m) s t is = let e : s ∷ [] ≡ y ∷ (m ++ t ∷ []) = is in let rest : [] ≡ m ++ t ∷ [] = cc in absurd (no_last m t rest)
+same_last (x ∷ l) [] s t is = let e : x ∷ (l ++ s ∷ []) ≡ t ∷ [] = is in let rest : [] ≡ l ++ s ∷ [] = cc in absurd (no_last l s rest)
+same_last (x ∷ l) (y ∷ m) s t is = let e : x ∷ (l ++ s ∷ []) ≡ y ∷ (m ++ t ∷ []) = is in let rest : l ++ s ∷ [] ≡ m ++ t ∷ [] = cc in same_last l m s t rest
+
+-- ---- roles
+
+-- the words with the empty word say this, so it is what this makes it, and nothing else
+pub plain_is : (d : Declaration) (words : List (List ℕ)) (before : List Said) (s : Said) → SaysFront d (words ++ [] ∷ []) (before ++ s ∷ []) → (r : Role) → IsPlainRole d words (Some r) → role_of s ≡ r
+plain_is d words before s says r (others, t, other, is) =
+    ap role_of (same_last before others s t (one_front d (words ++ [] ∷ []) (before ++ s ∷ []) (others ++ t ∷ []) says other)) ∙ is
+
+pub dashed_is : (d : Declaration) (words : List (List ℕ)) (before : List Said) (s : Said) → SaysFront d (words ++ (dash ∷ dash ∷ []) ∷ []) (before ++ s ∷ []) → (r : Role)
+    → IsDashedRole d words (Some r) → role_of s ≡ r
+dashed_is d words before s says r (others, t, other, unsaid, is) =
+    ap role_of (same_last before others s t (one_front d (words ++ (dash ∷ dash ∷ []) ∷ []) (before ++ s ∷ []) (others ++ t ∷ []) says other)) ∙ is
+
+-- a separator says nothing more
+pub open_dashed : (d : Declaration) (words : List (List ℕ)) (l : List Said) → IsOpen d words l → IsDashedRole d words None
+open_dashed d words l is before s says = subst (SaysFront d words) (one_front d (words ++ (dash ∷ dash ∷ []) ∷ []) l (before ++ s ∷ []) is.with_separator says) is.front
+
+pub not_dashed : (d : Declaration) (words : List (List ℕ)) → IsDashedRole d words None → (r : Role) → IsDashedRole d words (Some r) → ⊥
+not_dashed d words none r (before, s, says, unsaid, is) = unsaid (none before s says)
+
+-- ---- lines with the empty word
+
+-- `-v`
+pub flag_empty : SaysFront (sample (files ∷ []) true) (codes "-v" ∷ [] ∷ []) (option 0 None ∷ positional [] ∷ [])
+unfolding kind computing
+flag_empty = front_of (spec.option (short 0x76) None ∷ spec.positional [] ∷ [])
+    (cluster_line (codes "v") _ refl (last_of 0x76 [] nothing _ refl (nothing_more refl refl) (no_value refl refl refl)) (plain_line [] refl no_words)) refl tt
+
+pub no_flag_empty : (l : List Said) → SaysFront (sample [] true) (codes "-v" ∷ [] ∷ []) l → ⊥
+unfolding kind computing
+no_flag_empty l says =
+    let stops : StopsAt (sample [] true) (codes "-v" ∷ [] ∷ []) (option 0 None ∷ []) (unexpected_argument []) =
+    after_flag (short 0x76) 0 _ refl refl (lit≤ tt) (inl (reads_first _ 0x76 [] ([] ∷ []) refl refl refl refl)) (one_too_many [] _ (inl (reads_plain _ [] [] refl refl refl refl)) refl) in
+    no_front _ _ (option 0 None ∷ []) (unexpected_argument []) stops (λ count same. let e : unexpected_argument [] ≡ missing_argument count = same in cc) l says
+
+-- `-b`
+pub optional_empty : SaysFront (sample (files ∷ []) true) (codes "-b" ∷ [] ∷ []) (option 2 None ∷ positional [] ∷ [])
+unfolding kind computing
+optional_empty = front_of (spec.option (short 0x62) None ∷ spec.positional [] ∷ [])
+    (cluster_line (codes "b") _ refl (last_of 0x62 [] nothing _ refl (nothing_more refl refl) (no_optional refl refl refl)) (plain_line [] refl no_words)) refl tt
+
+-- `-o`
+pub value_empty : SaysFront (sample [] true) (codes "-o" ∷ [] ∷ []) (option 1 (Some []) ∷ [])
+unfolding kind computing
+value_empty = front_of (spec.option (short 0x6F) (Some []) ∷ [])
+    (cluster_line (codes "o") _ refl (last_of 0x6F [] nothing _ refl (nothing_more refl refl) (lines.next_word [] refl refl refl)) no_words) refl (lit≤ tt)
+
+-- `-x`
+pub several_empty : SaysFront (sample [] true) (codes "-x" ∷ [] ∷ []) (several 3 ([] ∷ []) ∷ [])
+unfolding kind computing
+several_empty = front_of (spec.many (short 0x78) ([] ∷ []) ∷ [])
+    (cluster_line (codes "x") _ refl (last_of 0x78 [] nothing _ refl (nothing_more refl refl) (several_words ([] ∷ []) refl (plain_front_is _ [] refl refl) (some _ _) refl)) no_words)
+    refl (lit≤ tt)
+
+-- `-x a`
+pub more_empty : (positionals : List Positional) → IsWithin 0 (most positionals) → SaysFront (sample positionals true) (codes "-x" ∷ codes "a" ∷ [] ∷ []) (several 3 (codes "a" ∷ [] ∷ []) ∷ [])
+unfolding kind computing
+more_empty positionals within = front_of (spec.many (short 0x78) (codes "a" ∷ [] ∷ []) ∷ [])
+    (cluster_line (codes "x") _ refl
+    (last_of 0x78 [] nothing _ refl (nothing_more refl refl) (several_words (codes "a" ∷ [] ∷ []) refl (plain_front_is _ [] refl refl) (some _ _) refl)) no_words)
+    refl within
+
+-- `--`
+pub separator_empty : SaysFront (sample (files ∷ []) true) (codes "--" ∷ [] ∷ []) (positional [] ∷ [])
+separator_empty = front_of (spec.positional [] ∷ []) (separator ([] ∷ [])) refl tt
+
+-- `-z`, and whatever stands after it
+pub no_unknown : (more : List (List ℕ)) (l : List Said) → SaysFront (sample (files ∷ []) true) (codes "-z" ∷ more) l → ⊥
+unfolding kind computing
+no_unknown more l says =
+    let stops : StopsAt (sample (files ∷ []) true) (codes "-z" ∷ more) [] (unknown_option (short 0x7A)) =
+    at_first (not_declared (short 0x7A) _ (inl (reads_first _ 0x7A [] more refl refl refl refl)) refl) in
+    no_front _ _ [] (unknown_option (short 0x7A)) stops (λ count same. let e : unknown_option (short 0x7A) ≡ missing_argument count = same in cc) l says
+
+-- ---- lines with a separator
+
+-- `-v` and `-b` before a positional
+pub open_flag : IsOpen (sample (files ∷ []) true) (codes "-v" ∷ []) (option 0 None ∷ [])
+unfolding kind computing
+open_flag = open_of (spec.option (short 0x76) None ∷ []) (cluster_line (codes "v") _ refl (last_of 0x76 [] nothing _ refl (nothing_more refl refl) (no_value refl refl refl)) no_words)
+    (cluster_line (codes "v") _ refl (last_of 0x76 [] nothing _ refl (nothing_more refl refl) (no_value refl refl refl)) (separator [])) refl tt
+
+pub open_optional : IsOpen (sample (files ∷ []) true) (codes "-b" ∷ []) (option 2 None ∷ [])
+unfolding kind computing
+open_optional = open_of (spec.option (short 0x62) None ∷ [])
+    (cluster_line (codes "b") _ refl (last_of 0x62 [] nothing _ refl (nothing_more refl refl) (no_optional refl refl refl)) no_words)
+    (cluster_line (codes "b") _ refl (last_of 0x62 [] nothing _ refl (nothing_more refl refl) (no_optional refl refl refl)) (separator [])) refl tt
+
+-- `-o`
+pub says_no_value : (l : List Said) → SaysFront (sample [] true) (codes "-o" ∷ []) l → ⊥
+unfolding kind computing
+says_no_value l says =
+    let stops : StopsAt (sample [] true) (codes "-o" ∷ []) [] (missing_value 1 (codes "-o")) =
+    at_first (stop.no_value (short 0x6F) 1 (codes "-o") value _ _ (inl (reads_first _ 0x6F [] [] refl refl refl refl)) refl refl (inl (nothing_to_take refl refl refl refl))) in
+    no_front _ _ [] (missing_value 1 (codes "-o")) stops (λ count same. let e : missing_value 1 (codes "-o") ≡ missing_argument count = same in cc) l says
+
+pub value_dashes : SaysFront (sample [] true) (codes "-o" ∷ codes "--" ∷ []) (option 1 (Some (codes "--")) ∷ [])
+unfolding kind computing
+value_dashes = front_of (spec.option (short 0x6F) (Some (codes "--")) ∷ [])
+    (cluster_line (codes "o") _ refl (last_of 0x6F [] nothing _ refl (nothing_more refl refl) (lines.next_word (codes "--") refl refl refl)) no_words) refl (lit≤ tt)
+
+-- `-x`
+pub no_several_dashes : (l : List Said) → SaysFront (sample [] true) (codes "-x" ∷ codes "--" ∷ []) l → ⊥
+unfolding kind computing
+no_several_dashes l says =
+    let stops : StopsAt (sample [] true) (codes "-x" ∷ codes "--" ∷ []) [] (missing_value 3 (codes "-x")) =
+    at_first (stop.no_value (short 0x78) 3 (codes "-x") (values 1) _ _ (inl (reads_first _ 0x78 [] (codes "--" ∷ []) refl refl refl refl)) refl (1, refl) (inl (misses_values 1 _ refl refl))) in
+    no_front _ _ [] (missing_value 3 (codes "-x")) stops (λ count same. let e : missing_value 3 (codes "-x") ≡ missing_argument count = same in cc) l says
+
+-- `--`, and with another one
+pub separator_says : SaysFront (sample (files ∷ []) true) (codes "--" ∷ []) []
+separator_says = front_of [] (separator []) refl tt
+
+pub separator_dashes : SaysFront (sample (files ∷ []) true) (codes "--" ∷ codes "--" ∷ []) (positional (codes "--") ∷ [])
+separator_dashes = front_of (spec.positional (codes "--") ∷ []) (separator (codes "--" ∷ [])) refl tt
+
+pub separator_unsaid : ¬ SaysFront (sample (files ∷ []) true) (codes "--" ∷ []) (positional (codes "--") ∷ [])
+separator_unsaid says = let e : [] ≡ positional (codes "--") ∷ [] = one_front _ _ [] (positional (codes "--") ∷ []) separator_says says in cc
+
+pub closed : (l : List Said) → IsOpen (sample (files ∷ []) true) (codes "--" ∷ []) l → ⊥
+closed l is =
+    let e : [] ≡ positional (codes "--") ∷ [] = one_front _ _ [] l separator_says is.front ∙ one_front _ _ l (positional (codes "--") ∷ []) is.with_separator separator_dashes in cc
+
+-- ---- values after `=`
+
+pub output_says : SaysFront (sample [] true) (codes "--output=fi" ∷ []) (option 1 (Some (codes "fi")) ∷ [])
+unfolding kind computing
+output_says = front_of (spec.option (long (codes "output")) (Some (codes "fi")) ∷ [])
+    (joined_line (codes "output") (codes "fi") _ refl (codes "output", (refl, refl)) (lines.joined_value (codes "fi") refl refl refl) no_words) refl (lit≤ tt)
+
+pub verbose_says_nothing : (l : List Said) → SaysFront (sample [] true) (codes "--verbose=fi" ∷ []) l → ⊥
+unfolding kind computing
+verbose_says_nothing l says =
+    let stops : StopsAt (sample [] true) (codes "--verbose=fi" ∷ []) (option 0 None ∷ []) (unexpected_value (codes "--verbose") (codes "fi")) =
+    after_flag (long (codes "verbose")) 0 _ refl refl (lit≤ tt) (inl (reads_joined _ (codes "verbose") (codes "fi") [] refl refl refl refl))
+    (value_of_flag (codes "--verbose") (codes "fi") _ (inl (joined_value (codes "fi") (codes "--verbose") refl refl refl refl))) in
+    no_front _ _ (option 0 None ∷ []) (unexpected_value (codes "--verbose") (codes "fi")) stops
+    (λ count same. let e : unexpected_value (codes "--verbose") (codes "fi") ≡ missing_argument count = same in cc) l says
