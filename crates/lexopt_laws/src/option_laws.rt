@@ -5,8 +5,8 @@ ghost use Rattle.lexopt_options_spec.specs.Legal.{Said, Says};
 ghost use Rattle.lexopt_options_spec.specs.Stops.{Mistake, StopsAt};
 
 /// Under a declaration words say exactly one list, or their reading stops at exactly one mistake,
-/// and never both. That one of the two holds is claimed of options that can be declared together;
-/// that there is no other answer, of any.
+/// and never both. That one of the two holds needs options that can be declared together. The rest
+/// holds of any options.
 pub fn each_line_says_something_or_stops()
     ensures some { (d : Declaration) (words : List (List ℕ)) → is_sound d.options ≡ true
         → ((l : List Said) × Says d words l)
