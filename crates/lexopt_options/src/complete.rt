@@ -41,7 +41,7 @@ pub struct Completion {
     /// The option whose value is typed there after `=`, if what was typed is a long option with `=`
     /// and an option can stand there.
     pub joined: Option<usize>,
-    /// What was typed is not UTF-8. No spelling begins with it.
+    /// What was typed is not UTF-8. There is no spelling then.
     pub is_damaged: bool,
 }
 
