@@ -8,9 +8,9 @@
 //! a line could not be printed; then standard error says why.
 #![tactic(auto)]
 
-use lexopt::options::help::WIDTH;
 use lexopt::options::{
-    Answer, Declared, HELP, Names, Options, OsString, Positional, Quoted, Refused, Said, arguments,
+    Answer, Declared, HELP, Names, Options, OsString, Positional, Quoted, Refused, Said, WIDTH,
+    arguments,
 };
 use std::io;
 use std::process::ExitCode;

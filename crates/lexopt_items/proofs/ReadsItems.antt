@@ -1,6 +1,5 @@
 -- The turns of `read_items`.
 use Rattle.std.proofs.Common.{◌≡◌, ◌<◌, ◌||◌, ℕ, Bool, true, false, List, [], ◌∷◌, map, Option, Some, None, refl, sym, ap, subst, ◌∙◌, arith, inl, inr, ⊎_elim, true≢false, ◌++◌, ◌⊎◌, append-nil, string_bytes, String, Global}
-use Rattle.std.specs.List.{list_any}
 use Rattle.lexopt_spec.specs.UnreadLine.{UnreadLine}
 use Rattle.lexopt_spec.specs.Steps as steps
 use Rattle.lexopt_spec.specs.Steps.{Reply, Next}
@@ -29,10 +28,6 @@ use Rattle.lexopt_items.specs.declared.values.Values.{Values}
 use Rattle.lexopt_items.specs.declared.values.Values.TheVariants.{AtMostOne, All}
 use Rattle.lexopt_calls.specs.Replies.{next_view}
 use Rattle.lexopt_items.specs.Items.{ReadsItem, ReadsInto, ReadsValues, ValuesEndBy, EndsBy, FailsWith, item_with, kind_view}
-
-pub list_any-map : {X Y : Type 0} (f : X → Y) (p : Y → Bool) (xs : List X) → list_any p (map f xs) ≡ list_any (λ x. p (f x)) xs
-list_any-map f p [] = refl
-list_any-map f p (x ∷ xs) = ap (λ b. p (f x) || b) (list_any-map f p xs)
 
 -- ---- the kind of an option
 

@@ -1,3 +1,4 @@
+pub mod Lists
 pub mod ScriptLemmas
 pub mod WrittenLines
 pub mod RunLemmas

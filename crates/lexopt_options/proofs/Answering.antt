@@ -4,7 +4,7 @@ use Rattle.std.specs.List.{list_any}
 use Rattle.std.proofs.lemmas.Bool.{false≢true}
 use Rattle.std.proofs.lemmas.List.{get_or-drop, take_all, take_more}
 use Rattle.lexopt_line_spec.specs.Table.{long}
-use Rattle.lexopt_items.proofs.ReadsItems.{list_any-map}
+use Rattle.lexopt_line_spec.proofs.Lists.{list_any-map}
 use Rattle.lexopt_options_spec.specs.Declaration.{index_of}
 use Rattle.lexopt_options_spec.specs.Legal as legal
 use Rattle.lexopt_options_spec.specs.Stops as stops
@@ -12,18 +12,18 @@ use Rattle.lexopt_options_spec.specs.Stops.{StopsAt}
 use Rattle.lexopt_options.specs.declared.answer.Answer.{Answer}
 use Rattle.lexopt_options.specs.declared.answer.Answer.TheVariants as answer
 use Rattle.lexopt_options.specs.declared.complete.Completion.{Completion}
-use Rattle.lexopt_options.specs.declared.declaration.Declared.{Declared}
-use Rattle.lexopt_options.specs.declared.declaration.Options.{Options}
+use Rattle.lexopt_declaration.specs.declared.declaration.Declared.{Declared}
+use Rattle.lexopt_options.specs.declared.options.Options.{Options}
 use Rattle.lexopt_options.specs.declared.mistake.Mistake.TheVariants.{OutOfMemory}
 use Rattle.lexopt_options.specs.declared.mistake.Refused.{Refused}
 use Rattle.lexopt_options.specs.declared.said.Said.{Said}
-use Rattle.lexopt_options.specs.declared.shell.Shell.{Shell}
+use Rattle.lexopt_declaration.specs.declared.shell.Shell.{Shell}
 use Rattle.lexopt_options.specs.Answers.{AskForHelp, AsksForScript, IsAnswer, IsHelpAnswer, IsNoMemory, IsOrdinary, IsShellText, asks_for_help, is_said_among, is_said_of}
 use Rattle.lexopt_options.specs.Declarations.{declaration_of}
 use Rattle.lexopt_options.specs.Lines.{IsMistake, IsRefused}
-use Rattle.lexopt_options.specs.Models.{option_view}
+use Rattle.lexopt_declaration.specs.Models.{option_view}
 use Rattle.lexopt_options.specs.Reading.{said_view}
-use Rattle.lexopt_options.specs.Scripts.{shell_name}
+use Rattle.lexopt_declaration.specs.Scripts.{shell_name}
 
 -- ---- whether help is asked for
 

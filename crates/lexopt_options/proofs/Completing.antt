@@ -16,7 +16,7 @@ use Rattle.lexopt_options_spec.proofs.Fronts.{one_front}
 use Rattle.lexopt_options_spec.proofs.OpenLines.{dashes}
 use Rattle.lexopt_options_spec.proofs.Stands.{same_open, stands_open}
 use Rattle.lexopt_options_spec.proofs.Offered.{kept, keeps, offered_stands, stands_offered}
-use Rattle.lexopt_options.specs.declared.declaration.Options.{Options}
+use Rattle.lexopt_options.specs.declared.options.Options.{Options}
 use Rattle.lexopt_options.specs.declared.complete.Role.{Role}
 use Rattle.lexopt_options.specs.declared.said.Said.{Said}
 use Rattle.lexopt_options.specs.Completions.{SameLength}

@@ -1,10 +1,5 @@
-pub mod Faults
-pub mod Positions
-pub mod Counting
 pub mod NoValue
 pub mod ReadNext
 pub mod WholeLines
-pub mod Rows
-pub mod Candidates
 pub mod Completing
 pub mod Answering

@@ -12,7 +12,7 @@ use Rattle.lexopt_options_spec.specs.Legal.{Says, SaysFront, least, positional_c
 use Rattle.lexopt_options_spec.specs.Stops as stops
 use Rattle.lexopt_options_spec.specs.Stops.{StopsAt, Stops, required_placeholder}
 use Rattle.lexopt_options_spec.proofs.Fronts.{front_said, no_front, nothing_said, one_front}
-use Rattle.lexopt_options.specs.declared.declaration.Options.{Options}
+use Rattle.lexopt_options.specs.declared.options.Options.{Options}
 use Rattle.lexopt_options.specs.declared.mistake.Mistake.{Mistake}
 use Rattle.lexopt_options.specs.declared.mistake.Mistake.TheVariants.{MissingArgument, OutOfMemory}
 use Rattle.lexopt_options.specs.declared.mistake.Refused.{Refused}

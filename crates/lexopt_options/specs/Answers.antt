@@ -15,14 +15,14 @@ use Rattle.lexopt_options.specs.declared.answer.Answer.{Answer}
 use Rattle.lexopt_options.specs.declared.answer.Answer.TheVariants as answer
 use Rattle.lexopt_options.specs.declared.complete.Completion.{Completion}
 use Rattle.lexopt_options.specs.declared.complete.Role.{Role}
-use Rattle.lexopt_options.specs.declared.declaration.Options.{Options}
+use Rattle.lexopt_options.specs.declared.options.Options.{Options}
 use Rattle.lexopt_options.specs.declared.mistake.Mistake.TheVariants.{OutOfMemory}
-use Rattle.lexopt_options.specs.declared.shell.Shell.{Shell}
+use Rattle.lexopt_declaration.specs.declared.shell.Shell.{Shell}
 use Rattle.lexopt_options.specs.Declarations.{declaration_of}
 use Rattle.lexopt_options.specs.Lines.{IsRefused, LineSays}
 use Rattle.lexopt_options.specs.Reading.{said_view}
 use Rattle.lexopt_options.specs.Roles.{role_view}
-use Rattle.lexopt_options.specs.Scripts.{shell_name, shell_script}
+use Rattle.lexopt_declaration.specs.Scripts.{shell_name, shell_script}
 
 -- ---- what a shell asks for
 

@@ -4,7 +4,7 @@ use Rattle.std.specs.Global.{Global}
 use Rattle.lexopt_line_spec.specs.Readings.{start}
 use Rattle.lexopt_options_spec.specs.Legal as legal
 use Rattle.lexopt_options_spec.specs.Legal.{SaysFront, positional_count}
-use Rattle.lexopt_options.specs.declared.declaration.Options.{Options}
+use Rattle.lexopt_options.specs.declared.options.Options.{Options}
 use Rattle.lexopt_options.specs.declared.read.Stop.{Stop}
 use Rattle.lexopt_options.specs.declared.said.Said.{Said}
 use Rattle.lexopt_options.specs.Declarations.{declaration_of}

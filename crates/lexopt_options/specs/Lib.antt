@@ -1,16 +1,12 @@
-pub mod Models
 pub mod Declarations
 pub mod Tables
 pub mod Reading
 pub mod Messages
 pub mod Lines
 pub mod Fronts
-pub mod Rows
-pub mod Candidates
 pub mod Names
 pub mod Completions
 pub mod Roles
 pub mod Invalid
 pub mod Values
-pub mod Scripts
 pub mod Answers

@@ -7,11 +7,11 @@ ghost use Rattle.lexopt_options.specs.Reading.{said_view};
 ghost use Rattle.std.specs.List.{list_any};
 
 use crate::complete::Completion;
-use crate::declaration::Options;
 use crate::mistake::{Mistake, Refused};
+use crate::options::Options;
 use crate::said::Said;
-use crate::shell::{Script, Shell};
-use crate::table::index_of_long;
+use lexopt_declaration::lookup::index_of_long;
+use lexopt_declaration::shell::{Script, Shell};
 use lexopt_words::os_string::OsString;
 use std::alloc::{AllocError, Global};
 

@@ -4,23 +4,24 @@
 
 pub mod answer;
 pub mod complete;
-pub mod declaration;
-pub mod help;
 pub mod mistake;
-mod nearest;
-mod positionals;
+pub mod options;
 mod read;
 pub mod said;
-pub mod shell;
 mod table;
 
 pub use answer::Answer;
 pub use complete::{Completion, Role};
-pub use declaration::{
-    Count, DeclarationError, Declared, HELP, Kind, Names, Options, Positional, Reason, VERSION,
-};
 pub use mistake::{Mistake, OptionName, Refused};
+pub use options::Options;
 pub use said::Said;
+
+// What a declaration is made of, and the scripts for shells.
+pub use lexopt_declaration::declaration::{
+    Count, DeclarationError, Declared, HELP, Kind, Names, Positional, Reason, VERSION,
+};
+pub use lexopt_declaration::help::WIDTH;
+pub use lexopt_declaration::shell::{Script, Shell};
 
 // What a program that declares its options needs besides.
 pub use lexopt_words::error::Error;

@@ -1,17 +1,16 @@
 //! What can be wrong with a line, and what is printed about it.
-ghost use Rattle.std.specs.Prelude.{◌≡◌, IfOk, map, option_map};
-ghost use Rattle.lexopt_options_spec.specs.Nearest as spec;
+ghost use Rattle.std.specs.Prelude.{IfOk, map, option_map};
 ghost use Rattle.lexopt_options_spec.specs.Nearest.{IsHint};
 ghost use Rattle.std.specs.Fmt.{WritesOnOk};
-ghost use Rattle.lexopt_options.specs.Invalid.{for_option, invalid_message};
+ghost use Rattle.lexopt_options.specs.Invalid.{for_option, invalid_message, value_message};
+ghost use Rattle.lexopt_options.specs.Invalid.{what_message, why_message};
 ghost use Rattle.lexopt_options.specs.Names.{name_view};
-ghost use Rattle.lexopt_options_spec.specs.Stops.{placeholder_at, required_placeholder};
-ghost use Rattle.lexopt_options.specs.Models.{option_view, positional_view};
+ghost use Rattle.lexopt_declaration.specs.Models.{option_view};
 
-use crate::declaration::{Declared, Kind, Names, Positional};
-use crate::nearest::nearest;
-use crate::positionals::is_required;
 use crate::said::Said;
+use lexopt_declaration::declaration::{Declared, Names};
+use lexopt_declaration::lookup::long_name_of;
+use lexopt_declaration::nearest::nearest;
 use lexopt_words::error::Error;
 use lexopt_words::message::{write_no_memory, write_unexpected_value};
 use lexopt_words::os_string::{OsString, Quoted};
@@ -114,34 +113,23 @@ impl fmt::Display for Mistake<'_> {
     }
 }
 
-// Writes that a value is invalid, for this option if there is one, and why.
-fn write_invalid<W: fmt::Write>(
-    option: Option<Names<'_>>,
-    error: &Error,
-    f: &mut fmt::Formatter<W>,
-) -> fmt::Result
-    ensures { WritesOnOk W.write_str_gives f.old result (invalid_message option.entry error.now)
-        f.new }
+// Writes that a value is invalid, and shows it if the error has it.
+fn write_what<W: fmt::Write>(error: &Error, f: &mut fmt::Formatter<W>) -> fmt::Result
+    ensures { WritesOnOk W.write_str_gives f.old result (what_message error.now) f.new }
 {
     match error {
-        Error::ParsingFailed { value, error } => {
-            let value = Quoted::new(value.as_bytes());
-            write!(f, "invalid value {value}")?;
-            write_option(option, f)?;
-            write!(f, ": {error}")
-        }
-        Error::NonUnicodeValue(value) => {
-            let value = Quoted::new(value.as_bytes());
-            write!(f, "invalid value {value}")?;
-            write_option(option, f)?;
-            f.write_str(": not UTF-8")
-        }
-        other => {
-            f.write_str("invalid value")?;
-            write_option(option, f)?;
-            write!(f, ": {other}")
-        }
+        Error::ParsingFailed { value, .. } => write_value(value.as_bytes(), f),
+        Error::NonUnicodeValue(value) => write_value(value.as_bytes(), f),
+        _ => f.write_str("invalid value"),
     }
+}
+
+// Writes that this value is invalid.
+fn write_value<W: fmt::Write>(value: &[u8], f: &mut fmt::Formatter<W>) -> fmt::Result
+    ensures { WritesOnOk W.write_str_gives f.old result (value_message value.now) f.new }
+{
+    let value = Quoted::new(value);
+    write!(f, "invalid value {value}")
 }
 
 // Writes for which option a value is, if there is one.
@@ -152,6 +140,31 @@ fn write_option<W: fmt::Write>(option: Option<Names<'_>>, f: &mut fmt::Formatter
         Some(names) => write!(f, " for '{names}'"),
         None => Ok(()),
     }
+}
+
+// Writes why a value is invalid.
+fn write_why<W: fmt::Write>(error: &Error, f: &mut fmt::Formatter<W>) -> fmt::Result
+    ensures { WritesOnOk W.write_str_gives f.old result (why_message error.now) f.new }
+{
+    match error {
+        Error::ParsingFailed { error, .. } => write!(f, ": {error}"),
+        Error::NonUnicodeValue(_) => f.write_str(": not UTF-8"),
+        other => write!(f, ": {other}"),
+    }
+}
+
+// Writes that a value is invalid, for this option if there is one, and why.
+fn write_invalid<W: fmt::Write>(
+    option: Option<Names<'_>>,
+    error: &Error,
+    f: &mut fmt::Formatter<W>,
+) -> fmt::Result
+    ensures { WritesOnOk W.write_str_gives f.old result (invalid_message option.entry error.now)
+        f.new }
+{
+    write_what(error, f)?;
+    write_option(option, f)?;
+    write_why(error, f)
 }
 
 /// A line that was refused.
@@ -188,34 +201,6 @@ impl Refused<'_> {
     pub const STATUS: u8 = 2;
 }
 
-impl<'a> Kind<'a> {
-    ghost use Rattle.std.specs.Prelude.{◌≡◌};
-    ghost use Rattle.lexopt_options.specs.Models.{placeholder_of};
-
-    /// What stands for its value: empty if it is a flag.
-    pub fn placeholder(self) -> &'a str
-        ensures { result.now ≡ placeholder_of self.entry }
-    {
-        match self {
-            Kind::Flag => "",
-            Kind::One(placeholder) | Kind::Optional(placeholder) | Kind::Several(placeholder) => {
-                placeholder
-            }
-        }
-    }
-}
-
-// The long name of the option of this index.
-fn long_name_at<'a>(options: &'a [Declared<'a>], found: Option<usize>) -> Option<&'a str>
-    ensures { option_map (λ name. name.now) result
-        ≡ spec.long_name_at (map option_view options.now) found }
-{
-    match options.get(found?) {
-        Some(option) => option.names.long(),
-        None => None,
-    }
-}
-
 /// The nearest declared name to one that is not declared.
 ///
 /// The only error is that memory ran out.
@@ -229,32 +214,6 @@ pub(crate) fn hint<'a>(
 {
     match name {
         OptionName::Short(_) => Ok(None),
-        OptionName::Long(name) => Ok(long_name_at(options, nearest(alloc, name, options)?)),
-    }
-}
-
-/// What stands for this one, counted from 0, of the positional arguments that have to stand.
-pub(crate) fn argument_placeholder<'a>(positionals: &'a [Positional<'a>], n: usize) -> &'a str
-    ensures { result.now ≡ required_placeholder (map positional_view positionals.now) n }
-{
-    let mut left = n;
-    for positional in positionals {
-        if is_required(positional) {
-            if left == 0 {
-                return positional.placeholder;
-            }
-            left -= 1;
-        }
-    }
-    ""
-}
-
-/// What stands for the value of the option of this index: nothing if there is none.
-pub(crate) fn option_placeholder<'a>(options: &'a [Declared<'a>], index: usize) -> &'a str
-    ensures { result.now ≡ placeholder_at (map option_view options.now) index }
-{
-    match options.get(index) {
-        Some(option) => option.kind.placeholder(),
-        None => "",
+        OptionName::Long(name) => Ok(long_name_of(options, nearest(alloc, name, options)?)),
     }
 }

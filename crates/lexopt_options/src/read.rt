@@ -17,16 +17,15 @@ ghost use Rattle.lexopt_items.specs.declared.kinds.Kind.{Kind};
 ghost use Rattle.lexopt_items.specs.declared.values.Values.{Values};
 ghost use Rattle.lexopt_line_spec.specs.Readings.{option_reply};
 
-use crate::declaration::{Declared, Names, Options};
-use crate::mistake::{
-    Mistake, OptionName, Refused, argument_placeholder, hint, option_placeholder,
-};
-use crate::positionals::{least_of, most_of};
+use crate::mistake::{Mistake, OptionName, Refused, hint};
+use crate::options::Options;
 use crate::said::Said;
-use crate::table::{index_of_long, index_of_short};
 use lexopt_base::parser::Parser;
 use lexopt_base::refusal::Refusal;
 use lexopt_calls::replay::{NextReply, call_next};
+use lexopt_declaration::declaration::Declared;
+use lexopt_declaration::lookup::{index_of_long, index_of_short, names_of, option_placeholder};
+use lexopt_declaration::positionals::{argument_placeholder, least_of, most_of};
 use lexopt_items::items::Table;
 use lexopt_items::kinds::{Kind, kind_of_long, kind_of_short};
 use lexopt_items::values::read_values;
@@ -252,16 +251,6 @@ fn mistake_of<'a>(alloc: Global, options: &Options<'a>, stop: Stop) -> Mistake<'
     }
 }
 
-// The names of the option of this index.
-fn names_at<'a>(options: &'a [Declared<'a>], index: Option<usize>) -> Option<Names<'a>>
-    ensures { result ≡ spec_values.names_at options.now index }
-{
-    match options.get(index?) {
-        Some(option) => Some(option.names),
-        None => None,
-    }
-}
-
 // The mistake of a value that could not be converted.
 fn invalid_mistake<'a>(
     options: &'a [Declared<'a>],
@@ -273,7 +262,7 @@ fn invalid_mistake<'a>(
     match error {
         Error::OutOfMemory => Mistake::OutOfMemory,
         error => Mistake::InvalidValue {
-            option: names_at(options, index),
+            option: names_of(options, index),
             error,
         },
     }

@@ -1,48 +1,15 @@
 //! The table of declared options, by which the line is read.
-ghost use Rattle.std.specs.Prelude.{◌≡◌, IfOk, OnOk, map, position};
-ghost use Rattle.lexopt_line_spec.specs.Table as table;
-ghost use Rattle.lexopt_options_spec.specs.Declaration.{index_of};
+ghost use Rattle.std.specs.Prelude.{◌≡◌, IfOk, OnOk};
 ghost use Rattle.lexopt_options_spec.specs.Declaration as spec;
 ghost use Rattle.lexopt_items.specs.Items.{table_view};
-ghost use Rattle.lexopt_options.specs.Models.{option_view};
+ghost use Rattle.lexopt_declaration.specs.Models.{option_view};
 ghost use Rattle.lexopt_options.specs.Tables.{AddsNames, AddsOption};
 ghost use Rattle.lexopt_options.specs.Declarations.{declaration_of};
 
-use crate::declaration::{Declared, Kind, Options};
+use crate::options::Options;
+use lexopt_declaration::declaration::{Declared, Kind};
 use lexopt_items::items::Table;
 use std::alloc::{AllocError, Global};
-
-// The place of the first option with this character.
-fn place_of_short(options: &[Declared<'_>], character: char) -> Option<usize>
-    ensures { result
-        ≡ position (λ o. spec.has_name (table.short character) (option_view o)) options.now }
-{
-    options
-        .iter()
-        .position(|option| option.names.is_short(character))
-}
-
-// The place of the first option with this name.
-fn place_of_long(options: &[Declared<'_>], name: &str) -> Option<usize>
-    ensures { result
-        ≡ position (λ o. spec.has_name (table.long name.now) (option_view o)) options.now }
-{
-    options.iter().position(|option| option.names.is_long(name))
-}
-
-/// Which option has this character, counted from 0: the first.
-pub(crate) fn index_of_short(options: &[Declared<'_>], character: char) -> Option<usize>
-    ensures { result ≡ index_of (map option_view options.now) (table.short character) }
-{
-    place_of_short(options, character)
-}
-
-/// Which option has this name, counted from 0: the first.
-pub(crate) fn index_of_long(options: &[Declared<'_>], name: &str) -> Option<usize>
-    ensures { result ≡ index_of (map option_view options.now) (table.long name.now) }
-{
-    place_of_long(options, name)
-}
 
 // Adds the names of an option to these.
 fn add_names(

@@ -1,7 +1,6 @@
 //! The help and the usage line.
 use crate::archive::{FILES, OPTIONS, SOURCE_AND_TARGET, archive};
-use lexopt_options::help::WIDTH;
-use lexopt_options::{Declared, Names, VERSION};
+use lexopt_options::{Declared, Names, VERSION, WIDTH};
 use std::alloc::{AllocError, Global};
 use std::test::Fail;
 

@@ -1,7 +1,7 @@
 use Rattle.std.proofs.Common.{◌==◌, string_bytes, Global, String, sym, ap, ◌∙◌}
 use Rattle.std.specs.List.{list_any}
 use Rattle.std.specs.Cmp.Lexicographic.{pointwise}
-use Rattle.lexopt_items.proofs.ReadsItems.{list_any-map}
+use Rattle.lexopt_line_spec.proofs.Lists.{list_any-map}
 use Rattle.lexopt_items.proofs.kinds.holds.Goals as goal
 
 pub returns : goal.returns

@@ -1,0 +1,5 @@
+pub mod Faults
+pub mod Positions
+pub mod Counting
+pub mod Rows
+pub mod Candidates

@@ -1,0 +1,14 @@
+-- What a program declares, as contracts see it.
+use Rattle.std.specs.Prelude.{map}
+use Rattle.lexopt_options_spec.specs.Declaration as spec
+use Rattle.lexopt_declaration.specs.Models.{option_view, positional_view}
+use Rattle.lexopt_declaration.specs.declared.declaration.Declaration.{Declaration}
+
+abbrev pub declaration_view : Declaration → spec.Declaration
+declaration_view d = record {
+  program = d.program.now;
+  about = d.about.now;
+  options = map option_view d.options.now;
+  positionals = map positional_view d.positionals.now;
+  short_equals = d.short_equals;
+}

@@ -1,0 +1,349 @@
+//! The help of declared options, in the form that the GNU Coding Standards give `--help`, laid out
+//! as `ls --help` is.
+ghost use Rattle.std.specs.Prelude.{◌≡◌, ◌≤◌, ◌+◌, ◌-◌, ◌∷◌, ◌++◌, List, ℕ, IfOk, nat_lt, length};
+ghost use Rattle.std.specs.Prelude.{if◌then◌else◌, map, string_bytes};
+ghost use Rattle.std.specs.List.{AllZip, concat};
+ghost use Rattle.lexopt_options_spec.specs.Help as spec;
+ghost use Rattle.lexopt_options_spec.specs.Help.{IsEntry, IsHelp, Wraps};
+ghost use Rattle.lexopt_declaration.specs.Models.{kind_of, long_name, option_view, placeholder_of};
+ghost use Rattle.lexopt_declaration.specs.Models.{positional_view, short_name};
+ghost use Rattle.lexopt_declaration.specs.Declarations.{declaration_view};
+
+use crate::declaration::{Count, Declaration, Declared, Kind, Names, Positional};
+use bstr::ByteSlice;
+use std::alloc::{AllocError, Global};
+use std::fmt::Write;
+
+/// How many columns a terminal has that does not say how wide it is: the width for the help
+/// where none is known.
+pub const WIDTH: usize = 80;
+
+// How many columns a text takes: one for each character as a person sees it.
+fn columns(text: &str) -> usize
+    ensures count { result ≡ spec.columns text.now }
+    ensures bound { result ≤ length text.now }
+{
+    text.as_bytes().graphemes().count()
+}
+
+// Blanks, so many.
+fn push_blanks(out: &mut String, count: usize) -> Result<(), AllocError>
+    ensures { IfOk result (λ _. string_bytes out.new ≡ string_bytes out.old ++ spec.blanks count) }
+{
+    for _ in 0..count {
+        out.push(' ')?;
+    }
+    Ok(())
+}
+
+// What stands after a character, if there is no long name.
+fn push_after_short(out: &mut String, kind: Kind<'_>) -> Result<(), AllocError>
+    ensures { IfOk result (λ _. string_bytes out.new ≡ string_bytes out.old
+        ++ spec.after_short (kind_of kind.entry) (placeholder_of kind.entry)) }
+{
+    match kind {
+        Kind::Flag => Ok(()),
+        Kind::One(value) => write!(out, " {value}"),
+        Kind::Optional(value) => write!(out, "[{value}]"),
+        Kind::Several(value) => write!(out, " {value}..."),
+    }
+}
+
+// What stands after a character, if a long name follows.
+fn push_before_long(out: &mut String, kind: Kind<'_>) -> Result<(), AllocError>
+    ensures { IfOk result (λ _. string_bytes out.new ≡ string_bytes out.old
+        ++ spec.before_long (kind_of kind.entry) (placeholder_of kind.entry)) }
+{
+    match kind {
+        Kind::Optional(value) => write!(out, "[{value}]"),
+        Kind::Flag | Kind::One(_) | Kind::Several(_) => Ok(()),
+    }
+}
+
+// What stands after a long name.
+fn push_after_long(out: &mut String, kind: Kind<'_>) -> Result<(), AllocError>
+    ensures { IfOk result (λ _. string_bytes out.new ≡ string_bytes out.old
+        ++ spec.after_long (kind_of kind.entry) (placeholder_of kind.entry)) }
+{
+    match kind {
+        Kind::Flag => Ok(()),
+        Kind::One(value) => write!(out, "={value}"),
+        Kind::Optional(value) => write!(out, "[={value}]"),
+        Kind::Several(value) => write!(out, "={value}..."),
+    }
+}
+
+// The label of an option.
+fn push_label(out: &mut String, names: Names<'_>, kind: Kind<'_>) -> Result<(), AllocError>
+    ensures { IfOk result (λ _. string_bytes out.new ≡ string_bytes out.old
+        ++ spec.label_of (short_name names.entry) (long_name names.entry) (kind_of kind.entry)
+        (placeholder_of kind.entry)) }
+{
+    match names {
+        Names::Short(character) => {
+            write!(out, "-{character}")?;
+            push_after_short(out, kind)
+        }
+        Names::Long(name) => {
+            write!(out, "    --{name}")?;
+            push_after_long(out, kind)
+        }
+        Names::Both(character, name) => {
+            write!(out, "-{character}")?;
+            push_before_long(out, kind)?;
+            write!(out, ", --{name}")?;
+            push_after_long(out, kind)
+        }
+    }
+}
+
+// The words of a text, between its blanks.
+fn words_of<'a>(alloc: Global, text: &'a str) -> Result<Vec<&'a str>, AllocError>
+    ensures { IfOk result (λ words. map (λ w. w.now) words.items ≡ spec.words_of text.now) }
+{
+    text.split(' ')
+        .filter(|word| !word.is_empty())
+        .collect(alloc)
+}
+
+// The column where the help of an option begins.
+fn help_column(width: usize) -> usize
+    ensures value { result ≡ spec.help_column width }
+    ensures bound { result ≤ width }
+{
+    (width / 3).min(24)
+}
+
+// The end of a line, and blanks up to this column.
+fn push_break(out: &mut String, column: usize) -> Result<(), AllocError>
+    ensures { IfOk result (λ _. string_bytes out.new
+        ≡ string_bytes out.old ++ spec.line_feed ∷ spec.blanks column) }
+{
+    out.push('\n')?;
+    push_blanks(out, column)
+}
+
+// A word: after a blank, if `room` columns hold both; else on a line of its own, which has `limit`
+// columns after so many blanks. Gives how many columns are left on the line.
+fn push_word(
+    out: &mut String,
+    word: &str,
+    room: usize,
+    limit: usize,
+    column: usize,
+) -> Result<usize, AllocError>
+    ensures text { IfOk result (λ _. string_bytes out.new ≡ string_bytes out.old
+        ++ (if nat_lt (spec.columns word.now) room then spec.blank ∷ word.now
+        else (spec.line_feed ∷ spec.blanks column ++ word.now))) }
+    ensures room { IfOk result (λ left. left ≡ (if nat_lt (spec.columns word.now) room
+        then room - (spec.columns word.now + 1) else limit - spec.columns word.now)) }
+{
+    let needed = columns(word);
+    if needed < room {
+        out.push(' ')?;
+        out.push_str(word)?;
+        return Ok(room - needed - 1);
+    }
+    push_break(out, column)?;
+    out.push_str(word)?;
+    Ok(limit.saturating_sub(needed))
+}
+
+// Words on lines of at most `limit` columns, each line but the first after so many blanks.
+fn push_lines(
+    out: &mut String,
+    first: &str,
+    others: &[&str],
+    limit: usize,
+    column: usize,
+) -> Result<(), AllocError>
+    ensures { IfOk result (λ _. (lines : List spec.Line)
+        × Wraps limit (first.now ∷ map (λ w. w.now) others.now) lines
+        × (string_bytes out.new ≡ string_bytes out.old ++ spec.below column lines)) }
+{
+    out.push_str(first)?;
+    let mut room = limit.saturating_sub(columns(first));
+    for word in others {
+        room = push_word(out, word, room, limit, column)?;
+    }
+    Ok(())
+}
+
+// What stands between a label and its help.
+fn push_gap(out: &mut String, label: &str, column: usize) -> Result<(), AllocError>
+    ensures { IfOk result (λ _. string_bytes out.new
+        ≡ string_bytes out.old ++ spec.gap column label.now) }
+{
+    let room = column.saturating_sub(columns(label));
+    if room >= 4 {
+        push_blanks(out, room - 2)
+    } else {
+        push_break(out, column)
+    }
+}
+
+// What stands after a label: its help, if it has one.
+fn push_beside(
+    out: &mut String,
+    label: &str,
+    words: &[&str],
+    limit: usize,
+    column: usize,
+) -> Result<(), AllocError>
+    ensures { IfOk result (λ _. (lines : List spec.Line)
+        × Wraps limit (map (λ w. w.now) words.now) lines
+        × (string_bytes out.new ≡ string_bytes out.old ++ spec.beside column label.now lines)) }
+{
+    let [first, others @ ..] = words else {
+        return Ok(());
+    };
+    push_gap(out, label, column)?;
+    push_lines(out, first, others, limit, column)
+}
+
+// A label, and these words beside it.
+fn push_labelled(
+    out: &mut String,
+    label: &str,
+    words: &[&str],
+    width: usize,
+) -> Result<(), AllocError>
+    ensures { IfOk result (λ _. (lines : List spec.Line)
+        × Wraps (width - spec.help_column width) (map (λ w. w.now) words.now) lines
+        × (string_bytes out.new
+        ≡ string_bytes out.old ++ spec.entry (spec.help_column width) label.now lines)) }
+{
+    let column = help_column(width);
+    out.push_str("  ")?;
+    out.push_str(label)?;
+    push_beside(out, label, words, width - column, column)?;
+    out.push('\n')
+}
+
+// The entry of an option.
+fn push_entry(
+    out: &mut String,
+    alloc: Global,
+    option: &Declared<'_>,
+    width: usize,
+) -> Result<(), AllocError>
+    ensures { IfOk result (λ _. (text : List ℕ) × IsEntry width (option_view option.now) text
+        × (string_bytes out.new ≡ string_bytes out.old ++ text)) }
+{
+    let mut label = String::new(alloc);
+    push_label(&mut label, option.names, option.kind)?;
+    let words = words_of(alloc, option.help)?;
+    push_labelled(out, label.as_str(), words.as_slice(), width)
+}
+
+// The entries of the options, after an empty line if there are any.
+fn push_entries(
+    out: &mut String,
+    alloc: Global,
+    options: &[Declared<'_>],
+    width: usize,
+) -> Result<(), AllocError>
+    ensures { IfOk result (λ _. (entries : List (List ℕ))
+        × AllZip (IsEntry width) (map option_view options.now) entries
+        × (string_bytes out.new ≡ string_bytes out.old
+        ++ spec.before_entries (map option_view options.now) ++ concat entries)) }
+{
+    if options.is_empty() {
+        return Ok(());
+    }
+    out.push('\n')?;
+    for option in options {
+        push_entry(out, alloc, option, width)?;
+    }
+    Ok(())
+}
+
+// A line that says what the program does.
+fn push_about(out: &mut String, about: &str) -> Result<(), AllocError>
+    ensures { IfOk result (λ _. string_bytes out.new
+        ≡ string_bytes out.old ++ spec.about_line about.now) }
+{
+    if about.is_empty() {
+        return Ok(());
+    }
+    out.push_str(about)?;
+    out.push('\n')
+}
+
+// A mark for the options, if there are any.
+fn push_options_mark(out: &mut String, options: &[Declared<'_>]) -> Result<(), AllocError>
+    ensures { IfOk result (λ _. string_bytes out.new
+        ≡ string_bytes out.old ++ spec.options_mark (map option_view options.now)) }
+{
+    if options.is_empty() {
+        return Ok(());
+    }
+    out.push_str(" [OPTION]...")
+}
+
+// A positional argument in the usage line.
+fn push_positional(out: &mut String, positional: &Positional<'_>) -> Result<(), AllocError>
+    ensures { IfOk result (λ _. string_bytes out.new
+        ≡ string_bytes out.old ++ spec.positional_mark (positional_view positional.now)) }
+{
+    let placeholder = positional.placeholder;
+    match positional.count {
+        Count::Once => write!(out, " {placeholder}"),
+        Count::AtMostOnce => write!(out, " [{placeholder}]"),
+        Count::AnyNumber => write!(out, " [{placeholder}]..."),
+    }
+}
+
+// The usage line.
+fn push_usage(out: &mut String, declaration: &Declaration<'_>) -> Result<(), AllocError>
+    ensures { IfOk result (λ _. string_bytes out.new
+        ≡ string_bytes out.old ++ spec.usage (declaration_view declaration.now)) }
+{
+    out.push_str("Usage: ")?;
+    out.push_str(declaration.program)?;
+    push_options_mark(out, declaration.options)?;
+    for positional in declaration.positionals {
+        push_positional(out, positional)?;
+    }
+    out.push('\n')
+}
+
+/// The usage line, with the line feed at its end.
+pub fn usage(alloc: Global, declaration: &Declaration<'_>) -> Result<String, AllocError>
+    ensures { IfOk result (λ text. string_bytes text
+        ≡ spec.usage (declaration_view declaration.now)) }
+{
+    let mut text = String::new(alloc);
+    push_usage(&mut text, declaration)?;
+    Ok(text)
+}
+
+// The help.
+fn push_help(
+    out: &mut String,
+    alloc: Global,
+    declaration: &Declaration<'_>,
+    width: usize,
+) -> Result<(), AllocError>
+    ensures { IfOk result (λ _. (text : List ℕ)
+        × IsHelp (declaration_view declaration.now) width text
+        × (string_bytes out.new ≡ string_bytes out.old ++ text)) }
+{
+    push_usage(out, declaration)?;
+    push_about(out, declaration.about)?;
+    push_entries(out, alloc, declaration.options, width)
+}
+
+/// The help, for lines of so many columns.
+pub fn help(
+    alloc: Global,
+    declaration: &Declaration<'_>,
+    width: usize,
+) -> Result<String, AllocError>
+    ensures { IfOk result (λ text.
+        IsHelp (declaration_view declaration.now) width (string_bytes text)) }
+{
+    let mut text = String::new(alloc);
+    push_help(&mut text, alloc, declaration, width)?;
+    Ok(text)
+}

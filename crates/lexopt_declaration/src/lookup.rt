@@ -1,0 +1,74 @@
+//! Which option has a name, and what is said of the option of an index.
+ghost use Rattle.std.specs.Prelude.{◌≡◌, map, option_map, position};
+ghost use Rattle.lexopt_line_spec.specs.Table as table;
+ghost use Rattle.lexopt_options_spec.specs.Declaration.{index_of};
+ghost use Rattle.lexopt_options_spec.specs.Declaration as spec;
+ghost use Rattle.lexopt_options_spec.specs.Nearest as nearest;
+ghost use Rattle.lexopt_options_spec.specs.Stops.{placeholder_at};
+ghost use Rattle.lexopt_declaration.specs.Models.{option_view};
+ghost use Rattle.lexopt_declaration.specs.Lookups.{names_at};
+
+use crate::declaration::{Declared, Names};
+
+// The place of the first option with this character.
+fn place_of_short(options: &[Declared<'_>], character: char) -> Option<usize>
+    ensures { result
+        ≡ position (λ o. spec.has_name (table.short character) (option_view o)) options.now }
+{
+    options
+        .iter()
+        .position(|option| option.names.is_short(character))
+}
+
+// The place of the first option with this name.
+fn place_of_long(options: &[Declared<'_>], name: &str) -> Option<usize>
+    ensures { result
+        ≡ position (λ o. spec.has_name (table.long name.now) (option_view o)) options.now }
+{
+    options.iter().position(|option| option.names.is_long(name))
+}
+
+/// Which option has this character, counted from 0: the first.
+pub fn index_of_short(options: &[Declared<'_>], character: char) -> Option<usize>
+    ensures { result ≡ index_of (map option_view options.now) (table.short character) }
+{
+    place_of_short(options, character)
+}
+
+/// Which option has this name, counted from 0: the first.
+pub fn index_of_long(options: &[Declared<'_>], name: &str) -> Option<usize>
+    ensures { result ≡ index_of (map option_view options.now) (table.long name.now) }
+{
+    place_of_long(options, name)
+}
+
+/// The names of the option of this index.
+pub fn names_of<'a>(options: &'a [Declared<'a>], index: Option<usize>) -> Option<Names<'a>>
+    ensures { result ≡ names_at options.now index }
+{
+    match options.get(index?) {
+        Some(option) => Some(option.names),
+        None => None,
+    }
+}
+
+/// The long name of the option of this index.
+pub fn long_name_of<'a>(options: &'a [Declared<'a>], index: Option<usize>) -> Option<&'a str>
+    ensures { option_map (λ name. name.now) result
+        ≡ nearest.long_name_at (map option_view options.now) index }
+{
+    match options.get(index?) {
+        Some(option) => option.names.long(),
+        None => None,
+    }
+}
+
+/// What stands for the value of the option of this index: nothing if there is none.
+pub fn option_placeholder<'a>(options: &'a [Declared<'a>], index: usize) -> &'a str
+    ensures { result.now ≡ placeholder_at (map option_view options.now) index }
+{
+    match options.get(index) {
+        Some(option) => option.kind.placeholder(),
+        None => "",
+    }
+}

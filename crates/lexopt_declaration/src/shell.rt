@@ -1,0 +1,224 @@
+//! Scripts by which a shell completes the lines of a program.
+ghost use Rattle.std.specs.Prelude.{◌≡◌, ◌↔◌};
+ghost use Rattle.std.specs.Fmt.{WritesOnOk};
+ghost use Rattle.lexopt_declaration.specs.Scripts.{bash_script, fish_head, fish_rest, fish_script};
+ghost use Rattle.lexopt_declaration.specs.Scripts.{shell_name, zsh_head, zsh_rest, zsh_script};
+
+use std::fmt;
+
+/// A shell that is completed in.
+#[derive(Clone, Copy, PartialEq, Eq, Debug)]
+pub enum Shell {
+    /// GNU bash.
+    Bash,
+    /// zsh.
+    Zsh,
+    /// fish.
+    Fish,
+}
+
+impl Shell {
+    /// The shell of this name: `bash`, `zsh` or `fish`.
+    pub fn of_name(name: &str) -> Option<Shell>
+        ensures { (shell : Shell) → (result ≡ Some shell) ↔ (name.now ≡ shell_name shell) }
+    {
+        match name {
+            "bash" => Some(Shell::Bash),
+            "zsh" => Some(Shell::Zsh),
+            "fish" => Some(Shell::Fish),
+            _ => None,
+        }
+    }
+
+    /// The same of a word.
+    pub fn of_bytes(name: &[u8]) -> Option<Shell>
+        ensures { (shell : Shell) → (result ≡ Some shell) ↔ (name.now ≡ shell_name shell) }
+    {
+        match name {
+            b"bash" => Some(Shell::Bash),
+            b"zsh" => Some(Shell::Zsh),
+            b"fish" => Some(Shell::Fish),
+            _ => None,
+        }
+    }
+}
+
+/// A script by which a shell completes the lines of a program, as `Display` writes it. No end of
+/// line stands after its last line.
+///
+/// A shell that has read it calls the program with the hidden first word `__complete`, the words
+/// before the one that is typed, and what is typed of that one. `Options::answer` has the answer
+/// to that. The script offers each line that begins with a dash; for a line `files` the names of
+/// files; and for a line `value` the names of files after the `=` of the word.
+#[derive(Clone, Copy, PartialEq, Eq, Debug)]
+pub struct Script<'a> {
+    /// The shell that reads the script.
+    pub shell: Shell,
+    /// The name that the program is called by. It stands in the script unquoted, and in names of
+    /// functions: let it have ASCII letters, digits, `-`, `_`, `.` and `+` alone.
+    pub program: &'a str,
+}
+
+// What stands in each script after the name of its function.
+const BASH_BODY: &str = r#"() {
+    local program=${1//[\"\'\\]/} line=$COMP_LINE words=() last=$2 piece
+    local start='' answer
+
+    program=${program/#\~\//$HOME/}
+    # An alias is no command: then ask the program itself.
+    type -P -- "$program" >/dev/null || program=${FUNCNAME[0]#_complete_}
+
+    # Bash splits words at `=`, `:` and `@` too: join pieces that no blank separates.
+    piece=${COMP_WORDS[COMP_CWORD]}
+    [[ -z $2 && $piece == [=:@]* ]] && last=$piece
+    for piece in "${COMP_WORDS[@]:0:COMP_CWORD}" "$last"; do
+        if [[ ${#words[@]} -gt 0 && $line != [[:blank:]]* ]]; then
+            words[-1]+=$piece
+        else
+            words+=("$piece")
+            line=${line#"${line%%[![:blank:]]*}"}
+        fi
+        line=${line#"$piece"}
+    done
+
+    # Drop quotes, and those that belong to a word too.
+    words=("${words[@]//[\"\'\\]/}")
+    last=${words[-1]}
+    words=("${words[@]:1:${#words[@]}-2}")
+    # What stands before the part of the word that bash replaces.
+    piece=''
+    [[ $last == *"$2" ]] && piece=${last%"$2"}
+    # In quotes, bash does not split at `=`.
+    [[ $2 == --*=* ]] && start=${2%%=*}=
+
+    COMPREPLY=()
+    while IFS= read -r answer; do
+        case $answer in
+            files)
+                compopt -o filenames
+                while IFS= read -r answer; do
+                    COMPREPLY+=("${answer#"$piece"}")
+                done < <(compgen -f -- "$piece$2")
+                ;;
+            value)
+                compopt -o filenames
+                mapfile -t -O ${#COMPREPLY[@]} COMPREPLY < <(
+                    compgen -P "$start" -f -- "${2#"$start"}"
+                )
+                ;;
+            *) COMPREPLY+=("${answer#"$piece"}") ;;
+        esac
+    done < <("$program" __complete "${words[@]}" "$last" 2>/dev/null)
+}
+"#;
+
+const ZSH_BODY: &str = r#"() {
+    local -a words_before answers
+    local ret=1
+
+    words_before=("${(@Q)words[2,CURRENT-1]}")
+    answers=("${(@f)$("${(Q)words[1]/#\~\//$HOME/}" __complete \
+        "${(@)words_before}" "${(Q)PREFIX}" 2>/dev/null)}")
+
+    compadd -- ${(M)answers:#-*} && ret=0
+    (( $answers[(Ie)files] )) && _files && ret=0
+    (( $answers[(Ie)value] )) && compset -P 1 '--*=' && _files && ret=0
+    return ret
+}
+"#;
+
+const FISH_BODY: &str = r#"
+    set -l words (commandline --current-process --tokenize --cut-at-cursor)
+    set -l last (commandline --current-token --cut-at-cursor)
+    set -l program (string replace --regex '^~/' "$HOME/" -- $words[1])
+    type --query $program; or return
+    # Drop quotes, and those that belong to the word too.
+    set last (string replace --all --regex '["\'\\\\]' '' -- "$last")
+    $program __complete $words[2..] "$last" 2>/dev/null
+end
+"#;
+
+fn write_bash<W: fmt::Write>(program: &str, f: &mut fmt::Formatter<W>) -> fmt::Result
+    ensures { WritesOnOk W.write_str_gives f.old result (bash_script program.now) f.new }
+{
+    write!(
+        f,
+        "# Source this.\n_complete_{program}{BASH_BODY}complete -F _complete_{program} {program}"
+    )
+}
+
+#[tactic(auto, unfolding(crate::specs::Scripts::zsh_head))]
+fn write_zsh_head<W: fmt::Write>(program: &str, f: &mut fmt::Formatter<W>) -> fmt::Result
+    ensures { WritesOnOk W.write_str_gives f.old result (zsh_head program.now) f.new }
+{
+    write!(
+        f,
+        "#compdef {program}\n\
+        # Source this after `compinit`, or put it into a folder of `fpath` as the file \
+        `_{program}`.\n_{program}"
+    )
+}
+
+#[tactic(auto, unfolding(crate::specs::Scripts::zsh_rest))]
+fn write_zsh_rest<W: fmt::Write>(program: &str, f: &mut fmt::Formatter<W>) -> fmt::Result
+    ensures { WritesOnOk W.write_str_gives f.old result (zsh_rest program.now) f.new }
+{
+    write!(
+        f,
+        "{ZSH_BODY}if [[ $funcstack[1] == _{program} ]]; then\n    _{program} \"$@\"\nelse\n    \
+        compdef _{program} {program}\nfi"
+    )
+}
+
+fn write_zsh<W: fmt::Write>(program: &str, f: &mut fmt::Formatter<W>) -> fmt::Result
+    ensures { WritesOnOk W.write_str_gives f.old result (zsh_script program.now) f.new }
+{
+    write_zsh_head(program, f)?;
+    write_zsh_rest(program, f)
+}
+
+#[tactic(auto, unfolding(crate::specs::Scripts::fish_head))]
+fn write_fish_head<W: fmt::Write>(program: &str, f: &mut fmt::Formatter<W>) -> fmt::Result
+    ensures { WritesOnOk W.write_str_gives f.old result (fish_head program.now) f.new }
+{
+    write!(
+        f,
+        "# Source this, or put it into a folder of `fish_complete_path` as the file \
+        `{program}.fish`.\nfunction __complete_{program}"
+    )
+}
+
+#[tactic(auto, unfolding(crate::specs::Scripts::fish_rest))]
+fn write_fish_rest<W: fmt::Write>(program: &str, f: &mut fmt::Formatter<W>) -> fmt::Result
+    ensures { WritesOnOk W.write_str_gives f.old result (fish_rest program.now) f.new }
+{
+    write!(
+        f,
+        "{FISH_BODY}complete --command {program} --no-files --arguments \
+        '(__complete_{program} | string match -- \"-*\")'\n\
+        complete --command {program} --force-files --condition \
+        '__complete_{program} | string match --quiet --regex \"^files|^value\"'"
+    )
+}
+
+fn write_fish<W: fmt::Write>(program: &str, f: &mut fmt::Formatter<W>) -> fmt::Result
+    ensures { WritesOnOk W.write_str_gives f.old result (fish_script program.now) f.new }
+{
+    write_fish_head(program, f)?;
+    write_fish_rest(program, f)
+}
+
+impl fmt::Display for Script<'_> {
+    ghost use Rattle.std.specs.Prelude.{Some};
+    ghost use Rattle.lexopt_declaration.specs.Scripts.{script_text};
+
+    ghost output = { λ script. Some (script_text script) };
+
+    fn fmt<W: fmt::Write>(&self, f: &mut fmt::Formatter<W>) -> fmt::Result {
+        match self.shell {
+            Shell::Bash => write_bash(self.program, f),
+            Shell::Zsh => write_zsh(self.program, f),
+            Shell::Fish => write_fish(self.program, f),
+        }
+    }
+}

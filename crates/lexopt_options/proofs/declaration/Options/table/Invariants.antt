@@ -1,8 +1,0 @@
-use Rattle.std.proofs.Common.{◌≡◌, map, take}
-use Rattle.lexopt_options_spec.specs.Declaration as spec
-use Rattle.lexopt_items.specs.Items.{table_view}
-use Rattle.lexopt_options.specs.Models.{option_view}
-use Rattle.lexopt_options.proofs.declaration.Options.table.Given as goal
-
-abbrev pub invariant-loop-option : goal.invariant-loop-option
-invariant-loop-option l = table_view l.table ≡ spec.table (map option_view (take l.option-index l.option-items))

@@ -1,0 +1,9 @@
+use Rattle.lexopt_options.proofs.Answering.{ends_apart}
+use Rattle.lexopt_options.proofs.options.Options.completion_text.Goals as goal
+
+pub returns : goal.returns
+returns c =
+    let asked = rw c.if-not-is_text.false at c.is_text.ensures in
+    let apart = ends_apart c.args.words.now c.first-item.result c.typed-item.result c.in-len2-up.len_at_least c.first-item.is c.typed-item.is in
+    let k = c.in_ok-completion.ensures in
+    (_, c.typed-item.result, c.in_ok-completion.completion, rw (← asked) apart, record { sound = k.sound; complete = k.complete; in_order = k.in_order; word = k.word; joined = k.joined; damaged = k.damaged }, c.in_ok-text_of.ensures)
