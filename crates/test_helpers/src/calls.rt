@@ -1,6 +1,7 @@
 //! Calls of a parser, compared with the expected result.
-use lexopt::replay::{Call, Reply, replay};
-use lexopt::{Arg, Error, OsString, Parser};
+use lexopt_base::{Arg, Error, OsString, Parser};
+use lexopt_calls::replay::replay;
+use lexopt_calls::reply::{Call, Reply};
 use std::alloc::Global;
 
 /// Whether the next argument is this short option.

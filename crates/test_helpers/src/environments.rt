@@ -1,5 +1,5 @@
 //! Environments of tests.
-use lexopt::OsString;
+use lexopt_base::OsString;
 use std::env::{Env, FillError};
 
 /// An environment with these arguments, and nothing else. Of a word that is too long for its room

@@ -1,5 +1,5 @@
 //! What errors print.
-use lexopt::Error;
+use lexopt_base::Error;
 use std::alloc::{AllocError, Global};
 
 /// Whether `Display` and `Debug` of an error both write this message.

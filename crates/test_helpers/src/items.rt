@@ -1,7 +1,7 @@
 //! Items as tests write them, and tables that read them.
 use crate::parsers::words_from;
-use lexopt::OsString;
-use lexopt::items::{Item, Table};
+use lexopt_base::OsString;
+use lexopt_items::items::{Item, Table};
 use std::alloc::{AllocError, Global};
 
 /// An item as a test writes it, which owns no memory.

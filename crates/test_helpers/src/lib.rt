@@ -6,6 +6,7 @@ pub mod calls;
 pub mod environments;
 pub mod errors;
 pub mod items;
+pub mod lists;
 pub mod parsers;
 pub mod scripts;
 pub mod words;

@@ -1,5 +1,5 @@
 //! Words, and parsers of them.
-use lexopt::{Error, OsString, Parser};
+use lexopt_base::{Error, OsString, Parser};
 use std::alloc::{AllocError, Global};
 
 /// The words in these lines, one in each.

@@ -18,8 +18,8 @@ mod written;
 
 use crate::answers::written::Answers;
 use anyhow::{Result, bail};
-use lexopt::prelude::ValueExt;
-use lexopt::{Arg, Error, OsString, Parser, RawArgs};
+use lexopt_base::prelude::ValueExt;
+use lexopt_base::{Arg, Error, OsString, Parser, RawArgs};
 use std::alloc::{AllocError, Global};
 use std::io::{self, Read, Write};
 
@@ -185,6 +185,28 @@ fn parser_of(alloc: Global, constructor: &str, words: Vec<OsString>) -> Result<P
     }
 }
 
+// Makes these calls, and says what is left.
+fn make_calls(
+    alloc: Global,
+    parser: &mut Parser,
+    calls: &str,
+    answers: &mut Answers,
+) -> Result<()> {
+    for call in calls.as_bytes().chunks(2) {
+        let [call, number] = call else {
+            bail!("a call is a letter and a digit");
+        };
+        let number = usize::from(digit(*number));
+        if let Err(error) = make_call(alloc, parser, *call, number, answers) {
+            answers.error(&error)?;
+        }
+        answers.letter(b' ')?;
+    }
+    rest(parser, answers)?;
+    answers.letter(b'\n')?;
+    Ok(())
+}
+
 fn answer(alloc: Global, case: &str, answers: &mut Answers) -> Result<()> {
     let mut parts = case.split(' ');
     let (Some(constructor), Some(text), Some(calls)) = (parts.next(), parts.next(), parts.next())
@@ -192,19 +214,7 @@ fn answer(alloc: Global, case: &str, answers: &mut Answers) -> Result<()> {
         bail!("a case has three parts");
     };
     let mut parser = parser_of(alloc, constructor, words(alloc, text)?)?;
-    for call in calls.as_bytes().chunks(2) {
-        let [call, number] = call else {
-            bail!("a call is a letter and a digit");
-        };
-        let number = usize::from(digit(*number));
-        if let Err(error) = make_call(alloc, &mut parser, *call, number, answers) {
-            answers.error(&error)?;
-        }
-        answers.letter(b' ')?;
-    }
-    rest(&mut parser, answers)?;
-    answers.letter(b'\n')?;
-    Ok(())
+    make_calls(alloc, &mut parser, calls, answers)
 }
 
 /// Answers the cases of standard input.

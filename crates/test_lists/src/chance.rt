@@ -10,9 +10,10 @@ mod numbers;
 
 use crate::chance::numbers::Chance;
 use anyhow::{Result, bail};
-use lexopt::items::{Item, Table, read_items};
-use lexopt::replay::{Call, Reply, replay};
-use lexopt::{Error, OsString, Parser};
+use lexopt_base::{Error, OsString, Parser};
+use lexopt_calls::replay::replay;
+use lexopt_calls::reply::{Call, Reply};
+use lexopt_items::items::{Item, Table, read_items};
 use lexopt_words::words::copies;
 use std::alloc::Global;
 

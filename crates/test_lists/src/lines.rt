@@ -35,12 +35,13 @@ use crate::lines::clusters::Counts;
 use crate::lines::plain::Refusal;
 use crate::lines::shown::{shown_items, shown_words};
 use crate::lines::spelled::Reading;
-use crate::lines::tables::{Choice, KINDS, OVERLAPS};
+use crate::lines::tables::{CHOICES, Choice, OVERLAPS};
 use crate::lines::tally::Tally;
-use lexopt::items::{Item, Table, read_items};
-use lexopt::{Error, OsString};
+use lexopt_base::{Error, OsString};
+use lexopt_items::items::{Item, Table, read_items};
 use std::alloc::{AllocError, Global};
 use std::io;
+use test_helpers::lists::{list_of, numbers_of};
 use test_helpers::parsers::words_from;
 use test_helpers::words::WORDS;
 
@@ -148,20 +149,9 @@ impl Found {
 
     // Reads all lists, the shortest first.
     fn read_all(&mut self, alloc: Global, table: &Table) -> Result<(), AllocError> {
-        self.read_both(alloc, &[], table)?;
-        for first in WORDS {
-            self.read_both(alloc, &[first], table)?;
-        }
-        for first in WORDS {
-            for second in WORDS {
-                self.read_both(alloc, &[first, second], table)?;
-            }
-        }
-        for first in WORDS {
-            for second in WORDS {
-                for third in WORDS {
-                    self.read_both(alloc, &[first, second, third], table)?;
-                }
+        for number in 0..numbers_of(WORDS.len()) {
+            if let Some(words) = list_of(alloc, &WORDS, number)? {
+                self.read_both(alloc, &words, table)?;
             }
         }
         Ok(())
@@ -193,44 +183,58 @@ impl Total {
         }
     }
 
-    // Reads all lists of words by this table, spells all lists of items by it, and adds what is
-    // found.
-    fn read_by(&mut self, rt: &(impl Print + AllocGlobal), choice: Choice) -> io::Result<()> {
-        let alloc = rt.alloc();
-        let table = choice.table(alloc)?;
+    // Reads all lists of words by this table, and adds what is found.
+    fn read_words(
+        &mut self,
+        rt: &(impl Print + AllocGlobal),
+        table: &Table,
+        name: &str,
+    ) -> io::Result<()> {
         let mut found = Found::new();
-        found.read_all(alloc, &table)?;
+        found.read_all(rt.alloc(), table)?;
         self.found.add(&found);
-        found.print(rt, choice.name(alloc)?.as_str())?;
+        found.print(rt, name)
+    }
+
+    // Spells all lists of items by this table, and adds what is found.
+    fn spell_items(&mut self, rt: &(impl Print + AllocGlobal), table: &Table) -> io::Result<()> {
         let mut lists = lists::Counts::new();
-        lists.spell_all(alloc, &table)?;
+        lists.spell_all(rt.alloc(), table)?;
         self.lists.add(&lists);
         lists.print(rt)
     }
+
+    // Does both by this choice of tables.
+    fn read_by(&mut self, rt: &(impl Print + AllocGlobal), choice: Choice) -> io::Result<()> {
+        let table = choice.table(rt.alloc())?;
+        let name = choice.name(rt.alloc())?;
+        self.read_words(rt, &table, name.as_str())?;
+        self.spell_items(rt, &table)
+    }
+
+    // Does both by all tables.
+    fn read_by_all(&mut self, rt: &(impl Print + AllocGlobal)) -> io::Result<()> {
+        for number in 0..CHOICES {
+            self.read_by(rt, Choice::of_kinds(number))?;
+        }
+        for lists in OVERLAPS {
+            self.read_by(rt, Choice::same(lists))?;
+        }
+        self.found.print(rt, "total")?;
+        self.lists.print(rt)
+    }
 }
 
-/// Prints what was found.
-pub fn print(rt: &(impl Print + AllocGlobal)) -> io::Result<()> {
-    let mut total = Total::new();
-    for letter in KINDS {
-        for damage in KINDS {
-            for marks in KINDS {
-                let choice = Choice {
-                    letter,
-                    damage,
-                    marks,
-                };
-                total.read_by(rt, choice)?;
-            }
-        }
-    }
-    for lists in OVERLAPS {
-        total.read_by(rt, Choice::same(lists))?;
-    }
-    total.found.print(rt, "total")?;
-    total.lists.print(rt)?;
+// Reads clusters.
+fn print_clusters(rt: &(impl Print + AllocGlobal)) -> io::Result<()> {
     let Ok(Counts { agreed, differed }) = Counts::of_all(rt.alloc()) else {
         return Err(io::Error::from(io::ErrorKind::Other));
     };
     println!(rt; "clusters: {agreed} agreed, {differed} differed")
+}
+
+/// Prints what was found.
+pub fn print(rt: &(impl Print + AllocGlobal)) -> io::Result<()> {
+    Total::new().read_by_all(rt)?;
+    print_clusters(rt)
 }

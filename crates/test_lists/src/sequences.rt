@@ -12,9 +12,10 @@ mod line;
 mod step;
 
 use crate::sequences::step::{STEPS, Step, is_last, made, replayed};
-use lexopt::{Error, Parser};
+use lexopt_base::{Error, Parser};
 use std::alloc::Global;
 use std::io;
+use test_helpers::lists::{list_of, numbers_of};
 use test_helpers::parsers::parser_of;
 use test_helpers::words::WORDS;
 
@@ -42,19 +43,29 @@ impl Tried {
         }
     }
 
-    // Makes one call after a place, in both ways. Returns the place after it, if a sequence goes on
-    // there.
-    fn step(&mut self, alloc: Global, place: &Place, step: Step) -> Result<Option<Place>, Error> {
-        let mut parser = place.parser.clone()?;
-        let mut copy = place.parser.clone()?;
-        let reply = made(alloc, &mut parser, step)?;
+    // Makes one call on the parser of a place in both ways: on this one, and by `replay` on a copy.
+    // Returns whether a sequence goes on after it.
+    fn call(
+        &mut self,
+        alloc: Global,
+        parser: &mut Parser,
+        mut copy: Parser,
+        step: Step,
+    ) -> Result<bool, Error> {
+        let reply = made(alloc, parser, step)?;
         if reply != replayed(alloc, &mut copy, step)? {
             self.fault("replay says otherwise");
         }
-        if !line::agrees_with(step, &reply, &mut parser)? {
+        if !line::agrees_with(step, &reply, parser)? {
             self.fault("words are left, or no values");
         }
-        if is_last(&reply) {
+        Ok(!is_last(&reply))
+    }
+
+    // Makes one call after a place. Returns the place after it, if a sequence goes on there.
+    fn step(&mut self, alloc: Global, place: &Place, step: Step) -> Result<Option<Place>, Error> {
+        let mut parser = place.parser.clone()?;
+        if !self.call(alloc, &mut parser, place.parser.clone()?, step)? {
             return Ok(None);
         }
         let calls = place.calls.saturating_add(1);
@@ -92,14 +103,9 @@ impl Tried {
     }
 
     fn lists(&mut self, alloc: Global) -> Result<(), Error> {
-        self.list(alloc, &[])?;
-        for first in WORDS {
-            self.list(alloc, &[first])?;
-            for second in WORDS {
-                self.list(alloc, &[first, second])?;
-                for third in WORDS {
-                    self.list(alloc, &[first, second, third])?;
-                }
+        for number in 0..numbers_of(WORDS.len()) {
+            if let Some(words) = list_of(alloc, &WORDS, number)? {
+                self.list(alloc, &words)?;
             }
         }
         Ok(())

@@ -1,6 +1,6 @@
 //! The words that a program was called with, of any bytes.
-use lexopt::os_string::arguments;
-use lexopt::{Error, OsString, Parser};
+use lexopt_base::{Error, OsString, Parser};
+use lexopt_words::os_string::arguments;
 use std::alloc::{AllocError, Global};
 use std::env;
 use std::env::Env;

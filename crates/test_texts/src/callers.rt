@@ -7,8 +7,8 @@ ghost use Rattle.lexopt_spec.specs.Pieces.{IsFirstPiece};
 ghost use Rattle.lexopt_spec.specs.UnreadLine.{long_option, short_option, spelling};
 ghost use Rattle.lexopt_words.specs.Answered.{AreAnswered};
 
-use lexopt::prelude::ValueExt;
-use lexopt::{Arg, Error, OsString};
+use lexopt_base::prelude::ValueExt;
+use lexopt_base::{Arg, Error, OsString};
 use lexopt_words::codepoint::{FirstCodepoint, first_codepoint};
 use std::alloc::Global;
 use std::str::FromStr;

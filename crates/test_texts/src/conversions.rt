@@ -1,6 +1,6 @@
 //! Conversions of values.
-use lexopt::prelude::{Value, ValueExt};
-use lexopt::{Error, OsString, Parser};
+use lexopt_base::prelude::{Value, ValueExt};
+use lexopt_base::{Error, OsString, Parser};
 use std::alloc::{AllocError, Global};
 use std::fmt;
 use std::test::Fail;

@@ -1,5 +1,5 @@
 //! Binary names, and the words of an environment as text.
-use lexopt::{Error, Parser};
+use lexopt_base::{Error, Parser};
 use std::alloc::Global;
 use std::env;
 use std::test::Fail;

@@ -1,7 +1,7 @@
 //! Items and the words that spell them, by the form of each kind of option and of positionals. Each
 //! reason why items have no words, and what it prints.
-use lexopt::items::Table;
-use lexopt::spell::{Reason, SpellError, spell};
+use lexopt_items::items::Table;
+use lexopt_spell::spell::{Reason, SpellError, spell};
 use std::alloc::{AllocError, Global};
 use std::test::Fail;
 use test_helpers::items::Given::{

@@ -1,5 +1,5 @@
 //! Words: their bytes, texts, copies, order and hashes, and what they print. Copies of arguments.
-use lexopt::{Arg, Error, OsStr, OsString, Quoted};
+use lexopt_base::{Arg, Error, OsStr, OsString, Quoted};
 use std::alloc::{AllocError, Global};
 use std::hash::{DefaultHasher, Hash, Hasher};
 use std::test::Fail;

@@ -1,7 +1,7 @@
 //! Laws of replies and of items, whatever the words are.
-use lexopt::OsString;
-use lexopt::items::Item;
-use lexopt::replay::Reply;
+use lexopt_base::OsString;
+use lexopt_calls::reply::Reply;
+use lexopt_items::items::Item;
 
 // What was handed out of the words so far.
 #[derive(Clone, Copy)]

@@ -1,7 +1,7 @@
 //! Random words, calls and tables, from a seed.
-use lexopt::OsString;
-use lexopt::items::Table;
-use lexopt::replay::Call;
+use lexopt_base::OsString;
+use lexopt_calls::reply::Call;
+use lexopt_items::items::Table;
 use std::alloc::{AllocError, Global};
 
 // Bytes that mean something to a command line, and bytes that begin, continue or end a character,

@@ -1,7 +1,7 @@
 //! Clusters of a few bytes each, read by `next` with `short_equals` false: one option for each
 //! piece, and then the end.
 use crate::lines::pieces::first_piece;
-use lexopt::{Arg, Error, OsString, Parser};
+use lexopt_base::{Arg, Error, OsString, Parser};
 use std::alloc::Global;
 
 // The bytes at both ends of the ranges of table 3-7, and bytes that no row of it has.

@@ -3,14 +3,15 @@
 use crate::lines::short_lists::{ReadLists, short_words};
 use crate::lines::shown::shown_items;
 use crate::lines::spelled::{Reading, Spelled};
-use lexopt::OsString;
-use lexopt::items::{Item, Table};
+use lexopt_base::OsString;
+use lexopt_items::items::{Item, Table};
 use std::alloc::{AllocError, Global};
 use std::io;
 use test_helpers::items::Given::{
     Long, LongMany, LongValue, Positional, Short, ShortMany, ShortValue,
 };
 use test_helpers::items::{Given, items_of};
+use test_helpers::lists::{list_of, numbers_of};
 
 // Items of every kind. Under some tables they are at fault, under others not.
 const ITEMS: [Given; 27] = [
@@ -195,14 +196,18 @@ impl Counts {
         let on = setting_of(alloc, table, true, &items, &words)?;
         let off = setting_of(alloc, table, false, &items, &words)?;
         self.read = on.lists.count().saturating_add(off.lists.count());
-        self.spell_both(&on, &off, &[])?;
-        for first in ITEMS {
-            self.spell_both(&on, &off, &[first])?;
-            for second in ITEMS {
-                self.spell_both(&on, &off, &[first, second])?;
-                for third in ITEMS {
-                    self.spell_both(&on, &off, &[first, second, third])?;
-                }
+        self.spell_lists(&on, &off)
+    }
+
+    // Spells every list under either setting.
+    fn spell_lists(
+        &mut self,
+        on: &Setting<'_, '_>,
+        off: &Setting<'_, '_>,
+    ) -> Result<(), AllocError> {
+        for number in 0..numbers_of(ITEMS.len()) {
+            if let Some(list) = list_of(on.reading.alloc, &ITEMS, number)? {
+                self.spell_both(on, off, &list)?;
             }
         }
         Ok(())

@@ -3,8 +3,8 @@
 //! It is written from the rules alone, to be compared with `read_items`, and calls nothing that
 //! `read_items` uses.
 use crate::lines::pieces::{first_piece, lossy, push_quoted};
-use lexopt::OsString;
-use lexopt::items::{Item, Table};
+use lexopt_base::OsString;
+use lexopt_items::items::{Item, Table};
 use std::alloc::{AllocError, AllocFailed, Global};
 use std::mem;
 

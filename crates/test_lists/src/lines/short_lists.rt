@@ -1,8 +1,9 @@
 //! Short lists of words, read, and which lists of some items they are read as.
 use crate::lines::spelled::Reading;
-use lexopt::OsString;
-use lexopt::items::Item;
+use lexopt_base::OsString;
+use lexopt_items::items::Item;
 use std::alloc::{AllocError, Global};
+use test_helpers::lists::{list_of, numbers_of};
 use test_helpers::words::WORDS;
 
 // The most items of a list that has a number.
@@ -102,14 +103,9 @@ impl<'i> ReadLists<'i> {
 
     /// Reads every list of at most three of the 25 words.
     pub fn read_words(&mut self, reading: Reading<'_>) -> Result<(), AllocError> {
-        self.read_bytes(reading, &[])?;
-        for first in WORDS {
-            self.read_bytes(reading, &[first])?;
-            for second in WORDS {
-                self.read_bytes(reading, &[first, second])?;
-                for third in WORDS {
-                    self.read_bytes(reading, &[first, second, third])?;
-                }
+        for number in 0..numbers_of(WORDS.len()) {
+            if let Some(words) = list_of(reading.alloc, &WORDS, number)? {
+                self.read_bytes(reading, &words)?;
             }
         }
         Ok(())

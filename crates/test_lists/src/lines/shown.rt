@@ -1,6 +1,6 @@
 //! Words and items as they are printed if something differs.
 use crate::lines::pieces::push_quoted;
-use lexopt::items::Item;
+use lexopt_items::items::Item;
 use std::alloc::{AllocError, Global};
 
 // Adds the setting of `short_equals`.

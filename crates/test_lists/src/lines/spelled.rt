@@ -1,7 +1,7 @@
 //! Items that are spelled, and the words read again.
-use lexopt::items::{Item, Table, read_items};
-use lexopt::spell::{SpellError, spell};
-use lexopt::{Error, OsString};
+use lexopt_base::{Error, OsString};
+use lexopt_items::items::{Item, Table, read_items};
+use lexopt_spell::spell::{SpellError, spell};
 use lexopt_words::words::copies;
 use std::alloc::{AllocError, Global};
 

@@ -1,5 +1,5 @@
 //! The tables that the lists are read by.
-use lexopt::items::Table;
+use lexopt_items::items::Table;
 use std::alloc::{AllocError, Global};
 
 /// Which lists of a table some options are in.
@@ -11,8 +11,8 @@ pub struct Lists {
     several: bool,
 }
 
-/// Options are in one list, or in none.
-pub const KINDS: [Lists; 4] = [
+// Options are in one list, or in none.
+const KINDS: [Lists; 4] = [
     Lists {
         name: "none",
         one: false,
@@ -92,10 +92,13 @@ const MARKS: Options = Options {
 /// A table: which lists the letter, the character of damage, and the marks are in.
 #[derive(Clone, Copy)]
 pub struct Choice {
-    pub letter: Lists,
-    pub damage: Lists,
-    pub marks: Lists,
+    letter: Lists,
+    damage: Lists,
+    marks: Lists,
 }
+
+/// How many choices of one list each, or none, there are.
+pub const CHOICES: usize = 64;
 
 fn add_to(
     alloc: Global,
@@ -139,6 +142,15 @@ impl Lists {
 }
 
 impl Choice {
+    /// The choice of this number, of one list each, or none.
+    pub fn of_kinds(number: usize) -> Choice {
+        Choice {
+            letter: KINDS[number / 16 % 4],
+            damage: KINDS[number / 4 % 4],
+            marks: KINDS[number % 4],
+        }
+    }
+
     /// All options are in the same lists.
     pub fn same(lists: Lists) -> Choice {
         Choice {

@@ -1,7 +1,7 @@
 //! What the calls that look at a line say about it.
 use crate::sequences::step::Step;
-use lexopt::replay::Reply;
-use lexopt::{Error, OsString, Parser};
+use lexopt_base::{Error, OsString, Parser};
+use lexopt_calls::reply::Reply;
 use lexopt_words::words::copies;
 use std::alloc::Global;
 

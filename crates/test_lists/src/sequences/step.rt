@@ -1,6 +1,7 @@
 //! One call, by itself and by `replay`.
-use lexopt::replay::{Call, Reply, replay};
-use lexopt::{Arg, Error, Parser};
+use lexopt_base::{Arg, Error, Parser};
+use lexopt_calls::replay::replay;
+use lexopt_calls::reply::{Call, Reply};
 use std::alloc::Global;
 
 // More values than any list has words.
