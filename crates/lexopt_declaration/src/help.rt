@@ -1,10 +1,10 @@
 //! The help of declared options, in the form that the GNU Coding Standards give `--help`, laid out
 //! as `ls --help` is.
-ghost use Rattle.std.specs.Prelude.{◌≡◌, ◌≤◌, ◌+◌, ◌-◌, ◌∷◌, ◌++◌, List, ℕ, IfOk, nat_lt, length};
-ghost use Rattle.std.specs.Prelude.{if◌then◌else◌, map, string_bytes};
+ghost use Rattle.std.specs.Prelude.{◌≡◌, ◌≤◌, ◌+◌, ◌-◌, ◌∷◌, ◌++◌, [], List, ℕ, IfOk, OnOk, nat_lt};
+ghost use Rattle.std.specs.Prelude.{if◌then◌else◌, codes, length, map, string_bytes};
 ghost use Rattle.std.specs.List.{AllZip, concat};
 ghost use Rattle.lexopt_options_spec.specs.Help as spec;
-ghost use Rattle.lexopt_options_spec.specs.Help.{IsEntry, IsHelp, Wraps};
+ghost use Rattle.lexopt_options_spec.specs.Help.{IsAbout, IsEntry, IsHelp, IsUsage, Wraps};
 ghost use Rattle.lexopt_declaration.specs.Models.{kind_of, long_name, option_view, placeholder_of};
 ghost use Rattle.lexopt_declaration.specs.Models.{positional_view, short_name};
 ghost use Rattle.lexopt_declaration.specs.Declarations.{declaration_view};
@@ -169,6 +169,23 @@ fn push_lines(
     Ok(())
 }
 
+// The same, and a line feed at the end.
+fn push_paragraph(
+    out: &mut String,
+    first: &str,
+    others: &[&str],
+    limit: usize,
+    column: usize,
+) -> Result<(), AllocError>
+    ensures { IfOk result (λ _. (lines : List spec.Line)
+        × Wraps limit (first.now ∷ map (λ w. w.now) others.now) lines
+        × (string_bytes out.new
+        ≡ string_bytes out.old ++ (spec.below column lines ++ spec.line_feed ∷ []))) }
+{
+    push_lines(out, first, others, limit, column)?;
+    out.push('\n')
+}
+
 // What stands between a label and its help.
 fn push_gap(out: &mut String, label: &str, column: usize) -> Result<(), AllocError>
     ensures { IfOk result (λ _. string_bytes out.new
@@ -258,63 +275,129 @@ fn push_entries(
     Ok(())
 }
 
-// A line that says what the program does.
-fn push_about(out: &mut String, about: &str) -> Result<(), AllocError>
-    ensures { IfOk result (λ _. string_bytes out.new
-        ≡ string_bytes out.old ++ spec.about_line about.now) }
+// What the program does, on lines of at most so many columns.
+fn push_about(
+    out: &mut String,
+    alloc: Global,
+    about: &str,
+    width: usize,
+) -> Result<(), AllocError>
+    ensures { IfOk result (λ _. (text : List ℕ) × IsAbout width about.now text
+        × (string_bytes out.new ≡ string_bytes out.old ++ text)) }
 {
-    if about.is_empty() {
-        return Ok(());
-    }
-    out.push_str(about)?;
-    out.push('\n')
+    let words = words_of(alloc, about)?;
+    push_about_lines(out, words.as_slice(), width)
 }
 
-// A mark for the options, if there are any.
-fn push_options_mark(out: &mut String, options: &[Declared<'_>]) -> Result<(), AllocError>
-    ensures { IfOk result (λ _. string_bytes out.new
-        ≡ string_bytes out.old ++ spec.options_mark (map option_view options.now)) }
+// The same of its words.
+fn push_about_lines(out: &mut String, words: &[&str], width: usize) -> Result<(), AllocError>
+    ensures { IfOk result (λ _. (lines : List spec.Line)
+        × Wraps width (map (λ w. w.now) words.now) lines
+        × (string_bytes out.new ≡ string_bytes out.old ++ spec.about_text lines)) }
+{
+    let [first, others @ ..] = words else {
+        return Ok(());
+    };
+    push_paragraph(out, first, others, width, 0)
+}
+
+// Adds a mark for the options, if there are any.
+fn add_options_mark(
+    alloc: Global,
+    marks: &mut Vec<String>,
+    options: &[Declared<'_>],
+) -> Result<(), AllocError>
+    ensures { OnOk result (map string_bytes marks.new.items ≡ map string_bytes marks.old.items
+        ++ spec.options_mark (map option_view options.now)) }
 {
     if options.is_empty() {
         return Ok(());
     }
-    out.push_str(" [OPTION]...")
+    marks.push(String::from_str(alloc, "[OPTION]...")?)?;
+    Ok(())
 }
 
 // A positional argument in the usage line.
-fn push_positional(out: &mut String, positional: &Positional<'_>) -> Result<(), AllocError>
-    ensures { IfOk result (λ _. string_bytes out.new
-        ≡ string_bytes out.old ++ spec.positional_mark (positional_view positional.now)) }
+fn positional_mark(alloc: Global, positional: &Positional<'_>) -> Result<String, AllocError>
+    ensures { IfOk result (λ text. string_bytes text
+        ≡ spec.positional_mark (positional_view positional.now)) }
 {
     let placeholder = positional.placeholder;
     match positional.count {
-        Count::Once => write!(out, " {placeholder}"),
-        Count::AtMostOnce => write!(out, " [{placeholder}]"),
-        Count::AnyNumber => write!(out, " [{placeholder}]..."),
+        Count::Once => String::from_str(alloc, placeholder),
+        Count::AtMostOnce => format!(in alloc; "[{placeholder}]"),
+        Count::AnyNumber => format!(in alloc; "[{placeholder}]..."),
     }
+}
+
+// What the program can be called with.
+fn marks_of(alloc: Global, declaration: &Declaration<'_>) -> Result<Vec<String>, AllocError>
+    ensures { IfOk result (λ marks. map string_bytes marks.items
+        ≡ spec.options_mark (map option_view declaration.now.options.now)
+        ++ map spec.positional_mark (map positional_view declaration.now.positionals.now)) }
+{
+    let mut marks = Vec::new(alloc);
+    add_options_mark(alloc, &mut marks, declaration.options)?;
+    for positional in declaration.positionals {
+        marks.push(positional_mark(alloc, positional)?)?;
+    }
+    Ok(marks)
+}
+
+// These texts, borrowed.
+fn texts_of<'a>(alloc: Global, texts: &'a [String]) -> Result<Vec<&'a str>, AllocError>
+    ensures { IfOk result (λ words. map (λ w. w.now) words.items ≡ map string_bytes texts.now) }
+{
+    let mut words = Vec::new(alloc);
+    for text in texts {
+        words.push(text.as_str())?;
+    }
+    Ok(words)
+}
+
+// The usage line, of these words after the name of the program.
+fn push_usage_lines(
+    out: &mut String,
+    program: &str,
+    words: &[&str],
+    width: usize,
+) -> Result<(), AllocError>
+    ensures { IfOk result (λ _. (lines : List spec.Line)
+        × Wraps (width - spec.usage_column) (program.now ∷ map (λ w. w.now) words.now) lines
+        × (string_bytes out.new ≡ string_bytes out.old
+        ++ (codes "Usage: " ++ spec.below spec.usage_column lines ++ spec.line_feed ∷ []))) }
+{
+    out.push_str("Usage: ")?;
+    push_paragraph(out, program, words, width.saturating_sub(7), 7)
 }
 
 // The usage line.
-fn push_usage(out: &mut String, declaration: &Declaration<'_>) -> Result<(), AllocError>
-    ensures { IfOk result (λ _. string_bytes out.new
-        ≡ string_bytes out.old ++ spec.usage (declaration_view declaration.now)) }
+fn push_usage(
+    out: &mut String,
+    alloc: Global,
+    declaration: &Declaration<'_>,
+    width: usize,
+) -> Result<(), AllocError>
+    ensures { IfOk result (λ _. (text : List ℕ)
+        × IsUsage width (declaration_view declaration.now) text
+        × (string_bytes out.new ≡ string_bytes out.old ++ text)) }
 {
-    out.push_str("Usage: ")?;
-    out.push_str(declaration.program)?;
-    push_options_mark(out, declaration.options)?;
-    for positional in declaration.positionals {
-        push_positional(out, positional)?;
-    }
-    out.push('\n')
+    let marks = marks_of(alloc, declaration)?;
+    let words = texts_of(alloc, marks.as_slice())?;
+    push_usage_lines(out, declaration.program, words.as_slice(), width)
 }
 
-/// The usage line, with the line feed at its end.
-pub fn usage(alloc: Global, declaration: &Declaration<'_>) -> Result<String, AllocError>
-    ensures { IfOk result (λ text. string_bytes text
-        ≡ spec.usage (declaration_view declaration.now)) }
+/// The usage line, on lines of at most so many columns, with the line feed at its end.
+pub fn usage(
+    alloc: Global,
+    declaration: &Declaration<'_>,
+    width: usize,
+) -> Result<String, AllocError>
+    ensures { IfOk result (λ text.
+        IsUsage width (declaration_view declaration.now) (string_bytes text)) }
 {
     let mut text = String::new(alloc);
-    push_usage(&mut text, declaration)?;
+    push_usage(&mut text, alloc, declaration, width)?;
     Ok(text)
 }
 
@@ -329,8 +412,8 @@ fn push_help(
         × IsHelp (declaration_view declaration.now) width text
         × (string_bytes out.new ≡ string_bytes out.old ++ text)) }
 {
-    push_usage(out, declaration)?;
-    push_about(out, declaration.about)?;
+    push_usage(out, alloc, declaration, width)?;
+    push_about(out, alloc, declaration.about, width)?;
     push_entries(out, alloc, declaration.options, width)
 }
 

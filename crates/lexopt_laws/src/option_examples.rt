@@ -22,7 +22,8 @@ ghost use Rattle.lexopt_options_spec.specs.Stops.{Mistake, StopsAt, missing_argu
 ghost use Rattle.lexopt_options_spec.specs.Stops.{missing_value, placeholder_at};
 ghost use Rattle.lexopt_options_spec.specs.Stops.{required_placeholder, unexpected_argument};
 ghost use Rattle.lexopt_options_spec.specs.Stops.{unexpected_value, unknown_option};
-ghost use Rattle.lexopt_options_spec.specs.Help.{HasTextNames, IsEntry, IsHelp, LabelForm, Wraps};
+ghost use Rattle.lexopt_options_spec.specs.Help.{HasTextNames, IsAbout, IsEntry, IsHelp, IsUsage};
+ghost use Rattle.lexopt_options_spec.specs.Help.{LabelForm, Wraps};
 ghost use Rattle.lexopt_options_spec.specs.Help.{beside, blanks, entry, gap, label, label_of};
 ghost use Rattle.lexopt_options_spec.specs.Help.{line_columns, line_text};
 ghost use Rattle.lexopt_laws.specs.Sample.{asks_for_help, backup, exclude, files, mode, output, sample};
@@ -532,6 +533,8 @@ fn helps_have_these_texts() {
     texts_are_laid_out();
     words_are_put_on_lines();
     entries_are_written();
+    usage_lines_are_written();
+    abouts_are_written();
     helps_are_written();
 }
 
@@ -617,6 +620,25 @@ fn entries_are_written()
         (codes "  -v        tell more of what is\n            done\n") }
     ensures nothing_to_say { IsEntry 80 (record verbose { help = codes "  " })
         (codes "  -v, --verbose\n") }
+{}
+
+// Usage lines: on one line, and on as many as a narrow width needs.
+fn usage_lines_are_written()
+    ensures one_line { IsUsage 80 (sample (mode ∷ target ∷ files ∷ []) true)
+        (codes "Usage: example_archive [OPTION]... MODE [TARGET] [FILE]...\n") }
+    ensures three_lines { IsUsage 30 (sample (mode ∷ target ∷ files ∷ []) true)
+        (codes "Usage: example_archive\n       [OPTION]... MODE\n       [TARGET] [FILE]...\n") }
+    ensures no_room { IsUsage 0 (sample [] true)
+        (codes "Usage: example_archive\n       [OPTION]...\n") }
+{}
+
+// What a program does, on one line and on two, and nothing.
+fn abouts_are_written()
+    ensures one_line { IsAbout 24 (codes "Prints what it has read.")
+        (codes "Prints what it has read.\n") }
+    ensures two_lines { IsAbout 12 (codes "Prints what it has read.")
+        (codes "Prints what\nit has read.\n") }
+    ensures nothing { IsAbout 80 (codes " ") [] }
 {}
 
 // Whole helps: the sample of `docs/formats.md`, and that of a program with nothing to say.

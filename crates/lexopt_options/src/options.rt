@@ -19,8 +19,7 @@ pub struct Options<'a> {
 impl<'a> Options<'a> {
     ghost use Rattle.std.specs.Prelude.{◌≡◌, IfOk, MatchResult, false, map, string_bytes, true};
     ghost use Rattle.lexopt_options_spec.specs.Declaration.{IsFirstFault, is_sound};
-    ghost use Rattle.lexopt_options_spec.specs.Help as help_spec;
-    ghost use Rattle.lexopt_options_spec.specs.Help.{IsHelp};
+    ghost use Rattle.lexopt_options_spec.specs.Help.{IsHelp, IsUsage};
     ghost use Rattle.lexopt_declaration.specs.Models.{option_view, positional_view, reason_view};
     ghost use Rattle.lexopt_options.specs.Declarations.{declaration_of, options_of};
 
@@ -108,27 +107,28 @@ impl<'a> Options<'a> {
         self.declaration.positionals
     }
 
-    /// The usage line, with the line feed at its end: the name of the program, `[OPTION]...` if an
-    /// option is declared, and what stands for each positional argument: `FILE` for one that stands
-    /// once, `[FILE]` for one that may be left out, `[FILE]...` for any number.
+    /// The usage line: the name of the program, `[OPTION]...` if an option is declared, and what
+    /// stands for each positional argument: `FILE` for one that stands once, `[FILE]` for one that
+    /// may be left out, `[FILE]...` for any number. A line feed is at its end.
     ///
     /// ```text
     /// Usage: example_archive [OPTION]... [FILE]...
     /// ```
     ///
+    /// If it has more than `width` columns it goes on at column 7 of the next line, counted from 0.
+    ///
     /// # Errors
     ///
     /// There is no memory for the text.
-    pub fn usage(&self, alloc: Global) -> Result<String, AllocError>
-        ensures { IfOk result (λ text. string_bytes text
-            ≡ help_spec.usage (declaration_of self.now)) }
+    pub fn usage(&self, alloc: Global, width: usize) -> Result<String, AllocError>
+        ensures { IfOk result
+            (λ text. IsUsage width (declaration_of self.now) (string_bytes text)) }
     {
-        help::usage(alloc, &self.declaration)
+        help::usage(alloc, &self.declaration, width)
     }
 
-    /// The help: the usage line, a line that says what the program does, an empty line, and one
-    /// entry for each option, in the order in which they are declared. Each line ends with a line
-    /// feed.
+    /// The help: the usage line, what the program does, an empty line, and one entry for each
+    /// option, in the order in which they are declared. Each line ends with a line feed.
     ///
     /// ```text
     /// Usage: example_archive [OPTION]... [FILE]...
@@ -141,10 +141,10 @@ impl<'a> Options<'a> {
     ///   -n NUMBER             a short one alone
     /// ```
     ///
-    /// The help of an option begins at column 24, counted from 0, or at a third of `width` if that
-    /// is less: on the line of its label if two blanks at least are between them, else on the next
-    /// one. Its words are put on as few lines as hold them in at most `width` columns; a word or a
-    /// label that is wider is not broken. The usage line and what the program does are not wrapped.
+    /// The help of an option begins at column 24, or at a third of `width` if that is less: on the
+    /// line of its label if two blanks at least are between them, else on the next one. Words are
+    /// put on as few lines as hold them in at most `width` columns; one that is wider is not broken,
+    /// and no label is.
     ///
     /// A column is a grapheme cluster, what a person sees as one character, and counts once even if
     /// a terminal gives it two cells. [`WIDTH`](crate::WIDTH) is the width if none is known; any

@@ -1,13 +1,13 @@
 -- A declaration has one help.
-use Rattle.std.proofs.Common.{◌≡◌, ◌≤◌, ◌<◌, ◌⊎◌, ℕ, ◌+◌, ◌-◌, suc, zero, cond, List, [], ◌∷◌, ◌++◌, length, take, drop, refl, sym, ap, subst, ◌∙◌, arith, inl, inr, append_assoc, length-append}
-use Rattle.std.proofs.lemmas.Bool.{le-leb, lt-leb}
+use Rattle.std.proofs.Common.{◌≡◌, ◌≤◌, ◌<◌, ◌⊎◌, ℕ, ◌+◌, ◌-◌, suc, zero, cond, List, [], ◌∷◌, ◌++◌, length, take, drop, refl, sym, ap, subst, ◌∙◌, arith, inl, inr, append_assoc, length-append, codes, ⊎_elim}
+use Rattle.std.proofs.lemmas.Bool.{cases_lt, le-leb, lt-leb}
 use Rattle.std.proofs.lemmas.List.{append_cancel_left, take-append-le, take-append-drop}
 use Rattle.std.proofs.lemmas.List.Sums.{sum_by-append}
 use Rattle.std.proofs.Math.Seq.{take-append_seam}
 use Rattle.std.specs.Prelude.{Contains}
 use Rattle.std.specs.List.{AllZip, concat, flat_map, sum_by}
 use Rattle.lexopt_options_spec.specs.Declaration.{Declared, Declaration}
-use Rattle.lexopt_options_spec.specs.Help.{columns, help_column, blanks, Line, line_columns, Fits, AllFit, AreFull, gap, entry, label, words_of, IsEntry, IsHelp, usage, about_line, before_entries, line_feed}
+use Rattle.lexopt_options_spec.specs.Help.{columns, help_column, blanks, Line, line_columns, Fits, AllFit, AreFull, Wraps, below, gap, entry, label, words_of, IsEntry, IsUsage, IsAbout, IsHelp, usage_words, usage_column, about_text, before_entries, line_feed}
 use Rattle.lexopt_options_spec.proofs.Wrapping.{some_wrapping}
 
 abbrev words_in : List Line → List (List ℕ)
@@ -82,9 +82,22 @@ same_entries width (o ∷ os) [] fs a b = absurd a
 same_entries width (o ∷ os) (e ∷ es) [] a b = absurd b
 same_entries width (o ∷ os) (e ∷ es) (f ∷ fs) a b = ap (λ (x : List ℕ). x ∷ es) (one_entry width o e f a.0 b.0) ∙ ap (λ (x : List (List ℕ)). f ∷ x) (same_entries width os es fs a.1 b.1)
 
+same_lines : (limit : ℕ) (words : List (List ℕ)) (ls ms : List Line) → Wraps limit words ls → Wraps limit words ms → ls ≡ ms
+same_lines limit words ls ms a b = one_wrapping limit ls ms (a.in_order ∙ sym b.in_order) a.fit b.fit a.full b.full
+
+pub one_usage : (d : Declaration) (width : ℕ) (s t : List ℕ) → IsUsage width d s → IsUsage width d t → s ≡ t
+one_usage d width s t a b =
+    a.written ∙ ap (λ (l : List Line). codes "Usage: " ++ below usage_column l ++ line_feed ∷ []) (same_lines (width - usage_column) (usage_words d) a.lines b.lines a.wrapped b.wrapped) ∙ sym b.written
+
+one_about : (width : ℕ) (about s t : List ℕ) → IsAbout width about s → IsAbout width about t → s ≡ t
+one_about width about s t a b = a.written ∙ ap about_text (same_lines width (words_of about) a.lines b.lines a.wrapped b.wrapped) ∙ sym b.written
+
 pub one_help : (d : Declaration) (width : ℕ) (s t : List ℕ) → IsHelp d width s → IsHelp d width t → s ≡ t
 one_help d width s t a b =
-    a.written ∙ ap (λ (l : List (List ℕ)). usage d ++ about_line d.about ++ before_entries d.options ++ concat l) (same_entries width d.options a.entries b.entries a.one_for_each b.one_for_each) ∙ sym b.written
+    a.written ∙ ap (λ (u : List ℕ). u ++ a.about ++ before_entries d.options ++ concat a.entries) (one_usage d width a.usage b.usage a.usage_first b.usage_first)
+    ∙ ap (λ (x : List ℕ). b.usage ++ x ++ before_entries d.options ++ concat a.entries) (one_about width d.about a.about b.about a.about_next b.about_next)
+    ∙ ap (λ (l : List (List ℕ)). b.usage ++ b.about ++ before_entries d.options ++ concat l) (same_entries width d.options a.entries b.entries a.one_for_each b.one_for_each)
+    ∙ sym b.written
 
 -- ---- a declaration has a help
 
@@ -100,10 +113,33 @@ some_entries width (o ∷ os) =
     let es = some_entries width os in
     (e.0 ∷ es.0, (e.1, es.1))
 
+pub some_usage : (d : Declaration) (width : ℕ) → (text : List ℕ) × IsUsage width d text
+some_usage d width =
+    let w = some_wrapping (width - usage_column) (usage_words d) in
+    (codes "Usage: " ++ below usage_column w.0 ++ line_feed ∷ [], record { lines = w.0; wrapped = w.1; written = refl })
+
+some_about : (width : ℕ) (about : List ℕ) → (text : List ℕ) × IsAbout width about text
+some_about width about =
+    let w = some_wrapping width (words_of about) in
+    (about_text w.0, record { lines = w.0; wrapped = w.1; written = refl })
+
 pub some_help : (d : Declaration) (width : ℕ) → (text : List ℕ) × IsHelp d width text
 some_help d width =
+    let u = some_usage d width in
+    let a = some_about width d.about in
     let es = some_entries width d.options in
-    (usage d ++ about_line d.about ++ before_entries d.options ++ concat es.0, record { entries = es.0; one_for_each = es.1; written = refl })
+    (
+      u.0 ++ a.0 ++ before_entries d.options ++ concat es.0,
+      record {
+        usage = u.0;
+        about = a.0;
+        entries = es.0;
+        usage_first = u.1;
+        about_next = a.1;
+        one_for_each = es.1;
+        written = refl;
+      },
+    )
 
 -- ---- widths
 
@@ -116,11 +152,29 @@ narrow_by : (width column wide n : ℕ) → column ≤ width → (wide ≤ width
 narrow_by width column wide n within (inl fits) = inl (omega arith)
 narrow_by width column wide n within (inr one) = inr one
 
-narrow : (width : ℕ) (line : Line) → Fits (width - help_column width) line → (help_column width + line_columns line ≤ width) ⊎ (length line ≡ 1)
-narrow width line fits = narrow_by width (help_column width) (line_columns line) (length line) (omega arith) fits.narrow
+-- a line that begins at this column ends within the width, or is one word
+narrow : (width column : ℕ) (lines : List Line) (line : Line) → column ≤ width → AllFit (width - column) lines → Contains lines line → (column + line_columns line ≤ width) ⊎ (length line ≡ 1)
+narrow width column lines line within fit there = narrow_by width column (line_columns line) (length line) within (fits_at (width - column) lines line fit there).narrow
 
-pub narrow_lines : (width : ℕ) (o : Declared) (text : List ℕ) (e : IsEntry width o text) (line : Line) → Contains e.lines line → (help_column width + line_columns line ≤ width) ⊎ (length line ≡ 1)
-narrow_lines width o text e line there = narrow width line (fits_at (width - help_column width) e.lines line e.wrapped.fit there)
+pub narrow_entry : (width : ℕ) (o : Declared) (text : List ℕ) (e : IsEntry width o text) (line : Line) → Contains e.lines line → (help_column width + line_columns line ≤ width) ⊎ (length line ≡ 1)
+narrow_entry width o text e line there = narrow width (help_column width) e.lines line (omega arith) e.wrapped.fit there
+
+-- where the width is less than the column, no line has two words
+no_room : (width column : ℕ) (line : Line) → width < column → 0 < length line → (line_columns line ≤ width - column) ⊎ (length line ≡ 1) → length line ≡ 1
+no_room width column line over some (inl narrow) = omega arith
+no_room width column line over some (inr one) = one
+
+narrow_or_one : (width column : ℕ) (line : Line) → Fits (width - column) line → (column + line_columns line ≤ width) ⊎ (length line ≡ 1)
+narrow_or_one width column line fits = ⊎_elim
+    (λ over. inr (no_room width column line over fits.words fits.narrow))
+    (λ within. narrow_by width column (line_columns line) (length line) within fits.narrow)
+    (cases_lt width column)
+
+pub narrow_usage : (width : ℕ) (d : Declaration) (text : List ℕ) (u : IsUsage width d text) (line : Line) → Contains u.lines line → (usage_column + line_columns line ≤ width) ⊎ (length line ≡ 1)
+narrow_usage width d text u line there = narrow_or_one width usage_column line (fits_at (width - usage_column) u.lines line u.wrapped.fit there)
+
+pub narrow_about : (width : ℕ) (about text : List ℕ) (a : IsAbout width about text) (line : Line) → Contains a.lines line → (line_columns line ≤ width) ⊎ (length line ≡ 1)
+narrow_about width about text a line there = (fits_at width a.lines line a.wrapped.fit there).narrow
 
 pub gap_same_line : (column : ℕ) (text : List ℕ) → columns text + 4 ≤ column → (n : ℕ) × (2 ≤ n) × (gap column text ≡ blanks n) × (2 + columns text + n ≡ column)
 gap_same_line column text room =

@@ -1,9 +1,9 @@
--- The help of declared options: its usage line, its labels, and lines of words.
+-- The help of declared options: lines of words, its labels, and its usage line.
 -- The source is `docs/behaviour.md`, after the GNU Coding Standards and what `ls --help` prints.
 -- Texts are their UTF-8. Columns are counted from 0.
 use Rattle.std.specs.Prelude.{◌≡◌, ◌≤◌, ◌<◌, ◌⊎◌, ℕ, ◌+◌, ◌-◌, ◌/◌, min, nat_le, ◌==◌, not}
 use Rattle.std.specs.Prelude.{if◌then◌else◌, List, [], ◌∷◌, ◌++◌, length, take, filter, replicate}
-use Rattle.std.specs.Prelude.{codes, encode_utf8, Option, Some, None}
+use Rattle.std.specs.Prelude.{codes, encode_utf8, map, Option, Some, None}
 use Rattle.std.specs.Char.{IsScalar}
 use Rattle.std.specs.Str.{IsUtf8}
 use Rattle.std.specs.List.{AllZip, concat, flat_map, join_by, join_with_byte, slice_split, sum_by}
@@ -220,37 +220,62 @@ pub record IsEntry (width : ℕ) (o : Declared) (text : List ℕ) : Type 0 where
   pub wrapped : Wraps (width - help_column width) (words_of o.help) lines
   pub written : text ≡ entry (help_column width) (label o) lines
 
--- ---- the whole text
+-- ---- the usage line
 
-abbrev pub options_mark : List Declared → List ℕ
+-- a mark for the options, if there are any
+abbrev pub options_mark : List Declared → List (List ℕ)
 options_mark [] = []
-options_mark (o ∷ os) = codes " [OPTION]..."
+options_mark (o ∷ os) = codes "[OPTION]..." ∷ []
 
 abbrev pub counted : Count → List ℕ → List ℕ
-counted once placeholder = codes " " ++ placeholder
-counted at_most_once placeholder = codes " [" ++ placeholder ++ codes "]"
-counted any_number placeholder = codes " [" ++ placeholder ++ codes "]..."
+counted once placeholder = placeholder
+counted at_most_once placeholder = codes "[" ++ placeholder ++ codes "]"
+counted any_number placeholder = codes "[" ++ placeholder ++ codes "]..."
 
 abbrev pub positional_mark : Positional → List ℕ
 positional_mark p = counted p.count p.placeholder
 
--- the usage line
-abbrev pub usage : Declaration → List ℕ
-usage d = codes "Usage: " ++ d.program ++ options_mark d.options
-    ++ flat_map positional_mark d.positionals ++ line_feed ∷ []
+-- the name of the program, and what it can be called with
+abbrev pub usage_words : Declaration → List (List ℕ)
+usage_words d = d.program ∷ options_mark d.options ++ map positional_mark d.positionals
 
--- a line of its own, if there is something to say
-abbrev pub about_line : List ℕ → List ℕ
-about_line [] = []
-about_line (b ∷ bs) = (b ∷ bs) ++ line_feed ∷ []
+-- the column where they begin
+abbrev pub usage_column : ℕ
+usage_column = 7
+
+-- the text is the usage line, on as many lines as it needs
+pub record IsUsage (width : ℕ) (d : Declaration) (text : List ℕ) : Type 0 where
+  pub lines : List Line
+  pub wrapped : Wraps (width - usage_column) (usage_words d) lines
+  pub written : text ≡ codes "Usage: " ++ below usage_column lines ++ line_feed ∷ []
+
+-- ---- what the program does
+
+-- the lines, if there are any
+abbrev pub about_text : List Line → List ℕ
+about_text [] = []
+about_text (line ∷ lines) = below 0 (line ∷ lines) ++ line_feed ∷ []
+
+-- the text says this on lines
+pub record IsAbout (width : ℕ) (about text : List ℕ) : Type 0 where
+  pub lines : List Line
+  pub wrapped : Wraps width (words_of about) lines
+  pub written : text ≡ about_text lines
+
+-- ---- the whole text
 
 -- an empty line before the entries, if there are any
 abbrev pub before_entries : List Declared → List ℕ
 before_entries [] = []
 before_entries (o ∷ os) = line_feed ∷ []
 
--- the text is the help: after its head one entry for each option, in order
+-- the text is the help: the usage line, what the program does, and one entry for each option, in
+-- order
 pub record IsHelp (d : Declaration) (width : ℕ) (text : List ℕ) : Type 0 where
+  pub usage : List ℕ
+  pub about : List ℕ
   pub entries : List (List ℕ)
+  pub usage_first : IsUsage width d usage
+  pub about_next : IsAbout width d.about about
   pub one_for_each : AllZip (IsEntry width) d.options entries
-  pub written : text ≡ usage d ++ about_line d.about ++ before_entries d.options ++ concat entries
+  pub written : text ≡ usage ++ about ++ before_entries d.options ++ concat entries

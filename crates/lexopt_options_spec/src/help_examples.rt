@@ -2,8 +2,8 @@
 ghost use Rattle.std.specs.Prelude.{◌≡◌, ◌∷◌, ◌++◌, [], None, Some, codes, true};
 ghost use Rattle.lexopt_line_spec.specs.Table.{flag, one, optional, several};
 ghost use Rattle.lexopt_options_spec.specs.Declaration.{any_number, at_most_once, once};
-ghost use Rattle.lexopt_options_spec.specs.Help.{below, columns, help_column, label_of, line_feed};
-ghost use Rattle.lexopt_options_spec.specs.Help.{usage, words_of};
+ghost use Rattle.lexopt_options_spec.specs.Help.{about_text, below, columns, help_column, label_of};
+ghost use Rattle.lexopt_options_spec.specs.Help.{line_feed, usage_words, words_of};
 
 /// The labels of options with one name and with both.
 pub fn labels_look_so()
@@ -37,9 +37,9 @@ pub fn words_stand_in_columns()
     ensures narrow { help_column 40 ≡ 13 }
 {}
 
-/// The usage line of a program with no options, and of one with an option.
-pub fn usage_lines_look_so()
-    ensures positionals { usage (record {
+/// The words of the usage line of a program with no options, and of one with an option.
+pub fn usage_lines_have_these_words()
+    ensures positionals { usage_words (record {
       program = codes "pack";
       about = codes "Packs.";
       options = [];
@@ -47,8 +47,8 @@ pub fn usage_lines_look_so()
           ∷ record { placeholder = codes "TARGET"; count = at_most_once }
           ∷ record { placeholder = codes "FILE"; count = any_number } ∷ [];
       short_equals = true;
-    }) ≡ codes "Usage: pack MODE [TARGET] [FILE]..." ++ line_feed ∷ [] }
-    ensures options { usage (record {
+    }) ≡ codes "pack" ∷ codes "MODE" ∷ codes "[TARGET]" ∷ codes "[FILE]..." ∷ [] }
+    ensures options { usage_words (record {
       program = codes "pack";
       about = [];
       options = record {
@@ -60,7 +60,14 @@ pub fn usage_lines_look_so()
       } ∷ [];
       positionals = [];
       short_equals = true;
-    }) ≡ codes "Usage: pack [OPTION]..." ++ line_feed ∷ [] }
+    }) ≡ codes "pack" ∷ codes "[OPTION]..." ∷ [] }
+{}
+
+/// What a program does stands on lines of its own, if it is said.
+pub fn abouts_are_laid_out()
+    ensures none { about_text [] ≡ [] }
+    ensures lines { about_text ((codes "Packs" ∷ codes "all" ∷ []) ∷ (codes "files." ∷ []) ∷ [])
+        ≡ codes "Packs all" ++ line_feed ∷ codes "files." ++ line_feed ∷ [] }
 {}
 
 /// A cluster of several characters takes one column: `e` and an acute accent, in three bytes.

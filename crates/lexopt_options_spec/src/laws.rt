@@ -4,9 +4,10 @@ ghost use Rattle.std.specs.Prelude.{ℕ, codes, length, true};
 ghost use Rattle.lexopt_line_spec.specs.Table.{Item, long, short};
 ghost use Rattle.lexopt_line_spec.specs.Spelling.{Spells};
 ghost use Rattle.lexopt_options_spec.specs.Declaration.{Declaration, Declared, is_sound, table};
-ghost use Rattle.lexopt_options_spec.specs.Help.{HasTextNames, IsEntry, IsHelp, LabelForm, Line};
-ghost use Rattle.lexopt_options_spec.specs.Help.{ShowsName, blanks, columns, gap, help_column};
-ghost use Rattle.lexopt_options_spec.specs.Help.{label, line_columns, line_feed};
+ghost use Rattle.lexopt_options_spec.specs.Help.{HasTextNames, IsAbout, IsEntry, IsHelp, IsUsage};
+ghost use Rattle.lexopt_options_spec.specs.Help.{LabelForm, Line, ShowsName, blanks, columns, gap};
+ghost use Rattle.lexopt_options_spec.specs.Help.{help_column, label, line_columns, line_feed};
+ghost use Rattle.lexopt_options_spec.specs.Help.{usage_column};
 
 /// What the help shows can be typed. Among options that can be declared together, each form that
 /// the label of one shows, with the placeholder for the value, is legal, whether `=` is a mark in
@@ -40,18 +41,28 @@ pub fn labels_show_their_names()
         × (label o ≡ first ++ codes ", " ++ second) }
 {}
 
-/// At each width a declaration has exactly one help.
+/// At each width a declaration has exactly one usage line and exactly one help.
 pub fn each_declaration_has_one_help()
+    ensures some_usage { (d : Declaration) (width : ℕ) → (text : List ℕ) × IsUsage width d text }
+    ensures no_other_usage { (d : Declaration) (width : ℕ) (text other : List ℕ)
+        → IsUsage width d text → IsUsage width d other → text ≡ other }
     ensures some { (d : Declaration) (width : ℕ) → (text : List ℕ) × IsHelp d width text }
     ensures no_other { (d : Declaration) (width : ℕ) (text other : List ℕ) → IsHelp d width text
         → IsHelp d width other → text ≡ other }
 {}
 
-/// A line of the help of an option ends within the width, unless it is one word. It begins at the
-/// same column as the others: beside its label, after two blanks at least, or below it. So it is if
-/// no line feed is among its words.
+/// Each line of the help ends within the width, unless it is one word, or the label of an option is
+/// on it: those of the usage line begin at column 7, those of what the program does at column 0, and
+/// those of the help of an option at one column, beside its label, after two blanks at least, or
+/// below it. So it is if no line feed is among the words.
 pub fn lines_are_in_columns()
-    ensures narrow { (width : ℕ) (o : Declared) (text : List ℕ) (e : IsEntry width o text)
+    ensures usage { (width : ℕ) (d : Declaration) (text : List ℕ) (u : IsUsage width d text)
+        (line : Line) → Contains u.lines line
+        → (usage_column + line_columns line ≤ width) ⊎ (length line ≡ 1) }
+    ensures about { (width : ℕ) (about text : List ℕ) (a : IsAbout width about text)
+        (line : Line) → Contains a.lines line
+        → (line_columns line ≤ width) ⊎ (length line ≡ 1) }
+    ensures entry { (width : ℕ) (o : Declared) (text : List ℕ) (e : IsEntry width o text)
         (line : Line) → Contains e.lines line
         → (help_column width + line_columns line ≤ width) ⊎ (length line ≡ 1) }
     ensures beside { (column : ℕ) (text : List ℕ) → columns text + 4 ≤ column → (n : ℕ) × (2 ≤ n)

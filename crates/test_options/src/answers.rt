@@ -5,15 +5,14 @@ use std::alloc::{AllocError, Global};
 use std::test::Fail;
 
 // What a program is to do about a line.
-enum Wanted {
-    Said(&'static str),
-    Text(&'static str),
-    // A text that begins so.
-    Script(&'static str),
-    Refused(&'static str),
+#[derive(Clone, Copy, PartialEq, Eq)]
+enum Do {
+    Work,
+    Print,
+    Refuse,
 }
 
-use Wanted::{Refused, Said, Script, Text};
+use Do::{Print, Refuse, Work};
 
 const HELP_AT_40: &str = "Usage: archive [OPTION]... [FILE]...
 Packs files.
@@ -33,79 +32,105 @@ Packs files.
              print this help and exit
 ";
 
-const LINES: [(&[u8], Wanted); 19] = [
-    (b"", Said("[]")),
-    (b"-v a", Said("[Option(0, None), Positional(\"a\")]")),
-    (b"-h", Text(HELP_AT_40)),
+// Lines, what is to be done, and what is said or printed.
+const LINES: [(&[u8], Do, &str); 16] = [
+    (b"", Work, "[]"),
+    (b"-v a", Work, "[Option(0, None), Positional(\"a\")]"),
+    (b"-h", Print, HELP_AT_40),
     // What stands after it does not matter.
-    (b"a --help --bogus", Text(HELP_AT_40)),
+    (b"a --help --bogus", Print, HELP_AT_40),
     (
         b"--bogus --help",
-        Refused("archive: invalid option '--bogus'\nTry 'archive --help' for more information."),
+        Refuse,
+        "archive: invalid option '--bogus'\nTry 'archive --help' for more information.",
     ),
     // It is a value here, and an argument.
-    (b"-o --help", Said("[Option(1, Some(\"--help\"))]")),
-    (b"-- --help", Said("[Positional(\"--help\")]")),
-    (b"__complete --verb", Text("--verbose\n")),
-    (b"__complete -o ", Text("files\n")),
-    (b"__complete -- a -", Text("files\n")),
-    (b"__complete -z ", Text("")),
+    (b"-o --help", Work, "[Option(1, Some(\"--help\"))]"),
+    (b"-- --help", Work, "[Positional(\"--help\")]"),
+    (b"__complete --verb", Print, "--verbose\n"),
+    (b"__complete -o ", Print, "files\n"),
+    (b"__complete -- a -", Print, "files\n"),
+    (b"__complete -z ", Print, ""),
     // A word that was typed is missing, or the hidden word is not the first.
-    (b"__complete", Said("[Positional(\"__complete\")]")),
+    (b"__complete", Work, "[Positional(\"__complete\")]"),
     (
         b"-v __complete a",
-        Said("[Option(0, None), Positional(\"__complete\"), Positional(\"a\")]"),
+        Work,
+        "[Option(0, None), Positional(\"__complete\"), Positional(\"a\")]",
     ),
-    (
-        b"__script bash",
-        Script("# Source this.\n_complete_archive() {"),
-    ),
-    (b"__script zsh", Script("#compdef archive\n")),
-    (
-        b"__script fish",
-        Script(
-            "# Source this, or put it into a folder of `fish_complete_path` as the file `archive.fish`.\n",
-        ),
-    ),
-    (b"__complete --output=x", Text("value\n")),
-    (b"__complete --verbose=x", Text("")),
+    (b"__complete --output=x", Print, "value\n"),
+    (b"__complete --verbose=x", Print, ""),
     (
         b"__script sh",
-        Said("[Positional(\"__script\"), Positional(\"sh\")]"),
+        Work,
+        "[Positional(\"__script\"), Positional(\"sh\")]",
     ),
 ];
+
+// Lines that ask for a script, and how it begins.
+const SCRIPTS: [(&[u8], &str); 3] = [
+    (b"__script bash", "# Source this.\n_complete_archive() {"),
+    (b"__script zsh", "#compdef archive\n"),
+    (
+        b"__script fish",
+        "# Source this, or put it into a folder of `fish_complete_path` as the file `archive.fish`.\n",
+    ),
+];
+
+// What is to be done.
+fn done_by(answer: &Answer<'_>) -> Do {
+    match answer {
+        Answer::Said(_) => Work,
+        Answer::Text(_) => Print,
+        Answer::Refused(_) => Refuse,
+    }
+}
+
+// What is said or printed.
+fn shown(alloc: Global, answer: &Answer<'_>) -> Result<String, AllocError> {
+    match answer {
+        Answer::Said(said) => format!(in alloc; "{said:?}"),
+        Answer::Text(text) => String::from_str(alloc, text.as_str()),
+        Answer::Refused(refused) => refused.to_string(alloc),
+    }
+}
 
 // Whether a line is answered so.
 fn is_answered(
     alloc: Global,
     options: &Options<'_>,
     line: &[u8],
-    wanted: &Wanted,
+    wanted: Do,
+    text: &str,
 ) -> Result<bool, AllocError> {
+    let answer = options.answer(alloc, words_of(alloc, line)?, 40);
+    Ok(done_by(&answer) == wanted && shown(alloc, &answer)?.as_str() == text)
+}
+
+// Whether a line asks for a script that begins so.
+fn is_script(
+    alloc: Global,
+    options: &Options<'_>,
+    line: &[u8],
+    front: &str,
+) -> Result<bool, AllocError> {
+    let answer = options.answer(alloc, words_of(alloc, line)?, 40);
+    let text = shown(alloc, &answer)?;
     Ok(
-        match (options.answer(alloc, words_of(alloc, line)?, 40), wanted) {
-            (Answer::Said(said), Said(wanted)) => {
-                format!(in alloc; "{said:?}")?.as_str() == *wanted
-            }
-            (Answer::Text(text), Text(wanted)) => text.as_str() == *wanted,
-            (Answer::Text(text), Script(front)) => {
-                text.as_str().starts_with(*front) && text.as_str().ends_with('\n')
-            }
-            (Answer::Refused(refused), Refused(wanted)) => {
-                refused.to_string(alloc)?.as_str() == *wanted
-            }
-            _ => false,
-        },
+        done_by(&answer) == Print
+            && text.as_str().starts_with(front)
+            && text.as_str().ends_with('\n'),
     )
 }
 
 // The row of these that is not as it says, or none.
-fn first_wrong(alloc: Global, rows: &[(&[u8], Wanted)]) -> Result<Option<usize>, AllocError> {
-    let Some(options) = archive(&OPTIONS, &FILES) else {
-        return Ok(Some(rows.len()));
-    };
-    for (row, (line, wanted)) in rows.iter().enumerate() {
-        if !is_answered(alloc, &options, line, wanted)? {
+fn first_wrong(
+    alloc: Global,
+    options: &Options<'_>,
+    rows: &[(&[u8], Do, &'static str)],
+) -> Result<Option<usize>, AllocError> {
+    for (row, (line, wanted, text)) in rows.iter().enumerate() {
+        if !is_answered(alloc, options, line, *wanted, text)? {
             return Ok(Some(row));
         }
     }
@@ -114,37 +139,59 @@ fn first_wrong(alloc: Global, rows: &[(&[u8], Wanted)]) -> Result<Option<usize>,
 
 #[test]
 fn lines(rt: HostRuntime) -> Result<(), Fail> {
-    assert_eq!(rt; first_wrong(rt.alloc(), &LINES)?, None);
-    Ok(())
+    if let Some(options) = archive(&OPTIONS, &FILES) {
+        assert_eq!(rt; first_wrong(rt.alloc(), &options, &LINES)?, None);
+        return Ok(());
+    }
+    Err(Fail::new("the options cannot be declared"))
 }
 
-// Whether the help is printed although an argument is missing, and a word of that name is no help
-// if no such option is declared.
-fn help_comes_first(alloc: Global) -> Result<bool, AllocError> {
-    let declared = [HELP];
-    let source = [Positional::once("SOURCE")];
-    let Some(options) = archive(&declared, &source) else {
-        return Ok(false);
-    };
-    let usage = "Usage: archive [OPTION]... SOURCE\nPacks files.\n\n  \
-        -h, --help            print this help and exit\n";
-    let is_printed = match options.answer(alloc, words_of(alloc, b"-h")?, 80) {
-        Answer::Text(text) => text.as_str() == usage,
-        Answer::Said(_) | Answer::Refused(_) => false,
-    };
-    let other = [Declared::flag(Names::Short('h'), "")];
-    let Some(options) = archive(&other, &[]) else {
-        return Ok(false);
-    };
-    let is_said = match options.answer(alloc, words_of(alloc, b"-h")?, 80) {
-        Answer::Said(said) => said.len() == 1,
-        Answer::Text(_) | Answer::Refused(_) => false,
-    };
-    Ok(is_printed && is_said)
+// The script of these that does not begin so, or none.
+fn first_wrong_script(alloc: Global, options: &Options<'_>) -> Result<Option<usize>, AllocError> {
+    for (row, (line, front)) in SCRIPTS.iter().enumerate() {
+        if !is_script(alloc, options, line, front)? {
+            return Ok(Some(row));
+        }
+    }
+    Ok(None)
 }
 
 #[test]
+fn scripts(rt: HostRuntime) -> Result<(), Fail> {
+    if let Some(options) = archive(&OPTIONS, &FILES) {
+        assert_eq!(rt; first_wrong_script(rt.alloc(), &options)?, None);
+        return Ok(());
+    }
+    Err(Fail::new("the options cannot be declared"))
+}
+
+// Whether a line is answered so under these options and arguments.
+fn is_answered_by(
+    alloc: Global,
+    declared: &[Declared<'_>],
+    positionals: &[Positional<'_>],
+    wanted: Do,
+    text: &str,
+) -> Result<bool, AllocError> {
+    match archive(declared, positionals) {
+        Some(options) => is_answered(alloc, &options, b"-h", wanted, text),
+        None => Ok(false),
+    }
+}
+
+const HELP_OF_SOURCE: &str = "Usage: archive [OPTION]... SOURCE
+Packs files.
+
+  -h, --help
+             print this help and exit
+";
+
+// The help is printed although an argument is missing. It is no help if no option has that name.
+#[test]
 fn help(rt: HostRuntime) -> Result<(), Fail> {
-    assert!(rt; help_comes_first(rt.alloc())?);
+    let source = [Positional::once("SOURCE")];
+    assert!(rt; is_answered_by(rt.alloc(), &[HELP], &source, Print, HELP_OF_SOURCE)?);
+    let other = [Declared::flag(Names::Short('h'), "")];
+    assert!(rt; is_answered_by(rt.alloc(), &other, &[], Work, "[Option(0, None)]")?);
     Ok(())
 }

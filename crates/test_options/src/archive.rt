@@ -1,6 +1,5 @@
 //! The declaration that the tests share, and lines of words.
-use lexopt::OsString;
-use lexopt_options::{Count, Declared, HELP, Kind, Names, Options, Positional};
+use lexopt_options::{Count, Declared, HELP, Kind, Names, Options, OsString, Positional};
 use std::alloc::{AllocError, Global};
 
 /// The options, one of each kind and that of the help.

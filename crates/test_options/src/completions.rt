@@ -1,7 +1,6 @@
 //! What can stand where a word is typed.
 use crate::archive::{FILES, OPTIONS, archive, words_of};
-use lexopt::OsString;
-use lexopt_options::{Options, Role};
+use lexopt_options::{Options, OsString, Positional, Role};
 use std::alloc::{AllocError, Global};
 use std::test::Fail;
 
@@ -151,25 +150,31 @@ fn are_spellings(alloc: Global, spellings: &[String], wanted: &str) -> Result<bo
     Ok(text.as_str() == wanted)
 }
 
-// Whether a row is as it says.
-fn is_offered(alloc: Global, options: &Options<'_>, row: &Row) -> Result<bool, AllocError> {
+// Whether a row is as it says, and this is said of damage.
+fn is_offered(
+    alloc: Global,
+    options: &Options<'_>,
+    row: &Row,
+    is_damaged: bool,
+) -> Result<bool, AllocError> {
     let words = words_of(alloc, row.words)?;
     let typed = OsString::from_bytes(alloc, row.typed)?;
     let completion = options.complete(alloc, &words, &typed)?;
     Ok(
-        !completion.is_damaged
+        completion.is_damaged == is_damaged
             && completion.word == row.word
             && are_spellings(alloc, &completion.spellings, row.spellings)?,
     )
 }
 
 // The row of these that is not as it says, or none.
-fn first_wrong(alloc: Global, rows: &[Row]) -> Result<Option<usize>, AllocError> {
-    let Some(options) = archive(&OPTIONS, &FILES) else {
-        return Ok(Some(rows.len()));
-    };
+fn first_wrong(
+    alloc: Global,
+    options: &Options<'_>,
+    rows: &[Row],
+) -> Result<Option<usize>, AllocError> {
     for (index, row) in rows.iter().enumerate() {
-        if !is_offered(alloc, &options, row)? {
+        if !is_offered(alloc, options, row, false)? {
             return Ok(Some(index));
         }
     }
@@ -178,38 +183,57 @@ fn first_wrong(alloc: Global, rows: &[Row]) -> Result<Option<usize>, AllocError>
 
 #[test]
 fn rows(rt: HostRuntime) -> Result<(), Fail> {
-    assert_eq!(rt; first_wrong(rt.alloc(), &ROWS)?, None);
-    Ok(())
+    if let Some(options) = archive(&OPTIONS, &FILES) {
+        assert_eq!(rt; first_wrong(rt.alloc(), &options, &ROWS)?, None);
+        return Ok(());
+    }
+    Err(Fail::new("the options cannot be declared"))
 }
 
-// Whether no spelling is offered for damage, and a word that is no option would be this.
-fn is_nothing_offered(alloc: Global, typed: &[u8], word: Option<Role>) -> Result<bool, AllocError> {
-    let Some(options) = archive(&OPTIONS, &FILES) else {
-        return Ok(false);
-    };
-    let typed = OsString::from_bytes(alloc, typed)?;
-    let completion = options.complete(alloc, &[], &typed)?;
-    Ok(completion.is_damaged && completion.spellings.is_empty() && completion.word == word)
+// Whether a row is as it says with these positionals, and this is said of damage.
+fn is_offered_with(
+    alloc: Global,
+    positionals: &'static [Positional<'static>],
+    row: &Row,
+    is_damaged: bool,
+) -> Result<bool, AllocError> {
+    match archive(&OPTIONS, positionals) {
+        Some(options) => is_offered(alloc, &options, row, is_damaged),
+        None => Ok(false),
+    }
 }
+
+const DAMAGED: Row = Row {
+    words: b"",
+    typed: b"\xFF",
+    spellings: "",
+    word: Some(Role::Argument),
+};
+
+const DAMAGED_OPTION: Row = Row {
+    words: b"",
+    typed: b"--v\xFF",
+    spellings: "",
+    word: None,
+};
 
 #[test]
 fn damage(rt: HostRuntime) -> Result<(), Fail> {
-    assert!(rt; is_nothing_offered(rt.alloc(), b"\xFF", Some(Role::Argument))?);
-    assert!(rt; is_nothing_offered(rt.alloc(), b"--v\xFF", None)?);
+    assert!(rt; is_offered_with(rt.alloc(), &FILES, &DAMAGED, true)?);
+    assert!(rt; is_offered_with(rt.alloc(), &FILES, &DAMAGED_OPTION, true)?);
     Ok(())
 }
 
-// Whether an option can stand where a further argument cannot.
-fn is_option_alone(alloc: Global) -> Result<bool, AllocError> {
-    let Some(options) = archive(&OPTIONS, &[]) else {
-        return Ok(false);
-    };
-    let completion = options.complete(alloc, &[], &OsString::from_bytes(alloc, b"--h")?)?;
-    Ok(completion.word.is_none() && are_spellings(alloc, &completion.spellings, "--help")?)
-}
+// An option can stand where a further argument cannot.
+const OPTION_ALONE: Row = Row {
+    words: b"",
+    typed: b"--h",
+    spellings: "--help",
+    word: None,
+};
 
 #[test]
 fn no_arguments(rt: HostRuntime) -> Result<(), Fail> {
-    assert!(rt; is_option_alone(rt.alloc())?);
+    assert!(rt; is_offered_with(rt.alloc(), &[], &OPTION_ALONE, false)?);
     Ok(())
 }

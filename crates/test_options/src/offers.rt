@@ -1,8 +1,7 @@
 //! Completion beside reading: a spelling is offered after some words exactly if the words, it and
 //! what may come after it can be read as what the words say, and then its option.
 use crate::archive::{FILES, OPTIONS, archive};
-use lexopt::OsString;
-use lexopt_options::{Options, Said};
+use lexopt_options::{Options, OsString, Said};
 use std::alloc::{AllocError, Global};
 use std::test::Fail;
 

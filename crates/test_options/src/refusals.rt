@@ -1,7 +1,6 @@
 //! What is printed of lines that are refused, and what they say before.
 use crate::archive::{FILES, OPTIONS, SOURCE_AND_TARGET, archive, words_of};
-use lexopt::{Error, OsString, ValueExt};
-use lexopt_options::{Declared, Mistake, Names, Options, Refused};
+use lexopt_options::{Declared, Error, Mistake, Names, Options, OsString, Refused, ValueExt};
 use std::alloc::{AllocError, Global};
 use std::test::Fail;
 
@@ -11,6 +10,11 @@ fn prints(alloc: Global, refused: &Refused<'_>, mistake: &str) -> Result<bool, A
         "archive: {mistake}\nTry 'archive --help' for more information."
     )?;
     Ok(refused.to_string(alloc)?.as_str() == wanted.as_str())
+}
+
+// Whether it says this before.
+fn says_before(alloc: Global, refused: &Refused<'_>, before: &str) -> Result<bool, AllocError> {
+    Ok(format!(in alloc; "{:?}", refused.before)?.as_str() == before)
 }
 
 // Whether a line is refused with this mistake, and says this before.
@@ -24,8 +28,7 @@ fn is_refused(
     match options.read(alloc, words_of(alloc, line)?) {
         Ok(_) => Ok(false),
         Err(refused) => {
-            let said = format!(in alloc; "{:?}", refused.before)?;
-            Ok(said.as_str() == before && prints(alloc, &refused, mistake)?)
+            Ok(says_before(alloc, &refused, before)? && prints(alloc, &refused, mistake)?)
         }
     }
 }
@@ -76,13 +79,11 @@ const MISTAKES: [(&[u8], &str, &str); 11] = [
 // The row of these that is not as it says, or none.
 fn first_wrong(
     alloc: Global,
+    options: &Options<'_>,
     rows: &[(&[u8], &'static str, &'static str)],
 ) -> Result<Option<usize>, AllocError> {
-    let Some(options) = archive(&OPTIONS, &SOURCE_AND_TARGET) else {
-        return Ok(Some(rows.len()));
-    };
     for (row, (line, before, mistake)) in rows.iter().enumerate() {
-        if !is_refused(alloc, &options, line, before, mistake)? {
+        if !is_refused(alloc, options, line, before, mistake)? {
             return Ok(Some(row));
         }
     }
@@ -91,7 +92,15 @@ fn first_wrong(
 
 #[test]
 fn mistakes(rt: HostRuntime) -> Result<(), Fail> {
-    assert_eq!(rt; first_wrong(rt.alloc(), &MISTAKES)?, None);
+    if let Some(options) = archive(&OPTIONS, &SOURCE_AND_TARGET) {
+        assert_eq!(rt; first_wrong(rt.alloc(), &options, &MISTAKES)?, None);
+        return Ok(());
+    }
+    Err(Fail::new("the options cannot be declared"))
+}
+
+#[test]
+fn status(rt: HostRuntime) -> Result<(), Fail> {
     assert_eq!(rt; Refused::STATUS, 2);
     Ok(())
 }
@@ -101,45 +110,45 @@ fn error_of(alloc: Global, word: &[u8]) -> Result<Option<Error>, AllocError> {
     Ok(OsString::from_bytes(alloc, word)?.parse::<u32>().err())
 }
 
-// Whether a value of an option without a long name, and a value that is wrong in another way, are
-// refused with these mistakes.
-fn are_invalid(alloc: Global) -> Result<bool, AllocError> {
-    let jobs = [Declared::one(Names::Short('k'), "NUMBER", "")];
-    let Some(options) = archive(&jobs, &[]) else {
-        return Ok(false);
-    };
-    let Some(error) = error_of(alloc, b"x")? else {
-        return Ok(false);
-    };
-    let is_number = prints(
-        alloc,
-        &options.invalid(alloc, Some(0), error),
-        "invalid value \"x\" for '-k': invalid digit found in string",
-    )?;
-    let other = options.invalid(alloc, Some(0), Error::from("no such key"));
-    Ok(is_number && prints(alloc, &other, "invalid value for '-k': no such key")?)
-}
-
-#[test]
-fn other_invalid_values(rt: HostRuntime) -> Result<(), Fail> {
-    assert!(rt; are_invalid(rt.alloc())?);
-    Ok(())
+// Whether a value of this option that cannot be converted, or of a positional, is refused with this
+// mistake.
+fn tells_invalid(
+    alloc: Global,
+    declared: &[Declared<'_>],
+    index: Option<usize>,
+    error: Error,
+    mistake: &str,
+) -> Result<bool, AllocError> {
+    match archive(declared, &FILES) {
+        Some(options) => prints(alloc, &options.invalid(alloc, index, error), mistake),
+        None => Ok(false),
+    }
 }
 
 // Whether a word that is no number is refused with this mistake, for this option.
 fn is_invalid(
     alloc: Global,
+    declared: &[Declared<'_>],
     index: Option<usize>,
     word: &[u8],
     mistake: &str,
 ) -> Result<bool, AllocError> {
-    let Some(options) = archive(&OPTIONS, &FILES) else {
-        return Ok(false);
-    };
     match error_of(alloc, word)? {
-        Some(error) => prints(alloc, &options.invalid(alloc, index, error), mistake),
+        Some(error) => tells_invalid(alloc, declared, index, error, mistake),
         None => Ok(false),
     }
+}
+
+// An option with no long name, and a value that is wrong in another way.
+#[test]
+fn other_invalid_values(rt: HostRuntime) -> Result<(), Fail> {
+    let jobs = [Declared::one(Names::Short('k'), "NUMBER", "")];
+    let mistake = "invalid value \"x\" for '-k': invalid digit found in string";
+    assert!(rt; is_invalid(rt.alloc(), &jobs, Some(0), b"x", mistake)?);
+    let error = Error::from("no such key");
+    let mistake = "invalid value for '-k': no such key";
+    assert!(rt; tells_invalid(rt.alloc(), &jobs, Some(0), error, mistake)?);
+    Ok(())
 }
 
 #[test]
@@ -161,7 +170,10 @@ fn invalid_values(rt: HostRuntime) -> Result<(), Fail> {
             "invalid value \"7\\xFF\" for '--backup': not UTF-8",
         ),
     ] {
-        assert!(rt; is_invalid(rt.alloc(), index, word, mistake)?, "{mistake}");
+        assert!(rt;
+            is_invalid(rt.alloc(), &OPTIONS, index, word, mistake)?,
+            "{mistake}"
+        );
     }
     Ok(())
 }

@@ -18,8 +18,11 @@ Packs files.
 ";
 
 // Each word stands on a line of its own.
-const HELP_AT_0: &str = "Usage: archive [OPTION]... [FILE]...
-Packs files.
+const HELP_AT_0: &str = "Usage: archive
+       [OPTION]...
+       [FILE]...
+Packs
+files.
 
   -v, --verbose
 tell
@@ -154,18 +157,38 @@ fn labels(rt: HostRuntime) -> Result<(), Fail> {
     Ok(())
 }
 
-// Whether the usage line of these options is this.
-fn is_usage(alloc: Global, declared: &[Declared<'_>], wanted: &str) -> Result<bool, AllocError> {
+// Whether the usage line of these options is this, at this width.
+fn is_usage(
+    alloc: Global,
+    declared: &[Declared<'_>],
+    width: usize,
+    wanted: &str,
+) -> Result<bool, AllocError> {
     match archive(declared, &SOURCE_AND_TARGET) {
-        Some(options) => Ok(options.usage(alloc)?.as_str() == wanted),
+        Some(options) => Ok(options.usage(alloc, width)?.as_str() == wanted),
         None => Ok(false),
     }
 }
 
+// Whether usage lines are on one line if they fit, and else on two.
+fn are_usages(alloc: Global) -> Result<bool, AllocError> {
+    Ok(
+        is_usage(
+            alloc,
+            &OPTIONS,
+            42,
+            "Usage: archive [OPTION]... SOURCE [TARGET]\n",
+        )? && is_usage(
+            alloc,
+            &OPTIONS,
+            41,
+            "Usage: archive [OPTION]... SOURCE\n       [TARGET]\n",
+        )? && is_usage(alloc, &[], 80, "Usage: archive SOURCE [TARGET]\n")?,
+    )
+}
+
 #[test]
 fn usage(rt: HostRuntime) -> Result<(), Fail> {
-    let wanted = "Usage: archive [OPTION]... SOURCE [TARGET]\n";
-    assert!(rt; is_usage(rt.alloc(), &OPTIONS, wanted)?);
-    assert!(rt; is_usage(rt.alloc(), &[], "Usage: archive SOURCE [TARGET]\n")?);
+    assert!(rt; are_usages(rt.alloc())?);
     Ok(())
 }

@@ -1,7 +1,7 @@
-use Rattle.std.proofs.Common.{[], ◌∷◌, codes, refl, lit≤, lit<}
+use Rattle.std.proofs.Common.{List, ℕ, [], ◌∷◌, ◌++◌, true, codes, refl, lit≤, lit<}
 use Rattle.bstr.proofs.Computing.{computing}
-use Rattle.lexopt_options_spec.specs.Help.{columns, IsEntry}
-use Rattle.lexopt_laws.specs.Sample.{verbose, output, backup, exclude, asks_for_help}
+use Rattle.lexopt_options_spec.specs.Help.{columns, IsAbout, IsEntry, IsUsage}
+use Rattle.lexopt_laws.specs.Sample.{verbose, output, backup, exclude, asks_for_help, sample, sample_options, files, mode, target}
 use Rattle.lexopt_laws.proofs.WorkedLines.{fits}
 use Rattle.lexopt_laws.proofs.option_examples.helps_are_written.Goals as goal
 
@@ -37,21 +37,80 @@ help_entry = record {
   written = refl;
 }
 
+sample_usage : IsUsage 80 (record (sample (files ∷ []) true) { options = sample_options ++ asks_for_help ∷ [] }) (codes "Usage: example_archive [OPTION]... [FILE]...\n")
+unfolding columns computing
+sample_usage = record {
+  lines = (codes "example_archive" ∷ codes "[OPTION]..." ∷ codes "[FILE]..." ∷ []) ∷ [];
+  wrapped = record { in_order = refl; fit = (fits (lit< tt) (lit≤ tt), tt); full = tt };
+  written = refl;
+}
+
+usage_alone : (about : List ℕ) → IsUsage 80 (record (sample [] true) { options = []; about = about }) (codes "Usage: example_archive\n")
+unfolding columns computing
+usage_alone about = record { lines = (codes "example_archive" ∷ []) ∷ []; wrapped = record { in_order = refl; fit = (fits (lit< tt) (lit≤ tt), tt); full = tt }; written = refl }
+
+usage_of_positionals : IsUsage 80 (record (sample (mode ∷ target ∷ files ∷ []) true) { options = []; about = [] }) (codes "Usage: example_archive MODE [TARGET] [FILE]...\n")
+unfolding columns computing
+usage_of_positionals = record {
+  lines = (codes "example_archive" ∷ codes "MODE" ∷ codes "[TARGET]" ∷ codes "[FILE]..." ∷ []) ∷ [];
+  wrapped = record { in_order = refl; fit = (fits (lit< tt) (lit≤ tt), tt); full = tt };
+  written = refl;
+}
+
+some_about : IsAbout 80 (codes "Prints what it has read.") (codes "Prints what it has read.\n")
+unfolding columns computing
+some_about = record {
+  lines = (codes "Prints" ∷ codes "what" ∷ codes "it" ∷ codes "has" ∷ codes "read." ∷ []) ∷ [];
+  wrapped = record { in_order = refl; fit = (fits (lit< tt) (lit≤ tt), tt); full = tt };
+  written = refl;
+}
+
+no_about : IsAbout 80 [] []
+no_about = record { lines = []; wrapped = record { in_order = refl; fit = tt; full = tt }; written = refl }
+
 pub returns-clause-sample : goal.returns-clause-sample
 returns-clause-sample c = record {
+  usage = codes "Usage: example_archive [OPTION]... [FILE]...\n";
+  about = codes "Prints what it has read.\n";
   entries = codes "  -v, --verbose         tell more\n" ∷ codes "  -o, --output=FILE     the archive\n"
       ∷ codes "  -b[SUFFIX], --backup[=SUFFIX]\n                        keep an archive that is there, with this suffix\n"
       ∷ codes "  -x, --exclude=PATTERN...\n                        leave these out: all words up to the next option\n"
       ∷ codes "  -h, --help            print this help and exit\n" ∷ [];
+  usage_first = sample_usage;
+  about_next = some_about;
   one_for_each = (verbose_entry, (output_entry, (backup_entry, (exclude_entry, (help_entry, tt)))));
   written = refl;
 }
 
 pub returns-clause-nothing : goal.returns-clause-nothing
-returns-clause-nothing c = record { entries = []; one_for_each = tt; written = refl }
+returns-clause-nothing c = record {
+  usage = codes "Usage: example_archive\n";
+  about = [];
+  entries = [];
+  usage_first = usage_alone [];
+  about_next = no_about;
+  one_for_each = tt;
+  written = refl;
+}
 
 pub returns-clause-about_alone : goal.returns-clause-about_alone
-returns-clause-about_alone c = record { entries = []; one_for_each = tt; written = refl }
+returns-clause-about_alone c = record {
+  usage = codes "Usage: example_archive\n";
+  about = codes "Prints what it has read.\n";
+  entries = [];
+  usage_first = usage_alone (codes "Prints what it has read.");
+  about_next = some_about;
+  one_for_each = tt;
+  written = refl;
+}
 
 pub returns-clause-positionals : goal.returns-clause-positionals
-returns-clause-positionals c = record { entries = []; one_for_each = tt; written = refl }
+returns-clause-positionals c = record {
+  usage = codes "Usage: example_archive MODE [TARGET] [FILE]...\n";
+  about = [];
+  entries = [];
+  usage_first = usage_of_positionals;
+  about_next = no_about;
+  one_for_each = tt;
+  written = refl;
+}
