@@ -87,7 +87,6 @@ impl<'a> Options<'a> {
     ghost use Rattle.lexopt_options.specs.Answers.{IsHelpAnswer, IsNoMemory, IsOrdinary};
     ghost use Rattle.lexopt_options.specs.Answers.{IsShellText, asks_for_help, script_lines};
     ghost use Rattle.lexopt_options.specs.Declarations.{declaration_of};
-    ghost use Rattle.lexopt_options.specs.Lines.{IsRefused};
     ghost use Rattle.lexopt_options.specs.Reading.{said_view};
 
     // Whether the option with the name `help` is said.
