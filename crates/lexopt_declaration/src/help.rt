@@ -14,9 +14,12 @@ use bstr::ByteSlice;
 use std::alloc::{AllocError, Global};
 use std::fmt::Write;
 
-/// How many columns a terminal has that does not say how wide it is: the width for the help
-/// where none is known.
+/// How many columns a terminal has that does not say how wide it is: the width for the help where
+/// none is known.
 pub const WIDTH: usize = 80;
+
+// The column where the words of the usage line begin, after `Usage: `.
+const USAGE_COLUMN: usize = 7;
 
 // How many columns a text takes: one for each character as a person sees it.
 fn columns(text: &str) -> usize
@@ -276,12 +279,7 @@ fn push_entries(
 }
 
 // What the program does, on lines of at most so many columns.
-fn push_about(
-    out: &mut String,
-    alloc: Global,
-    about: &str,
-    width: usize,
-) -> Result<(), AllocError>
+fn push_about(out: &mut String, alloc: Global, about: &str, width: usize) -> Result<(), AllocError>
     ensures { IfOk result (λ _. (text : List ℕ) × IsAbout width about.now text
         × (string_bytes out.new ≡ string_bytes out.old ++ text)) }
 {
@@ -368,7 +366,8 @@ fn push_usage_lines(
         ++ (codes "Usage: " ++ spec.below spec.usage_column lines ++ spec.line_feed ∷ []))) }
 {
     out.push_str("Usage: ")?;
-    push_paragraph(out, program, words, width.saturating_sub(7), 7)
+    let limit = width.saturating_sub(USAGE_COLUMN);
+    push_paragraph(out, program, words, limit, USAGE_COLUMN)
 }
 
 // The usage line.

@@ -127,8 +127,7 @@ pub some_help : (d : Declaration) (width : ℕ) → (text : List ℕ) × IsHelp 
 some_help d width =
     let u = some_usage d width in
     let a = some_about width d.about in
-    let es = some_entries width d.options in
-    (
+    let es = some_entries width d.options in (
       u.0 ++ a.0 ++ before_entries d.options ++ concat es.0,
       record {
         usage = u.0;

@@ -14,8 +14,7 @@ returns c =
     let u = c.in_ok-push_usage.ensures in
     let a = c.in_ok-push_about.ensures in
     IfOk-weaker c.push_entries.result _ _
-    (λ _ e.
-    (
+    (λ _ e. (
       u.0 ++ a.0 ++ before_entries (map option_view c.args.declaration.now.options.now) ++ concat e.0,
       record { usage = u.0; about = a.0; entries = e.0; usage_first = u.1; about_next = a.1; one_for_each = e.1; written = refl },
       in_parts _ u.0 a.0 _ (concat e.0) _ _ _ u.2 a.2 e.2,
