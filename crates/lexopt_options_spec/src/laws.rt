@@ -51,10 +51,10 @@ pub fn each_declaration_has_one_help()
         → IsHelp d width other → text ≡ other }
 {}
 
-/// Each line of the help ends within the width, unless it is one word, or the label of an option is
-/// on it: those of the usage line begin at column 7, those of what the program does at column 0, and
-/// those of the help of an option at one column, beside its label, after two blanks at least, or
-/// below it. So it is if no line feed is among the words.
+/// Words on a line end within the width, unless they are one word. Those of the usage line begin at
+/// its column, those of what the program does at column 0, and those of the help of an option at its
+/// column: beside the label, after two blanks at least, or below it. So it is if no line feed is among
+/// the words.
 pub fn lines_are_in_columns()
     ensures usage { (width : ℕ) (d : Declaration) (text : List ℕ) (u : IsUsage width d text)
         (line : Line) → Contains u.lines line

@@ -165,7 +165,7 @@ fn scripts(rt: HostRuntime) -> Result<(), Fail> {
     Err(Fail::new("the options cannot be declared"))
 }
 
-// Whether a line is answered so under these options and arguments.
+// Whether `-h` is answered so under these options and arguments.
 fn is_answered_by(
     alloc: Global,
     declared: &[Declared<'_>],
