@@ -1,8 +1,6 @@
-pub mod Commands
 pub mod Cuts
 pub mod InARow
 pub mod Keywords
 pub mod NumberedLines
 pub mod Numbers
 pub mod Options
-pub mod Performing

@@ -1,4 +1,3 @@
 pub mod RunError
 pub mod Meanings
 pub mod Output
-pub mod Performed

@@ -1,6 +1,6 @@
-//! Scripts: what `run` reads, does and writes. The crate `lexopt` re-exports its public items.
+//! Scripts: the words of a command line, the calls that are made on it, and how they are read. The
+//! crate `lexopt_run` runs them.
 #![tactic(auto)]
 
-pub mod run;
-mod run_error;
-mod script;
+pub mod run_error;
+pub mod script;

@@ -17,21 +17,23 @@
 //!   alone.
 //!
 //! Every other line is bad. So is a word or an option after the first line that reads the words.
-ghost use Rattle.std.specs.Prelude.{◌≡◌, ◌⊎◌, ℕ, ◌+◌, ◌++◌, ◌<◌, ◌≤◌, List, None, Some, IfErr};
+ghost use Rattle.std.specs.Prelude.{◌≡◌, ◌⊎◌, ℕ, ◌+◌, ◌<◌, ◌≤◌, List, [], None, Some, IfErr};
 ghost use Rattle.std.specs.Prelude.{IfOk, MatchOption, OnOk, drop, length, map};
 ghost use Rattle.std.specs.Option.{option_map};
 ghost use Rattle.std.specs.Io.KnownBytes.{Consumes};
 ghost use Rattle.lexopt_line_spec.specs.Script.{bad_line, after_backslash, call_or_bad};
-ghost use Rattle.lexopt_line_spec.specs.Script.{commands_of, entry_or_bad, hexadecimal, in_front};
-ghost use Rattle.lexopt_line_spec.specs.Script.{is_bad, joined_to, keyword_of, meaning};
+ghost use Rattle.lexopt_line_spec.specs.Script.{command, commands_of, entry_or_bad, hexadecimal};
+ghost use Rattle.lexopt_line_spec.specs.Script.{in_front, is_bad, is_reading, joined_to, keyword_of};
+ghost use Rattle.lexopt_line_spec.specs.Script.{meaning, whole_line};
+ghost use Rattle.lexopt_line_spec.specs.Table.{one_value};
 ghost use Rattle.lexopt_line_spec.specs.Script.{meaning_by_keyword, most_bytes, number};
 ghost use Rattle.lexopt_line_spec.specs.Script.{one_character, option_named, table_of};
 ghost use Rattle.lexopt_line_spec.specs.Script.{text_of, unescaped, word_or_bad, words_of};
 ghost use Rattle.lexopt_calls.specs.Replies.{call_view};
 ghost use Rattle.lexopt_items.specs.Items.{table_view};
 ghost use Rattle.lexopt_script.specs.Output.{ReadsWhole, read_room};
-ghost use Rattle.lexopt_script.specs.Meanings.{commands_view, entry_view, meaning_view, name_view};
-ghost use Rattle.lexopt_script.specs.Meanings.{text_view};
+ghost use Rattle.lexopt_script.specs.Meanings.{Adds, commands_in, entry_view, meaning_view};
+ghost use Rattle.lexopt_script.specs.Meanings.{name_view, text_view};
 
 use crate::run_error::RunError;
 use bstr::ByteSlice;
@@ -92,42 +94,58 @@ pub fn parse_script(alloc: Global, script: &[u8]) -> Result<Script, RunError>
     requires { length script.now ≤ most_bytes }
     ensures ok { IfOk result (λ s. (s.words.items ≡ words_of script.now)
         × (table_view s.table ≡ table_of script.now)
-        × (commands_view s.calls_before.items s.last_calls.items ≡ commands_of script.now)
+        × (commands_in s ≡ commands_of script.now)
         × (bad_line script.now ≡ None)) }
     ensures err { IfErr result (λ e. (e ≡ RunError.NoMemory)
         ⊎ ((n : ℕ) × (e ≡ RunError.BadLine n) × (bad_line script.now ≡ Some n))) }
 {
-    let mut words = Vec::new(alloc);
-    let mut table = Table::new(alloc);
-    let mut calls_before = Vec::new(alloc);
-    let mut calls = Vec::new(alloc);
+    let mut read = Script::new(alloc);
     let mut is_read = false;
     for (index, line) in script.split(|byte| *byte == b'\n').enumerate() {
         let meaning = meaning_of(alloc, line)?;
         if meaning.is_bad(is_read) {
             return Err(RunError::BadLine(index + 1));
         }
-        match meaning {
-            Meaning::Nothing => {}
-            Meaning::Bad => {}
-            Meaning::Word(word) => words.push(word)?,
-            Meaning::Entry(entry) => join(&mut table, entry)?,
-            Meaning::Call(call) => {
-                is_read |= call.reads_line();
-                calls.push(call)?;
-            }
-            Meaning::Items => {
-                is_read = true;
-                calls_before.push(mem::replace(&mut calls, Vec::new(alloc)))?;
-            }
+        is_read |= meaning.reads_words();
+        read.add(alloc, meaning)?;
+    }
+    Ok(read)
+}
+
+impl Script {
+    // No words, no options and no calls.
+    fn new(alloc: Global) -> Script
+        ensures { (result.words.items ≡ []) × (table_view result.table ≡ one_value [] [])
+            × (commands_in result ≡ []) }
+    {
+        Script {
+            words: Vec::new(alloc),
+            table: Table::new(alloc),
+            calls_before: Vec::new(alloc),
+            last_calls: Vec::new(alloc),
         }
     }
-    Ok(Script {
-        words,
-        table,
-        calls_before,
-        last_calls: calls,
-    })
+
+    // Adds what a line says.
+    fn add(&mut self, alloc: Global, meaning: Meaning) -> Result<(), AllocError>
+        ensures { OnOk result (Adds (meaning_view meaning) self.old self.new) }
+    {
+        match meaning {
+            Meaning::Nothing | Meaning::Bad => Ok(()),
+            Meaning::Word(word) => Ok(self.words.push(word)?),
+            Meaning::Entry(entry) => join(&mut self.table, entry),
+            Meaning::Call(call) => Ok(self.last_calls.push(call)?),
+            Meaning::Items => self.end_calls(alloc),
+        }
+    }
+
+    // Puts the last calls before a whole line.
+    fn end_calls(&mut self, alloc: Global) -> Result<(), AllocError>
+        ensures { OnOk result (Adds (command whole_line) self.old self.new) }
+    {
+        let calls = mem::replace(&mut self.last_calls, Vec::new(alloc));
+        Ok(self.calls_before.push(calls)?)
+    }
 }
 
 // What a line of a script says.
@@ -167,6 +185,17 @@ impl Meaning {
             Meaning::Bad => true,
         }
     }
+
+    // Whether the words are read by what the line says.
+    fn reads_words(&self) -> bool
+        ensures { result ≡ is_reading (meaning_view self.now) }
+    {
+        match self {
+            Meaning::Nothing | Meaning::Word(_) | Meaning::Entry(_) | Meaning::Bad => false,
+            Meaning::Call(call) => call.reads_line(),
+            Meaning::Items => true,
+        }
+    }
 }
 
 // Adds an option to the table.
@@ -191,7 +220,10 @@ fn meaning_of(alloc: Global, line: &[u8]) -> Result<Meaning, AllocError>
 {
     let (keyword, text) = cut_at_space(line);
     match str::from_utf8(keyword) {
-        Ok(keyword) => meaning_by_keyword(alloc, keyword, text),
+        Ok(keyword) => match text {
+            None => Ok(meaning_alone(alloc, keyword)),
+            Some(text) => meaning_with(alloc, keyword, text),
+        },
         Err(_) => Ok(Meaning::Bad),
     }
 }
@@ -207,37 +239,36 @@ fn cut_at_space(line: &[u8]) -> (&[u8], Option<&[u8]>)
     }
 }
 
-// The meaning of a keyword alone, and of a keyword with a text.
-fn meaning_by_keyword(
-    alloc: Global,
-    keyword: &str,
-    text: Option<&[u8]>,
-) -> Result<Meaning, AllocError>
-    ensures { IfOk result (λ m. meaning_view m
-        ≡ meaning_by_keyword keyword.now (text_view text.entry)) }
+// The meaning of a keyword alone.
+fn meaning_alone(alloc: Global, keyword: &str) -> Meaning
+    ensures { meaning_view result ≡ meaning_by_keyword keyword.now None }
 {
-    match text {
-        None => match keyword {
-            "" => Ok(Meaning::Nothing),
-            "next" => Ok(Meaning::Call(Call::Next)),
-            "value" => Ok(Meaning::Call(Call::Value)),
-            "optional" => Ok(Meaning::Call(Call::Optional)),
-            "on" => Ok(Meaning::Call(Call::Switch(true))),
-            "off" => Ok(Meaning::Call(Call::Switch(false))),
-            "items" => Ok(Meaning::Items),
-            "w" => Ok(Meaning::Word(OsString::new(alloc))),
-            _ => Ok(Meaning::Bad),
-        },
-        Some(text) => match keyword {
-            "w" => Ok(word_or_bad(unescaped(alloc, text)?)),
-            "values" => Ok(call_or_bad(number(text).map(Call::Values))),
-            "raw" => Ok(call_or_bad(number(text).map(Call::Raw))),
-            "try" => Ok(call_or_bad(number(text).map(Call::TryRaw))),
-            "t" => Ok(entry_or_bad(option_named(alloc, text)?.map(Entry::One))),
-            "topt" => Ok(entry_or_bad(option_named(alloc, text)?.map(Entry::Optional))),
-            "tmany" => Ok(entry_or_bad(option_named(alloc, text)?.map(Entry::Several))),
-            _ => Ok(Meaning::Bad),
-        },
+    match keyword {
+        "" => Meaning::Nothing,
+        "next" => Meaning::Call(Call::Next),
+        "value" => Meaning::Call(Call::Value),
+        "optional" => Meaning::Call(Call::Optional),
+        "on" => Meaning::Call(Call::Switch(true)),
+        "off" => Meaning::Call(Call::Switch(false)),
+        "items" => Meaning::Items,
+        "w" => Meaning::Word(OsString::new(alloc)),
+        _ => Meaning::Bad,
+    }
+}
+
+// The meaning of a keyword with a text.
+fn meaning_with(alloc: Global, keyword: &str, text: &[u8]) -> Result<Meaning, AllocError>
+    ensures { IfOk result (λ m. meaning_view m ≡ meaning_by_keyword keyword.now (Some text.now)) }
+{
+    match keyword {
+        "w" => Ok(word_or_bad(unescaped(alloc, text)?)),
+        "values" => Ok(call_or_bad(number(text).map(Call::Values))),
+        "raw" => Ok(call_or_bad(number(text).map(Call::Raw))),
+        "try" => Ok(call_or_bad(number(text).map(Call::TryRaw))),
+        "t" => Ok(entry_or_bad(option_named(alloc, text)?.map(Entry::One))),
+        "topt" => Ok(entry_or_bad(option_named(alloc, text)?.map(Entry::Optional))),
+        "tmany" => Ok(entry_or_bad(option_named(alloc, text)?.map(Entry::Several))),
+        _ => Ok(Meaning::Bad),
     }
 }
 

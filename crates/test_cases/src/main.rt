@@ -5,7 +5,7 @@
 //! differ.
 #![tactic(auto)]
 
-use lexopt_script::run::run;
+use lexopt_run::run::run;
 use std::alloc::{AllocError, Global};
 use std::io;
 

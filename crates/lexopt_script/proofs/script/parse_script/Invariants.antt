@@ -1,10 +1,10 @@
 use Rattle.std.proofs.Common.{◌≡◌, length}
 use Rattle.lexopt_line_spec.proofs.ScriptLemmas.{ReadsTo, called}
 use Rattle.lexopt_items.specs.Items.{table_view}
-use Rattle.lexopt_script.specs.Meanings.{commands_view}
+use Rattle.lexopt_script.specs.Meanings.{commands_in}
 use Rattle.lexopt_script.proofs.script.parse_script.Given as goal
 
 abbrev pub invariant-loop-index : goal.invariant-loop-index
 invariant-loop-index l =
-    ReadsTo l.script (length l.yielded) l.words.items (table_view l.table) (commands_view l.calls_before.items l.calls.items)
-    × (l.is_read ≡ called (commands_view l.calls_before.items l.calls.items))
+    ReadsTo l.script (length l.yielded) l.read.words.items (table_view l.read.table) (commands_in l.read)
+    × (l.is_read ≡ called (commands_in l.read))
