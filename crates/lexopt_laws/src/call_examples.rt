@@ -15,18 +15,6 @@ ghost use Rattle.lexopt_spec.specs.UnreadLine.{rest, short_option};
 ghost use Rattle.lexopt_spec.specs.Views.{TakesIf, ValueItem, ValueItems, WordItems, at_end};
 ghost use Rattle.lexopt_spec.specs.Views.{going_on};
 
-#[test]
-fn calls_answer_the_worked_examples() {
-    calls_have_these_replies();
-    views_have_these_replies();
-    items_come_one_by_one();
-    words_are_taken_on_a_condition();
-    bytes_are_accounted_for();
-    calls_are_cut_short();
-    no_item_more_is_taken();
-    replies_are_counted();
-}
-
 fn calls_have_these_replies()
     ensures options_and_words { (v : UnreadLine)
         × Run (fresh (codes "--out=x" ∷ codes "file" ∷ codes "--" ∷ codes "-y" ∷ []))

@@ -19,56 +19,6 @@ ghost use Rattle.lexopt_line_spec.specs.Script.{reply_text, short_equals_after, 
 ghost use Rattle.lexopt_line_spec.specs.Script.{with_newline};
 ghost use Rattle.lexopt_line_spec.specs.Script.{unescaped, whole_line, words_of};
 
-use crate::laws::{
-    calls_cut_short_are_a_part, clusters_are_read_by_pieces, each_call_has_one_answer,
-    each_line_has_one_reading, first_piece_is_by_the_table, items_make_the_call, lines_stay_lines,
-    no_byte_is_lost, one_value_tables_agree, other_parts_stay, pieces_are_in_a_row,
-    plain_words_are_the_longest_front, readings_say_what_words_show, replies_are_bounded,
-    some_calls_are_never_refused, views_agree, whole_names_are_spelled, words_show_one_list,
-};
-
-#[test]
-fn laws_hold_at_some_bytes() {
-    first_piece_is_by_the_table(b"\xf0\x9da");
-    pieces_are_in_a_row(b"\xf0\x9da");
-    each_call_has_one_answer();
-    each_line_has_one_reading();
-    lines_stay_lines();
-    some_calls_are_never_refused();
-    plain_words_are_the_longest_front();
-    items_make_the_call();
-    no_byte_is_lost();
-    other_parts_stay();
-    calls_cut_short_are_a_part();
-    replies_are_bounded();
-    clusters_are_read_by_pieces();
-    views_agree();
-    readings_say_what_words_show();
-    words_show_one_list();
-    whole_names_are_spelled();
-    one_value_tables_agree();
-}
-
-#[test]
-fn definitions_compute_the_worked_examples() {
-    lossy_text_of_damaged_bytes();
-    first_pieces_of_damaged_bytes();
-    options_are_spelled();
-    lines_have_binary_names();
-    values_are_pending();
-    numbers_and_digits_are_read();
-    quoted_forms();
-    messages();
-    texts_are_unescaped();
-    scripts_have_bad_lines();
-    a_script_has_words_and_calls();
-    lines_name_options();
-    a_script_has_a_table_and_commands();
-    items_are_written();
-    replies_are_written();
-    more_replies_are_written();
-}
-
 #[tactic(auto, unfolding(lexopt_line_spec::proofs::Computing::computing))]
 fn lossy_text_of_damaged_bytes()
     ensures between { lossy_characters (0x61 ∷ 0xFF ∷ 0x63 ∷ []) ≡ 0x61 ∷ 0xFFFD ∷ 0x63 ∷ [] }

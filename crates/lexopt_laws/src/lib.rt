@@ -5,17 +5,12 @@
 //! whose contract is the law.
 #![tactic(auto)]
 
-#[cfg(test)]
 mod call_examples;
-#[cfg(test)]
 mod examples;
 mod laws;
-#[cfg(test)]
 mod line_examples;
-#[cfg(test)]
 mod option_examples;
 mod option_laws;
-#[cfg(test)]
 mod spell_examples;
 
 pub use laws::{

@@ -10,18 +10,6 @@ ghost use Rattle.lexopt_line_spec.specs.Script.{IsOutput, WholeLineText};
 ghost use Rattle.lexopt_spec.specs.Steps.{end, missing, unexpected};
 ghost use Rattle.lexopt_laws.specs.OneValueSpelling.{OneValueShows, OneValueSpells, OneValueTable};
 
-#[test]
-fn words_spell_the_worked_examples() {
-    options_of_one_value_are_spelled();
-    options_of_optional_values_are_spelled();
-    options_of_several_values_are_spelled();
-    the_first_kind_holds();
-    some_words_show_no_list();
-    damage_is_shown_and_not_spelled();
-    one_value_rules_spell_the_same();
-    lines_are_read();
-}
-
 fn options_of_one_value_are_spelled()
     ensures no_words { Spells (one_value [] []) true [] [] }
     ensures every_form { Spells (one_value (codes "o") (codes "out" ∷ [])) true

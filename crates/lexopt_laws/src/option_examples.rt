@@ -30,17 +30,6 @@ ghost use Rattle.lexopt_laws.specs.Sample.{asks_for_help, backup, exclude, files
 ghost use Rattle.lexopt_options_spec.specs.Nearest.{IsDistance, IsHint, IsNearest, long_name_at};
 ghost use Rattle.lexopt_laws.specs.Sample.{named, sample_options, target, verbose};
 
-#[test]
-fn declarations_have_these_meanings() {
-    options_have_names();
-    options_are_put_into_tables();
-    options_are_refused();
-    options_are_declared();
-    items_are_said_by_index();
-    positionals_are_counted();
-    placeholders_stand_for_values();
-}
-
 // The option of a name, by its index: the first one, if two have the name. A name is typed whole.
 fn options_have_names()
     ensures by_character { index_of sample_options (short 0x6F) ≡ Some 1 }
@@ -178,14 +167,6 @@ fn placeholders_stand_for_values()
     ensures no_positional { required_placeholder (target ∷ mode ∷ []) 1 ≡ [] }
 {}
 
-#[test]
-fn lines_have_these_meanings() {
-    lines_say_these_lists();
-    lines_do_not_say_these();
-    lines_stop_at_these_mistakes();
-    lines_do_not_stop_elsewhere();
-}
-
 // What lines say.
 fn lines_say_these_lists()
     ensures every_item { Says (sample (files ∷ []) true)
@@ -263,13 +244,6 @@ fn lines_do_not_stop_elsewhere()
         → (l ≡ positional (codes "a") ∷ []) × (m ≡ missing_argument 1) }
 {}
 
-#[test]
-fn names_have_these_distances() {
-    texts_are_so_far_apart();
-    names_are_near();
-    names_are_hinted_at();
-}
-
 // How far two lists of characters are from each other. A swap is one edit, and what was swapped is
 // not edited again.
 fn texts_are_so_far_apart()
@@ -319,23 +293,6 @@ fn names_are_hinted_at()
     ensures at_a_character { long_name_at (record verbose { long_name = None } ∷ []) (Some 0)
         ≡ None }
 {}
-
-#[test]
-fn completions_have_these_meanings() {
-    spellings_are_listed();
-    names_are_text();
-    options_can_stand();
-    options_cannot_stand();
-    what_is_typed_is_completed();
-    roles_are_by_the_last_of_what_is_said();
-    values_are_joined();
-    values_are_not_joined();
-    plain_words_have_roles();
-    plain_words_have_no_other_role();
-    dashed_words_have_roles();
-    dashed_words_have_no_other_role();
-    words_have_roles();
-}
 
 // The spellings of options, and which option is said.
 #[tactic(auto, unfolding(lexopt_line_spec::proofs::Computing::computing))]
@@ -526,17 +483,6 @@ fn words_have_roles()
     ensures not_after_a_dash { HasRole (sample (files ∷ []) true) (codes "-v" ∷ []) (codes "-")
         (Some argument) → ⊥ }
 {}
-
-#[test]
-fn helps_have_these_texts() {
-    forms_are_shown();
-    texts_are_laid_out();
-    words_are_put_on_lines();
-    entries_are_written();
-    usage_lines_are_written();
-    abouts_are_written();
-    helps_are_written();
-}
 
 // The forms that labels show.
 fn forms_are_shown()

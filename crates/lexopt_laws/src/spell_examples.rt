@@ -7,15 +7,6 @@ ghost use Rattle.lexopt_line_spec.specs.Speller.{not_many, option_among_values};
 ghost use Rattle.lexopt_line_spec.specs.SpellerTables.{spelled};
 ghost use Rattle.lexopt_line_spec.specs.Speller.{unexpected_value, wants_many};
 
-#[test]
-fn the_definition_spells_the_worked_examples() {
-    flags_and_options_of_one_value_have_these_words();
-    options_of_optional_values_have_these_words();
-    options_of_several_values_have_these_words();
-    positionals_have_these_words();
-    items_are_refused();
-}
-
 #[tactic(auto, unfolding(lexopt_line_spec::proofs::Computing::computing))]
 fn flags_and_options_of_one_value_have_these_words()
     ensures nothing { spelled (one_value (codes "o") (codes "out" ∷ [] ∷ [])) true [] ≡ Ok [] }
