@@ -1,9 +1,9 @@
 //! Views: several values of one option, and the words that are left, asked in ways that no script
-//! can. Also the callers with clauses of their own.
-use crate::callers::{negative_number, next_file, option_and_value, two_values};
+//! can. Also the callers of `test_callers`.
 use lexopt::{Error, OsStr, OsString, Parser, RawArgs, ValuesIter};
 use std::alloc::Global;
 use std::test::Fail;
+use test_callers::callers::{negative_number, next_file, option_and_value, two_values};
 use test_helpers::calls::{gives, is_at_end, reads_short, reads_word, takes};
 use test_helpers::items::are_words;
 use test_helpers::parsers::parser_of;

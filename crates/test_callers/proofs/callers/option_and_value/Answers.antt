@@ -1,8 +1,8 @@
 use Rattle.std.proofs.Common.{rules}
 use Rattle.lexopt_spec.specs.Runs.{next, value}
 use Rattle.lexopt_calls.specs.declared.reply.Reply.TheVariants.{Short, Taken}
-use Rattle.test_calls.proofs.Pairs.{two_replies}
-use Rattle.test_calls.proofs.callers.option_and_value.Goals as goal
+use Rattle.test_callers.proofs.Pairs.{two_replies}
+use Rattle.test_callers.proofs.callers.option_and_value.Goals as goal
 
 pub returns-in-Some-Short-Some-Taken : goal.returns-in-Some-Short-Some-Taken
 returns-in-Some-Short-Some-Taken c =

@@ -8,7 +8,7 @@ ghost use Rattle.lexopt_spec.specs.Steps as steps;
 ghost use Rattle.lexopt_spec.specs.Steps.{items, positional, short, taken};
 ghost use Rattle.lexopt_spec.specs.UnreadLine.{pending};
 ghost use Rattle.lexopt_base.specs.Replies.{CanReply, RepliesWith, error_reply};
-ghost use Rattle.test_calls.specs.Callers.{IsNegative, TakesNegative};
+ghost use Rattle.test_callers.specs.Callers.{IsNegative, TakesNegative};
 
 use lexopt::replay::{Call, Reply, replay};
 use lexopt::{Arg, Error, OsString, Parser};

@@ -1,0 +1,6 @@
+//! Callers with clauses of their own, which rest on the clauses of the public calls alone.
+#![tactic(auto)]
+
+pub mod callers;
+pub mod line_callers;
+pub mod text_callers;
