@@ -12,6 +12,7 @@ use crate::options::Options;
 use crate::said::Said;
 use lexopt_declaration::spellings::spellings_of;
 use lexopt_words::os_string::OsString;
+use lexopt_words::words::copies;
 use std::alloc::{AllocError, Global};
 
 /// What a word that is no option is.
@@ -42,19 +43,8 @@ pub struct Completion {
 fn with_word(alloc: Global, words: &[OsString], word: &str) -> Result<Vec<OsString>, AllocError>
     ensures { IfOk result (λ copy. copy.items ≡ words.now ++ word.now ∷ []) }
 {
-    let mut copy = copy_words(alloc, words)?;
+    let mut copy = copies(alloc, words)?;
     copy.push(OsString::from_text(alloc, word)?)?;
-    Ok(copy)
-}
-
-// A copy of these words.
-fn copy_words(alloc: Global, words: &[OsString]) -> Result<Vec<OsString>, AllocError>
-    ensures { IfOk result (λ copy. copy.items ≡ words.now) }
-{
-    let mut copy = Vec::new(alloc);
-    for word in words {
-        copy.push(word.clone()?)?;
-    }
     Ok(copy)
 }
 
@@ -145,7 +135,7 @@ impl Options<'_> {
             ((l : List legal.Said) × IsOpen (declaration_of self.now) words.now l)
             ((l : List legal.Said) → ¬ IsOpen (declaration_of self.now) words.now l)) }
     {
-        let without = self.read_part(alloc, copy_words(alloc, words)?)?;
+        let without = self.read_part(alloc, copies(alloc, words)?)?;
         let with = self.read_part(alloc, with_word(alloc, words, "--")?)?;
         Ok(have_same_length(&without, &with))
     }
@@ -166,7 +156,7 @@ impl Options<'_> {
         ensures { IfOk result (λ role. IsDashedRole (declaration_of self.now) words.now
             (option_map role_view role)) }
     {
-        let without = self.read_part(alloc, copy_words(alloc, words)?)?;
+        let without = self.read_part(alloc, copies(alloc, words)?)?;
         let with = self.read_part(alloc, with_word(alloc, words, "--")?)?;
         if have_same_length(&without, &with) {
             return Ok(None);

@@ -21,3 +21,6 @@ pub returns-in-Err : goal.returns-in-Err
 returns-in-Err c =
     let told = err_told c.raw_args.result c.in-Err.error _ c.in-Err.is c.raw_args.follows.holds-at-none in
     rw c.from.ensures (refusal_given (Step (raw_if c.args.wanted.now)) c.args.parser.now (error_reply c.in-Err.error) _ _ (told.1 c.args.wanted.now) c.of_error.ensures)
+
+pub take_if-requires-clause-exact : goal.take_if-requires-clause-exact
+take_if-requires-clause-exact c = search rules

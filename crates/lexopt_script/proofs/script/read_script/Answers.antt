@@ -20,3 +20,6 @@ returns-then-len-gt-LIMIT-clause-err g c =
     let all = c.loop-script.script.items ++ take c.in-Ok.count c.read.new.buf in
     let many : most_bytes < length all = grind (arith, common_steps) in
     inr (inr (refl, (all, consumes_append _ _ _ _ _ c.loop-script.invariant.0 c.in-Ok.ensures.bytes.0, many)))
+
+pub loop-script-preserved : goal.loop-script-preserved
+loop-script-preserved g c = grind (arith, common_steps)

@@ -1,4 +1,4 @@
-use Rattle.std.proofs.Common.{◌==◌, Bool, Result, string_bytes, sym, ap, ◌∙◌, map}
+use Rattle.std.proofs.Common.{rules, ◌==◌, Bool, Result, string_bytes, sym, ap, ◌∙◌, map}
 use Rattle.std.specs.List.{list_any}
 use Rattle.std.specs.Str.{is_utf8}
 use Rattle.std.proofs.lemmas.Str.{IsUtf8-string_bytes, is_utf8-from_IsUtf8}
@@ -37,3 +37,6 @@ returns-in-LongMany c =
     (c.long_many_form.ensures ∙ ap (λ (k : Kind). tables.long_many_form k c.deref-in-LongMany.result.now) c.kind_of_long-kind-in-LongMany.ensures
     ∙ ap (λ vs. tables.long_many_form (kind (table_view c.args.table.now) (long name)) vs) c.deref-in-LongMany.ensures.value)
     ∙ ap (λ i. tables.adds (table_view c.args.table.now) c.args.short_equals joins due place (item_view i)) (sym c.in-LongMany.is)
+
+pub returns-in_ok-short_many_form-in-ShortMany : goal.returns-in_ok-short_many_form-in-ShortMany
+returns-in_ok-short_many_form-in-ShortMany c = search rules
