@@ -4,7 +4,7 @@
 //! One request of a test is refused in a run. Each test checks what stands afterwards, and then
 //! fails and says which call was refused. Where nothing is refused, each test passes.
 use lexopt::items::read_items;
-use lexopt::options::{self, Answer, Declared, HELP, Mistake, Names, Options};
+use lexopt::options::{self, Answer, Count, Declared, HELP, Kind, Mistake, Names, Options};
 use lexopt::os_string::arguments;
 use lexopt::replay::{Call, Reply, RunError, replay, run};
 use lexopt::spell::{Reason, SpellError, spell};
@@ -819,37 +819,65 @@ fn items_at_fault(rt: HostRuntime) -> Result<(), Fail> {
     )
 }
 
-// What a program with declared options is to do about these words, or that it was refused memory:
-// then it says so, and nothing of the line.
+// The options of a program: a flag, one with a value, and the help.
+const DECLARED: [Declared<'static>; 3] = [
+    Declared {
+        names: Names::Both('v', "verbose"),
+        kind: Kind::Flag,
+        help: "tell more",
+    },
+    Declared {
+        names: Names::Both('o', "output"),
+        kind: Kind::One("FILE"),
+        help: "write to this file",
+    },
+    HELP,
+];
+
+const FILES: [options::Positional<'static>; 1] = [options::Positional {
+    placeholder: "FILE",
+    count: Count::AnyNumber,
+}];
+
+// Whether memory was refused: then nothing is said of the line.
+fn is_refused(answer: &Answer<'_>) -> bool {
+    match answer {
+        Answer::Refused(refused) => {
+            matches!(refused.mistake, Mistake::OutOfMemory) && refused.before.is_empty()
+        }
+        Answer::Said(_) | Answer::Text(_) => false,
+    }
+}
+
+// Adds what is answered.
+fn write_answer(answer: &Answer<'_>, text: &mut String) -> Result<(), AllocError> {
+    match answer {
+        Answer::Said(said) => write!(text, "{said:?}"),
+        Answer::Text(given) => text.push_str(given),
+        Answer::Refused(refused) => write!(text, "{refused}"),
+    }
+}
+
+// Whether the answer is that memory was refused; `None` if it is another one than this text.
+fn answers(alloc: Global, answer: &Answer<'_>, wanted: &str) -> Result<Option<bool>, AllocError> {
+    if is_refused(answer) {
+        return Ok(Some(true));
+    }
+    let mut text = String::with_capacity(alloc, 300)?;
+    write_answer(answer, &mut text)?;
+    Ok((text.as_str() == wanted).then_some(false))
+}
+
+// What a program with declared options is to do about these words, or that it was refused memory.
 fn answers_so(alloc: Global, lines: &[u8], wanted: &str) -> Result<(), Fail> {
-    let declared = [
-        Declared::flag(Names::Both('v', "verbose"), "tell more"),
-        Declared::one(Names::Both('o', "output"), "FILE", "write to this file"),
-        HELP,
-    ];
-    let files = [options::Positional::any_number("FILE")];
-    let Ok(options) = Options::new("pack", "Packs.", &declared, &files) else {
+    let Ok(options) = Options::new("pack", "Packs.", &DECLARED, &FILES) else {
         return Err(Fail::new("the options cannot be declared"));
     };
     let Ok(words) = split_words(alloc, lines) else {
         return told(true, "the list");
     };
-    let mut text = String::with_capacity(alloc, 300)?;
-    match options.answer(alloc, words, 40) {
-        Answer::Said(said) => write!(text, "{said:?}")?,
-        Answer::Text(given) => write!(text, "{given}")?,
-        Answer::Refused(refused) => {
-            if matches!(refused.mistake, Mistake::OutOfMemory) && refused.before.is_empty() {
-                return told(true, "answer");
-            }
-            write!(text, "{refused}")?;
-        }
-    }
-    if text.as_str() == wanted {
-        Ok(())
-    } else {
-        Err(Fail::new("answer was another one"))
-    }
+    let answer = options.answer(alloc, words, 40);
+    ended(answers(alloc, &answer, wanted)?, "answer")
 }
 
 #[test]
