@@ -1,4 +1,4 @@
-//! A whole line, read by a table of options: over the Rust crate what `lexopt::items` of this repository does.
+//! A whole line, read by a table of options: over the Rust crate what `read_items` of this repository does.
 
 use lexopt::{Arg, Error, Parser};
 use std::ffi::OsString;

@@ -21,7 +21,7 @@
 mod seen;
 
 use anyhow::{Context, Result, bail};
-use lexopt::items::{Item, Table, read_items};
+use lexopt::replay::{Item, Table, read_items};
 use lexopt::spell::spell;
 use lexopt::{Arg, Error, OsString, Parser, ValueExt};
 use seen::Seen;

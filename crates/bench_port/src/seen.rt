@@ -1,6 +1,6 @@
 //! What the reads saw: counts, and a hash of the first read, since one of every read would cost
 //! more than what is measured.
-use lexopt::items::Item;
+use lexopt::replay::Item;
 use lexopt::{Error, OsString};
 use std::fmt;
 

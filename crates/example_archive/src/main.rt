@@ -4,11 +4,11 @@
 //! `example_archive __script bash` prints a script that completes its lines in that shell; `zsh`
 //! and `fish` have one too.
 //!
-//! The exit status is 0, or 2 if the command line was refused, or 1 if memory ran out elsewhere or
-//! a line could not be printed; then standard error says why.
+//! The exit status is 0, or 2 if the command line was refused, or 1 if memory ran out or a line
+//! could not be printed; then standard error says why.
 #![tactic(auto)]
 
-use lexopt::options::{
+use lexopt_options::{
     Answer, Declared, HELP, Names, Options, OsString, Positional, Quoted, Refused, Said, WIDTH,
     arguments,
 };
@@ -63,7 +63,7 @@ fn run(rt: &HostRuntime) -> io::Result<ExitCode> {
         }
     };
     let words: Vec<OsString> = arguments(rt, alloc)?.into_iter().skip(1).collect(alloc)?;
-    match options.answer(alloc, words, WIDTH) {
+    match options.answer(alloc, words, WIDTH)? {
         Answer::Said(line) => {
             for said in &line {
                 print_said(rt, said)?;

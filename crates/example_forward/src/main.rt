@@ -12,8 +12,8 @@
 mod shell;
 
 use anyhow::{Error, Result};
-use lexopt::items::{Item, Table, read_items};
 use lexopt::os_string::arguments;
+use lexopt::replay::{Item, Table, read_items};
 use lexopt::spell::spell;
 use lexopt::{Arg, OsString};
 use shell::quoted;

@@ -4,5 +4,6 @@
 
 pub use lexopt_calls::replay::replay;
 pub use lexopt_calls::reply::{Call, Reply};
+pub use lexopt_calls::run::run;
+pub use lexopt_calls::run_error::RunError;
 pub use lexopt_items::items::{Item, Table, read_items};
-pub use lexopt_run::run::{RunError, run};

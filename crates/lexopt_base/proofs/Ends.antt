@@ -13,7 +13,7 @@ use denote.Follow.{such_by, follows_by}
 use Rattle.lexopt_spec.specs.UnreadLine.{UnreadLine}
 use Rattle.lexopt_spec.specs.Steps.{Reply, Next}
 use Rattle.lexopt_base.specs.Replies.{RepliesWith, next_reply}
-use Rattle.lexopt_base.specs.Ends.{EndsAfter}
+use Rattle.lexopt_base.specs.Ends.{LineAfterNext}
 use Rattle.lexopt_words.specs.declared.error.Arg.{Arg}
 use Rattle.lexopt_words.specs.declared.error.Error.{Error}
 use Rattle.lexopt_base.specs.contracts.parser.Parser.{the_row as R}
@@ -24,15 +24,15 @@ told_of u w None said gives same = absurd gives
 told_of u w (Some reply) said gives same = subst (λ (t : Option Reply). RepliesWith Next u t w) (sym (same reply refl)) gives
 
 module _ {M : Type 1} {𝓤 : Ura M} (𝓛 : Logic 𝓤) (s : MutBor UnreadLine) (r : Result (Option Arg) Error) where
-  pub ends_after : (w : UnreadLine) → RepliesWith Next s.now (next_reply r) w → ent 𝓤 (sem 𝓛 (fres s.ghost_name (R.coded.code w))) (sem 𝓛 (EndsAfter s r))
+  pub ends_after : (w : UnreadLine) → RepliesWith Next s.now (next_reply r) w → ent 𝓤 (sem 𝓛 (fres s.ghost_name (R.coded.code w))) (sem 𝓛 (LineAfterNext s r))
   unfolding such_by follows_by
   ends_after w step =
       qed 𝓛 (‵ (fres s.ghost_name (R.coded.code w)) ∷ []) ∵
       fpack ! ((p : (UnreadLine → UnreadLine) × UnreadLine) × ((z : UnreadLine) → ⊤) × RepliesWith Next s.now (next_reply r) p.1) (λ p. fres s.ghost_name (R.coded.code p.0.1)) (((λ z. w), w), (λ z. tt), step) $ done !
 
-  pub ends_said : ent 𝓤 (sem 𝓛 (EndsAfter s r)) (ex 𝓤 (λ (v : UnreadLine). sep 𝓤 (fact 𝓤 (RepliesWith Next s.now (next_reply r) v)) (sem 𝓛 (fres s.ghost_name (R.coded.code v)))))
+  pub ends_said : ent 𝓤 (sem 𝓛 (LineAfterNext s r)) (ex 𝓤 (λ (v : UnreadLine). sep 𝓤 (fact 𝓤 (RepliesWith Next s.now (next_reply r) v)) (sem 𝓛 (fres s.ghost_name (R.coded.code v)))))
   unfolding such_by follows_by
   ends_said =
-      qed 𝓛 (‵ (EndsAfter s r) ∷ []) ∵ fpick ! (λ p.
+      qed 𝓛 (‵ (LineAfterNext s r) ∷ []) ∵ fpick ! (λ p.
       show ! (λ (v : UnreadLine). sep 𝓤 (fact 𝓤 (RepliesWith Next s.now (next_reply r) v)) (sem 𝓛 (fres s.ghost_name (R.coded.code v)))) p.0.1 $
       use0 𝓛 (raw (fact 𝓤 (RepliesWith Next s.now (next_reply r) p.0.1))) (fact_i 𝓤 (RepliesWith Next s.now (next_reply r) p.0.1) (emp 𝓤) p.2) $ done !)

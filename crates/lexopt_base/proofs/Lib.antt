@@ -4,3 +4,4 @@ pub mod Names
 pub mod LongOptions
 pub mod Ends
 pub mod Fronts
+pub mod ValueCalls

@@ -1,11 +1,12 @@
 -- Refused memory, and refused values.
 use Rattle.std.proofs.Common.{◌≡◌, ℕ, Bool, true, false, List, [], ◌∷◌, Option, Some, None, IsSome, string_bytes, refl, sym, ap, subst, ◌∙◌, inl, inr}
-use Rattle.lexopt_spec.specs.UnreadLine.{UnreadLine, no_tail, spelling, pending, IsPlain}
+use Rattle.lexopt_spec.specs.UnreadLine.{UnreadLine, LastOption, no_option, short_option, long_option, no_tail, spelling, pending, IsPlain}
 use Rattle.lexopt_spec.specs.Views.{RawStep, refuses_pending}
-use Rattle.lexopt_spec.specs.Steps.{Reply, missing, unexpected, no_memory, Answers, Next, NextStep, TakesMemory, ReadsPositional, no_word_left, word_left, ReadsWord, reads_positional}
+use Rattle.lexopt_base.specs.Found.{found_as}
+use Rattle.lexopt_base.specs.declared.parser.Found.TheVariants as found
+use Rattle.lexopt_spec.specs.Steps.{Reply, long, missing, unexpected, no_memory, Answers, Next, NextStep, TakesMemory, ReadsPositional, no_word_left, word_left, ReadsWord, reads_positional}
 use Rattle.lexopt_spec.proofs.LineLemmas.{refuses_joined, answers_map}
 use Rattle.lexopt_words.specs.declared.error.Error.{Error}
-use Rattle.lexopt_words.specs.declared.error.Error.TheVariants as error
 use Rattle.lexopt_base.specs.Replies.{RepliesWith, error_reply}
 use Rattle.lexopt_base.specs.Refusals.{IsErrorOf, IsMissing, RefusesPending, refusal_reply}
 use Rattle.lexopt_base.specs.declared.refusal.Refusal.{Refusal}
@@ -78,11 +79,24 @@ error_said (UnexpectedValue option value) e is = ap error_reply is
 error_said OutOfMemory e is = ap error_reply is
 
 -- a call for values finds none
-pub none_left : (Step : UnreadLine → Reply → UnreadLine → Type 0) (u : UnreadLine) (e : Error) → Step u (missing (spelling u.last)) u → IsMissing u.last e
-    → RepliesWith (Answers Step) u (error_reply e) u
-none_left Step u (error.MissingValue None) step is = inl (subst (λ (o : Option (List ℕ)). Step u (missing o) u) (sym is) step)
-none_left Step u (error.MissingValue (Some option)) step is = inl (subst (λ (o : Option (List ℕ)). Step u (missing o) u) (sym is) step)
-none_left Step u error.OutOfMemory step is =
+pub none_left : (Step : UnreadLine → Reply → UnreadLine → Type 0) (u : UnreadLine) (refusal : Refusal) → Step u (missing (spelling u.last)) u → IsMissing u.last refusal
+    → Answers Step u (refusal_reply refusal) u
+none_left Step u (MissingValue option) step is = inl (subst (λ (o : Option (List ℕ)). Step u (missing o) u) (sym is) step)
+none_left Step u OutOfMemory step is =
     let option = some_of (spelling u.last) is in
     refused Step u (missing (Some option.0)) u (subst (λ (o : Option (List ℕ)). Step u (missing o) u) option.1 step) tt
-none_left Step u e step is = absurd is
+none_left Step u (UnexpectedValue option value) step is = absurd is
+
+-- the error that a refusal is made into is answered for it
+pub said_as_error : (Called : UnreadLine → Reply → UnreadLine → Type 0) (u v : UnreadLine) (refusal : Refusal) (e : Error) → IsErrorOf refusal e → Called u (refusal_reply refusal) v
+    → RepliesWith Called u (error_reply e) v
+said_as_error Called u v refusal e is gives = subst (λ (r : Option Reply). RepliesWith Called u r v) (sym (error_said refusal e is)) gives
+
+-- the name of a long option that was found
+pub named : (u w : UnreadLine) (text : List ℕ) → RepliesWith Next u (found_as w.last found.Long) w → ((name : List ℕ) → w.last ≡ long_option name → text ≡ name) → Next u (long text) w
+named u w text step is = name_in w.last step is
+  where
+    name_in : (last : LastOption) → RepliesWith Next u (found_as last found.Long) w → ((name : List ℕ) → last ≡ long_option name → text ≡ name) → Next u (long text) w
+    name_in no_option step is = absurd step
+    name_in (short_option c) step is = absurd step
+    name_in (long_option name) step is = subst (λ (n : List ℕ). Next u (long n) w) (sym (is name refl)) step

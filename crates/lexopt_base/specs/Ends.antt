@@ -9,6 +9,6 @@ use Rattle.lexopt_words.specs.declared.error.Arg.{Arg}
 use Rattle.lexopt_words.specs.declared.error.Error.{Error}
 use Rattle.lexopt_base.specs.contracts.parser.Parser.{the_row}
 
--- the line goes on as `next` does with this answer
-abbrev pub EndsAfter : MutBor UnreadLine → Result (Option Arg) Error → Fml
-EndsAfter parser result = Rests the_row parser (RepliesWith Next parser.now (next_reply result))
+-- the line is as `next` leaves it with this result
+abbrev pub LineAfterNext : MutBor UnreadLine → Result (Option Arg) Error → Fml
+LineAfterNext parser result = Rests the_row parser (RepliesWith Next parser.now (next_reply result))

@@ -1,4 +1,4 @@
--- What the parser found, as a reply. No public clause cites this file.
+-- What `advance` finds, as a reply.
 use Rattle.std.specs.Prelude.{Option, Some, None, Result, Ok, Err}
 use Rattle.lexopt_spec.specs.UnreadLine.{LastOption, no_option, short_option, long_option}
 use Rattle.lexopt_spec.specs.Steps.{Reply, short, long, positional, end}
@@ -7,7 +7,7 @@ use Rattle.lexopt_base.specs.declared.parser.Found.TheVariants as found
 use Rattle.lexopt_base.specs.declared.refusal.Refusal.{Refusal}
 use Rattle.lexopt_base.specs.Refusals.{refusal_reply}
 
--- the name that stands as the last option, if that is a long one
+-- the last option, if that is a long one
 abbrev pub name_of : LastOption → Option Reply
 name_of no_option = None
 name_of (short_option c) = None
@@ -20,7 +20,7 @@ found_as last found.Long = name_of last
 found_as last (found.Value word) = Some (positional word)
 found_as last found.End = Some end
 
--- the same, or why nothing was found
-abbrev pub found_reply : LastOption → Result Found Refusal → Option Reply
-found_reply last (Ok f) = found_as last f
-found_reply last (Err refusal) = Some (refusal_reply refusal)
+-- the reply of `advance`, after which `last` is the last option
+abbrev pub advance_reply : LastOption → Result Found Refusal → Option Reply
+advance_reply last (Ok f) = found_as last f
+advance_reply last (Err refused) = Some (refusal_reply refused)

@@ -7,3 +7,4 @@ pub mod Pending
 pub mod Ends
 pub mod Stages
 pub mod Views
+pub mod Words

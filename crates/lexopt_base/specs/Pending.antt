@@ -1,7 +1,10 @@
 -- What a parser finds pending, as contracts see it.
-use Rattle.std.specs.Prelude.{ℕ, Bool, List}
+use Rattle.std.specs.Prelude.{◌≡◌, ℕ, List, Option, Some, None, length}
+use Rattle.lexopt_spec.specs.UnreadLine.{UnreadLine, no_tail, pending}
 use Rattle.lexopt_base.specs.declared.parser.Pending.{Pending}
 
--- the value, and whether it is joined to its option by `=`
-abbrev pub pending_view : Pending → List ℕ × Bool
-pending_view p = (p.value.now, p.is_joined)
+-- what is found is what is pending, by its length; or nothing is pending
+abbrev pub IsCounted : UnreadLine → Option Pending → Type 0
+IsCounted u None = u.tail ≡ no_tail
+IsCounted u (Some p) =
+    (value : List ℕ) × (pending u ≡ Some (value, p.is_joined)) × (length value ≡ p.count)

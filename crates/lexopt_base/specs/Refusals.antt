@@ -1,9 +1,10 @@
--- Refusals, as replies and as errors, and what is pending where a value is refused or taken.
+-- Why a call that lends nothing gives nothing, as a reply and as an error; and what is pending
+-- where a value is refused or taken.
 use Rattle.std.specs.Prelude.{◌≡◌, ℕ, Bool, List, Some, IsSome, length, option_map}
-use Rattle.std.specs.Prelude.{string_bytes}
+use Rattle.std.specs.Prelude.{string_bytes, Result, Ok, Err}
 use Rattle.lexopt_spec.specs.UnreadLine.{LastOption, UnreadLine, no_tail, spelling}
 use Rattle.lexopt_spec.specs.UnreadLine.{pending}
-use Rattle.lexopt_spec.specs.Steps.{Reply, missing, unexpected, no_memory}
+use Rattle.lexopt_spec.specs.Steps.{Reply, missing, taken, unexpected, no_memory}
 use Rattle.lexopt_words.specs.declared.error.Error.{Error}
 use Rattle.lexopt_words.specs.declared.error.Error.TheVariants as error
 use Rattle.lexopt_base.specs.declared.refusal.Refusal.{Refusal}
@@ -16,19 +17,24 @@ refusal_reply (MissingValue option) = missing (option_map string_bytes option)
 refusal_reply (UnexpectedValue option value) = unexpected (string_bytes option) value
 refusal_reply OutOfMemory = no_memory
 
--- the error that says it
+-- the error that is made of it
 abbrev pub IsErrorOf : Refusal → Error → Type 0
 IsErrorOf (MissingValue option) e = e ≡ error.MissingValue option
 IsErrorOf (UnexpectedValue option value) e = e ≡ error.UnexpectedValue option value
 IsErrorOf OutOfMemory e = e ≡ error.OutOfMemory
 
--- the error says that no value is left for the last option, or that there is no memory to name it
-abbrev pub IsMissing : LastOption → Error → Type 0
-IsMissing last (error.MissingValue option) = option_map string_bytes option ≡ spelling last
-IsMissing last error.OutOfMemory = IsSome (spelling last)
-IsMissing last e = ⊥
+-- the reply of `take`
+abbrev pub take_reply : Result (List ℕ) Refusal → Reply
+take_reply (Ok word) = taken word
+take_reply (Err refusal) = refusal_reply refusal
 
--- a value of so many bytes is pending
+-- no value is left for the last option, or there is no memory to name that option
+abbrev pub IsMissing : LastOption → Refusal → Type 0
+IsMissing last (MissingValue option) = option_map string_bytes option ≡ spelling last
+IsMissing last OutOfMemory = IsSome (spelling last)
+IsMissing last refusal = ⊥
+
+-- a value of `count` bytes is pending
 abbrev pub HasPending : UnreadLine → ℕ → Type 0
 HasPending u count = (value : List ℕ) × (by_equals : Bool) × (pending u ≡ Some (value, by_equals))
     × (length value ≡ count)
@@ -38,7 +44,7 @@ abbrev pub TakesPending : UnreadLine → List ℕ → UnreadLine → Type 0
 TakesPending u value after = (by_equals : Bool) × (pending u ≡ Some (value, by_equals))
     × (after ≡ record u { tail = no_tail })
 
--- the pending value is refused: it is taken, or there is no memory to say of what option it is
+-- the pending value is refused: it is taken, or there is no memory to name its option
 abbrev pub RefusesPending : UnreadLine → Refusal → UnreadLine → Type 0
 RefusesPending u (MissingValue option) after = ⊥
 RefusesPending u (UnexpectedValue option value) after =

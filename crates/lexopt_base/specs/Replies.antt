@@ -1,4 +1,4 @@
--- What the answers of a parser say, as replies.
+-- What the calls of a parser return, as replies.
 use Rattle.std.specs.Prelude.{Option, Some, None, Result, Ok, Err, List, ℕ, string_bytes}
 use Rattle.lexopt_spec.specs.UnreadLine.{UnreadLine}
 use Rattle.lexopt_spec.specs.Steps.{Reply, short, long, positional, end, taken, missing, unexpected}
@@ -11,7 +11,7 @@ use Rattle.lexopt_words.specs.declared.error.Error.TheVariants.{UnexpectedArgume
 use Rattle.lexopt_words.specs.declared.error.Error.TheVariants.{ParsingFailed, NonUnicodeValue}
 use Rattle.lexopt_words.specs.declared.error.Error.TheVariants.{Custom, OutOfMemory}
 
--- the reply of an error; none, where no call of a parser answers it
+-- the reply of an error; none, if no call of a parser returns it
 abbrev pub error_reply : Error → Option Reply
 error_reply (MissingValue None) = Some (missing None)
 error_reply (MissingValue (Some option)) = Some (missing (Some (string_bytes option)))
@@ -39,12 +39,12 @@ abbrev pub value_reply : Result (List ℕ) Error → Option Reply
 value_reply (Ok word) = Some (taken word)
 value_reply (Err e) = error_reply e
 
--- a call answers at the line u by this relation, with this reply, and leaves the line after
+-- at the line u a call gives this reply by this relation, and leaves the line after
 abbrev pub RepliesWith : (UnreadLine → Reply → UnreadLine → Type 0) → UnreadLine → Option Reply
     → UnreadLine → Type 0
 RepliesWith Answers u None after = ⊥
 RepliesWith Answers u (Some reply) after = Answers u reply after
 
--- `next` can answer so at the line u
-abbrev pub CanReply : UnreadLine → Option Reply → Type 0
-CanReply u reply = (after : UnreadLine) × RepliesWith Next u reply after
+-- `next` can reply so at the line u
+abbrev pub IsReplyOfNext : UnreadLine → Option Reply → Type 0
+IsReplyOfNext u reply = (after : UnreadLine) × RepliesWith Next u reply after

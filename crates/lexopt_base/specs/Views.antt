@@ -1,12 +1,14 @@
 -- What a view gives, and what a parser ends as where none is lent.
-use Rattle.std.specs.Prelude.{◌≡◌, ℕ, Bool, List, Option, Result, IfErr}
+use Rattle.std.specs.Prelude.{◌≡◌, ◌≢◌, [], ℕ, Bool, List, Option, None, Result, IfErr}
 use Rattle.std.specs.Borrow.{Fml, MutBor, RestsIfErr, RestsIfNone}
-use Rattle.lexopt_spec.specs.UnreadLine.{UnreadLine}
+use Rattle.lexopt_spec.specs.UnreadLine.{UnreadLine, pending}
 use Rattle.lexopt_spec.specs.Runs.{Step, values, raw, raw_if}
-use Rattle.lexopt_spec.specs.Views.{ValueItem, WordItem, TakesIf}
+use Rattle.lexopt_spec.specs.Views.{available, going_on, ValueItem, WordItem, TakesIf}
 use Rattle.lexopt_base.specs.Stages.{stage_of}
 use Rattle.lexopt_base.specs.Replies.{RepliesWith, error_reply}
 use Rattle.lexopt_words.specs.declared.error.Error.{Error}
+use Rattle.lexopt_base.specs.Refusals.{refusal_reply}
+use Rattle.lexopt_base.specs.declared.refusal.Refusal.{Refusal}
 use Rattle.lexopt_words.specs.declared.os_string.OsStr.{OsStr}
 use Rattle.lexopt_base.specs.declared.values.ValuesIter.{ValuesIter}
 use Rattle.lexopt_base.specs.declared.raw.RawArgs.{RawArgs}
@@ -14,23 +16,46 @@ use Rattle.lexopt_base.specs.contracts.parser.Parser.{the_row}
 
 -- ---- `values`
 
+-- the view lends the parser to ask for the values of its last option, of which there is one at
+-- least; none is asked for yet
+abbrev pub LendsValues : MutBor UnreadLine → ValuesIter → Type 0
+LendsValues parser view =
+    (view.parser.ghost_name ≡ parser.ghost_name) × (view.parser.now ≡ parser.now)
+    × (stage_of view.stage ≡ going_on) × (available parser.now ≢ [])
+
 -- one item asked of a view of values, which keeps its parser
 abbrev pub GivesValue : ValuesIter → Option (List ℕ) → ValuesIter → Type 0
 GivesValue view item after =
     (after.parser.ghost_name ≡ view.parser.ghost_name)
     × ValueItem (stage_of view.stage) view.parser.now item after.parser.now (stage_of after.stage)
 
--- this error is what `values` answers, however many items would have been asked
-abbrev pub ValuesFailsWith : UnreadLine → Error → UnreadLine → Type 0
-ValuesFailsWith u e after = (n : ℕ) → RepliesWith (Step (values n)) u (error_reply e) after
+-- `values` returns this error, however many items would have been asked for
+abbrev pub ValuesFailWith : UnreadLine → Error → UnreadLine → Type 0
+ValuesFailWith u e after = (n : ℕ) → RepliesWith (Step (values n)) u (error_reply e) after
+
+-- the same of what `begin_values` returns
+abbrev pub BeginFailsWith : UnreadLine → Refusal → UnreadLine → Type 0
+BeginFailsWith u refused after = (n : ℕ) → Step (values n) u (refusal_reply refused) after
 
 -- after an error the line is the one that goes with it, else the one that the view leaves
-abbrev pub RestsIfRefused : MutBor UnreadLine → Result ValuesIter Error → Fml
-RestsIfRefused parser result =
+abbrev pub LineIfValuesFail : MutBor UnreadLine → Result ValuesIter Error → Fml
+LineIfValuesFail parser result =
     RestsIfErr the_row parser (λ view. view.parser.ghost_name) result (λ after.
-    IfErr result (λ e. ValuesFailsWith parser.now e after))
+    IfErr result (λ e. ValuesFailWith parser.now e after))
+
+-- the same of `begin_values`
+abbrev pub LineIfBeginFails : MutBor UnreadLine → Result ValuesIter Refusal → Fml
+LineIfBeginFails parser result =
+    RestsIfErr the_row parser (λ view. view.parser.ghost_name) result (λ after.
+    IfErr result (λ refused. BeginFailsWith parser.now refused after))
 
 -- ---- `raw_args` and `try_raw_args`
+
+-- the view lends the parser to ask for its words; no value of the last option is pending
+abbrev pub LendsWords : MutBor UnreadLine → RawArgs → Type 0
+LendsWords parser view =
+    (view.parser.ghost_name ≡ parser.ghost_name) × (view.parser.now ≡ parser.now)
+    × (pending parser.now ≡ None)
 
 -- one item asked of a view of words, which keeps its parser
 abbrev pub GivesWord : RawArgs → Option (List ℕ) → RawArgs → Type 0
@@ -38,23 +63,23 @@ GivesWord view item after =
     (after.parser.ghost_name ≡ view.parser.ghost_name)
     × WordItem view.parser.now item after.parser.now
 
--- this error is what `raw_args` answers, whatever would have been asked of the words
-abbrev pub RawFailsWith : UnreadLine → Error → UnreadLine → Type 0
-RawFailsWith u e after =
+-- `raw_args` returns this error, whatever would have been asked of the words
+abbrev pub RawArgsFailWith : UnreadLine → Error → UnreadLine → Type 0
+RawArgsFailWith u e after =
     ((n : ℕ) → RepliesWith (Step (raw n)) u (error_reply e) after)
     × ((word : List ℕ) → RepliesWith (Step (raw_if word)) u (error_reply e) after)
 
-abbrev pub RestsIfRawRefused : MutBor UnreadLine → Result RawArgs Error → Fml
-RestsIfRawRefused parser result =
+abbrev pub LineIfRawArgsFail : MutBor UnreadLine → Result RawArgs Error → Fml
+LineIfRawArgsFail parser result =
     RestsIfErr the_row parser (λ view. view.parser.ghost_name) result (λ after.
-    IfErr result (λ e. RawFailsWith parser.now e after))
+    IfErr result (λ e. RawArgsFailWith parser.now e after))
 
 -- with no view the line is as it was, else the one that the view leaves
-abbrev pub RestsIfBusy : MutBor UnreadLine → Option RawArgs → Fml
-RestsIfBusy parser result =
+abbrev pub LineIfBusy : MutBor UnreadLine → Option RawArgs → Fml
+LineIfBusy parser result =
     RestsIfNone the_row parser (λ view. view.parser.ghost_name) result (λ after. after ≡ parser.now)
 
--- the next word is taken exactly if the closure, which answers so, says `true` about it
+-- the next word is taken exactly if the closure returns `true` for it
 abbrev pub NextIf : (OsStr → Bool → Type 0) → UnreadLine → Option (List ℕ) → UnreadLine → Type 0
 NextIf Answers = TakesIf
     (λ bytes answer. (word : OsStr) × (word.bytes.now ≡ bytes) × Answers word answer)

@@ -54,16 +54,6 @@ impl KeptWords {
         self.words[self.count - 1].as_bytes()
     }
 
-    /// The word just before the cursor, from this position on.
-    #[inline(always)]
-    pub fn tail(&self, position: usize) -> &[u8]
-        requires some { self.now.current ≢ [] }
-        requires within { position ≤ length self.now.current }
-        ensures { result.now ≡ drop position self.now.current }
-    {
-        &self.current()[position..]
-    }
-
     /// The word after the cursor.
     pub fn first(&self) -> Option<&OsString>
         ensures { IsFirst (option_map (λ word. word.now) result) self.now.left }

@@ -4,19 +4,20 @@ ghost use Rattle.std.specs.Prelude.{false, IsTrue, IsSome, IfOk, IfErr, OnErr, O
 ghost use Rattle.std.specs.Prelude.{drop, length, string_bytes};
 ghost use Rattle.std.specs.Option.{option_map};
 ghost use Rattle.std.specs.Iterator.{IsFiniteIterable};
-ghost use Rattle.std.specs.Iterator.Runs.{WholeRun};
 ghost use Rattle.lexopt_spec.specs.Pieces.{lossy};
-ghost use Rattle.lexopt_spec.specs.UnreadLine.{IsNormalIn, fresh, invoked, no_tail, pending};
+ghost use Rattle.lexopt_spec.specs.UnreadLine.{IsNormalIn, fresh, invoked, long_option, no_tail, pending};
 ghost use Rattle.lexopt_spec.specs.UnreadLine.{pending_in, rest_of, spelling};
 ghost use Rattle.lexopt_spec.specs.Steps.{Answers, Next, OptionalStep, Reply, Value};
 ghost use Rattle.lexopt_spec.specs.Steps.{ReadsPositional, ReadsWord, maybe};
-ghost use Rattle.lexopt_base.specs.Replies.{CanReply, RepliesWith, next_reply, value_reply};
-ghost use Rattle.lexopt_base.specs.Found.{found_as, found_reply};
+ghost use Rattle.lexopt_base.specs.Replies.{IsReplyOfNext, RepliesWith, next_reply, value_reply};
+ghost use Rattle.lexopt_base.specs.Words.{YieldsWords};
+ghost use Rattle.lexopt_base.specs.Found.{found_as, advance_reply};
 ghost use Rattle.lexopt_words.specs.Message.{IsCustom};
 ghost use Rattle.lexopt_spec.specs.Views.{WordItem, available};
 ghost use Rattle.lexopt_base.specs.Refusals.{HasPending, IsMissing, RefusesPending, TakesPending};
-ghost use Rattle.lexopt_base.specs.Pending.{pending_view};
-ghost use Rattle.lexopt_base.specs.Views.{RawFailsWith, ValuesFailsWith};
+ghost use Rattle.lexopt_base.specs.Refusals.{take_reply};
+ghost use Rattle.lexopt_base.specs.Pending.{IsCounted};
+ghost use Rattle.lexopt_base.specs.Views.{RawArgsFailWith, BeginFailsWith};
 ghost use Rattle.lexopt_base.specs.Models.{IsLongRead, IsShortRead};
 
 use crate::kept_words::KeptWords;
@@ -28,7 +29,7 @@ use lexopt_words::os_string::{OsString, arguments};
 use lexopt_words::word::{WordKind, is_positional, kind_of};
 use std::alloc::{AllocError, AllocGlobal, Global};
 use std::env;
-use std::env::Env;
+use std::env::{Args, Env};
 use std::io::ErrorKind;
 use std::marker::Model;
 
@@ -55,19 +56,24 @@ enum LastOption {
     Long,
 }
 
-// What `advance` found. A long option is then the last option.
+/// What [`Parser::advance`] finds.
 #[derive(Drop)]
-enum Found {
+pub enum Found {
+    /// A short option. It is now the last option.
     Short(char),
+    /// A long option. It is now the last option, and [`Parser::long_name`] lends its name.
     Long,
+    /// A positional argument.
     Value(OsString),
+    /// The end of the line.
     End,
 }
 
 // The value that is left of the word of the last option.
 #[derive(Clone, Copy)]
-pub(crate) struct Pending<'a> {
-    pub value: &'a [u8],
+pub(crate) struct Pending {
+    // How many bytes it has.
+    pub count: usize,
     // Whether `=` joins it to its option.
     pub is_joined: bool,
 }
@@ -99,7 +105,7 @@ impl Model for Parser {
 
 impl Parser {
     ghost use Rattle.std.specs.Borrow.{sem};
-    ghost use Rattle.lexopt_base.specs.Ends.{EndsAfter};
+    ghost use Rattle.lexopt_base.specs.Ends.{LineAfterNext};
 
     /// A parser of these words, of which none is read. There is no binary name among them.
     ///
@@ -111,8 +117,9 @@ impl Parser {
         I: IntoIterator<Item = OsString> + Drop,
         I::IntoIter: Drop,
         requires { IsFiniteIterable I.into_iter_gives I.IntoIter.can_next I.IntoIter.remaining args }
-        ensures ok { IfOk result (λ parser. (items : I.IntoIter) × I.into_iter_gives args items
-            × WholeRun I.IntoIter.next_gives items (λ run. parser ≡ fresh run.items)) }
+        ensures ok { IfOk result (λ parser. (words : List (List ℕ))
+            × YieldsWords I.into_iter_gives I.IntoIter.next_gives args words
+            × (parser ≡ fresh words)) }
         ensures err { IfErr result (λ e. e ≡ Error.OutOfMemory) }
     {
         let words = collect_words(alloc, args)?;
@@ -143,8 +150,9 @@ impl Parser {
         I: IntoIterator<Item = OsString> + Drop,
         I::IntoIter: Drop,
         requires { IsFiniteIterable I.into_iter_gives I.IntoIter.can_next I.IntoIter.remaining args }
-        ensures ok { IfOk result (λ parser. (items : I.IntoIter) × I.into_iter_gives args items
-            × WholeRun I.IntoIter.next_gives items (λ run. parser ≡ invoked run.items)) }
+        ensures ok { IfOk result (λ parser. (words : List (List ℕ))
+            × YieldsWords I.into_iter_gives I.IntoIter.next_gives args words
+            × (parser ≡ invoked words)) }
         ensures err { IfErr result (λ e. e ≡ Error.OutOfMemory) }
     {
         let all = collect_words(alloc, args)?;
@@ -164,7 +172,7 @@ impl Parser {
             ⊎ IsCustom (codes "arguments unavailable") e) }
     {
         match env::args(rt) {
-            Ok(words) => Parser::from_iter(alloc, words.map(OsString::from_string)),
+            Ok(texts) => Ok(Parser::invoked(alloc, words_of(alloc, texts)?)?),
             Err(error) if error.kind() == ErrorKind::OutOfMemory => Err(Error::OutOfMemory),
             Err(_) => Err(Error::from("arguments unavailable")),
         }
@@ -215,8 +223,8 @@ impl Parser {
     /// consumed. Reading can go on after an error.
     #[inline(always)]
     pub fn next(&mut self) -> Result<Option<Arg<'_>>, Error>
-        ensures* after { sem 𝓛 (EndsAfter self.entry result) }
-        ensures reply { CanReply self.old (next_reply result) }
+        ensures* after { sem 𝓛 (LineAfterNext self.entry result) }
+        ensures reply { IsReplyOfNext self.old (next_reply result) }
     {
         let found = self.advance();
         self.lend(found)
@@ -234,9 +242,26 @@ impl Parser {
     pub fn value(&mut self) -> Result<OsString, Error>
         ensures { RepliesWith Value self.old (value_reply result) self.new }
     {
+        // A word is returned at once, for the same reason as in `lend`.
+        match self.take() {
+            Ok(word) => return Ok(word),
+            Err(refusal) => Err(Error::from(refusal)),
+        }
+    }
+
+    /// Takes a value for the last option, as [`Parser::value`] does, for whoever builds on the
+    /// parser: its error is smaller.
+    ///
+    /// At `-n10`, `-n=10`, `-n 10`, `--number=10` and `--number 10` it takes `10`.
+    ///
+    /// Errors: `MissingValue` if no word is left; `OutOfMemory` only in its place, if it names an
+    /// option. Neither consumes anything.
+    #[inline(always)]
+    pub fn take(&mut self) -> Result<OsString, Refusal>
+        ensures { Value self.old (take_reply result) self.new }
+    {
         if let Some(pending) = self.pending() {
-            let count = pending.value.len();
-            return Ok(self.take_value(count));
+            return Ok(self.take_value(pending.count));
         }
         if let Some(word) = self.take_word() {
             return Ok(word);
@@ -252,7 +277,7 @@ impl Parser {
     pub fn optional_value(&mut self) -> Option<OsString>
         ensures { OptionalStep self.old (maybe result) self.new }
     {
-        let count = self.pending()?.value.len();
+        let count = self.pending()?.count;
         Some(self.take_value(count))
     }
 
@@ -286,17 +311,26 @@ impl Parser {
         }
     }
 
-    // Reads the next option or positional argument. A long option is then the last option, whose
-    // name can be lent.
+    /// Reads the next option or positional argument, as [`Parser::next`] does, and lends nothing,
+    /// for whoever builds on the parser: the line that it leaves is a plain clause, and the parser
+    /// can be used at once.
+    ///
+    /// The words `-ab --name=x file` give `Short('a')`, `Short('b')`, `Long`, after which
+    /// `long_name` is `name`, then, if nobody takes it, an `UnexpectedValue` error with `x`, and
+    /// then `Value` of `file` and `End`.
+    ///
+    /// Errors: `UnexpectedValue` if a value is joined by `=` to the last option and was not taken;
+    /// it is consumed. `OutOfMemory` only in place of a long option or of that error; nothing is
+    /// consumed. Reading can go on after an error.
     #[inline(always)]
-    fn advance(&mut self) -> Result<Found, Refusal>
-        ensures { RepliesWith Next self.old (found_reply self.new.last result) self.new }
+    pub fn advance(&mut self) -> Result<Found, Refusal>
+        ensures { RepliesWith Next self.old (advance_reply self.new.last result) self.new }
     {
         match self.state {
             State::Ready => self.read_word(),
             State::FinishedOpts => Ok(self.read_positional()),
             State::PendingValue(position) => {
-                let count = self.words.tail(position).len();
+                let count = self.words.current().len() - position;
                 Err(self.refuse(count))
             }
             State::Shorts(position) => {
@@ -319,7 +353,7 @@ impl Parser {
     fn read_word(&mut self) -> Result<Found, Refusal>
         requires tail { self.old.tail ≡ no_tail }
         requires ended { self.old.ended ≡ false }
-        ensures { RepliesWith (Answers ReadsWord) self.old (found_reply self.new.last result)
+        ensures { RepliesWith (Answers ReadsWord) self.old (advance_reply self.new.last result)
             self.new }
     {
         let Some(word) = self.words.first() else {
@@ -363,10 +397,22 @@ impl Parser {
         }
     }
 
+    /// The name of the last option, without its dashes, if that is a long one. Each damaged piece
+    /// of it is one U+FFFD.
+    ///
+    /// After `advance` read `--name=x` it is `name`. If the last option is a short one, or there is
+    /// none, this is the name of the last long option before it, or empty.
+    #[inline(always)]
+    pub fn long_name(&self) -> &str
+        ensures { (name : List ℕ) → self.now.last ≡ long_option name → result.now ≡ name }
+    {
+        &self.name
+    }
+
     // Lends what was found: the name of a long option is the last option's.
     #[inline(always)]
     fn lend(&self, found: Result<Found, Refusal>) -> Result<Option<Arg<'_>>, Error>
-        ensures { (reply : Reply) → found_reply self.now.last found ≡ Some reply
+        ensures { (reply : Reply) → advance_reply self.now.last found ≡ Some reply
             → next_reply result ≡ Some reply }
     {
         // Each answer is returned at once. If they met at the end of the function, LLVM would not
@@ -380,31 +426,30 @@ impl Parser {
         }
     }
 
-    // The value that is left of the word of the last option.
+    // The value that is left of the word of the last option, by its length.
     #[inline(always)]
-    pub(crate) fn pending(&self) -> Option<Pending<'_>>
-        ensures value { option_map pending_view result ≡ pending self.now }
+    pub(crate) fn pending(&self) -> Option<Pending>
+        ensures value { IsCounted self.now result }
         ensures option { IsSome result → IsSome (spelling self.now.last) }
-        ensures none { result ≡ None → self.now.tail ≡ no_tail }
     {
         match self.state {
             State::Ready | State::FinishedOpts => None,
             State::PendingValue(position) => Some(Pending {
-                value: self.words.tail(position),
+                count: self.words.current().len() - position,
                 is_joined: true,
             }),
             State::Shorts(position) => {
                 let word = self.words.current();
                 let (start, is_joined) = pending_at(word, position, self.short_equals);
                 Some(Pending {
-                    value: &word[start..],
+                    count: word.len() - start,
                     is_joined,
                 })
             }
         }
     }
 
-    // Takes the pending value, which has so many bytes.
+    // Takes the pending value, which has `count` bytes.
     #[inline(always)]
     pub(crate) fn take_value(&mut self, count: usize) -> OsString
         requires { HasPending self.old count }
@@ -462,7 +507,7 @@ impl Parser {
         }
     }
 
-    // Refuses the pending value, which has so many bytes. It is then consumed.
+    // Refuses the pending value, which has `count` bytes. It is then consumed.
     //
     // It is inlined, and `spelling` is not: an `Error` stores its cause inline, which is zeroed for
     // each answer of `next` unless LLVM sees that nothing of it is used. It does if the value goes
@@ -487,20 +532,19 @@ impl Parser {
     // Refuses the pending value, if there is one.
     pub(crate) fn refuse_if_pending(&mut self) -> Result<(), Error>
         ensures ok { OnOk result ((self.old.tail ≡ no_tail) × (self.new ≡ self.old)) }
-        ensures err { IfErr result (λ e. RawFailsWith self.old e self.new) }
+        ensures err { IfErr result (λ e. RawArgsFailWith self.old e self.new) }
     {
         let Some(pending) = self.pending() else {
             return Ok(());
         };
-        let count = pending.value.len();
-        Err(Error::from(self.refuse(count)))
+        Err(Error::from(self.refuse(pending.count)))
     }
 
     // Refuses a line with no value for the last option.
     #[inline(always)]
-    pub(crate) fn refuse_if_missing(&self) -> Result<(), Error>
+    pub(crate) fn refuse_if_missing(&self) -> Result<(), Refusal>
         ensures ok { OnOk result (available self.now ≢ []) }
-        ensures err { IfErr result (λ e. ValuesFailsWith self.now e self.now) }
+        ensures err { IfErr result (λ refusal. BeginFailsWith self.now refusal self.now) }
     {
         if self.pending().is_some() || self.has_plain_word() {
             return Ok(());
@@ -511,12 +555,12 @@ impl Parser {
     // The error that no value is left for the last option.
     #[cold]
     #[inline(never)]
-    fn missing_value(&self) -> Error
+    fn missing_value(&self) -> Refusal
         ensures { IsMissing self.now.last result }
     {
         match self.spelling() {
-            Ok(option) => Error::MissingValue { option },
-            Err(_) => Error::OutOfMemory,
+            Ok(option) => Refusal::MissingValue(option),
+            Err(_) => Refusal::OutOfMemory,
         }
     }
 
@@ -527,14 +571,15 @@ impl Parser {
         ensures ok { IfOk result (λ text. option_map string_bytes text ≡ spelling self.now.last) }
         ensures err { OnErr result (IsSome (spelling self.now.last)) }
     {
-        match self.last_option {
-            LastOption::Nothing => Ok(None),
-            LastOption::Short(option) => Ok(Some(format!(in self.alloc; "-{option}")?)),
+        let text = match self.last_option {
+            LastOption::Nothing => return Ok(None),
+            LastOption::Short(option) => format!(in self.alloc; "-{option}"),
             LastOption::Long => {
                 let name = &self.name;
-                Ok(Some(format!(in self.alloc; "--{name}")?))
+                format!(in self.alloc; "--{name}")
             }
-        }
+        };
+        Ok(Some(text?))
     }
 }
 
@@ -545,20 +590,26 @@ impl Clone for Parser {
 
     /// A parser of the same unread line, with the same binary name.
     fn clone(&self) -> Result<Parser, AllocError> {
-        let bin_name = match &self.bin_name {
-            Some(name) => Some(String::from_str(self.alloc, name)?),
-            None => None,
-        };
+        let bin_name = self.bin_name.clone()?;
         Ok(Parser {
             alloc: self.alloc,
             words: self.words.copy()?,
             state: self.state,
             last_option: self.last_option,
-            name: String::from_str(self.alloc, &self.name)?,
+            name: self.name.clone()?,
             short_equals: self.short_equals,
             bin_name,
         })
     }
+}
+
+// The words of these texts.
+fn words_of(alloc: Global, texts: Args) -> Result<Vec<OsString>, AllocError> {
+    let mut words = Vec::with_capacity(alloc, texts.len())?;
+    for text in texts {
+        words.push(OsString::from_string(text))?;
+    }
+    Ok(words)
 }
 
 // All items of these.
@@ -567,8 +618,8 @@ where
     I: IntoIterator<Item = OsString> + Drop,
     I::IntoIter: Drop,
     requires { IsFiniteIterable I.into_iter_gives I.IntoIter.can_next I.IntoIter.remaining args }
-    ensures { IfOk result (λ words. (items : I.IntoIter) × I.into_iter_gives args items
-        × WholeRun I.IntoIter.next_gives items (λ run. words.items ≡ run.items)) }
+    ensures { IfOk result (λ words.
+        YieldsWords I.into_iter_gives I.IntoIter.next_gives args words.items) }
 {
     let items = args.into_iter().collect(alloc)?;
     Ok(items)

@@ -14,7 +14,7 @@ impl Parser {
     ghost use Rattle.std.specs.Prelude.{◌≡◌, ◌↔◌, None, IsSome, IfOk, IfSome};
     ghost use Rattle.std.specs.Borrow.{sem};
     ghost use Rattle.lexopt_spec.specs.UnreadLine.{pending};
-    ghost use Rattle.lexopt_base.specs.Views.{RestsIfRawRefused, RestsIfBusy};
+    ghost use Rattle.lexopt_base.specs.Views.{LendsWords, LineIfBusy, LineIfRawArgsFail};
 
     /// The words that are left, unread. The separator is a word like any other here, and ends no
     /// options.
@@ -25,10 +25,8 @@ impl Parser {
     /// is consumed, so a second call succeeds. `OutOfMemory` only in its place; nothing is
     /// consumed.
     pub fn raw_args(&mut self) -> Result<RawArgs<'_>, Error>
-        ensures* refused { sem 𝓛 (RestsIfRawRefused self.entry result) }
-        ensures nothing_pending { IfOk result (λ _. pending self.old ≡ None) }
-        ensures unchanged { IfOk result (λ view. view.parser.now ≡ self.old) }
-        ensures same_parser { IfOk result (λ view. view.parser.ghost_name ≡ self.entry.ghost_name) }
+        ensures* refused { sem 𝓛 (LineIfRawArgsFail self.entry result) }
+        ensures view { IfOk result (LendsWords self.entry) }
     {
         self.refuse_if_pending()?;
         Ok(RawArgs { parser: self })
@@ -37,11 +35,9 @@ impl Parser {
     /// The words that are left, unread, unless a value of the last option was not taken. It stays
     /// then.
     pub fn try_raw_args(&mut self) -> Option<RawArgs<'_>>
-        ensures* busy { sem 𝓛 (RestsIfBusy self.entry result) }
+        ensures* busy { sem 𝓛 (LineIfBusy self.entry result) }
         ensures nothing_pending { IsSome result ↔ (pending self.old ≡ None) }
-        ensures unchanged { IfSome result (λ view. view.parser.now ≡ self.old) }
-        ensures same_parser { IfSome result (λ view.
-            view.parser.ghost_name ≡ self.entry.ghost_name) }
+        ensures view { IfSome result (LendsWords self.entry) }
     {
         if self.pending().is_some() {
             return None;

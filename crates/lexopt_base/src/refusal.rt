@@ -1,48 +1,26 @@
-//! Why a call of the parser gave nothing.
-ghost use Rattle.std.specs.Prelude.{◌≡◌, Some, IsSome};
-ghost use Rattle.lexopt_base.specs.Replies.{error_reply};
-ghost use Rattle.lexopt_base.specs.Refusals.{refusal_reply};
-
+//! Why a call that lends nothing gives nothing.
 use lexopt_words::error::Error;
 use lexopt_words::os_string::OsString;
 use std::alloc::AllocError;
 
-/// Why a call of the parser gave nothing: one of the three errors that its calls answer. An `Error`
-/// stores a cause inline, so it is made where it is handed out. The crate `lexopt` does not
-/// re-export this.
+/// Why a call that lends nothing gives nothing. `Error::from` makes the error of it that `next` or
+/// `value` returns.
+///
+/// It is smaller than an `Error`, which has room for a cause. `advance` never returns `MissingValue`,
+/// nor do `take` and `begin_values` return `UnexpectedValue`.
 #[derive(Drop)]
 pub enum Refusal {
-    /// No value is left, for this option if one was read.
+    /// No value is left, for this option, with its dashes, if one was read. Nothing is consumed.
     MissingValue(Option<String>),
-    /// A value of an option that nobody asked for.
+    /// The last option has a value that was not taken.
     UnexpectedValue {
         /// The option with its dashes.
         option: String,
         /// The value, which is consumed.
         value: OsString,
     },
-    /// Out of memory.
+    /// Memory ran out. Nothing is consumed.
     OutOfMemory,
-}
-
-impl Refusal {
-    /// The refusal that an error of the parser tells of.
-    #[inline(always)]
-    pub fn of_error(error: Error) -> Refusal
-        requires { IsSome (error_reply error) }
-        ensures { error_reply error ≡ Some (refusal_reply result) }
-    {
-        match error {
-            Error::MissingValue { option } => Refusal::MissingValue(option),
-            Error::UnexpectedValue { option, value } => Refusal::UnexpectedValue { option, value },
-            Error::OutOfMemory => Refusal::OutOfMemory,
-            Error::UnexpectedOption(_)
-            | Error::UnexpectedArgument(_)
-            | Error::ParsingFailed { .. }
-            | Error::NonUnicodeValue(_)
-            | Error::Custom(_) => unreachable!(),
-        }
-    }
 }
 
 impl From<AllocError> for Refusal {
@@ -56,7 +34,7 @@ impl From<AllocError> for Refusal {
     }
 }
 
-// With a hint to inline it, LLVM would zero the space of an `Error` for each answer of `next`.
+// With a hint to inline it, LLVM would zero the space of an `Error` at each call of `next`.
 impl From<Refusal> for Error {
     ghost use Rattle.lexopt_base.specs.Refusals.{IsErrorOf};
 

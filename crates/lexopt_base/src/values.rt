@@ -1,7 +1,13 @@
 //! Several values of one option.
+ghost use Rattle.std.specs.Prelude.{◌≡◌, ◌≤◌, ℕ, List, IfOk};
+ghost use Rattle.lexopt_spec.specs.Views.{ValueItems};
+ghost use Rattle.lexopt_base.specs.Stages.{stage_of};
+
 use crate::parser::Parser;
+use crate::refusal::Refusal;
 use lexopt_words::error::Error;
 use lexopt_words::os_string::OsString;
+use std::alloc::{AllocError, Global};
 
 // Whether a view may give more.
 #[derive(Clone, Copy)]
@@ -19,11 +25,9 @@ pub struct ValuesIter<'a> {
 }
 
 impl Parser {
-    ghost use Rattle.std.specs.Prelude.{◌≡◌, ◌≢◌, [], IfOk};
+    ghost use Rattle.std.specs.Prelude.{IfOk};
     ghost use Rattle.std.specs.Borrow.{sem};
-    ghost use Rattle.lexopt_spec.specs.Views.{available, going_on};
-    ghost use Rattle.lexopt_base.specs.Stages.{stage_of};
-    ghost use Rattle.lexopt_base.specs.Views.{RestsIfRefused};
+    ghost use Rattle.lexopt_base.specs.Views.{LendsValues, LineIfBeginFails, LineIfValuesFail};
 
     /// Several values for the last option, of which there is one at least: what is left of its
     /// word, and then the next words up to the first that looks like an option. A value that is
@@ -37,11 +41,29 @@ impl Parser {
     /// option. Neither consumes anything.
     #[inline(always)]
     pub fn values(&mut self) -> Result<ValuesIter<'_>, Error>
-        ensures* refused { sem 𝓛 (RestsIfRefused self.entry result) }
-        ensures found { IfOk result (λ _. available self.old ≢ []) }
-        ensures unchanged { IfOk result (λ view. view.parser.now ≡ self.old) }
-        ensures going_on { IfOk result (λ view. stage_of view.stage ≡ going_on) }
-        ensures same_parser { IfOk result (λ view. view.parser.ghost_name ≡ self.entry.ghost_name) }
+        ensures* refused { sem 𝓛 (LineIfValuesFail self.entry result) }
+        ensures view { IfOk result (LendsValues self.entry) }
+    {
+        match self.refuse_if_missing() {
+            Ok(()) => return Ok(ValuesIter {
+                parser: self,
+                stage: Stage::GoingOn,
+            }),
+            Err(refused) => Err(Error::from(refused)),
+        }
+    }
+
+    /// Several values for the last option, as [`Parser::values`] gives them, for whoever builds on
+    /// the parser: its error is smaller.
+    ///
+    /// At `-a b c -d` the view gives `b` and `c`.
+    ///
+    /// Errors: `MissingValue` if there is no value; `OutOfMemory` only in its place, if it names an
+    /// option. Neither consumes anything.
+    #[inline(always)]
+    pub fn begin_values(&mut self) -> Result<ValuesIter<'_>, Refusal>
+        ensures* refused { sem 𝓛 (LineIfBeginFails self.entry result) }
+        ensures view { IfOk result (LendsValues self.entry) }
     {
         self.refuse_if_missing()?;
         Ok(ValuesIter {
@@ -88,8 +110,7 @@ impl ValuesIter<'_> {
     {
         if let Some(pending) = self.parser.pending() {
             let is_last = pending.is_joined;
-            let count = pending.value.len();
-            let value = self.parser.take_value(count);
+            let value = self.parser.take_value(pending.count);
             self.stage = if is_last { Stage::End } else { Stage::GoingOn };
             return Some(value);
         }
@@ -99,4 +120,29 @@ impl ValuesIter<'_> {
         self.stage = Stage::End;
         None
     }
+}
+
+/// Takes `count` values from a view, or fewer if it ends before.
+///
+/// At `-a b c -d`, two values of the view of `-a` are `b` and `c`, and so are ten. The only error is
+/// that memory ran out; the values that were taken are gone then.
+pub fn take_values(
+    alloc: Global,
+    view: &mut ValuesIter<'_>,
+    count: usize,
+) -> Result<Vec<OsString>, AllocError>
+    ensures same_parser { view.new.parser.ghost_name ≡ view.old.parser.ghost_name }
+    ensures items { (m : ℕ) × (came : List (List ℕ)) × (m ≤ count)
+        × ValueItems m (stage_of view.old.stage) view.old.parser.now came view.new.parser.now
+        (stage_of view.new.stage)
+        × IfOk result (λ items. (m ≡ count) × (items.items ≡ came)) }
+{
+    let mut items = Vec::new(alloc);
+    for _asked in 0..count {
+        match view.next() {
+            Some(value) => items.push(value)?,
+            None => break,
+        }
+    }
+    Ok(items)
 }

@@ -1,3 +1,15 @@
+pub mod RunLemmas
+pub mod ScriptLemmas
+pub mod WrittenLines
+pub mod WorkedTexts
 pub mod StepReplies
 pub mod Views
 pub mod Parts
+pub mod Cuts
+pub mod InARow
+pub mod Keywords
+pub mod NumberedLines
+pub mod Numbers
+pub mod Options
+pub mod Commands
+pub mod Performing

@@ -1,13 +1,11 @@
 -- What a step that gives a reply answers.
-use Rattle.std.proofs.Common.{◌≡◌, ℕ, List, Option, Some, None, IsSome, Result, Ok, Err, IfOk, IfErr, OnErr, Global, String, string_bytes, refl, sym, subst, ◌∙◌, inl, inr}
+use Rattle.std.proofs.Common.{◌≡◌, Option, Some, None, IsSome, Result, Ok, Err, IfOk, IfErr, OnErr, refl, sym, subst, ◌∙◌}
 use Rattle.std.specs.declared.alloc.AllocError.{AllocError}
 use Rattle.lexopt_spec.specs.UnreadLine.{UnreadLine}
-use Rattle.lexopt_spec.specs.Steps.{Reply, Next, missing, no_memory}
-use Rattle.lexopt_line_spec.proofs.ReplyKinds.{next_reply}
-use Rattle.lexopt_words.specs.declared.error.Error.TheVariants.{MissingValue}
-use Rattle.lexopt_base.specs.Replies.{CanReply, RepliesWith, error_reply}
-use Rattle.lexopt_calls.specs.declared.replay.NextReply.{NextReply}
-use Rattle.lexopt_calls.specs.Replies.{next_view}
+use Rattle.lexopt_spec.specs.Steps.{Reply}
+use Rattle.lexopt_base.specs.Replies.{RepliesWith}
+use Rattle.lexopt_calls.specs.declared.reply.Reply as replies
+use Rattle.lexopt_calls.specs.Replies.{reply_view}
 
 -- a call gives some reply
 pub given : (Answers : UnreadLine → Reply → UnreadLine → Type 0) (u : UnreadLine) (reply : Option Reply) (after : UnreadLine)
@@ -30,9 +28,9 @@ pub err_told : {X Y : Type 0} (r : Result X Y) (e : Y) (P : Y → Type 0) → r 
 err_told r e P is told = subst (λ q. OnErr q (IfErr q P)) is told
 
 -- the copy of a reply is that reply
-pub copied : (copy : Result NextReply AllocError) (reply : Option Reply) (r : Reply) → reply ≡ Some r → IfOk copy (λ x. reply ≡ Some (next_view x))
-    → IfOk copy (λ x. next_view x ≡ r)
-copied (Ok x) reply r is same = let e : Some (next_view x) ≡ Some r = sym same ∙ is in cc
+pub copied : (copy : Result replies.Reply AllocError) (reply : Option Reply) (r : Reply) → reply ≡ Some r → IfOk copy (λ x. reply ≡ Some (reply_view x))
+    → IfOk copy (λ x. reply_view x ≡ r)
+copied (Ok x) reply r is same = let e : Some (reply_view x) ≡ Some r = sym same ∙ is in cc
 copied (Err e) reply r is same = tt
 
 -- so many items were asked for, and so the whole call was made
@@ -40,11 +38,7 @@ pub all_told : {X E : Type 0} (answer : Result X E) (P Q : Type 0) (R : X → Ty
 all_told (Ok x) P Q R more told = (more told.0, told.1)
 all_told (Err e) P Q R more told = tt
 
--- `next` never answers that a value is missing
-next_has : (u v : UnreadLine) (o : Option (List ℕ)) → Next u (missing o) v → ⊥
-next_has u v o (inl step) = next_reply u v (missing o) step
-next_has u v o (inr refused) = let e : missing o ≡ no_memory = refused.reply_is in cc
-
-pub none_missing : (u : UnreadLine) (o : Option (String Global)) → CanReply u (error_reply (MissingValue o)) → ⊥
-none_missing u None can = next_has u can.0 None can.1
-none_missing u (Some option) can = next_has u can.0 (Some (string_bytes option)) can.1
+-- what holds of any answer holds of the one that came
+pub told_also : {X E : Type 0} (answer : Result X E) (Q : Type 0) (R : X → Type 0) → Q → IfOk answer R → IfOk answer (λ x. Q × R x)
+told_also (Ok x) Q R holds told = (holds, told)
+told_also (Err e) Q R holds told = tt

@@ -1,17 +1,11 @@
 -- Items asked of a view, as one call.
-use Rattle.std.proofs.Common.{◌≡◌, ◌≢◌, ℕ, Bool, List, [], ◌∷◌, Option, Some, None, refl, sym, ap, subst, ◌∙◌, inl}
+use Rattle.std.proofs.Common.{◌≡◌, ◌≢◌, ℕ, Bool, List, ◌∷◌, Option, Some, None, refl, sym, ap, subst, ◌∙◌, inl}
 use Rattle.lexopt_spec.specs.UnreadLine.{UnreadLine, pending}
 use Rattle.lexopt_spec.specs.Steps.{items, busy, maybe}
-use Rattle.lexopt_spec.specs.Views.{Stage, going_on, available, ValueItems, WordItems, leaves_pending, lends_words, is_next, is_not_next}
-use Rattle.lexopt_spec.specs.Runs.{Step, values, raw, raw_if, try_raw}
+use Rattle.lexopt_spec.specs.Views.{WordItems, leaves_pending, lends_words, is_next, is_not_next}
+use Rattle.lexopt_spec.specs.Runs.{Step, raw, raw_if, try_raw}
 use Rattle.lexopt_calls.specs.Replies.{TakesThis}
-use Rattle.lexopt_spec.proofs.ViewLemmas.{values_by_items, raw_by_items, try_raw_by_items}
-
-pub values_made : (m : ℕ) (u v w : UnreadLine) (stage now : Stage) (came : List (List ℕ)) → available u ≢ [] → v ≡ u → stage ≡ going_on
-    → ValueItems m stage v came w now → Step (values m) u (items came) w
-values_made m u v w stage now came some same start asked =
-    inl (values_by_items m u w came now some
-    (subst (λ (s : Stage). ValueItems m s u came w now) start (subst (λ (l : UnreadLine). ValueItems m stage l came w now) same asked)))
+use Rattle.lexopt_spec.proofs.ViewLemmas.{raw_by_items, try_raw_by_items}
 
 pub raw_made : (m : ℕ) (u v w : UnreadLine) (came : List (List ℕ)) → pending u ≡ None → v ≡ u → WordItems m v came w → Step (raw m) u (items came) w
 raw_made m u v w came none same asked =

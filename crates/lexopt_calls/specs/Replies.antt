@@ -1,13 +1,10 @@
--- Calls and replies as contracts see them, the word that `RawIf` takes, and what `next` makes of a
--- cluster.
-use Rattle.std.specs.Prelude.{◌≡◌, ◌⊎◌, ℕ, List, ◌∷◌, Option, Some, None}
+-- Calls and replies as contracts see them, and the word that `RawIf` takes.
+use Rattle.std.specs.Prelude.{◌≡◌, ℕ, List, ◌∷◌, Option, Some, None}
 use Rattle.std.specs.Prelude.{option_map, string_bytes}
 use Rattle.lexopt_spec.specs.UnreadLine.{UnreadLine}
 use Rattle.lexopt_spec.specs.Views.{WordItem}
 use Rattle.lexopt_spec.specs.Runs as runs
 use Rattle.lexopt_spec.specs.Steps as steps
-use Rattle.lexopt_calls.specs.declared.replay.NextReply.{NextReply}
-use Rattle.lexopt_calls.specs.declared.replay.NextReply.TheVariants as next
 use Rattle.lexopt_calls.specs.declared.reply.Call.{Call}
 use Rattle.lexopt_calls.specs.declared.reply.Call.TheVariants.{Next, Value, Optional, Values, Raw}
 use Rattle.lexopt_calls.specs.declared.reply.Call.TheVariants.{TryRaw, RawIf, Switch}
@@ -39,15 +36,6 @@ reply_view Done = steps.done
 reply_view (Missing option) = steps.missing (option_map string_bytes option)
 reply_view (Unexpected option word) = steps.unexpected (string_bytes option) word
 reply_view NoMemory = steps.no_memory
-
--- the reply that `next` answered
-abbrev pub next_view : NextReply → steps.Reply
-next_view (next.Short c) = steps.short c
-next_view (next.Long name) = steps.long (string_bytes name)
-next_view (next.Value word) = steps.positional word
-next_view next.End = steps.end
-next_view (next.UnexpectedValue option value) = steps.unexpected (string_bytes option) value
-next_view next.OutOfMemory = steps.no_memory
 
 -- the next word is taken where it is this one
 abbrev pub TakesThis : List ℕ → UnreadLine → Option (List ℕ) → UnreadLine → Type 0

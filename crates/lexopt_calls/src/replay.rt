@@ -1,84 +1,48 @@
 //! Lists of calls on a parser: `replay` makes them, and gives a reply for each.
-ghost use Rattle.std.specs.Prelude.{◌≡◌, ◌++◌, ◌≤◌, ◌↔◌, ℕ, List, Some, IsTrue, IfOk, IfErr, OnErr};
+ghost use Rattle.std.specs.Prelude.{◌≡◌, ◌++◌, ◌≤◌, ◌↔◌, ℕ, List, Some, IsSome, IsTrue, IfOk};
+ghost use Rattle.std.specs.Prelude.{IfErr, OnErr};
 ghost use Rattle.lexopt_spec.specs.Steps as steps;
 ghost use Rattle.lexopt_spec.specs.Steps.{Next, Value};
 ghost use Rattle.lexopt_spec.specs.Runs.{Step, values, raw, raw_if, try_raw, up_to};
-ghost use Rattle.lexopt_spec.specs.Views.{ValueItems, WordItems};
-ghost use Rattle.lexopt_base.specs.Stages.{stage_of};
-ghost use Rattle.lexopt_spec.specs.UnreadLine.{UnreadLine};
-ghost use Rattle.lexopt_base.specs.Replies.{CanReply, error_reply, next_reply};
-ghost use Rattle.lexopt_calls.specs.Replies.{TakesThis, call_view, next_view, reply_view};
+ghost use Rattle.lexopt_spec.specs.Views.{WordItems};
+ghost use Rattle.lexopt_base.specs.Replies.{error_reply, next_reply};
+ghost use Rattle.lexopt_calls.specs.Replies.{TakesThis, call_view, reply_view};
 ghost use Rattle.lexopt_calls.specs.Lists.{AccountsForBytes, KeepsBound, Replays, ReplaysPart};
 ghost use Rattle.lexopt_calls.specs.Lists.{ReplaysPieces};
 
 use crate::reply::{Call, Reply};
 use lexopt_base::parser::Parser;
 use lexopt_base::raw::RawArgs;
-use lexopt_base::refusal::Refusal;
-use lexopt_base::values::ValuesIter;
+use lexopt_base::values::take_values;
 use lexopt_words::error::{Arg, Error};
 use lexopt_words::os_string::{OsStr, OsString};
 use std::alloc::{AllocError, Global};
 
-/// What `next` answered, with the name of a long option copied out of the parser. The crate
-/// `lexopt` does not re-export this.
-///
-/// Its variants are flat, since each item of a whole line goes through it: with a `Refusal` inside,
-/// an item cost some 30 instructions more.
-#[derive(Drop)]
-pub enum NextReply {
-    Short(char),
-    Long(String),
-    Value(OsString),
-    End,
-    UnexpectedValue(String, OsString),
-    OutOfMemory,
-}
-
-impl From<NextReply> for Reply {
-    ghost use Rattle.std.specs.Prelude.{◌≡◌};
-    ghost use Rattle.lexopt_calls.specs.Replies.{next_view, reply_view};
-
-    ghost from_gives = { λ next reply. reply_view reply ≡ next_view next };
-
-    fn from(next: NextReply) -> Reply {
-        match next {
-            NextReply::Short(option) => Reply::Short(option),
-            NextReply::Long(name) => Reply::LongName(name),
-            NextReply::Value(word) => Reply::Positional(word),
-            NextReply::End => Reply::End,
-            NextReply::UnexpectedValue(option, value) => Reply::Unexpected(option, value),
-            NextReply::OutOfMemory => Reply::NoMemory,
-        }
-    }
-}
-
 // Copies a reply of `next` out of the parser.
 #[inline(always)]
-fn copy_reply(alloc: Global, reply: Result<Option<Arg<'_>>, Error>) -> Result<NextReply, AllocError>
-    requires { (u : UnreadLine) × CanReply u (next_reply reply) }
-    ensures { IfOk result (λ copy. next_reply reply.entry ≡ Some (next_view copy)) }
+fn copy_reply(alloc: Global, reply: Result<Option<Arg<'_>>, Error>) -> Result<Reply, AllocError>
+    requires { IsSome (next_reply reply) }
+    ensures { IfOk result (λ copy. next_reply reply.entry ≡ Some (reply_view copy)) }
 {
     match reply {
-        Ok(None) => Ok(NextReply::End),
-        Ok(Some(Arg::Short(option))) => Ok(NextReply::Short(option)),
-        Ok(Some(Arg::Long(name))) => Ok(NextReply::Long(String::from_str(alloc, name)?)),
-        Ok(Some(Arg::Value(word))) => Ok(NextReply::Value(word)),
-        Err(error) => Ok(copy_error(error)),
+        Ok(None) => Ok(Reply::End),
+        Ok(Some(Arg::Short(option))) => Ok(Reply::Short(option)),
+        Ok(Some(Arg::Long(name))) => Ok(Reply::LongName(String::from_str(alloc, name)?)),
+        Ok(Some(Arg::Value(word))) => Ok(Reply::Positional(word)),
+        Err(error) => Ok(reply_of(error)),
     }
 }
 
-// Copies an error of `next`.
-#[inline(always)]
-fn copy_error(error: Error) -> NextReply
-    requires { (u : UnreadLine) × CanReply u (error_reply error) }
-    ensures { error_reply error ≡ Some (next_view result) }
+// The reply that an error of the parser is.
+fn reply_of(error: Error) -> Reply
+    requires { IsSome (error_reply error) }
+    ensures { error_reply error ≡ Some (reply_view result) }
 {
     match error {
-        Error::UnexpectedValue { option, value } => NextReply::UnexpectedValue(option, value),
-        Error::OutOfMemory => NextReply::OutOfMemory,
-        Error::MissingValue { .. }
-        | Error::UnexpectedOption(_)
+        Error::MissingValue { option } => Reply::Missing(option),
+        Error::UnexpectedValue { option, value } => Reply::Unexpected(option, value),
+        Error::OutOfMemory => Reply::NoMemory,
+        Error::UnexpectedOption(_)
         | Error::UnexpectedArgument(_)
         | Error::ParsingFailed { .. }
         | Error::NonUnicodeValue(_)
@@ -86,11 +50,11 @@ fn copy_error(error: Error) -> NextReply
     }
 }
 
-/// One call of `next`. The crate `lexopt` does not re-export this.
+// One call of `next`.
 #[inline(always)]
-pub fn call_next(alloc: Global, parser: &mut Parser) -> Result<NextReply, AllocError>
+fn call_next(alloc: Global, parser: &mut Parser) -> Result<Reply, AllocError>
     ensures { (reply : steps.Reply) × Next parser.old reply parser.new
-        × IfOk result (λ copy. next_view copy ≡ reply) }
+        × IfOk result (λ copy. reply_view copy ≡ reply) }
 {
     let reply = parser.next();
     copy_reply(alloc, reply)
@@ -102,11 +66,11 @@ fn call_value(parser: &mut Parser) -> Reply
 {
     match parser.value() {
         Ok(word) => Reply::Taken(word),
-        Err(error) => Reply::from(Refusal::of_error(error)),
+        Err(error) => reply_of(error),
     }
 }
 
-// One call of `values`, and so many items of its view. If memory runs out for the list of them,
+// One call of `values`, and `count` items of its view. If memory runs out for the list of them,
 // some were taken.
 fn call_values(alloc: Global, parser: &mut Parser, count: usize) -> Result<Reply, AllocError>
     ensures { (m : ℕ) × (reply : steps.Reply) × (m ≤ count)
@@ -115,34 +79,11 @@ fn call_values(alloc: Global, parser: &mut Parser, count: usize) -> Result<Reply
 {
     match parser.values() {
         Ok(mut view) => Ok(Reply::Items(take_values(alloc, &mut view, count)?)),
-        Err(error) => Ok(Reply::from(Refusal::of_error(error))),
+        Err(error) => Ok(reply_of(error)),
     }
 }
 
-/// So many items of a view of values, or fewer if it ends before. The crate `lexopt` does not
-/// re-export this.
-pub fn take_values(
-    alloc: Global,
-    view: &mut ValuesIter<'_>,
-    count: usize,
-) -> Result<Vec<OsString>, AllocError>
-    ensures same_parser { view.new.parser.ghost_name ≡ view.old.parser.ghost_name }
-    ensures items { (m : ℕ) × (came : List (List ℕ)) × (m ≤ count)
-        × ValueItems m (stage_of view.old.stage) view.old.parser.now came view.new.parser.now
-        (stage_of view.new.stage)
-        × IfOk result (λ items. (m ≡ count) × (items.items ≡ came)) }
-{
-    let mut items = Vec::new(alloc);
-    for _asked in 0..count {
-        match view.next() {
-            Some(value) => items.push(value)?,
-            None => break,
-        }
-    }
-    Ok(items)
-}
-
-// One call of `raw_args`, and so many words.
+// One call of `raw_args`, and `count` words.
 fn call_raw(alloc: Global, parser: &mut Parser, count: usize) -> Result<Reply, AllocError>
     ensures { (m : ℕ) × (reply : steps.Reply) × (m ≤ count)
         × Step (raw m) parser.old reply parser.new
@@ -150,11 +91,11 @@ fn call_raw(alloc: Global, parser: &mut Parser, count: usize) -> Result<Reply, A
 {
     match parser.raw_args() {
         Ok(mut view) => Ok(Reply::Items(take_words(alloc, &mut view, count)?)),
-        Err(error) => Ok(Reply::from(Refusal::of_error(error))),
+        Err(error) => Ok(reply_of(error)),
     }
 }
 
-// One call of `try_raw_args`, and so many words.
+// One call of `try_raw_args`, and `count` words.
 fn call_try_raw(alloc: Global, parser: &mut Parser, count: usize) -> Result<Reply, AllocError>
     ensures { (m : ℕ) × (reply : steps.Reply) × (m ≤ count)
         × Step (try_raw m) parser.old reply parser.new
@@ -174,7 +115,7 @@ fn call_raw_if(parser: &mut Parser, wanted: &OsString) -> Reply
         Ok(mut view) => Reply::Maybe(take_if(&mut view, wanted, |word| {
             word.as_bytes() == wanted.as_bytes()
         })),
-        Err(error) => Reply::from(Refusal::of_error(error)),
+        Err(error) => reply_of(error),
     }
 }
 
@@ -222,7 +163,7 @@ fn reply_to(alloc: Global, parser: &mut Parser, call: &Call) -> Result<Reply, Al
         × (reply_view copy ≡ reply)) }
 {
     match call {
-        Call::Next => Ok(Reply::from(call_next(alloc, parser)?)),
+        Call::Next => call_next(alloc, parser),
         Call::Value => Ok(call_value(parser)),
         Call::Optional => Ok(Reply::Maybe(parser.optional_value())),
         Call::Values(count) => call_values(alloc, parser, *count),

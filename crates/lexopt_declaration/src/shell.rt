@@ -18,20 +18,8 @@ pub enum Shell {
 }
 
 impl Shell {
-    /// The shell of this name: `bash`, `zsh` or `fish`.
-    pub fn of_name(name: &str) -> Option<Shell>
-        ensures { (shell : Shell) → (result ≡ Some shell) ↔ (name.now ≡ shell_name shell) }
-    {
-        match name {
-            "bash" => Some(Shell::Bash),
-            "zsh" => Some(Shell::Zsh),
-            "fish" => Some(Shell::Fish),
-            _ => None,
-        }
-    }
-
-    /// The same of a word.
-    pub fn of_bytes(name: &[u8]) -> Option<Shell>
+    /// The shell of this name: `bash`, `zsh` or `fish`. The name is a word as it was typed.
+    pub fn from_name(name: &[u8]) -> Option<Shell>
         ensures { (shell : Shell) → (result ≡ Some shell) ↔ (name.now ≡ shell_name shell) }
     {
         match name {

@@ -1,5 +1,5 @@
 -- The turns of `read_items`.
-use Rattle.std.proofs.Common.{◌≡◌, ◌<◌, ℕ, Bool, true, false, List, [], ◌∷◌, Option, Some, None, refl, sym, ap, subst, ◌∙◌, arith, inl, inr, ⊎_elim, true≢false, ◌++◌, ◌⊎◌, append-nil, string_bytes, String, Global}
+use Rattle.std.proofs.Common.{◌≡◌, ◌<◌, ℕ, Bool, true, false, List, [], ◌∷◌, Some, None, refl, sym, ap, subst, ◌∙◌, arith, inl, inr, ⊎_elim, true≢false, ◌++◌, ◌⊎◌, append-nil, string_bytes}
 use Rattle.lexopt_spec.specs.UnreadLine.{UnreadLine}
 use Rattle.lexopt_spec.specs.Steps as steps
 use Rattle.lexopt_spec.specs.Steps.{Reply, Next}
@@ -15,9 +15,10 @@ use Rattle.lexopt_line_spec.proofs.WholeLines.{shown_said}
 use Rattle.lexopt_base.specs.Replies.{RepliesWith, error_reply}
 use Rattle.lexopt_words.specs.declared.error.Error.{Error}
 use Rattle.lexopt_words.specs.declared.error.Error.TheVariants as error
-use Rattle.std.specs.Prelude.{Result, Ok, Err, IfErr, IfOk}
+use Rattle.std.specs.Prelude.{Result, Ok, Err, IfErr, IfOk, OnErr}
 use Rattle.std.specs.Result.{IsErrAnd}
-use Rattle.lexopt_calls.specs.declared.replay.NextReply.{NextReply}
+use Rattle.lexopt_base.specs.declared.parser.Found.{Found}
+use Rattle.lexopt_base.specs.Found.{found_as}
 use Rattle.lexopt_items.specs.declared.kinds.Kind as copies
 use Rattle.lexopt_items.specs.declared.kinds.Kind.TheVariants.{Flag, One, Optional, Several}
 use Rattle.lexopt_base.specs.declared.refusal.Refusal.{Refusal}
@@ -26,7 +27,6 @@ use Rattle.lexopt_base.specs.Refusals.{IsErrorOf, refusal_reply}
 use Rattle.lexopt_base.proofs.Refusals.{error_said}
 use Rattle.lexopt_items.specs.declared.values.Values.{Values}
 use Rattle.lexopt_items.specs.declared.values.Values.TheVariants.{AtMostOne, All}
-use Rattle.lexopt_calls.specs.Replies.{next_view}
 use Rattle.lexopt_items.specs.Items.{ReadsItem, ReadsInto, ReadsValues, ValuesEndBy, EndsBy, FailsWith, item_with, kind_view}
 
 -- ---- the kind of an option
@@ -102,9 +102,8 @@ cannot_join t u (Err e) h = inl h
 -- ---- errors
 
 -- the call for the values of an option is refused
-pub value_refused : (k : copies.Kind) (u v : UnreadLine) (e : Error) (refusal : Refusal) (call : Call) → IsDue (kind_view k) call → error_reply e ≡ Some (refusal_reply refusal)
-    → RepliesWith (Step call) u (error_reply e) v → ValuesEndBy k u refusal
-value_refused k u v e refusal call due is gives = inr (call, v, due, subst (λ (o : Option Reply). RepliesWith (Step call) u o v) is gives)
+pub value_refused : (k : copies.Kind) (u v : UnreadLine) (refusal : Refusal) (call : Call) → IsDue (kind_view k) call → Step call u (refusal_reply refusal) v → ValuesEndBy k u refusal
+value_refused k u v refusal call due gives = inr (call, v, due, gives)
 
 -- so the reading ends
 pub option_refused : (t : Table) (u v : UnreadLine) (name : Name) (k : copies.Kind) (refusal : Refusal) → kind_view k ≡ kind t name → Next u (option_reply name) v → ValuesEndBy k v refusal
@@ -115,8 +114,10 @@ option_refused t u v name k (UnexpectedValue o x) is step (inr r) = inr (_, read
 option_refused t u v name k OutOfMemory is step (inr r) = inl refl
 
 -- `next` ends the reading
-pub next_refused : (t : Table) (u v : UnreadLine) (o : String Global) (x : List ℕ) → Next u (refusal_reply (UnexpectedValue o x)) v → EndsBy t u (UnexpectedValue o x)
-next_refused t u v o x step = inr (_, reads_last t u v (refusal_reply (UnexpectedValue o x)) tt step)
+pub next_refused : (t : Table) (u v : UnreadLine) (refusal : Refusal) → Next u (refusal_reply refusal) v → EndsBy t u refusal
+next_refused t u v (MissingValue o) step = inr (_, reads_last t u v (refusal_reply (MissingValue o)) tt step)
+next_refused t u v (UnexpectedValue o x) step = inr (_, reads_last t u v (refusal_reply (UnexpectedValue o x)) tt step)
+next_refused t u v OutOfMemory step = inl refl
 
 -- what was read before
 pub refused_later : (t : Table) (u v : UnreadLine) (l : List Item) (refusal : Refusal) → SaysUpTo t u l v → EndsBy t v refusal → EndsBy t u refusal
@@ -139,8 +140,8 @@ end_read t u v w before after true is says reads = absurd (true≢false is)
 
 -- ---- what a step gave
 
-pub gave : (u v : UnreadLine) (copy x : NextReply) → ((reply : Reply) × Next u reply v × (next_view copy ≡ reply)) → copy ≡ x → Next u (next_view x) v
-gave u v copy x h is = subst (λ (r : Reply). Next u r v) (sym h.2 ∙ ap next_view is) h.1
+pub gave : (u v : UnreadLine) (found x : Found) → RepliesWith Next u (found_as v.last found) v → found ≡ x → RepliesWith Next u (found_as v.last x) v
+gave u v found x h is = subst (λ (f : Found). RepliesWith Next u (found_as v.last f) v) is h
 
 -- an error, of which more is known
 pub err_says : {X Y : Type 0} (r : Result X Y) (P Q : Y → Type 0) → IsErrAnd r P → ((y : Y) → P y → Q y) → IfErr r Q
@@ -154,6 +155,10 @@ err_alone (Err y) P Q h = tt
 -- an error that a `?` hands on
 pub handed_on : {X Y : Type 0} (r : Result X Y) (e : Y) (Q : Y → Type 0) → IsErrAnd r (λ y. y ≡ e) → Q e → IfErr r Q
 handed_on r e Q is h = err_says r (λ y. y ≡ e) Q is (λ y same. subst Q (sym same) h)
+
+-- what is said of an error that was found
+pub err_told : {X Y : Type 0} (r : Result X Y) (e : Y) (P : Y → Type 0) → r ≡ Err e → OnErr r (IfErr r P) → P e
+err_told r e P is told = subst (λ q. OnErr q (IfErr q P)) is told
 
 -- ---- what a whole reading shows
 

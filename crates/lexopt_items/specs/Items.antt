@@ -62,12 +62,11 @@ ReadsValues Several u (All values) v = (n : ℕ) × (length values.items < n)
     × Step (calls.values n) u (items values.items) v
 ReadsValues k u values v = ⊥
 
--- the list of values is out of memory, or the call for the values of an option of this kind is
--- refused so
+-- memory runs out, or the call for the values of an option of this kind fails so
 abbrev pub ValuesEndBy : Kind → UnreadLine → Refusal → Type 0
-ValuesEndBy k u refusal =
-    (refusal ≡ OutOfMemory) ⊎ ((call : calls.Call) × (v : UnreadLine) × IsDue (kind_view k) call
-    × Step call u (refusal_reply refusal) v)
+ValuesEndBy k u refused =
+    (refused ≡ OutOfMemory) ⊎ ((call : calls.Call) × (v : UnreadLine)
+    × IsDue (kind_view k) call × Step call u (refusal_reply refused) v)
 
 -- this item is read next
 abbrev pub ReadsItem : spec.Table → UnreadLine → spec.Item → UnreadLine → Type 0

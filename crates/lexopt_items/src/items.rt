@@ -3,7 +3,7 @@ ghost use Rattle.std.specs.Prelude.{◌≡◌, ◌∷◌, ◌++◌, ◌⊎◌, �
 ghost use Rattle.std.specs.Prelude.{string_bytes};
 ghost use Rattle.std.specs.Result.{IsErrAnd};
 ghost use Rattle.std.specs.Fmt.{WritesOnOk};
-ghost use Rattle.lexopt_line_spec.specs.Script.{value_text};
+ghost use Rattle.lexopt_line_spec.specs.ItemText.{value_text};
 ghost use Rattle.lexopt_spec.specs.Steps.{end};
 ghost use Rattle.lexopt_line_spec.specs.Table as spec;
 ghost use Rattle.lexopt_line_spec.specs.Table.{one_value};
@@ -15,11 +15,10 @@ ghost use Rattle.lexopt_items.specs.Lines.{LineShows, LineSpells, NamesAreWhole,
 ghost use Rattle.lexopt_items.specs.Lines.{ShowsNothing, SpellsList};
 
 use crate::kinds::{kind_of_long, kind_of_short};
+use crate::text::{write_list, write_long, write_positional, write_short, write_word};
 use crate::values::read_values;
-use lexopt_base::parser::Parser;
+use lexopt_base::parser::{Found, Parser};
 use lexopt_base::refusal::Refusal;
-use lexopt_calls::replay::{NextReply, call_next};
-use lexopt_calls::reply::{write_list, write_long, write_positional, write_short, write_word};
 use lexopt_words::error::Error;
 use lexopt_words::os_string::OsString;
 use std::alloc::Global;
@@ -74,7 +73,7 @@ pub enum Item {
 
 impl fmt::Display for Item {
     ghost use Rattle.std.specs.Prelude.{Some};
-    ghost use Rattle.lexopt_line_spec.specs.Script.{item_text};
+    ghost use Rattle.lexopt_line_spec.specs.ItemText.{item_text};
     ghost use Rattle.lexopt_items.specs.Items.{item_view};
 
     ghost output = { λ i. Some (item_text (item_view i)) };
@@ -170,26 +169,25 @@ fn read_item(
         parser.new (map item_view items.new.items)) }
     ensures err { IfErr result (λ refusal. EndsBy (table_view table.now) parser.old refusal) }
 {
-    match call_next(alloc, parser)? {
-        NextReply::Short(option) => {
+    match parser.advance()? {
+        Found::Short(option) => {
             let values = read_values(alloc, parser, kind_of_short(table, option))?;
             add(items, values.of_short(option))
         }
-        NextReply::Long(name) => {
-            let values = read_values(alloc, parser, kind_of_long(table, &name))?;
+        Found::Long => {
+            let name = parser.long_name();
+            let kind = kind_of_long(table, name);
+            let name = String::from_str(alloc, name)?;
+            let values = read_values(alloc, parser, kind)?;
             add(items, values.of_long(name))
         }
-        NextReply::Value(word) => add(items, Item::Positional(word)),
-        NextReply::End => Ok(false),
-        NextReply::UnexpectedValue(option, value) => {
-            Err(Refusal::UnexpectedValue { option, value })
-        }
-        NextReply::OutOfMemory => Err(Refusal::OutOfMemory),
+        Found::Value(word) => add(items, Item::Positional(word)),
+        Found::End => Ok(false),
     }
 }
 
-// The items that are left of a line, up to what ends its reading, in a list with room for so many
-// from the start.
+// The items that are left of a line, up to what ends its reading, in a list with room for `room` of
+// them from the start.
 fn read_items_left(
     alloc: Global,
     parser: &mut Parser,
@@ -207,7 +205,7 @@ fn read_items_left(
     Ok(items)
 }
 
-// The items that are left of a line, in a list with room for so many from the start.
+// The items that are left of a line, in a list with room for `room` of them from the start.
 fn items_of(
     alloc: Global,
     parser: &mut Parser,

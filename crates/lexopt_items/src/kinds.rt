@@ -1,5 +1,7 @@
 //! How many values an option has, by a table of options. The crate `lexopt` does not re-export it.
-ghost use Rattle.std.specs.Prelude.{◌≡◌, [], map, string_bytes};
+ghost use Rattle.std.specs.Prelude.{◌≡◌, ◌==◌, [], map, string_bytes};
+ghost use Rattle.std.specs.Cmp.Lexicographic.{pointwise};
+ghost use Rattle.std.specs.List.{list_any};
 ghost use Rattle.lexopt_line_spec.specs.Table as spec;
 ghost use Rattle.lexopt_line_spec.specs.Table.{holds_in, kind};
 ghost use Rattle.lexopt_items.specs.Items.{kind_view, table_view};
@@ -37,8 +39,8 @@ pub fn kind_of_short(table: &Table, option: char) -> Kind
 
 /// How many values a long option has. Its name stands without its dashes.
 #[inline(always)]
-pub fn kind_of_long(table: &Table, name: &String) -> Kind
-    ensures { kind_view result ≡ kind (table_view table.now) (spec.long (string_bytes name.now)) }
+pub fn kind_of_long(table: &Table, name: &str) -> Kind
+    ensures { kind_view result ≡ kind (table_view table.now) (spec.long name.now) }
 {
     if holds(&table.longs, name) {
         Kind::One
@@ -53,9 +55,24 @@ pub fn kind_of_long(table: &Table, name: &String) -> Kind
 
 // Whether this name is among these.
 #[inline(always)]
-fn holds(names: &Vec<String>, name: &String) -> bool
-    ensures { result
-        ≡ holds_in [] (map string_bytes names.now.items) (spec.long (string_bytes name.now)) }
+fn holds(names: &Vec<String>, name: &str) -> bool
+    ensures { result ≡ holds_in [] (map string_bytes names.now.items) (spec.long name.now) }
 {
-    names.contains(name)
+    any_is(names, name)
+}
+
+// Whether one of these is this name.
+#[inline(always)]
+fn any_is(names: &[String], name: &str) -> bool
+    ensures { result ≡ list_any (λ own. pointwise ◌==◌ (string_bytes own) name.now) names.now }
+{
+    names.iter().any(|own| is_name(own, name))
+}
+
+// Whether this is that name.
+#[inline(always)]
+fn is_name(own: &String, name: &str) -> bool
+    ensures { result ≡ pointwise ◌==◌ (string_bytes own.now) name.now }
+{
+    own.as_str() == name
 }

@@ -3,4 +3,5 @@
 
 pub mod items;
 pub mod kinds;
+pub mod text;
 pub mod values;

@@ -7,7 +7,7 @@ use crate::items::Item;
 use crate::kinds::Kind;
 use lexopt_base::parser::Parser;
 use lexopt_base::refusal::Refusal;
-use lexopt_calls::replay::take_values;
+use lexopt_base::values::take_values;
 use lexopt_words::os_string::OsString;
 use std::alloc::Global;
 
@@ -48,26 +48,24 @@ impl Values {
 fn read_several(alloc: Global, parser: &mut Parser) -> Result<Vec<OsString>, Refusal>
     ensures ok { IfOk result (λ values.
         ReadsValues Kind.Several parser.old (Values.All values) parser.new) }
-    ensures err { IfErr result (λ refusal. ValuesEndBy Kind.Several parser.old refusal) }
+    ensures err { IfErr result (λ refused. ValuesEndBy Kind.Several parser.old refused) }
 {
-    match parser.values() {
-        Ok(mut view) => Ok(take_values(alloc, &mut view, usize::MAX)?),
-        Err(error) => Err(Refusal::of_error(error)),
-    }
+    let mut view = parser.begin_values()?;
+    Ok(take_values(alloc, &mut view, usize::MAX)?)
 }
 
 /// The values of the last option, which is of this kind.
 #[inline(always)]
 pub fn read_values(alloc: Global, parser: &mut Parser, kind: Kind) -> Result<Values, Refusal>
     ensures ok { IfOk result (λ values. ReadsValues kind parser.old values parser.new) }
-    ensures err { IfErr result (λ refusal. ValuesEndBy kind parser.old refusal) }
+    ensures err { IfErr result (λ refused. ValuesEndBy kind parser.old refused) }
 {
     match kind {
         Kind::Flag => Ok(Values::AtMostOne(None)),
-        Kind::One => match parser.value() {
-            Ok(word) => Ok(Values::AtMostOne(Some(word))),
-            Err(error) => Err(Refusal::of_error(error)),
-        },
+        Kind::One => {
+            let word = parser.take()?;
+            Ok(Values::AtMostOne(Some(word)))
+        }
         Kind::Optional => Ok(Values::AtMostOne(parser.optional_value())),
         Kind::Several => Ok(Values::All(read_several(alloc, parser)?)),
     }

@@ -5,7 +5,7 @@ use Rattle.lexopt_spec.specs.Steps.{Reply, Next, short, long, TakesMemory, Reads
 use Rattle.lexopt_spec.specs.Views.{TakesWords, TakesWordIf}
 use Rattle.lexopt_spec.specs.Account.{NamesOption, handed_items}
 use Rattle.lexopt_spec.specs.Runs.{Call, next, value, optional, values, raw, try_raw, raw_if, set_short_equals, StepWithMemory, Step}
-use Rattle.lexopt_line_spec.specs.Script.{short_equals_after}
+use Rattle.lexopt_spec.specs.Runs.{short_equals_after}
 use Rattle.lexopt_line_spec.proofs.HandedItems.{HandedItems, hands_nothing, hands_words, hands_pending, value_hands, optional_hands, values_hands, raw_hands, words_hands, word_if_hands, try_raw_hands}
 
 pub record Stays (on : Bool) (u : UnreadLine) (r : Reply) (v : UnreadLine) : Type 0 where

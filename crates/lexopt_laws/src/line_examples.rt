@@ -6,7 +6,6 @@ ghost use Rattle.lexopt_line_spec.specs.Table.{Item, Table, long, many, one_valu
 ghost use Rattle.lexopt_line_spec.specs.Table.{positional, short};
 ghost use Rattle.lexopt_line_spec.specs.Spelling.{HaveWholeNames, Shows, Spells};
 ghost use Rattle.lexopt_line_spec.specs.Readings.{IsReading, start};
-ghost use Rattle.lexopt_line_spec.specs.Script.{IsOutput, WholeLineText};
 ghost use Rattle.lexopt_spec.specs.Steps.{end, missing, unexpected};
 ghost use Rattle.lexopt_laws.specs.OneValueSpelling.{OneValueShows, OneValueSpells, OneValueTable};
 

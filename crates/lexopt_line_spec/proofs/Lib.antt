@@ -1,7 +1,4 @@
 pub mod Lists
-pub mod ScriptLemmas
-pub mod WrittenLines
-pub mod RunLemmas
 pub mod Exact
 pub mod Lines
 pub mod Total
@@ -41,4 +38,3 @@ pub mod SpellerRows
 pub mod SpellerAgrees
 pub mod Computing
 pub mod Worked
-pub mod WorkedTexts

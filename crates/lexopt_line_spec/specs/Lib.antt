@@ -4,5 +4,5 @@ pub mod Spelling
 pub mod Speller
 pub mod SpellerTables
 pub mod Readings
-pub mod Script
+pub mod ItemText
 pub mod Clusters

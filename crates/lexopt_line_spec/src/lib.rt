@@ -1,5 +1,5 @@
-//! What the contracts of whole lines and of scripts cite: definitions over plain data, in `specs/`:
-//! tables of options, what words spell and show, readings, words from items, scripts, and how many
+//! What the contracts of whole lines cite: definitions over plain data, in `specs/`: tables of
+//! options, what words spell and show, readings, words from items, the texts of items, and how many
 //! replies a line can give. `proofs/` has the lemmas that code cites.
 //!
 //! There is no code here. That the definitions fit each other is the subject of `lexopt_laws`.

@@ -1,26 +1,18 @@
 -- What a program is to do.
-use Rattle.std.proofs.Common.{◌≡◌, ◌⊎◌, ◌↔◌, ◌≤◌, ◌<◌, ◌-◌, ◌+◌, ℕ, Bool, true, false, List, [], ◌∷◌, ◌++◌, map, codes, length, take, drop, get_or, MatchOption, Option, Some, None, Global, String, string_bytes, refl, sym, ap, subst, ◌∙◌, inl, inr, ⊎_elim, arith}
+use Rattle.std.proofs.Common.{◌≡◌, ◌↔◌, ◌≤◌, ◌<◌, ◌-◌, ◌+◌, ℕ, Bool, true, List, [], ◌∷◌, ◌++◌, map, codes, length, take, drop, get_or, MatchOption, Option, Some, None, Global, String, string_bytes, refl, sym, ap, subst, ◌∙◌, inr, arith}
 use Rattle.std.specs.List.{list_any}
-use Rattle.std.proofs.lemmas.Bool.{false≢true}
 use Rattle.std.proofs.lemmas.List.{get_or-drop, take_all, take_more}
 use Rattle.lexopt_line_spec.specs.Table.{long}
 use Rattle.lexopt_line_spec.proofs.Lists.{list_any-map}
 use Rattle.lexopt_options_spec.specs.Declaration.{index_of}
-use Rattle.lexopt_options_spec.specs.Legal as legal
-use Rattle.lexopt_options_spec.specs.Stops as stops
-use Rattle.lexopt_options_spec.specs.Stops.{StopsAt}
-use Rattle.lexopt_options.specs.declared.answer.Answer.{Answer}
-use Rattle.lexopt_options.specs.declared.answer.Answer.TheVariants as answer
-use Rattle.lexopt_options.specs.declared.complete.Completion.{Completion}
 use Rattle.lexopt_declaration.specs.declared.declaration.Declared.{Declared}
 use Rattle.lexopt_options.specs.declared.options.Options.{Options}
-use Rattle.lexopt_options.specs.declared.mistake.Mistake.TheVariants.{OutOfMemory}
-use Rattle.lexopt_options.specs.declared.mistake.Refused.{Refused}
+use Rattle.lexopt_options.specs.declared.refused.Refused.{Refused}
 use Rattle.lexopt_options.specs.declared.said.Said.{Said}
 use Rattle.lexopt_declaration.specs.declared.shell.Shell.{Shell}
-use Rattle.lexopt_options.specs.Answers.{AskForHelp, AsksForScript, IsAnswer, IsHelpAnswer, IsNoMemory, IsOrdinary, IsShellText, asks_for_help, is_said_among, is_said_of}
+use Rattle.lexopt_options.specs.Answers.{AskForHelp, AsksForScript, IsOrdinary, IsShellText, asks_for_help, is_said_among, is_said_of}
 use Rattle.lexopt_options.specs.Declarations.{declaration_of}
-use Rattle.lexopt_options.specs.Lines.{IsMistake, IsRefused}
+use Rattle.lexopt_options.specs.Lines.{IsRefused}
 use Rattle.lexopt_declaration.specs.Models.{option_view}
 use Rattle.lexopt_options.specs.Reading.{said_view}
 use Rattle.lexopt_declaration.specs.Scripts.{shell_name}
@@ -34,44 +26,17 @@ asked o said found options help r are is some any =
     any ∙ sym (list_any-map said_view (is_said_of help) said)
     ∙ ap (λ i. is_said_among i (map said_view said)) (sym some ∙ is ∙ ap (λ os. index_of os (long (codes "help"))) are)
 
-nothing_among : (i : Option ℕ) → is_said_among i [] ≡ true → ⊥
-nothing_among None is = false≢true is
-nothing_among (Some i) is = false≢true is
-
 -- a line that is refused after the help was said asks for it
 pub refused_asks : (o : Options) (words : List (List ℕ)) (refused : Refused) → IsRefused o words refused → asks_for_help (declaration_of o) (map said_view refused.before.items) ≡ true → AskForHelp o words
-refused_asks o words refused is asks = ⊎_elim
-    (λ none.
-    absurd
-    (nothing_among (index_of (declaration_of o).options (long (codes "help"))) (subst (λ (l : List Said). asks_for_help (declaration_of o) (map said_view l) ≡ true) (is.nothing_before none) asks)))
-    (λ (at : (m : stops.Mistake) × IsMistake (declaration_of o) refused.mistake m × StopsAt (declaration_of o) words (map said_view refused.before.items) m).
-    (map said_view refused.before.items, inr (at.0, at.2), asks))
-    is.stops
+refused_asks o words refused is asks = (map said_view refused.before.items, inr (is.why, is.stops), asks)
 
--- ---- answers
-
-pub help_or_none : (o : Options) (width : ℕ) (a : Answer) → IsNoMemory o a → IsHelpAnswer o width a
-help_or_none o width (answer.Said said) is = absurd is
-help_or_none o width (answer.Text text) is = absurd is
-help_or_none o width (answer.Refused refused) is = is
-
-pub no_memory_answer : (o : Options) (words : List (List ℕ)) (width : ℕ) (a : Answer) → IsNoMemory o a → IsAnswer o words width a
-no_memory_answer o words width (answer.Said said) is = absurd is
-no_memory_answer o words width (answer.Text text) is = absurd is
-no_memory_answer o words width (answer.Refused refused) is = inl is
-
-pub help_answer : (o : Options) (words : List (List ℕ)) (width : ℕ) (a : Answer) → IsOrdinary words → AskForHelp o words → IsHelpAnswer o width a → IsAnswer o words width a
-help_answer o words width (answer.Said said) ordinary ask is = absurd is
-help_answer o words width (answer.Text text) ordinary ask is = inr (ordinary, ask, is)
-help_answer o words width (answer.Refused refused) ordinary ask is = inl is
+-- ---- what a shell asks for
 
 pub shell_answer : (o : Options) (words more : List (List ℕ)) (width : ℕ) (text : String Global) (found : Option (String Global)) → more ≡ words → found ≡ Some text
     → MatchOption found (IsOrdinary more) (λ t. IsShellText o more (string_bytes t)) → IsShellText o words (string_bytes text)
 shell_answer o words more width text found same is found_so =
     let P : Option (String Global) → Type 0 = λ f. MatchOption f (IsOrdinary more) (λ t. IsShellText o more (string_bytes t)) in
     subst (λ (ws : List (List ℕ)). IsShellText o ws (string_bytes text)) same (subst P is found_so)
-
--- ---- what a shell asks for
 
 pub shell_asked : (words : List (List ℕ)) (first name : List ℕ) (r : Option Shell) → 2 ≤ length words → length words < 3 → first ≡ get_or words 0 first → name ≡ get_or words 1 name → first ≡ codes "__script"
     → ((shell : Shell) → (r ≡ Some shell) ↔ (name ≡ shell_name shell)) → MatchOption r ((shell : Shell) → AsksForScript words shell → ⊥) (λ shell. AsksForScript words shell)

@@ -5,15 +5,21 @@ use Rattle.lexopt_spec.specs.Steps as steps
 use Rattle.lexopt_spec.specs.Steps.{Reply, Next, missing, unexpected}
 use Rattle.lexopt_spec.specs.Views.{ValuesStep, no_values, some_values}
 use Rattle.lexopt_spec.specs.Runs.{Call, Step, StepWithMemory}
+use Rattle.lexopt_line_spec.specs.Table as spec
 use Rattle.lexopt_line_spec.specs.Table.{Name}
 use Rattle.lexopt_line_spec.specs.Readings.{IsDue, option_reply}
 use Rattle.lexopt_line_spec.proofs.LastOption.{missing_names}
 use Rattle.lexopt_line_spec.proofs.ReplyKinds.{value_reply, optional_reply}
 use Rattle.lexopt_base.specs.declared.refusal.Refusal.TheVariants.{MissingValue, UnexpectedValue, OutOfMemory}
 use Rattle.lexopt_items.specs.Items.{ValuesEndBy, kind_view}
-use Rattle.std.proofs.Common.{String, Global}
-use Rattle.lexopt_options.specs.Reading.{LacksValue}
-use Rattle.lexopt_options.specs.declared.read.Stop.TheVariants as stop
+use Rattle.std.proofs.Common.{String, Global, Option, IsSome, true}
+use Rattle.lexopt_options_spec.specs.Declaration.{Declaration, index_of, is_sound}
+use Rattle.lexopt_options_spec.specs.Stops as stops
+use Rattle.lexopt_options.specs.Kinds.{kind_at}
+use Rattle.lexopt_options.specs.Mistakes.{IsMistake}
+use Rattle.lexopt_options.specs.Reading.{StopsBy}
+use Rattle.lexopt_options.specs.declared.mistake.Mistake.{Mistake}
+use Rattle.lexopt_options.proofs.ReadNext.{kind_of_index}
 use Rattle.lexopt_items.specs.declared.kinds.Kind.{Kind}
 use Rattle.lexopt_items.specs.declared.kinds.Kind.TheVariants.{Flag, One, Optional, Several}
 
@@ -21,7 +27,7 @@ several_values : (n : ℕ) (u v : UnreadLine) (r : Reply) (o x : List ℕ) → r
 several_values n u v r o x is (no_values none p after) = let e : missing _ ≡ unexpected o x = sym p ∙ is in cc
 several_values n u v r o x is (some_values some p after) = let e : steps.items _ ≡ unexpected o x = sym p ∙ is in cc
 
--- a call for values never answers a value that was not expected
+-- a call for values never finds a value that was not expected
 never_unexpected : (k : Kind) (call : Call) (u v : UnreadLine) (o x : List ℕ) → k ≢ Flag → IsDue (kind_view k) call → Step call u (unexpected o x) v → ⊥
 never_unexpected k call u v o x other due (inr refused) = let e : unexpected o x ≡ steps.no_memory = refused.reply_is in cc
 never_unexpected Flag call u v o x other due (inl step) = other refl
@@ -30,17 +36,28 @@ never_unexpected Optional call u v o x other due (inl step) = optional_reply u v
 never_unexpected Several call u v o x other due (inl step) =
     several_values due.0 u v (unexpected o x) o x refl (subst (λ c. StepWithMemory c u (unexpected o x) v) due.1 step)
 
-pub unexpected_never : (k : Kind) (u : UnreadLine) (o : _) (x : List ℕ) → k ≢ Flag → ValuesEndBy k u (UnexpectedValue o x) → ⊥
+pub unexpected_never : (k : Kind) (u : UnreadLine) (o : String Global) (x : List ℕ) → k ≢ Flag → ValuesEndBy k u (UnexpectedValue o x) → ⊥
 unexpected_never k u o x other (inl is) = let e : UnexpectedValue o x ≡ OutOfMemory = is in cc
 unexpected_never k u o x other (inr r) = never_unexpected k r.0 u r.1 (string_bytes o) x other r.2 r.3
 
-pub unnamed_never : (k : Kind) (u v : UnreadLine) (name : Name) → Next u (option_reply name) v → ValuesEndBy k v (MissingValue None) → ⊥
+unnamed_never : (k : Kind) (u v : UnreadLine) (name : Name) → Next u (option_reply name) v → ValuesEndBy k v (MissingValue None) → ⊥
 unnamed_never k u v name read (inl is) = let e : MissingValue None ≡ OutOfMemory = is in cc
 unnamed_never k u v name read (inr r) =
     let named = missing_names (kind_view k) r.0 u v r.1 name None read r.2 r.3 in
     let e : None ≡ Some named.0 = named.1 in cc
 
+-- the option has a name
+pub is_named : (k : Kind) (u v : UnreadLine) (name : Name) (option : Option (String Global)) → Next u (option_reply name) v → ValuesEndBy k v (MissingValue option) → IsSome option
+is_named k u v name None read ends = absurd (unnamed_never k u v name read ends)
+is_named k u v name (Some option) read ends = refl
+
 -- a value that is missing
-pub lacks : (k : Kind) (u : UnreadLine) (index : ℕ) (option : String Global) → ValuesEndBy k u (MissingValue (Some option)) → LacksValue k index u (stop.MissingValue index option)
-lacks k u index option (inl is) = absurd (let e : MissingValue (Some option) ≡ OutOfMemory = is in cc)
-lacks k u index option (inr r) = (refl, (r.0, r.1, r.2, r.3))
+pub value_missing : (d : Declaration) (count : ℕ) (k : Kind) (u v : UnreadLine) (name : Name) (index : ℕ) (option : String Global) (mistake : Mistake) → is_sound d.options ≡ true
+    → Next u (option_reply name) v → index_of d.options name ≡ Some index → kind_view k ≡ kind_at d.options index → ValuesEndBy k v (MissingValue (Some option))
+    → IsMistake d mistake (stops.missing_value index (string_bytes option)) → StopsBy d count u mistake
+value_missing d count k u v name index option mistake sound step found k_is (inl is) told = absurd (let e : MissingValue (Some option) ≡ OutOfMemory = is in cc)
+value_missing d count k u v name index option mistake sound step found k_is (inr r) told = record {
+  why = stops.missing_value index (string_bytes option);
+  told = told;
+  stops = stops.no_value name index (string_bytes option) r.0 v r.1 step found (subst (λ (x : spec.Kind). IsDue x r.0) (k_is ∙ kind_of_index d.options name index sound found) r.2) r.3;
+}

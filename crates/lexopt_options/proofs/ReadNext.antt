@@ -1,30 +1,45 @@
 -- One step of the reading of a line.
-use Rattle.std.proofs.Common.{◌≡◌, ◌≢◌, ◌≤◌, ℕ, ◌+◌, List, [], ◌∷◌, ◌++◌, length, append_assoc, Option, Some, None, string_bytes, refl, sym, ap, subst, ◌∙◌, arith}
+use Rattle.std.proofs.Common.{◌≡◌, ◌≢◌, ◌≤◌, ℕ, ◌+◌, List, [], ◌∷◌, ◌++◌, length, append_assoc, Option, Some, None, refl, sym, ap, subst, ◌∙◌, arith}
 use Rattle.std.specs.Option.{option_map}
 use Rattle.lexopt_spec.specs.UnreadLine.{UnreadLine, IsLine}
 use Rattle.lexopt_spec.specs.Steps as steps
 use Rattle.lexopt_spec.specs.Steps.{Next}
 use Rattle.lexopt_spec.specs.Runs as calls
 use Rattle.lexopt_line_spec.specs.Table as spec
-use Rattle.lexopt_line_spec.specs.Table.{Item, Name, Table, kind}
-use Rattle.lexopt_line_spec.specs.Readings.{IsDue, IsReading, option_reply}
+use Rattle.lexopt_line_spec.specs.Table.{Item, Name, kind}
+use Rattle.lexopt_line_spec.specs.Readings.{IsReading, option_reply}
 use Rattle.lexopt_line_spec.proofs.RunAccounts.{step_line}
-use Rattle.lexopt_options_spec.specs.Declaration.{Declaration, index_of, table}
+use Rattle.std.proofs.Common.{get_or, true}
+use Rattle.std.specs.Prelude.{unwrap_or}
+use Rattle.std.proofs.lemmas.Option.{slice_get-get_or}
+use Rattle.std.proofs.lemmas.List.Quantifiers.{position-Some}
+use Rattle.std.proofs.lemmas.List.Elements.{Contains-get_or}
+use Rattle.lexopt_options_spec.proofs.Tables.{kind_of_name}
+use Rattle.lexopt_options.specs.Kinds.{kind_at}
+use Rattle.std.specs.Prelude.{Result}
+use Rattle.lexopt_spec.specs.UnreadLine.{LastOption, no_option, short_option, long_option}
+use Rattle.lexopt_base.specs.Found.{found_as, advance_reply}
+use Rattle.lexopt_base.specs.declared.parser.Found.{Found}
+use Rattle.lexopt_base.specs.declared.parser.Found.TheVariants as found
+use Rattle.lexopt_base.specs.declared.refusal.Refusal.{Refusal}
+use Rattle.lexopt_base.specs.declared.refusal.Refusal.TheVariants as refused
+use Rattle.lexopt_base.specs.Refusals.{refusal_reply}
+use Rattle.lexopt_line_spec.proofs.ReplyKinds.{next_reply}
+use Rattle.std.proofs.Common.{inl, inr, String, Global, string_bytes}
+use Rattle.lexopt_base.specs.Replies.{RepliesWith}
+use Rattle.lexopt_options_spec.specs.Declaration.{Declaration, Declared, has_name, index_of, is_sound, table}
 use Rattle.lexopt_options_spec.specs.Legal as legal
 use Rattle.lexopt_options_spec.specs.Legal.{IsWithin, counts, most, positional_count, said_item}
 use Rattle.lexopt_options_spec.proofs.Lists.{count_append, joined}
-use Rattle.lexopt_options_spec.specs.Stops as stops
-use Rattle.lexopt_options_spec.specs.Stops.{Stops, ReadsUpTo}
-use Rattle.lexopt_items.specs.Items.{ReadsItem, ReadsValues, item_with, kind_view}
+use Rattle.lexopt_options_spec.specs.Stops.{ReadsUpTo}
+use Rattle.lexopt_items.specs.Items.{ReadsValues, item_with, kind_view}
 use Rattle.lexopt_items.specs.declared.kinds.Kind.{Kind}
 use Rattle.lexopt_items.specs.declared.kinds.Kind.TheVariants.{Flag, One, Optional, Several}
 use Rattle.lexopt_items.specs.declared.values.Values.{Values}
 use Rattle.lexopt_items.specs.declared.values.Values.TheVariants.{AtMostOne, All}
 use Rattle.lexopt_items.proofs.ReadsItems.{option_read, positional_read}
 use Rattle.lexopt_options.specs.declared.said.Said.{Said}
-use Rattle.lexopt_options.specs.declared.read.Stop.{Stop}
-use Rattle.lexopt_options.specs.declared.read.Stop.TheVariants.{Unknown, UnexpectedValue, MissingValue, UnexpectedArgument, OutOfMemory}
-use Rattle.lexopt_options.specs.Reading.{LacksValue, ReadsSaid, StopsBy, said_view, said_with}
+use Rattle.lexopt_options.specs.Reading.{ReadsSaid, said_view, said_with}
 
 option_item : (d : Declaration) (name : Name) (index : ℕ) (values : Values) → index_of d.options name ≡ Some index → said_item d.options (item_with name values) ≡ Some (said_with index values)
 option_item d name index (AtMostOne value) found = ap (option_map (λ i. legal.option i value)) found
@@ -45,30 +60,45 @@ values_line Optional v w (AtMostOne value) reads line = step_line calls.optional
 values_line Several v w (All values) reads line = step_line (calls.values reads.0) v (steps.items values.items) w line reads.2
 values_line k v w values reads line = absurd reads
 
+-- by the table of the options an option has the kind of its index
+pub kind_of_index : (options : List Declared) (name : Name) (index : ℕ) → is_sound options ≡ true → index_of options name ≡ Some index → kind_at options index ≡ kind (table options) name
+kind_of_index [] name index sound found = absurd (let e : None ≡ Some index = found in cc)
+kind_of_index (o ∷ os) name index sound found =
+    let at = position-Some (has_name name) (o ∷ os) index o found in
+    ap (λ (x : Option Declared). unwrap_or (option_map (λ p. p.kind) x) spec.flag) (slice_get-get_or (o ∷ os) index o at.0)
+    ∙ sym (kind_of_name (o ∷ os) (get_or (o ∷ os) index o) sound (Contains-get_or (o ∷ os) index o at.0) name at.1)
+
 -- an option that is declared, with its values
-pub option_said : (d : Declaration) (t : Table) (count : ℕ) (u v w : UnreadLine) (name : Name) (k : Kind) (index : ℕ) (said : Said) → t ≡ table d.options → kind_view k ≡ kind t name
+pub option_said : (d : Declaration) (count : ℕ) (u v w : UnreadLine) (name : Name) (k : Kind) (index : ℕ) (said : Said) → is_sound d.options ≡ true → kind_view k ≡ kind_at d.options index
     → Next u (option_reply name) v → index_of d.options name ≡ Some index → (values : Values) × (said_view said ≡ said_with index values) × ReadsValues k v values w
     → ReadsSaid d count u (said_view said) w
-option_said d t count u v w name k index said t_is k_is step found reads =
+option_said d count u v w name k index said sound k_is step found reads =
     let values = reads.0 in
     subst (λ (s : legal.Said). ReadsSaid d count u s w) (sym reads.1) (record {
       item = item_with name values;
-      reads = subst (λ (x : Table). ReadsItem x u (item_with name values) w) t_is (option_read t u v w name k values k_is step reads.2);
+      reads = option_read (table d.options) u v w name k values (k_is ∙ kind_of_index d.options name index sound found) step reads.2;
       said = option_item d name index values found;
       line = λ line. values_line k v w values reads.2 (step_line calls.next u (option_reply name) v line step);
       within = λ within. same_count count (counts (said_with index values)) (most d.positionals) (no_count index values) within;
     })
 
--- it has no value
-pub option_stops : (d : Declaration) (t : Table) (count : ℕ) (u v : UnreadLine) (name : Name) (k : Kind) (index : ℕ) (stop : Stop) → t ≡ table d.options → kind_view k ≡ kind t name
-    → Next u (option_reply name) v → index_of d.options name ≡ Some index → LacksValue k index v stop → StopsBy d count u stop
-option_stops d t count u v name k index (Unknown other) t_is k_is step found lacks = absurd lacks
-option_stops d t count u v name k index (UnexpectedValue o x) t_is k_is step found lacks = absurd lacks
-option_stops d t count u v name k index (MissingValue i o) t_is k_is step found lacks =
-    stops.no_value name i (string_bytes o) lacks.1.0 v lacks.1.1 step (found ∙ ap (λ n. Some n) (sym lacks.0))
-    (subst (λ (x : spec.Kind). IsDue x lacks.1.0) (k_is ∙ ap (λ (x : Table). kind x name) t_is) lacks.1.2) lacks.1.3
-option_stops d t count u v name k index (UnexpectedArgument word) t_is k_is step found lacks = absurd lacks
-option_stops d t count u v name k index OutOfMemory t_is k_is step found lacks = tt
+-- what was answered
+pub answered : (u w : UnreadLine) (r x : Result Found Refusal) → RepliesWith Next u (advance_reply w.last r) w → r ≡ x → RepliesWith Next u (advance_reply w.last x) w
+answered u w r x h is = subst (λ (q : Result Found Refusal). RepliesWith Next u (advance_reply w.last q) w) is h
+
+-- a long option has one name
+pub one_name : (u w : UnreadLine) (text other : List ℕ) → RepliesWith Next u (found_as w.last found.Long) w → ((n : List ℕ) → w.last ≡ long_option n → text ≡ n) → ((n : List ℕ) → w.last ≡ long_option n → other ≡ n) → text ≡ other
+one_name u w text other step is also = name_in w.last step is also
+  where
+    name_in : (last : LastOption) → RepliesWith Next u (found_as last found.Long) w → ((n : List ℕ) → last ≡ long_option n → text ≡ n) → ((n : List ℕ) → last ≡ long_option n → other ≡ n) → text ≡ other
+    name_in no_option step is also = absurd step
+    name_in (short_option c) step is also = absurd step
+    name_in (long_option n) step is also = is n refl ∙ sym (also n refl)
+
+-- `next` never finds that a value is missing
+pub never_missing : (u v : UnreadLine) (o : Option (String Global)) → Next u (refusal_reply (refused.MissingValue o)) v → ⊥
+never_missing u v o (inl step) = next_reply u v (steps.missing (option_map string_bytes o)) step
+never_missing u v o (inr none) = let e : steps.missing (option_map string_bytes o) ≡ steps.no_memory = none.reply_is in cc
 
 more : (n : ℕ) (limit : Option ℕ) → limit ≢ Some n → IsWithin n limit → IsWithin (n + 1) limit
 more n None room within = tt

@@ -1,12 +1,10 @@
 -- What a program is to do about the words that it was called with. The source is
 -- `docs/behaviour.md`.
-use Rattle.std.specs.Prelude.{◌≡◌, ◌⊎◌, ◌==◌, ◌↔◌, ℕ, Bool, true, false, List, [], ◌∷◌, ◌++◌, map}
-use Rattle.std.specs.Prelude.{Option, Some, None, IsTrue, codes, filter, nat_eq, option_map}
+use Rattle.std.specs.Prelude.{◌≡◌, ◌⊎◌, ◌==◌, ℕ, Bool, true, false, List, [], ◌∷◌, ◌++◌, map}
+use Rattle.std.specs.Prelude.{Option, Some, None, codes}
 use Rattle.std.specs.Prelude.{string_bytes}
-use Rattle.std.specs.List.{Contains, flat_map, list_any, starts_with}
-use Rattle.std.specs.Str.{IsUtf8}
+use Rattle.std.specs.List.{flat_map, list_any}
 use Rattle.lexopt_line_spec.specs.Table.{long}
-use Rattle.lexopt_options_spec.specs.Completion.{Completes, HasRole, IsJoined, spellings}
 use Rattle.lexopt_options_spec.specs.Declaration.{Declaration, index_of}
 use Rattle.lexopt_options_spec.specs.Help.{IsHelp, line_feed}
 use Rattle.lexopt_options_spec.specs.Legal.{Said, option, several, positional, Says}
@@ -16,12 +14,11 @@ use Rattle.lexopt_options.specs.declared.answer.Answer.TheVariants as answer
 use Rattle.lexopt_options.specs.declared.complete.Completion.{Completion}
 use Rattle.lexopt_options.specs.declared.complete.Role.{Role}
 use Rattle.lexopt_options.specs.declared.options.Options.{Options}
-use Rattle.lexopt_options.specs.declared.mistake.Mistake.TheVariants.{OutOfMemory}
 use Rattle.lexopt_declaration.specs.declared.shell.Shell.{Shell}
+use Rattle.lexopt_options.specs.Completions.{IsCompletion}
 use Rattle.lexopt_options.specs.Declarations.{declaration_of}
 use Rattle.lexopt_options.specs.Lines.{IsRefused, LineSays}
 use Rattle.lexopt_options.specs.Reading.{said_view}
-use Rattle.lexopt_options.specs.Roles.{role_view}
 use Rattle.lexopt_declaration.specs.Scripts.{shell_name, shell_script}
 
 -- ---- what a shell asks for
@@ -39,20 +36,6 @@ pub record IsOrdinary (words : List (List ℕ)) : Type 0 where
   pub no_completion : (before : List (List ℕ)) (typed : List ℕ)
       → ¬ AsksToComplete words before typed
   pub no_script : (shell : Shell) → ¬ AsksForScript words shell
-
--- exactly what can stand where this was typed after these words
-pub record IsCompletion (o : Options) (words : List (List ℕ)) (typed : List ℕ)
-    (completion : Completion) : Type 0 where
-  pub sound : (s : List ℕ) → Contains (map string_bytes completion.spellings.items) s
-      → Completes (declaration_of o) words typed s
-  pub complete : (s : List ℕ) → Completes (declaration_of o) words typed s
-      → Contains (map string_bytes completion.spellings.items) s
-  pub in_order : (map string_bytes completion.spellings.items
-      ≡ filter (λ s. starts_with nat_eq s typed) (spellings (declaration_of o).options))
-      ⊎ (completion.spellings.items ≡ [])
-  pub word : HasRole (declaration_of o) words typed (option_map role_view completion.word)
-  pub joined : IsJoined (declaration_of o) words typed completion.joined
-  pub damaged : IsTrue completion.is_damaged ↔ (¬ IsUtf8 typed)
 
 -- a word can stand there that is no option, such as the name of a file
 abbrev pub files_line : Option Role → List ℕ
@@ -110,17 +93,6 @@ abbrev pub AskForHelp : Options → List (List ℕ) → Type 0
 AskForHelp o words = (l : List Said) × AreReadAs (declaration_of o) words l
     × (asks_for_help (declaration_of o) l ≡ true)
 
--- memory ran out
-abbrev pub IsNoMemory : Options → Answer → Type 0
-IsNoMemory o (answer.Refused refused) = (refused.mistake ≡ OutOfMemory)
-    × (refused.before.items ≡ []) × (refused.program.now ≡ (declaration_of o).program)
-IsNoMemory o a = ⊥
-
--- the help, or memory ran out
-abbrev pub IsHelpAnswer : Options → ℕ → Answer → Type 0
-IsHelpAnswer o width (answer.Text text) = IsHelp (declaration_of o) width (string_bytes text)
-IsHelpAnswer o width a = IsNoMemory o a
-
 -- ---- all
 
 -- what is to be done about these words, where the help has this width
@@ -129,6 +101,5 @@ IsAnswer o words width (answer.Said said) = IsOrdinary words × LineSays o words
     × (asks_for_help (declaration_of o) (map said_view said.items) ≡ false)
 IsAnswer o words width (answer.Text text) = IsShellText o words (string_bytes text)
     ⊎ (IsOrdinary words × AskForHelp o words × IsHelp (declaration_of o) width (string_bytes text))
-IsAnswer o words width (answer.Refused refused) = IsNoMemory o (answer.Refused refused)
-    ⊎ (IsOrdinary words × IsRefused o words refused
-    × (asks_for_help (declaration_of o) (map said_view refused.before.items) ≡ false))
+IsAnswer o words width (answer.Refused refused) = IsOrdinary words × IsRefused o words refused
+    × (asks_for_help (declaration_of o) (map said_view refused.before.items) ≡ false)

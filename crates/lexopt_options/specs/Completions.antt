@@ -1,9 +1,56 @@
--- What completion compares.
-use Rattle.std.specs.Prelude.{◌≡◌, Option, Some, Vec, length}
-use Rattle.std.specs.Global.{Global}
+-- What can stand where a word is typed, as contracts see it.
+use Rattle.std.specs.Prelude.{◌≡◌, ◌⊎◌, ◌∷◌, ℕ, Bool, true, false, List, [], MatchBool, filter}
+use Rattle.std.specs.Prelude.{length, map, nat_eq, option_map, string_bytes}
+use Rattle.std.specs.List.{Contains, starts_with}
+use Rattle.lexopt_options_spec.specs.Declaration.{Declaration}
+use Rattle.lexopt_options_spec.specs.Completion.{Completes, HasRole, IsJoined, IsOpen, spellings}
+use Rattle.lexopt_options_spec.specs.Legal as legal
+use Rattle.lexopt_options.specs.declared.complete.Completion.{Completion}
+use Rattle.lexopt_options.specs.declared.options.Options.{Options}
 use Rattle.lexopt_options.specs.declared.said.Said.{Said}
+use Rattle.lexopt_options.specs.declared.said.Said.TheVariants as said
+use Rattle.lexopt_options.specs.Declarations.{declaration_of}
+use Rattle.lexopt_options.specs.Roles.{role_view}
 
--- both are there, and have as many items
-abbrev pub SameLength : Option (Vec Said Global) → Option (Vec Said Global) → Type 0
-SameLength (Some l) (Some m) = length l.items ≡ length m.items
-SameLength l m = ⊥
+-- exactly the spellings that can stand where this was typed after these words, in the order of the
+-- declaration
+pub record AreOffered (d : Declaration) (words : List (List ℕ)) (typed : List ℕ)
+    (offered : List (List ℕ)) : Type 0 where
+  pub sound : (s : List ℕ) → Contains offered s → Completes d words typed s
+  pub complete : (s : List ℕ) → Completes d words typed s → Contains offered s
+  pub in_order : (offered ≡ filter (λ s. starts_with nat_eq s typed) (spellings d.options))
+      ⊎ (offered ≡ [])
+
+-- exactly what can stand where this was typed after these words
+pub record IsCompletion (o : Options) (words : List (List ℕ)) (typed : List ℕ)
+    (completion : Completion) : Type 0 where
+  pub spellings : AreOffered (declaration_of o) words typed
+      (map string_bytes completion.spellings.items)
+  -- what a word would be that is no option and begins so
+  pub word : HasRole (declaration_of o) words typed (option_map role_view completion.word)
+  -- of which option a value is typed after `=`
+  pub joined : IsJoined (declaration_of o) words typed completion.joined
+
+-- ---- where an option can stand
+
+-- this tells whether an option can stand after these words
+abbrev pub Opens : Options → List (List ℕ) → Bool → Type 0
+Opens o words b = MatchBool b ((l : List legal.Said) × IsOpen (declaration_of o) words l)
+    ((l : List legal.Said) → ¬ IsOpen (declaration_of o) words l)
+
+-- it is no option of several values
+abbrev pub is_one : Said → Bool
+is_one (said.Option index value) = true
+is_one (said.Several index values) = false
+is_one (said.Positional word) = true
+
+-- something is said, and the last of it is no option of several values
+abbrev pub ends_in_one : List Said → Bool
+ends_in_one [] = false
+ends_in_one (s ∷ []) = is_one s
+ends_in_one (s ∷ t ∷ l) = ends_in_one (t ∷ l)
+
+-- as much is said with `--` as with an empty word, and the last that is said with the empty word is
+-- no option of several values
+abbrev pub TakeAnyWord : List Said → List Said → Type 0
+TakeAnyWord l m = (length l ≡ length m) × (ends_in_one m ≡ true)

@@ -2,11 +2,12 @@ pub mod Declarations
 pub mod Tables
 pub mod Reading
 pub mod Messages
+pub mod Mistakes
 pub mod Lines
 pub mod Fronts
 pub mod Names
 pub mod Completions
 pub mod Roles
 pub mod Invalid
-pub mod Values
 pub mod Answers
+pub mod Kinds

@@ -6,12 +6,11 @@ use Rattle.lexopt_options.specs.declared.mistake.Mistake.{Mistake}
 use Rattle.lexopt_options.specs.declared.mistake.Mistake.TheVariants.{UnknownOption}
 use Rattle.lexopt_options.specs.declared.mistake.Mistake.TheVariants.{UnexpectedValue, MissingValue}
 use Rattle.lexopt_options.specs.declared.mistake.Mistake.TheVariants.{UnexpectedArgument}
-use Rattle.lexopt_options.specs.declared.mistake.Mistake.TheVariants.{MissingArgument, InvalidValue}
-use Rattle.lexopt_options.specs.declared.mistake.Mistake.TheVariants.{OutOfMemory}
-use Rattle.lexopt_options.specs.Invalid.{invalid_message}
+use Rattle.lexopt_options.specs.declared.mistake.Mistake.TheVariants.{MissingArgument}
 use Rattle.lexopt_options.specs.declared.mistake.OptionName.{OptionName}
 use Rattle.lexopt_options.specs.declared.mistake.OptionName.TheVariants.{Short, Long}
-use Rattle.lexopt_options.specs.declared.mistake.Refused.{Refused}
+use Rattle.lexopt_options.specs.declared.refused.ReadError.{ReadError}
+use Rattle.lexopt_options.specs.declared.refused.ReadError.TheVariants.{Refused, OutOfMemory}
 
 -- a name with its dashes
 abbrev pub name_text : OptionName → List ℕ
@@ -27,10 +26,12 @@ message (MissingValue option placeholder) = codes "missing argument "
     ++ (placeholder.now ++ (codes " for option '" ++ (string_bytes option ++ codes "'")))
 message (UnexpectedArgument word) = unexpected_argument_message word
 message (MissingArgument placeholder) = codes "missing argument " ++ placeholder.now
-message (InvalidValue option error) = invalid_message option error
-message OutOfMemory = no_memory_message
 
--- the program's name and the mistake, and where help is
-abbrev pub refusal_text : Refused → List ℕ
-refusal_text r = r.program.now ++ (codes ": " ++ (message r.mistake ++ (codes "\nTry '"
-    ++ (r.program.now ++ codes " --help' for more information."))))
+-- a program's name and what is wrong, and where its help is
+abbrev pub refusal_text : List ℕ → List ℕ → List ℕ
+refusal_text program what = program ++ (codes ": " ++ (what ++ (codes "\nTry '"
+    ++ (program ++ codes " --help' for more information."))))
+
+abbrev pub error_text : ReadError → List ℕ
+error_text (Refused refused) = refusal_text refused.program.now (message refused.mistake)
+error_text OutOfMemory = no_memory_message

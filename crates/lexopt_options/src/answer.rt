@@ -7,8 +7,8 @@ ghost use Rattle.lexopt_options.specs.Reading.{said_view};
 ghost use Rattle.std.specs.List.{list_any};
 
 use crate::complete::Completion;
-use crate::mistake::{Mistake, Refused};
 use crate::options::Options;
+use crate::refused::{ReadError, Refused};
 use crate::said::Said;
 use lexopt_declaration::lookup::index_of_long;
 use lexopt_declaration::shell::{Script, Shell};
@@ -58,7 +58,7 @@ fn asked_shell(words: &[OsString]) -> Option<Shell>
         (λ shell. AsksForScript words.now shell) }
 {
     match words {
-        [first, name] if is_text(first, "__script") => Shell::of_bytes(name.as_bytes()),
+        [first, name] if is_text(first, "__script") => Shell::from_name(name.as_bytes()),
         _ => None,
     }
 }
@@ -84,8 +84,8 @@ impl<'a> Options<'a> {
     ghost use Rattle.std.specs.Prelude.{◌≡◌, ℕ, IfOk, List, map, string_bytes};
     ghost use Rattle.std.specs.Option.{MatchOption};
     ghost use Rattle.lexopt_options.specs.Answers.{AsksToComplete, IsAnswer, IsCompletionText};
-    ghost use Rattle.lexopt_options.specs.Answers.{IsHelpAnswer, IsNoMemory, IsOrdinary};
-    ghost use Rattle.lexopt_options.specs.Answers.{IsShellText, asks_for_help, script_lines};
+    ghost use Rattle.lexopt_options.specs.Answers.{IsOrdinary, IsShellText, asks_for_help};
+    ghost use Rattle.lexopt_options.specs.Answers.{script_lines};
     ghost use Rattle.lexopt_options.specs.Declarations.{declaration_of};
     ghost use Rattle.lexopt_options.specs.Reading.{said_view};
 
@@ -142,46 +142,32 @@ impl<'a> Options<'a> {
         }
     }
 
-    // That memory ran out.
-    fn no_memory(&self, alloc: Global) -> Answer<'a>
-        ensures { IsNoMemory self.now result }
-    {
-        Answer::Refused(Refused {
-            program: self.program(),
-            before: Vec::new(alloc),
-            mistake: Mistake::OutOfMemory,
-        })
-    }
-
-    // The help.
-    fn help_answer(&self, alloc: Global, width: usize) -> Answer<'a>
-        ensures { IsHelpAnswer self.now width result }
-    {
-        match self.help(alloc, width) {
-            Ok(text) => Answer::Text(text),
-            Err(_) => self.no_memory(alloc),
-        }
-    }
-
     // What to do about words that no shell asks by.
-    fn line_answer(&self, alloc: Global, words: Vec<OsString>, width: usize) -> Answer<'a>
-        ensures { IsOrdinary words.items → IsAnswer self.now words.items width result }
+    fn line_answer(
+        &self,
+        alloc: Global,
+        words: Vec<OsString>,
+        width: usize,
+    ) -> Result<Answer<'a>, AllocError>
+        ensures { IsOrdinary words.items
+            → IfOk result (λ answer. IsAnswer self.now words.items width answer) }
     {
         match self.read(alloc, words) {
             Ok(said) => {
                 if self.asks_for_help(&said) {
-                    self.help_answer(alloc, width)
+                    Ok(Answer::Text(self.help(alloc, width)?))
                 } else {
-                    Answer::Said(said)
+                    Ok(Answer::Said(said))
                 }
             }
-            Err(refused) => {
+            Err(ReadError::Refused(refused)) => {
                 if self.asks_for_help(&refused.before) {
-                    self.help_answer(alloc, width)
+                    Ok(Answer::Text(self.help(alloc, width)?))
                 } else {
-                    Answer::Refused(refused)
+                    Ok(Answer::Refused(refused))
                 }
             }
+            Err(ReadError::OutOfMemory) => Err(AllocError),
         }
     }
 
@@ -197,14 +183,18 @@ impl<'a> Options<'a> {
     ///   and a value of that option.
     /// - All other words are read as by [`Options::read`].
     ///
-    /// If memory runs out the answer is a refusal that says so.
-    pub fn answer(&self, alloc: Global, words: Vec<OsString>, width: usize) -> Answer<'a>
-        ensures { IsAnswer self.now words.items width result }
+    /// The only error is that memory ran out.
+    pub fn answer(
+        &self,
+        alloc: Global,
+        words: Vec<OsString>,
+        width: usize,
+    ) -> Result<Answer<'a>, AllocError>
+        ensures { IfOk result (λ answer. IsAnswer self.now words.items width answer) }
     {
-        match self.shell_text(alloc, &words) {
-            Ok(Some(text)) => Answer::Text(text),
-            Ok(None) => self.line_answer(alloc, words, width),
-            Err(_) => self.no_memory(alloc),
+        match self.shell_text(alloc, &words)? {
+            Some(text) => Ok(Answer::Text(text)),
+            None => self.line_answer(alloc, words, width),
         }
     }
 }

@@ -1,10 +1,15 @@
 //! What can stand where a word is typed, for shells.
 ghost use Rattle.std.specs.Prelude.{◌≡◌, ◌∷◌, ◌++◌, ℕ, IfOk, List, MatchBool, MatchOption, []};
+ghost use Rattle.std.specs.Prelude.{option_map};
 ghost use Rattle.lexopt_spec.specs.UnreadLine.{BeginsWith, dash};
 ghost use Rattle.lexopt_options_spec.specs.Completion as spec;
-ghost use Rattle.lexopt_options_spec.specs.Completion.{IsOption};
-ghost use Rattle.lexopt_options.specs.Completions.{SameLength};
+ghost use Rattle.lexopt_options_spec.specs.Completion.{HasRole, IsDashedRole, IsOption};
+ghost use Rattle.lexopt_options_spec.specs.Completion.{IsPlainRole};
+ghost use Rattle.lexopt_options.specs.Completions.{Opens, TakeAnyWord, ends_in_one, is_one};
+ghost use Rattle.lexopt_options.specs.Declarations.{declaration_of};
+ghost use Rattle.lexopt_options.specs.Fronts.{IsPart};
 ghost use Rattle.lexopt_options.specs.Reading.{said_view};
+ghost use Rattle.lexopt_options.specs.declared.options.Options as options;
 ghost use Rattle.lexopt_options.specs.declared.said.Said.{Said};
 ghost use Rattle.lexopt_options.specs.Roles.{role_view};
 
@@ -27,7 +32,8 @@ pub enum Role {
 /// What can stand where a word is typed.
 #[derive(Debug, Drop)]
 pub struct Completion {
-    /// The spellings of declared options that can stand there and begin with what was typed.
+    /// The spellings of declared options that can stand there and begin with what was typed. If
+    /// that is not UTF-8, there are none.
     pub spellings: Vec<String>,
     /// What a word that is no option would be there, if anything: as the empty word would be, or as
     /// the word `--` if a dash was typed first.
@@ -35,35 +41,57 @@ pub struct Completion {
     /// The option whose value is typed there after `=`, if what was typed is a long option with `=`
     /// and an option can stand there.
     pub joined: Option<usize>,
-    /// What was typed is not UTF-8. There is no spelling then.
-    pub is_damaged: bool,
 }
 
-// A copy of these words, and one word more.
-fn with_word(alloc: Global, words: &[OsString], word: &str) -> Result<Vec<OsString>, AllocError>
-    ensures { IfOk result (λ copy. copy.items ≡ words.now ++ word.now ∷ []) }
-{
-    let mut copy = copies(alloc, words)?;
-    copy.push(OsString::from_text(alloc, word)?)?;
-    Ok(copy)
-}
+// ---- where an option can stand
 
-// Whether two lists are there and have as many items.
-fn have_same_length(one: &Option<Vec<Said>>, other: &Option<Vec<Said>>) -> bool
-    ensures { MatchBool result (SameLength one.now other.now) (SameLength one.now other.now → ⊥) }
+// Whether this is no option of several values.
+fn is_one(said: &Said) -> bool
+    ensures { result ≡ is_one said.now }
 {
-    match (one, other) {
-        (Some(one), Some(other)) => one.len() == other.len(),
-        _ => false,
+    match said {
+        Said::Option(_, _) | Said::Positional(_) => true,
+        Said::Several(_, _) => false,
     }
 }
 
-// Whether a dash was typed first.
-fn begins_with_dash(typed: &OsString) -> bool
-    ensures { MatchBool result (BeginsWith dash typed.now) (¬ BeginsWith dash typed.now) }
+// Whether something is said, and the last of it is no option of several values.
+fn ends_in_one(said: &[Said]) -> bool
+    ensures { result ≡ ends_in_one said.now }
 {
-    typed.as_bytes().first() == Some(&b'-')
+    match said {
+        [.., last] => is_one(last),
+        [] => false,
+    }
 }
+
+// Whether as much is said with `--` as with an empty word, and the last that is said with the empty
+// word is no option of several values: the next word is the value of an option, or a positional
+// argument after the separator, whatever it looks like.
+fn take_any_word(dashed: &[Said], plain: &[Said]) -> bool
+    ensures { MatchBool result (TakeAnyWord dashed.now plain.now)
+        (TakeAnyWord dashed.now plain.now → ⊥) }
+{
+    dashed.len() == plain.len() && ends_in_one(plain)
+}
+
+// Whether an option can stand after words that say this with `--` after them, and this with an
+// empty word.
+fn is_open(dashed: &Option<Vec<Said>>, plain: &Option<Vec<Said>>) -> bool
+    ensures { (o : options.Options) (words : List (List ℕ))
+        → IsPart o (words ++ (dash ∷ dash ∷ []) ∷ []) dashed.now
+        → IsPart o (words ++ [] ∷ []) plain.now → Opens o words result }
+{
+    match dashed {
+        Some(dashed) => match plain {
+            Some(plain) => !take_any_word(dashed, plain),
+            None => true,
+        },
+        None => false,
+    }
+}
+
+// ---- a word that is no option
 
 // What the last word is, by the last of what is said.
 fn role_of(said: &Said) -> Role
@@ -86,6 +114,60 @@ fn last_role(mut said: Vec<Said>) -> Option<Role>
         None => None,
     }
 }
+
+// What an empty word would be after words that say this with it.
+fn plain_role(plain: Option<Vec<Said>>) -> Option<Role>
+    ensures { (o : options.Options) (words : List (List ℕ)) → IsPart o (words ++ [] ∷ []) plain
+        → IsPlainRole (declaration_of o) words (option_map role_view result) }
+{
+    match plain {
+        Some(said) => last_role(said),
+        None => None,
+    }
+}
+
+// What `--` would be after words that say this with it, if it is not the separator.
+fn dashed_role(opens: bool, dashed: Option<Vec<Said>>) -> Option<Role>
+    ensures { (o : options.Options) (words : List (List ℕ)) → Opens o words opens
+        → IsPart o (words ++ (dash ∷ dash ∷ []) ∷ []) dashed
+        → IsDashedRole (declaration_of o) words (option_map role_view result) }
+{
+    if opens {
+        return None;
+    }
+    match dashed {
+        Some(said) => last_role(said),
+        None => None,
+    }
+}
+
+// Whether a dash was typed first.
+fn begins_with_dash(typed: &OsString) -> bool
+    ensures { MatchBool result (BeginsWith dash typed.now) (¬ BeginsWith dash typed.now) }
+{
+    typed.as_bytes().first() == Some(&b'-')
+}
+
+// What a word that is no option and begins so would be after words that say this with `--` after
+// them, and this with an empty word.
+fn role_after(
+    typed: &OsString,
+    opens: bool,
+    dashed: Option<Vec<Said>>,
+    plain: Option<Vec<Said>>,
+) -> Option<Role>
+    ensures { (o : options.Options) (words : List (List ℕ)) → Opens o words opens
+        → IsPart o (words ++ (dash ∷ dash ∷ []) ∷ []) dashed → IsPart o (words ++ [] ∷ []) plain
+        → HasRole (declaration_of o) words typed.now (option_map role_view result) }
+{
+    if begins_with_dash(typed) {
+        dashed_role(opens, dashed)
+    } else {
+        plain_role(plain)
+    }
+}
+
+// ---- a value after `=`
 
 // Whether this is a long option with `=`.
 fn is_long_with_equals(typed: &[u8]) -> bool
@@ -119,85 +201,61 @@ fn only_option(said: &[Said]) -> Option<usize>
 }
 
 impl Options<'_> {
-    ghost use Rattle.std.specs.Prelude.{◌≡◌, ◌↔◌, ◌⊎◌, ℕ, [], Contains, IfOk, IsTrue, List};
-    ghost use Rattle.std.specs.Prelude.{MatchBool, filter, map, nat_eq, option_map, string_bytes};
-    ghost use Rattle.std.specs.List.{starts_with};
-    ghost use Rattle.std.specs.Str.{IsUtf8};
-    ghost use Rattle.lexopt_options_spec.specs.Completion.{Completes, HasRole, IsDashedRole, IsOpen};
-    ghost use Rattle.lexopt_options_spec.specs.Completion.{IsJoined, IsPlainRole, spellings};
-    ghost use Rattle.lexopt_options_spec.specs.Legal as legal;
+    ghost use Rattle.std.specs.Prelude.{◌∷◌, ◌++◌, ℕ, [], IfOk, List, map, string_bytes};
+    ghost use Rattle.lexopt_options_spec.specs.Completion.{IsJoined};
+    ghost use Rattle.lexopt_options.specs.Completions.{AreOffered, IsCompletion, Opens};
     ghost use Rattle.lexopt_options.specs.Declarations.{declaration_of};
-    ghost use Rattle.lexopt_options.specs.Roles.{role_view};
+    ghost use Rattle.lexopt_options.specs.Fronts.{IsPart};
 
-    // Whether an option can stand after these words.
-    fn is_open(&self, alloc: Global, words: &[OsString]) -> Result<bool, AllocError>
-        ensures { IfOk result (λ opens. MatchBool opens
-            ((l : List legal.Said) × IsOpen (declaration_of self.now) words.now l)
-            ((l : List legal.Said) → ¬ IsOpen (declaration_of self.now) words.now l)) }
-    {
-        let without = self.read_part(alloc, copies(alloc, words)?)?;
-        let with = self.read_part(alloc, with_word(alloc, words, "--")?)?;
-        Ok(have_same_length(&without, &with))
-    }
-
-    // What an empty word would be after these words.
-    fn plain_role(&self, alloc: Global, words: &[OsString]) -> Result<Option<Role>, AllocError>
-        ensures { IfOk result (λ role. IsPlainRole (declaration_of self.now) words.now
-            (option_map role_view role)) }
-    {
-        match self.read_part(alloc, with_word(alloc, words, "")?)? {
-            Some(said) => Ok(last_role(said)),
-            None => Ok(None),
-        }
-    }
-
-    // What `--` would be after these words, if it is not the separator.
-    fn dashed_role(&self, alloc: Global, words: &[OsString]) -> Result<Option<Role>, AllocError>
-        ensures { IfOk result (λ role. IsDashedRole (declaration_of self.now) words.now
-            (option_map role_view role)) }
-    {
-        let without = self.read_part(alloc, copies(alloc, words)?)?;
-        let with = self.read_part(alloc, with_word(alloc, words, "--")?)?;
-        if have_same_length(&without, &with) {
-            return Ok(None);
-        }
-        match with {
-            Some(said) => Ok(last_role(said)),
-            None => Ok(None),
-        }
-    }
-
-    // What a word that is no option and begins so would be after these words.
-    fn role_after(
+    // What these words say with this one after them, whether or not positional arguments are
+    // missing; nothing if no line begins so.
+    fn read_with(
         &self,
         alloc: Global,
         words: &[OsString],
-        typed: &OsString,
-    ) -> Result<Option<Role>, AllocError>
-        ensures { IfOk result (λ role. HasRole (declaration_of self.now) words.now typed.now
-            (option_map role_view role)) }
+        word: &str,
+    ) -> Result<Option<Vec<Said>>, AllocError>
+        ensures { IfOk result (λ found. IsPart self.now (words.now ++ word.now ∷ []) found) }
     {
-        if begins_with_dash(typed) {
-            self.dashed_role(alloc, words)
-        } else {
-            self.plain_role(alloc, words)
+        let mut copy = copies(alloc, words)?;
+        copy.push(OsString::from_text(alloc, word)?)?;
+        self.read_part(alloc, copy)
+    }
+
+    // The spellings that begin with what was typed, if an option can stand there.
+    fn spellings_for(
+        &self,
+        alloc: Global,
+        opens: bool,
+        typed: &OsString,
+    ) -> Result<Vec<String>, AllocError>
+        ensures { IfOk result (λ spellings. (words : List (List ℕ)) → Opens self.now words opens
+            → AreOffered (declaration_of self.now) words typed.now
+            (map string_bytes spellings.items)) }
+    {
+        if !opens {
+            return Ok(Vec::new(alloc));
+        }
+        match typed.to_str() {
+            Some(_) => spellings_of(alloc, self.options(), typed.as_bytes()),
+            None => Ok(Vec::new(alloc)),
         }
     }
 
-    // The option whose value is typed after `=`.
+    // The option whose value is typed after `=`, if an option can stand there.
     fn joined_option(
         &self,
         alloc: Global,
-        words: &[OsString],
+        opens: bool,
         typed: &OsString,
     ) -> Result<Option<usize>, AllocError>
-        ensures { IfOk result (λ found. IsJoined (declaration_of self.now) words.now typed.now
-            found) }
+        ensures { IfOk result (λ found. (words : List (List ℕ)) → Opens self.now words opens
+            → IsJoined (declaration_of self.now) words typed.now found) }
     {
-        if !is_long_with_equals(typed.as_bytes()) {
+        if !opens {
             return Ok(None);
         }
-        if !self.is_open(alloc, words)? {
+        if !is_long_with_equals(typed.as_bytes()) {
             return Ok(None);
         }
         match self.read_part(alloc, one_word(alloc, typed)?)? {
@@ -206,37 +264,12 @@ impl Options<'_> {
         }
     }
 
-    // The spellings that can stand after these words and begin with what was typed.
-    fn spellings_after(
-        &self,
-        alloc: Global,
-        words: &[OsString],
-        typed: &OsString,
-    ) -> Result<Vec<String>, AllocError>
-        requires { IsUtf8 typed.now }
-        ensures sound { IfOk result (λ spellings. (s : List ℕ)
-            → Contains (map string_bytes spellings.items) s
-            → Completes (declaration_of self.now) words.now typed.now s) }
-        ensures complete { IfOk result (λ spellings. (s : List ℕ)
-            → Completes (declaration_of self.now) words.now typed.now s
-            → Contains (map string_bytes spellings.items) s) }
-        ensures in_order { IfOk result (λ list. (map string_bytes list.items
-            ≡ filter (λ s. starts_with nat_eq s typed.now)
-            (spellings (declaration_of self.now).options)) ⊎ (list.items ≡ [])) }
-    {
-        if self.is_open(alloc, words)? {
-            spellings_of(alloc, self.options(), typed.as_bytes())
-        } else {
-            Ok(Vec::new(alloc))
-        }
-    }
-
     /// What can stand where a word is typed: after these words, the name of the program not among
     /// them, and this much of it was typed.
     ///
     /// Under options `v|verbose`, a flag, and `o|output` of one value, after `-v` and with `--` it
-    /// is `--verbose` and `--output`; after `-o` no option can stand, but a value of the option with
-    /// the index 1.
+    /// is `--verbose` and `--output`; after `-o` no option can stand, but a value of the option
+    /// with the index 1.
     ///
     /// The only error is that memory ran out.
     pub fn complete(
@@ -245,44 +278,20 @@ impl Options<'_> {
         words: &[OsString],
         typed: &OsString,
     ) -> Result<Completion, AllocError>
-        // What is offered are the spellings of declared options that begin with what was typed, and
-        // after which some words make a legal line where that option stands; and all of them.
-        ensures sound { IfOk result (λ completion. (s : List ℕ)
-            → Contains (map string_bytes completion.spellings.items) s
-            → Completes (declaration_of self.now) words.now typed.now s) }
-        ensures complete { IfOk result (λ completion. (s : List ℕ)
-            → Completes (declaration_of self.now) words.now typed.now s
-            → Contains (map string_bytes completion.spellings.items) s) }
-
-        // They come in the order of the declaration.
-        ensures in_order { IfOk result (λ completion.
-            (map string_bytes completion.spellings.items
-            ≡ filter (λ s. starts_with nat_eq s typed.now)
-            (spellings (declaration_of self.now).options))
-            ⊎ (completion.spellings.items ≡ [])) }
-
-        // What a word would be that is no option and begins so, and of which option a value is
-        // typed after `=`.
-        ensures word { IfOk result (λ completion. HasRole (declaration_of self.now) words.now
-            typed.now (option_map role_view completion.word)) }
-        ensures joined { IfOk result (λ completion. IsJoined (declaration_of self.now) words.now
-            typed.now completion.joined) }
-
-        // Nothing is offered for damage.
-        ensures damaged { IfOk result (λ completion.
-            IsTrue completion.is_damaged ↔ (¬ IsUtf8 typed.now)) }
+        // What is returned is exactly what can stand there: the spellings of declared options that
+        // begin with what was typed, and after which some words make a legal line where that option
+        // stands; what a word would be that is no option and begins so; and of which option a value
+        // is typed after `=`.
+        ensures { IfOk result (λ completion.
+            IsCompletion self.now words.now typed.now completion) }
     {
-        let is_damaged = typed.to_str().is_none();
-        let spellings = if is_damaged {
-            Vec::new(alloc)
-        } else {
-            self.spellings_after(alloc, words, typed)?
-        };
+        let dashed = self.read_with(alloc, words, "--")?;
+        let plain = self.read_with(alloc, words, "")?;
+        let opens = is_open(&dashed, &plain);
         Ok(Completion {
-            spellings,
-            word: self.role_after(alloc, words, typed)?,
-            joined: self.joined_option(alloc, words, typed)?,
-            is_damaged,
+            spellings: self.spellings_for(alloc, opens, typed)?,
+            word: role_after(typed, opens, dashed, plain),
+            joined: self.joined_option(alloc, opens, typed)?,
         })
     }
 }

@@ -1,19 +1,22 @@
-//! Options that are declared once: reading, messages, help and completion. The crate `lexopt`
-//! re-exports this crate as its module `options`.
+//! Options that are declared once: reading, messages, help and completion.
 #![tactic(auto)]
 
 pub mod answer;
 pub mod complete;
+pub mod invalid;
 pub mod mistake;
 pub mod options;
 mod read;
+pub mod refused;
 pub mod said;
 mod table;
 
 pub use answer::Answer;
 pub use complete::{Completion, Role};
-pub use mistake::{Mistake, OptionName, Refused};
+pub use invalid::InvalidValue;
+pub use mistake::{Mistake, OptionName};
 pub use options::Options;
+pub use refused::{ReadError, Refused};
 pub use said::Said;
 
 // What a declaration is made of, and the scripts for shells.

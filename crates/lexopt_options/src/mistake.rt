@@ -1,18 +1,13 @@
 //! What can be wrong with a line, and what is printed about it.
 ghost use Rattle.std.specs.Prelude.{IfOk, map, option_map};
 ghost use Rattle.lexopt_options_spec.specs.Nearest.{IsHint};
-ghost use Rattle.std.specs.Fmt.{WritesOnOk};
-ghost use Rattle.lexopt_options.specs.Invalid.{for_option, invalid_message, value_message};
-ghost use Rattle.lexopt_options.specs.Invalid.{what_message, why_message};
 ghost use Rattle.lexopt_options.specs.Names.{name_view};
 ghost use Rattle.lexopt_declaration.specs.Models.{option_view};
 
-use crate::said::Said;
-use lexopt_declaration::declaration::{Declared, Names};
+use lexopt_declaration::declaration::Declared;
 use lexopt_declaration::lookup::long_name_of;
 use lexopt_declaration::nearest::nearest;
-use lexopt_words::error::Error;
-use lexopt_words::message::{write_no_memory, write_unexpected_value};
+use lexopt_words::message::write_unexpected_value;
 use lexopt_words::os_string::{OsString, Quoted};
 use std::alloc::{AllocError, Global};
 use std::fmt;
@@ -62,23 +57,14 @@ pub enum Mistake<'a> {
     MissingValue {
         /// The option as it was typed, with its dashes.
         option: String,
-        /// What stands for the value in the declaration.
+        /// The placeholder of the value in the declaration.
         placeholder: &'a str,
     },
     /// One positional argument more than are declared.
     UnexpectedArgument(OsString),
-    /// Fewer positional arguments than have to stand: the first that is missing, by what stands for
-    /// it in the declaration.
+    /// Fewer positional arguments than are required: the placeholder, in the declaration, of the
+    /// first that is missing.
     MissingArgument(&'a str),
-    /// A value could not be converted. No reading answers this: `Options::invalid` makes it.
-    InvalidValue {
-        /// The option, unless it is a value of a positional argument.
-        option: Option<Names<'a>>,
-        /// Why it could not be converted.
-        error: Error,
-    },
-    /// Memory ran out. It says nothing about the line.
-    OutOfMemory,
 }
 
 impl fmt::Display for Mistake<'_> {
@@ -107,98 +93,8 @@ impl fmt::Display for Mistake<'_> {
                 write!(f, "unexpected argument {word}")
             }
             Mistake::MissingArgument(placeholder) => write!(f, "missing argument {placeholder}"),
-            Mistake::InvalidValue { option, error } => write_invalid(*option, error, f),
-            Mistake::OutOfMemory => write_no_memory(f),
         }
     }
-}
-
-// Writes that a value is invalid, and shows it if the error has it.
-fn write_what<W: fmt::Write>(error: &Error, f: &mut fmt::Formatter<W>) -> fmt::Result
-    ensures { WritesOnOk W.write_str_gives f.old result (what_message error.now) f.new }
-{
-    match error {
-        Error::ParsingFailed { value, .. } => write_value(value.as_bytes(), f),
-        Error::NonUnicodeValue(value) => write_value(value.as_bytes(), f),
-        _ => f.write_str("invalid value"),
-    }
-}
-
-// Writes that this value is invalid.
-fn write_value<W: fmt::Write>(value: &[u8], f: &mut fmt::Formatter<W>) -> fmt::Result
-    ensures { WritesOnOk W.write_str_gives f.old result (value_message value.now) f.new }
-{
-    let value = Quoted::new(value);
-    write!(f, "invalid value {value}")
-}
-
-// Writes for which option a value is, if there is one.
-fn write_option<W: fmt::Write>(option: Option<Names<'_>>, f: &mut fmt::Formatter<W>) -> fmt::Result
-    ensures { WritesOnOk W.write_str_gives f.old result (for_option option.entry) f.new }
-{
-    match option {
-        Some(names) => write!(f, " for '{names}'"),
-        None => Ok(()),
-    }
-}
-
-// Writes why a value is invalid.
-fn write_why<W: fmt::Write>(error: &Error, f: &mut fmt::Formatter<W>) -> fmt::Result
-    ensures { WritesOnOk W.write_str_gives f.old result (why_message error.now) f.new }
-{
-    match error {
-        Error::ParsingFailed { error, .. } => write!(f, ": {error}"),
-        Error::NonUnicodeValue(_) => f.write_str(": not UTF-8"),
-        other => write!(f, ": {other}"),
-    }
-}
-
-// Writes that a value is invalid, for this option if there is one, and why.
-fn write_invalid<W: fmt::Write>(
-    option: Option<Names<'_>>,
-    error: &Error,
-    f: &mut fmt::Formatter<W>,
-) -> fmt::Result
-    ensures { WritesOnOk W.write_str_gives f.old result (invalid_message option.entry error.now)
-        f.new }
-{
-    write_what(error, f)?;
-    write_option(option, f)?;
-    write_why(error, f)
-}
-
-/// A line that was refused.
-#[derive(Drop)]
-pub struct Refused<'a> {
-    /// The name of the program.
-    pub program: &'a str,
-    /// What the line says before the mistake. Nothing if memory ran out.
-    pub before: Vec<Said>,
-    /// What is wrong.
-    pub mistake: Mistake<'a>,
-}
-
-impl fmt::Display for Refused<'_> {
-    ghost use Rattle.std.specs.Prelude.{Some};
-    ghost use Rattle.lexopt_options.specs.Messages.{refusal_text};
-
-    ghost output = { λ refused. Some (refusal_text refused) };
-
-    /// Writes two lines, as GNU programs do: the name of the program and the mistake, and where
-    /// help is.
-    fn fmt<W: fmt::Write>(&self, f: &mut fmt::Formatter<W>) -> fmt::Result {
-        let program = self.program;
-        let mistake = &self.mistake;
-        write!(
-            f,
-            "{program}: {mistake}\nTry '{program} --help' for more information."
-        )
-    }
-}
-
-impl Refused<'_> {
-    /// The status that a program ends with after such a line.
-    pub const STATUS: u8 = 2;
 }
 
 /// The nearest declared name to one that is not declared.

@@ -1,109 +1,130 @@
 //! Reading a line by a declaration.
-ghost use Rattle.std.specs.Prelude.{◌≡◌, ◌≢◌, ◌∷◌, ◌++◌, ℕ, [], IfErr, IfOk, false, map};
-ghost use Rattle.std.specs.Prelude.{true};
-ghost use Rattle.std.specs.Option.{MatchOption};
+ghost use Rattle.std.specs.Prelude.{◌≡◌, ◌≢◌, ◌∷◌, ◌++◌, ℕ, List, [], IfErr, IfOk, OnOk, Some};
+ghost use Rattle.std.specs.Prelude.{false, map, true};
 ghost use Rattle.lexopt_spec.specs.UnreadLine.{IsLine, UnreadLine};
-ghost use Rattle.lexopt_spec.specs.Steps.{Next, end};
+ghost use Rattle.lexopt_spec.specs.Steps as steps;
+ghost use Rattle.lexopt_spec.specs.Steps.{Next};
+ghost use Rattle.lexopt_line_spec.specs.Readings.{option_reply, start};
 ghost use Rattle.lexopt_line_spec.specs.Table as table;
-ghost use Rattle.lexopt_options_spec.specs.Declaration as spec;
-ghost use Rattle.lexopt_options_spec.specs.Legal.{most, positional_count};
-ghost use Rattle.lexopt_options.specs.Declarations.{declaration_of};
-ghost use Rattle.lexopt_options.specs.Reading.{LacksValue, ReadsSaid, StopsBy, said_view};
-ghost use Rattle.lexopt_options.specs.Lines.{Explains};
-ghost use Rattle.lexopt_options.specs.Values as spec_values;
-ghost use Rattle.lexopt_options.specs.Reading.{ReadsToEnd, StopsIn, said_with};
-ghost use Rattle.lexopt_items.specs.Items.{ReadsValues, ValuesEndBy, table_view};
+ghost use Rattle.lexopt_options_spec.specs.Declaration.{index_of};
+ghost use Rattle.lexopt_options_spec.specs.Legal.{most};
+ghost use Rattle.lexopt_options_spec.specs.Stops as stops;
+ghost use Rattle.lexopt_declaration.specs.Models.{option_view};
+ghost use Rattle.lexopt_items.specs.Items.{ValuesEndBy, kind_view};
 ghost use Rattle.lexopt_items.specs.declared.kinds.Kind.{Kind};
-ghost use Rattle.lexopt_items.specs.declared.values.Values.{Values};
-ghost use Rattle.lexopt_line_spec.specs.Readings.{option_reply};
+ghost use Rattle.lexopt_options.specs.Declarations.{declaration_of};
+ghost use Rattle.lexopt_options.specs.Kinds as kinds;
+ghost use Rattle.lexopt_options.specs.Mistakes.{IsMistake};
+ghost use Rattle.lexopt_options.specs.Names.{name_view};
+ghost use Rattle.lexopt_options.specs.Lines.{IsReadError, LineSays};
+ghost use Rattle.lexopt_options.specs.Reading.{ComesNext, StopsBy, said_view};
 
-use crate::mistake::{Mistake, OptionName, Refused, hint};
+use crate::mistake::{Mistake, OptionName, hint};
 use crate::options::Options;
+use crate::refused::{ReadError, Refused};
 use crate::said::Said;
-use lexopt_base::parser::Parser;
+use lexopt_base::parser::{Found, Parser};
 use lexopt_base::refusal::Refusal;
-use lexopt_calls::replay::{NextReply, call_next};
+use lexopt_declaration::declaration as declared;
 use lexopt_declaration::declaration::Declared;
-use lexopt_declaration::lookup::{index_of_long, index_of_short, names_of, option_placeholder};
+use lexopt_declaration::lookup::{index_of_long, index_of_short, option_placeholder};
 use lexopt_declaration::positionals::{argument_placeholder, least_of, most_of};
-use lexopt_items::items::Table;
-use lexopt_items::kinds::{Kind, kind_of_long, kind_of_short};
+use lexopt_items::kinds::Kind;
 use lexopt_items::values::read_values;
-use lexopt_words::error::Error;
 use lexopt_words::os_string::OsString;
 use std::alloc::{AllocError, Global};
 
-// Why a line cannot be read on.
+// What comes next in a line.
 #[derive(Drop)]
-enum Stop {
-    Unknown(OptionName),
-    UnexpectedValue(String, OsString),
-    MissingValue(usize, String),
-    UnexpectedArgument(OsString),
-    OutOfMemory,
+enum Outcome<'a> {
+    // Something that the line says.
+    Said(Said),
+    // Its end. No required positional argument is missing.
+    End,
+    // A mistake, which ends the reading.
+    Mistake(Mistake<'a>),
 }
 
-impl Stop {
-    ghost use Rattle.std.specs.Prelude.{◌≡◌, ◌≢◌, false, true};
-
-    // Whether it is that memory ran out.
-    fn is_no_memory(&self) -> bool
-        ensures no_memory { result ≡ true → self.now ≡ Stop.OutOfMemory }
-        ensures other { result ≡ false → self.now ≢ Stop.OutOfMemory }
-    {
-        match self {
-            Stop::OutOfMemory => true,
-            Stop::Unknown(_)
-            | Stop::UnexpectedValue(_, _)
-            | Stop::MissingValue(_, _)
-            | Stop::UnexpectedArgument(_) => false,
-        }
-    }
-}
-
-impl From<AllocError> for Stop {
-    ghost use Rattle.std.specs.Prelude.{◌≡◌};
-    ghost use Rattle.lexopt_options.specs.declared.read.Stop.TheVariants.{OutOfMemory};
-
-    ghost from_gives = { λ _ stop. stop ≡ OutOfMemory };
-
-    fn from(_error: AllocError) -> Stop {
-        Stop::OutOfMemory
-    }
-}
-
-// Why the option of this index, which was just read and is no flag, has no value.
-fn stop_of(index: usize, refusal: Refusal) -> Stop
-    requires { (u v : UnreadLine) × (name : table.Name) × (kind : _) × Next u (option_reply name) v
-        × (kind ≢ Kind.Flag) × ValuesEndBy kind v refusal }
-    ensures { (kind : _) (v : UnreadLine) → ValuesEndBy kind v refusal
-        → LacksValue kind index v result }
+// How many values the option of this index has.
+fn kind_at(options: &[Declared<'_>], index: usize) -> Kind
+    ensures { kind_view result ≡ kinds.kind_at (map option_view options.now) index }
 {
-    match refusal {
-        Refusal::MissingValue(Some(option)) => Stop::MissingValue(index, option),
-        Refusal::OutOfMemory => Stop::OutOfMemory,
-        Refusal::MissingValue(None) => unreachable!(),
+    match options.get(index) {
+        Some(option) => match option.kind {
+            declared::Kind::Flag => Kind::Flag,
+            declared::Kind::One(_) => Kind::One,
+            declared::Kind::Optional(_) => Kind::Optional,
+            declared::Kind::Several(_) => Kind::Several,
+        },
+        None => Kind::Flag,
+    }
+}
+
+// The mistake that the option of this index, which was just read, has no value.
+fn missing_value<'a>(
+    options: &Options<'a>,
+    index: usize,
+    refused: Refusal,
+) -> Result<Mistake<'a>, AllocError>
+    requires { (kind : Kind) × (u v : UnreadLine) × (name : table.Name)
+        × Next u (option_reply name) v × (kind ≢ Kind.Flag) × ValuesEndBy kind v refused }
+    ensures { IfOk result (λ mistake. (count : ℕ) (kind : Kind) (u v : UnreadLine)
+        (name : table.Name) → Next u (option_reply name) v
+        → index_of (declaration_of options.now).options name ≡ Some index
+        → kind_view kind ≡ kinds.kind_at (declaration_of options.now).options index
+        → ValuesEndBy kind v refused → StopsBy (declaration_of options.now) count u mistake) }
+{
+    match refused {
+        Refusal::MissingValue(option) => {
+            let option = option.unwrap();
+            let placeholder = option_placeholder(options.options(), index);
+            Ok(Mistake::MissingValue {
+                option,
+                placeholder,
+            })
+        }
+        Refusal::OutOfMemory => Err(AllocError),
         Refusal::UnexpectedValue { .. } => unreachable!(),
     }
 }
 
-// The option of this index, which was just read, with its values.
-fn read_option(alloc: Global, parser: &mut Parser, index: usize, kind: Kind) -> Result<Said, Stop>
+// The option of this index, which was just read, with its values, or the mistake that it has none.
+fn read_option<'a>(
+    alloc: Global,
+    parser: &mut Parser,
+    options: &Options<'a>,
+    index: usize,
+) -> Result<Outcome<'a>, AllocError>
     requires { (u : UnreadLine) × (name : table.Name) × Next u (option_reply name) parser.old }
-    ensures ok { IfOk result (λ said. (values : Values) × (said_view said ≡ said_with index values)
-        × ReadsValues kind parser.old values parser.new) }
-    ensures err { IfErr result (λ stop. LacksValue kind index parser.old stop) }
+    ensures { IfOk result (λ outcome. (count : ℕ) (u : UnreadLine) (name : table.Name)
+        → Next u (option_reply name) parser.old
+        → index_of (declaration_of options.now).options name ≡ Some index
+        → ComesNext (declaration_of options.now) count u outcome parser.new) }
 {
+    let kind = kind_at(options.options(), index);
     match kind {
-        Kind::Flag => Ok(Said::Option(index, None)),
+        Kind::Flag => Ok(Outcome::Said(Said::Option(index, None))),
         Kind::One | Kind::Optional | Kind::Several => match read_values(alloc, parser, kind) {
-            Ok(values) => Ok(Said::of_values(index, values)),
-            Err(refusal) => Err(stop_of(index, refusal)),
+            Ok(values) => Ok(Outcome::Said(Said::of_values(index, values))),
+            Err(refused) => Ok(Outcome::Mistake(missing_value(options, index, refused)?)),
         },
     }
 }
 
-// Whether so many positional arguments are all that may stand.
+// The mistake that an option with this name is not declared.
+fn unknown_option<'a>(
+    alloc: Global,
+    options: &Options<'a>,
+    name: OptionName,
+) -> Result<Mistake<'a>, AllocError>
+    ensures { IfOk result (λ mistake. IsMistake (declaration_of options.now) mistake
+        (stops.unknown_option (name_view name))) }
+{
+    let nearest = hint(alloc, options.options(), &name)?;
+    Ok(Mistake::UnknownOption { name, nearest })
+}
+
+// Whether `count` positional arguments are as many as there may be.
 fn is_full(limit: Option<usize>, count: usize) -> bool
     ensures full { result ≡ true → limit ≡ Some count }
     ensures room { result ≡ false → limit ≢ Some count }
@@ -114,173 +135,111 @@ fn is_full(limit: Option<usize>, count: usize) -> bool
     }
 }
 
-// What the line says next, or nothing at its end. So many positional arguments were said before,
-// and there may be so many.
-fn next_said(
-    alloc: Global,
-    parser: &mut Parser,
-    options: &Options<'_>,
-    table: &Table,
-    limit: Option<usize>,
-    count: usize,
-) -> Result<Option<Said>, Stop>
-    requires table { table_view table.now ≡ spec.table (declaration_of options.now).options }
-    requires limit { limit ≡ most (declaration_of options.now).positionals }
-    ensures ok { IfOk result (λ found. MatchOption found (Next parser.old end parser.new)
-        (λ said. ReadsSaid (declaration_of options.now) count parser.old (said_view said)
-        parser.new)) }
-    ensures err { IfErr result (λ stop.
-        StopsBy (declaration_of options.now) count parser.old stop) }
+// The end of a line after `count` positional arguments, or the mistake that one more is required.
+fn finish<'a>(options: &Options<'a>, count: usize) -> Outcome<'a>
+    ensures { (u v : UnreadLine) → Next u steps.end v
+        → ComesNext (declaration_of options.now) count u result v }
 {
-    match call_next(alloc, parser)? {
-        NextReply::Short(option) => match index_of_short(options.options(), option) {
-            Some(index) => Ok(Some(read_option(
-                alloc,
-                parser,
-                index,
-                kind_of_short(table, option),
-            )?)),
-            None => Err(Stop::Unknown(OptionName::Short(option))),
-        },
-        NextReply::Long(name) => match index_of_long(options.options(), &name) {
-            Some(index) => Ok(Some(read_option(alloc, parser, index, kind_of_long(table, &name))?)),
-            None => Err(Stop::Unknown(OptionName::Long(name))),
-        },
-        NextReply::Value(word) => {
-            if is_full(limit, count) {
-                Err(Stop::UnexpectedArgument(word))
-            } else {
-                Ok(Some(Said::Positional(word)))
-            }
-        }
-        NextReply::End => Ok(None),
-        NextReply::UnexpectedValue(option, value) => Err(Stop::UnexpectedValue(option, value)),
-        NextReply::OutOfMemory => Err(Stop::OutOfMemory),
+    if count < least_of(options.positionals()) {
+        let placeholder = argument_placeholder(options.positionals(), count);
+        Outcome::Mistake(Mistake::MissingArgument(placeholder))
+    } else {
+        Outcome::End
     }
 }
 
-// A line that was read to its end.
-#[derive(Drop)]
-struct Front {
-    said: Vec<Said>,
-    // How many of these are positional arguments.
-    positionals: usize,
-}
-
-// A line that was read up to where it cannot be read on.
-#[derive(Drop)]
-struct Stopped {
-    before: Vec<Said>,
-    stop: Stop,
-}
-
-// Adds what was said to a list, or says that there is no memory for it.
-fn add(said: &mut Vec<Said>, item: Said) -> bool
-    ensures added { result ≡ true → map said_view said.new.items
-        ≡ map said_view said.old.items ++ said_view item ∷ [] }
-    ensures refused { result ≡ false → said.new.items ≡ said.old.items }
-{
-    said.push(item).is_ok()
-}
-
-// What the line says, up to its end, with no more positional arguments than are declared.
-fn read_front(
+// What comes next in a line after `count` positional arguments, of which there may be `limit`.
+fn read_next<'a>(
     alloc: Global,
     parser: &mut Parser,
-    options: &Options<'_>,
-    table: &Table,
-) -> Result<Front, Stopped>
-    requires line { IsLine parser.old }
-    requires table { table_view table.now ≡ spec.table (declaration_of options.now).options }
-    ensures ok { IfOk result (λ front. ReadsToEnd (declaration_of options.now) parser.old
-        (map said_view front.said.items)
-        × (front.positionals ≡ positional_count (map said_view front.said.items))) }
-    ensures err { IfErr result (λ stopped. StopsIn (declaration_of options.now) parser.old
-        (map said_view stopped.before.items) stopped.stop) }
+    options: &Options<'a>,
+    limit: Option<usize>,
+    count: usize,
+) -> Result<Outcome<'a>, AllocError>
+    requires limit { limit ≡ most (declaration_of options.now).positionals }
+    ensures { IfOk result (λ outcome.
+        ComesNext (declaration_of options.now) count parser.old outcome parser.new) }
+{
+    match parser.advance() {
+        Ok(Found::Short(option)) => match index_of_short(options.options(), option) {
+            Some(index) => read_option(alloc, parser, options, index),
+            None => {
+                let name = OptionName::Short(option);
+                Ok(Outcome::Mistake(unknown_option(alloc, options, name)?))
+            }
+        },
+        Ok(Found::Long) => match index_of_long(options.options(), parser.long_name()) {
+            Some(index) => read_option(alloc, parser, options, index),
+            None => {
+                let name = OptionName::Long(String::from_str(alloc, parser.long_name())?);
+                Ok(Outcome::Mistake(unknown_option(alloc, options, name)?))
+            }
+        },
+        Ok(Found::Value(word)) => {
+            if is_full(limit, count) {
+                Ok(Outcome::Mistake(Mistake::UnexpectedArgument(word)))
+            } else {
+                Ok(Outcome::Said(Said::Positional(word)))
+            }
+        }
+        Ok(Found::End) => Ok(finish(options, count)),
+        Err(refused) => match refused {
+            Refusal::UnexpectedValue { option, value } => {
+                Ok(Outcome::Mistake(Mistake::UnexpectedValue { option, value }))
+            }
+            Refusal::OutOfMemory => Err(AllocError),
+            Refusal::MissingValue(_) => unreachable!(),
+        },
+    }
+}
+
+// Adds what was said to a list.
+fn add(said: &mut Vec<Said>, item: Said) -> Result<(), AllocError>
+    ensures { OnOk result (map said_view said.new.items
+        ≡ map said_view said.old.items ++ said_view item ∷ []) }
+{
+    Ok(said.push(item)?)
+}
+
+// For how many things that a longer line says there is room before their list grows.
+const FIRST_ROOM: usize = 16;
+
+// What a line says, in a list with room for `room` things from the start.
+fn read_line<'a>(
+    alloc: Global,
+    parser: &mut Parser,
+    options: &Options<'a>,
+    room: usize,
+) -> Result<Vec<Said>, ReadError<'a>>
+    requires { IsLine parser.old }
+    ensures said { (words : List (List ℕ))
+        → parser.old ≡ start (declaration_of options.now).short_equals words
+        → IfOk result (λ said. LineSays options.now words said.items) }
+    ensures refused { (words : List (List ℕ))
+        → parser.old ≡ start (declaration_of options.now).short_equals words
+        → IfErr result (λ error. IsReadError options.now words error) }
 {
     let limit = most_of(options.positionals());
-    let mut said = Vec::new(alloc);
+    let mut said = Vec::with_capacity(alloc, room)?;
     let mut count = 0usize;
     loop {
-        match next_said(alloc, parser, options, table, limit, count) {
-            Ok(Some(item)) => {
+        match read_next(alloc, parser, options, limit, count)? {
+            Outcome::Said(item) => {
                 let more = item.is_positional();
-                if !add(&mut said, item) {
-                    return Err(Stopped {
-                        before: said,
-                        stop: Stop::OutOfMemory,
-                    });
-                }
+                add(&mut said, item)?;
                 if more {
                     count += 1;
                 }
             }
-            Ok(None) => {
-                return Ok(Front {
-                    said,
-                    positionals: count,
-                });
-            }
-            Err(stop) => {
-                return Err(Stopped { before: said, stop });
-            }
-        }
-    }
-}
-
-// The mistake that stopped a line.
-fn mistake_of<'a>(alloc: Global, options: &Options<'a>, stop: Stop) -> Mistake<'a>
-    ensures { (count : ℕ) (u : UnreadLine) → StopsBy (declaration_of options.now) count u stop
-        → Explains (declaration_of options.now) count u result }
-{
-    match stop {
-        Stop::Unknown(name) => match hint(alloc, options.options(), &name) {
-            Ok(nearest) => Mistake::UnknownOption { name, nearest },
-            Err(_) => Mistake::OutOfMemory,
-        },
-        Stop::UnexpectedValue(option, value) => Mistake::UnexpectedValue { option, value },
-        Stop::MissingValue(index, option) => {
-            let placeholder = option_placeholder(options.options(), index);
-            Mistake::MissingValue {
-                option,
-                placeholder,
+            Outcome::End => return Ok(said),
+            Outcome::Mistake(mistake) => {
+                return Err(ReadError::Refused(Refused {
+                    program: options.program(),
+                    before: said,
+                    mistake,
+                }));
             }
         }
-        Stop::UnexpectedArgument(word) => Mistake::UnexpectedArgument(word),
-        Stop::OutOfMemory => Mistake::OutOfMemory,
-    }
-}
-
-// The mistake of a value that could not be converted.
-fn invalid_mistake<'a>(
-    options: &'a [Declared<'a>],
-    index: Option<usize>,
-    error: Error,
-) -> Mistake<'a>
-    ensures { spec_values.IsInvalid options.now index error result }
-{
-    match error {
-        Error::OutOfMemory => Mistake::OutOfMemory,
-        error => Mistake::InvalidValue {
-            option: names_of(options, index),
-            error,
-        },
-    }
-}
-
-// Whether it is that memory ran out.
-fn is_no_memory(mistake: &Mistake<'_>) -> bool
-    ensures no_memory { result ≡ true → mistake.now ≡ Mistake.OutOfMemory }
-    ensures other { result ≡ false → mistake.now ≢ Mistake.OutOfMemory }
-{
-    match mistake {
-        Mistake::OutOfMemory => true,
-        Mistake::UnknownOption { .. }
-        | Mistake::UnexpectedValue { .. }
-        | Mistake::MissingValue { .. }
-        | Mistake::UnexpectedArgument(_)
-        | Mistake::MissingArgument(_)
-        | Mistake::InvalidValue { .. } => false,
     }
 }
 
@@ -288,48 +247,38 @@ impl<'a> Options<'a> {
     ghost use Rattle.std.specs.Prelude.{◌≡◌, ◌⊎◌, ℕ, List, IfErr, IfOk};
     ghost use Rattle.lexopt_options_spec.specs.Legal as legal;
     ghost use Rattle.lexopt_options_spec.specs.Legal.{Says};
-    ghost use Rattle.lexopt_options.specs.Declarations.{declaration_of, options_of};
-    ghost use Rattle.lexopt_options.specs.Lines.{IsAnswered, IsRefused, LineSays};
+    ghost use Rattle.lexopt_options.specs.Declarations.{declaration_of};
+    ghost use Rattle.lexopt_options.specs.Lines.{IsAnswered, IsReadError, LineSays};
     ghost use Rattle.lexopt_options.specs.Lines.{LineSaysNothing};
-    ghost use Rattle.lexopt_options.specs.Values.{IsInvalid};
-    ghost use Rattle.lexopt_options.specs.Fronts.{FrontIsRead, FrontStops, IsPart};
+    ghost use Rattle.lexopt_options.specs.Fronts.{IsPart};
 
-    // A line that is refused for this mistake, after what was said.
-    fn refuse(&self, alloc: Global, before: Vec<Said>, mistake: Mistake<'a>) -> Refused<'a>
-        ensures program { result.program.now ≡ (declaration_of self.now).program }
-        ensures mistake { result.mistake ≡ mistake.entry }
-        ensures before { mistake.entry ≢ Mistake.OutOfMemory → result.before.items ≡ before.items }
-        ensures nothing { mistake.entry ≡ Mistake.OutOfMemory → result.before.items ≡ [] }
-    {
-        let before = if is_no_memory(&mistake) {
-            Vec::new(alloc)
-        } else {
-            before
-        };
-        Refused {
-            program: self.program(),
-            before,
-            mistake,
-        }
-    }
+    /// Reads a whole line, without the name of the program.
+    ///
+    /// Under options `v|verbose`, a flag, and `o|output` of one value, and any number of
+    /// positional arguments, the words `-vo=x --output y -- file` say `Option(0, None)`,
+    /// `Option(1, Some(x))`, `Option(1, Some(y))` and `Positional(file)`.
+    ///
+    /// A refusal has the first mistake, and what the line says before it: so a program can
+    /// print its help for `--help` although something after it is wrong.
+    pub fn read(&self, alloc: Global, words: Vec<OsString>) -> Result<Vec<Said>, ReadError<'a>>
+        // The words legally spell the list, by declared options alone, and with as many
+        // positional arguments as are declared.
+        ensures said { IfOk result (λ said. LineSays self.now words.items said.items) }
 
-    // Reads words to their end, or to where they cannot be read on. That positional arguments are
-    // missing is not looked at.
-    fn read_words(&self, alloc: Global, words: Vec<OsString>) -> Result<Front, Stopped>
-        ensures ok { IfOk result (λ front. FrontIsRead self.now words.items front.said.items
-            front.positionals) }
-        ensures err { IfErr result (λ stopped. FrontStops self.now words.items
-            stopped.before.items stopped.stop) }
+        // If words say a list, this is it, or memory runs out.
+        ensures answered { (l : List legal.Said) → Says (declaration_of self.now) words.items l
+            → IsAnswered l result }
+
+        // A refusal has the mistake to which the line can be read, and what it says before; it
+        // comes only if the words say nothing.
+        ensures refused { IfErr result (λ error. IsReadError self.now words.items error) }
+        ensures no_list { IfErr result (λ error. (error ≡ ReadError.OutOfMemory)
+            ⊎ LineSaysNothing self.now words.items) }
     {
-        let Ok(table) = self.table(alloc) else {
-            return Err(Stopped {
-                before: Vec::new(alloc),
-                stop: Stop::OutOfMemory,
-            });
-        };
+        let room = words.len().min(FIRST_ROOM);
         let mut parser = Parser::from_vec(words);
         parser.set_short_equals(self.has_short_equals());
-        read_front(alloc, &mut parser, self, &table)
+        read_line(alloc, &mut parser, self, room)
     }
 
     // What words say, whether or not positional arguments are missing; nothing if no line begins so.
@@ -340,96 +289,13 @@ impl<'a> Options<'a> {
     ) -> Result<Option<Vec<Said>>, AllocError>
         ensures { IfOk result (λ found. IsPart self.now words.items found) }
     {
-        match self.read_words(alloc, words) {
-            Ok(front) => Ok(Some(front.said)),
-            Err(stopped) => {
-                if stopped.stop.is_no_memory() {
-                    Err(AllocError)
-                } else {
-                    Ok(None)
-                }
-            }
+        match self.read(alloc, words) {
+            Ok(said) => Ok(Some(said)),
+            Err(ReadError::Refused(refused)) => match refused.mistake {
+                Mistake::MissingArgument(_) => Ok(Some(refused.before)),
+                _ => Ok(None),
+            },
+            Err(ReadError::OutOfMemory) => Err(AllocError),
         }
-    }
-
-    // What a line that was read to its end says, if no positional argument is missing.
-    fn finish(&self, alloc: Global, front: Front) -> Result<Vec<Said>, Refused<'a>>
-        ensures said { IfOk result (λ said. (words : List (List ℕ))
-            → FrontIsRead self.now words front.said.items front.positionals
-            → LineSays self.now words said.items) }
-        ensures refused { IfErr result (λ refused. (words : List (List ℕ))
-            → FrontIsRead self.now words front.said.items front.positionals
-            → IsRefused self.now words refused) }
-    {
-        if front.positionals < least_of(self.positionals()) {
-            let placeholder = argument_placeholder(self.positionals(), front.positionals);
-            Err(self.refuse(alloc, front.said, Mistake::MissingArgument(placeholder)))
-        } else {
-            Ok(front.said)
-        }
-    }
-
-    // The refusal of a line that could not be read on.
-    fn refuse_at(&self, alloc: Global, stopped: Stopped) -> Refused<'a>
-        ensures { (words : List (List ℕ))
-            → FrontStops self.now words stopped.before.items stopped.stop
-            → IsRefused self.now words result }
-    {
-        let mistake = mistake_of(alloc, self, stopped.stop);
-        self.refuse(alloc, stopped.before, mistake)
-    }
-
-    // Reads a whole line.
-    fn read_line(&self, alloc: Global, words: Vec<OsString>) -> Result<Vec<Said>, Refused<'a>>
-        ensures said { IfOk result (λ said. LineSays self.now words.items said.items) }
-        ensures refused { IfErr result (λ refused. IsRefused self.now words.items refused) }
-    {
-        match self.read_words(alloc, words) {
-            Ok(front) => self.finish(alloc, front),
-            Err(stopped) => Err(self.refuse_at(alloc, stopped)),
-        }
-    }
-
-    /// The refusal of a value that could not be converted: of the option of this index, or of a
-    /// positional argument. `invalid value "x" for '--jobs'`, and why, is what it prints of an
-    /// error of `ValueExt::parse`.
-    pub fn invalid(&self, alloc: Global, index: Option<usize>, error: Error) -> Refused<'a>
-        ensures program { result.program.now ≡ (declaration_of self.now).program }
-        ensures mistake { IsInvalid (options_of self.now) index error result.mistake }
-        ensures before { result.before.items ≡ [] }
-    {
-        Refused {
-            program: self.program(),
-            before: Vec::new(alloc),
-            mistake: invalid_mistake(self.options(), index, error),
-        }
-    }
-
-    /// Reads a whole line, without the name of the program.
-    ///
-    /// Under options `v|verbose`, a flag, and `o|output` of one value, and any number of
-    /// positional arguments, the words `-vo=x --output y -- file` say `Option(0, None)`,
-    /// `Option(1, Some(x))`, `Option(1, Some(y))` and `Positional(file)`.
-    ///
-    /// An error says what is wrong first, and what the line says before that: so a program can
-    /// answer `--help` although something after it is wrong.
-    pub fn read(&self, alloc: Global, words: Vec<OsString>) -> Result<Vec<Said>, Refused<'a>>
-        // The words legally spell what is answered, by declared options alone, and with as many
-        // positional arguments as are declared.
-        ensures said { IfOk result (λ said. LineSays self.now words.items said.items) }
-
-        // Words say at most one list. What they say is answered, or memory runs out.
-        ensures one_list { (l m : List legal.Said) → Says (declaration_of self.now) words.items l
-            → Says (declaration_of self.now) words.items m → l ≡ m }
-        ensures answered { (l : List legal.Said) → Says (declaration_of self.now) words.items l
-            → IsAnswered l result }
-
-        // An error is the mistake to which the line can be read, and what it says before; it comes
-        // only if the words say nothing.
-        ensures refused { IfErr result (λ refused. IsRefused self.now words.items refused) }
-        ensures no_list { IfErr result (λ refused. (refused.mistake ≡ Mistake.OutOfMemory)
-            ⊎ LineSaysNothing self.now words.items) }
-    {
-        self.read_line(alloc, words)
     }
 }

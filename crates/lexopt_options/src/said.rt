@@ -14,7 +14,7 @@ pub enum Said {
     Option(usize, Option<OsString>),
     /// The option of this index, which has several values, with all of them: one at least.
     Several(usize, Vec<OsString>),
-    /// A word that is no option, or that stands after the separator.
+    /// A word that is not an option, or that comes after the separator.
     Positional(OsString),
 }
 

@@ -6,7 +6,9 @@ pub mod Fronts
 pub mod Distance
 pub mod Nearest
 pub mod OpenLines
+pub mod LastWords
 pub mod Stands
+pub mod OpenWords
 pub mod Offered
 pub mod Tables
 pub mod Labels

@@ -22,18 +22,18 @@ pub data OpenLine (letters : Letters) (t : Table) (short_equals : Bool) : List (
 same_more : (l m more : List (List ℕ)) → l ≡ m → l ++ more ≡ m ++ more
 same_more l m more is = ap (λ x. x ++ more) is
 
-front_more : (words front left more : List (List ℕ)) → ¬ IsNormalIn false more → IsPlainFront false words front left → IsPlainFront false (words ++ more) front (left ++ more)
+front_more : (words front left more : List (List ℕ)) → (left ≡ [] → ¬ IsNormalIn false more) → IsPlainFront false words front left → IsPlainFront false (words ++ more) front (left ++ more)
 front_more words front left more calm is = record {
   words_are = same_more words (front ++ left) more is.words_are ∙ append_assoc front left more;
   plain = is.plain;
-  longest = longest left is.longest;
+  longest = longest left calm is.longest;
 }
   where
-    longest : (left : List (List ℕ)) → ¬ IsNormalIn false left → ¬ IsNormalIn false (left ++ more)
-    longest [] none = calm
-    longest (w ∷ ws) none = none
+    longest : (left : List (List ℕ)) → (left ≡ [] → ¬ IsNormalIn false more) → ¬ IsNormalIn false left → ¬ IsNormalIn false (left ++ more)
+    longest [] calm none = calm refl
+    longest (w ∷ ws) calm none = none
 
-completes_more : (k : Kind) (name : Name) (after : After) (words left : List (List ℕ)) (item : Item) (more : List (List ℕ)) → ¬ IsNormalIn false more → Completes k name after words item left
+completes_more : (k : Kind) (name : Name) (after : After) (words left : List (List ℕ)) (item : Item) (more : List (List ℕ)) → (left ≡ [] → ¬ IsNormalIn false more) → Completes k name after words item left
     → Completes k name after (words ++ more) item (left ++ more)
 completes_more flag name after words left item more calm (no_value a i l) = no_value a i (same_more left words more l)
 completes_more one name after words left item more calm (attached_value v a i l) = attached_value v a i (same_more left words more l)
@@ -46,14 +46,14 @@ completes_more several name after words left item more calm (joined_several v a 
 completes_more several name after words left item more calm (attached_several v front a is i) = attached_several v front a (front_more words front left more calm is) i
 completes_more several name after words left item more calm (several_words front a is some i) = several_words front a (front_more words front left more calm is) some i
 
-cluster_more : (letters : Letters) (t : Table) (short_equals : Bool) (words left : List (List ℕ)) (bytes : List ℕ) (items : List Item) (more : List (List ℕ)) → ¬ IsNormalIn false more
+cluster_more : (letters : Letters) (t : Table) (short_equals : Bool) (words left : List (List ℕ)) (bytes : List ℕ) (items : List Item) (more : List (List ℕ)) → (left ≡ [] → ¬ IsNormalIn false more)
     → Cluster letters t short_equals words left bytes items → Cluster letters t short_equals (words ++ more) (left ++ more) bytes items
 cluster_more letters t short_equals words left bytes items more calm (flag_first c character others rest letter k no_mark spelled) =
     flag_first c character others rest letter k no_mark (cluster_more letters t short_equals words left others rest more calm spelled)
 cluster_more letters t short_equals words left bytes items more calm (last_option c character others after item letter ends completes) =
     last_option c character others after item letter ends (completes_more (kind t (short c)) (short c) after words left item more calm completes)
 
-group_more : (letters : Letters) (t : Table) (short_equals : Bool) (words : List (List ℕ)) (items : List Item) (left more : List (List ℕ)) → ¬ IsNormalIn false more
+pub group_more : (letters : Letters) (t : Table) (short_equals : Bool) (words : List (List ℕ)) (items : List Item) (left more : List (List ℕ)) → (left ≡ [] → ¬ IsNormalIn false more)
     → Group letters t short_equals words items left → Group letters t short_equals (words ++ more) items (left ++ more)
 group_more letters t short_equals words items left more calm (cluster bytes others are other spelled) =
     cluster bytes (others ++ more) (same_more words ((dash ∷ bytes) ∷ others) more are) other (cluster_more letters t short_equals others left bytes items more calm spelled)
@@ -69,7 +69,7 @@ goes_on letters t short_equals words more front items calm (word_first w ws othe
     plain_word w (ws ++ more) (others ++ items) plain (goes_on letters t short_equals ws more others items calm opens line)
 goes_on letters t short_equals words more all items calm (group_first ws left front others first opens) line =
     subst (Line letters t short_equals (ws ++ more)) (sym (append_assoc front others items))
-    (group (ws ++ more) (left ++ more) front (others ++ items) (group_more letters t short_equals ws front left more calm first) (goes_on letters t short_equals left more others items calm opens line))
+    (group (ws ++ more) (left ++ more) front (others ++ items) (group_more letters t short_equals ws front left more (λ none. calm) first) (goes_on letters t short_equals left more others items calm opens line))
 
 -- ---- a line up to its separator
 
@@ -79,10 +79,10 @@ pub data Parts (letters : Letters) (t : Table) (short_equals : Bool) (words : Li
       → Parts letters t short_equals words items
 
 -- what stands before words at the end
-record Cut (words tail : List (List ℕ)) (P : List (List ℕ) → Type 0) : Type 0 where
-  before : List (List ℕ)
-  words_are : words ≡ before ++ tail
-  holds : P before
+pub record Cut (words tail : List (List ℕ)) (P : List (List ℕ) → Type 0) : Type 0 where
+  pub before : List (List ℕ)
+  pub words_are : words ≡ before ++ tail
+  pub holds : P before
 
 front_cut : (words front left tail : List (List ℕ)) → IsPlainFront false words front (left ++ tail) → Cut words tail (λ before. IsPlainFront false before front left)
 front_cut words front left tail is = record {
@@ -119,7 +119,7 @@ cluster_cut letters t short_equals words all bytes items left tail is (last_opti
     let cut = completes_cut (kind t (short c)) (short c) after words left tail item (subst (Completes (kind t (short c)) (short c) after words item) is completes) in
     record { before = cut.before; words_are = cut.words_are; holds = last_option c character others after item letter ends cut.holds }
 
-group_cut : (letters : Letters) (t : Table) (short_equals : Bool) (words : List (List ℕ)) (items : List Item) (left tail : List (List ℕ)) → Group letters t short_equals words items (left ++ tail)
+pub group_cut : (letters : Letters) (t : Table) (short_equals : Bool) (words : List (List ℕ)) (items : List Item) (left tail : List (List ℕ)) → Group letters t short_equals words items (left ++ tail)
     → Cut words tail (λ before. Group letters t short_equals before items left)
 group_cut letters t short_equals words items left tail (cluster bytes others are other spelled) =
     let cut = cluster_cut letters t short_equals others (left ++ tail) bytes items left tail refl spelled in

@@ -29,7 +29,7 @@ not_normal : (name : Name) → IsText name → (rest : List (List ℕ)) → ¬ I
 not_normal (short c) is rest = not_plain (encode_utf8 c) (encoded_some c is)
 not_normal (long name) is rest = not_plain (dash ∷ name) (λ same. let e : dash ∷ name ≡ [] = same in cc)
 
-dashes_calm : (rest : List (List ℕ)) → ¬ IsNormalIn false (dashes ∷ rest)
+pub dashes_calm : (rest : List (List ℕ)) → ¬ IsNormalIn false (dashes ∷ rest)
 dashes_calm rest = not_plain (dash ∷ []) (λ same. let e : dash ∷ [] ≡ [] = same in cc)
 
 -- ---- an option alone, with empty words for its values
@@ -167,7 +167,7 @@ positionals_append [] ys = refl
 positionals_append (x ∷ xs) ys = ap (λ l. spec.positional x ∷ l) (positionals_append xs ys)
 
 -- after a separator each word is a positional
-more_positionals : (t : Table) (on : Bool) (words before rest more : List (List ℕ)) (items front : List Item) → words ≡ before ++ dashes ∷ rest → items ≡ front ++ map spec.positional rest
+pub more_positionals : (t : Table) (on : Bool) (words before rest more : List (List ℕ)) (items front : List Item) → words ≡ before ++ dashes ∷ rest → items ≡ front ++ map spec.positional rest
     → OpenLine exact t on before front → Line exact t on (words ++ more) (items ++ map spec.positional more)
 more_positionals t on words before rest more items front are items_are opens =
     subst (λ ws. Line exact t on ws (items ++ map spec.positional more)) (sym (ap (λ ws. ws ++ more) are ∙ append_assoc before (dashes ∷ rest) more))

@@ -5,7 +5,7 @@
 //! failed. Then a line says why.
 #![tactic(auto)]
 
-use lexopt_run::run::run;
+use lexopt_calls::run::run;
 use std::io;
 use std::process::ExitCode;
 

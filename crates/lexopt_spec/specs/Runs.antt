@@ -43,6 +43,11 @@ Run u (call ∷ calls) [] after = ⊥
 Run u (call ∷ calls) (reply ∷ replies) after = (between : UnreadLine) × Step call u reply between
     × Run between calls replies after
 
+-- `short_equals` after a call
+abbrev pub short_equals_after : Bool → Call → Bool
+short_equals_after on (set_short_equals now) = now
+short_equals_after on c = on
+
 -- ---- the account of bytes
 
 -- the segments of what a call reads: every call but `next` hands out items alone

@@ -1,5 +1,5 @@
 -- What `spell` tells of a whole line, over a table and items of Rust. `short_equals` is the setting
--- of the short_equals.
+-- of the switch.
 use Rattle.std.specs.Prelude.{◌≡◌, ℕ, Bool, List, map}
 use Rattle.lexopt_spec.specs.Steps as steps
 use Rattle.lexopt_spec.specs.Steps.{Reply}
@@ -29,11 +29,6 @@ abbrev pub LineSaysNothingElse : Table → Bool → List (List ℕ) → List Ite
 LineSaysNothingElse table short_equals words items = (final : Reply) (l : List table_spec.Item)
     → IsReading (table_view table) (start short_equals words) final l
     → (final ≡ steps.end) × (map item_view items ≡ l)
-
--- the items before this one can be spelled, and with it they cannot
-abbrev pub IsAtFault : Table → Bool → List Item → ℕ → Type 0
-IsAtFault table short_equals items i =
-    spec.IsAtFault (table_view table) short_equals (map item_view items) i
 
 -- the error names the item at fault, or is `OutOfMemory`
 abbrev pub NamesItemAtFault : Table → Bool → List Item → SpellError → Type 0

@@ -1,7 +1,7 @@
 //! Words that spell what a line is to say: from items to words, for another program.
 ghost use Rattle.std.specs.Prelude.{◌≡◌, ◌⊎◌, ℕ, List, IfErr, IfOk};
 ghost use Rattle.lexopt_items.specs.Lines.{LineReads, LineShows, LineSpells};
-ghost use Rattle.lexopt_spell.specs.Lines.{HaveFault, HaveWords, IsAtFault, LineSaysNothingElse};
+ghost use Rattle.lexopt_spell.specs.Lines.{HaveFault, HaveWords, LineSaysNothingElse};
 ghost use Rattle.lexopt_spell.specs.Lines.{NamesItemAtFault, NoWordsShow};
 
 use crate::added::adds;
@@ -137,12 +137,12 @@ pub fn spell(
     short_equals: bool,
     table: &Table,
 ) -> Result<Vec<OsString>, SpellError>
-    // Which words are answered, and which item is named, and why. Nothing is said about
+    // Which words are returned, and which item is named, and why. Nothing is said about
     // `OutOfMemory`.
     ensures form { IfOk result (λ words. HaveWords table.now short_equals items.now words.items) }
     ensures fault { IfErr result (λ e. HaveFault table.now short_equals items.now e) }
 
-    // What is answered legally spells the items. A reading of it comes to the end and says them, as
+    // What is returned legally spells the items. A reading of it comes to the end and says them, as
     // every reading does.
     ensures spelled { IfOk result (λ words.
         LineSpells table.now short_equals words.items items.now) }
@@ -150,11 +150,8 @@ pub fn spell(
     ensures said { IfOk result (λ words.
         LineSaysNothingElse table.now short_equals words.items items.now) }
 
-    // The items before the one that is named can be spelled, and with it they cannot. This is so of
-    // one item at most.
+    // The items before the one that is named can be spelled, and with it they cannot.
     ensures at_fault { IfErr result (λ e. NamesItemAtFault table.now short_equals items.now e) }
-    ensures one_fault { (i j : ℕ) → IsAtFault table.now short_equals items.now i
-        → IsAtFault table.now short_equals items.now j → i ≡ j }
 
     // Items that some words show, and so those that some words spell, are spelled, or memory runs
     // out.

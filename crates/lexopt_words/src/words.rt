@@ -8,9 +8,5 @@ use std::alloc::{AllocError, Global};
 pub fn copies(alloc: Global, words: &[OsString]) -> Result<Vec<OsString>, AllocError>
     ensures { IfOk result (λ copied. copied.items ≡ words.now) }
 {
-    let mut copied = Vec::with_capacity(alloc, words.len())?;
-    for word in words {
-        copied.push(OsString::from_bytes(alloc, word.as_bytes())?)?;
-    }
-    Ok(copied)
+    words.to_vec(alloc)
 }

@@ -3,7 +3,7 @@ use Rattle.std.proofs.Common.{◌≡◌, ℕ, List, [], ◌∷◌, Some, refl, a
 use Rattle.std.specs.Prelude.{Contains}
 use Rattle.lexopt_spec.specs.UnreadLine.{UnreadLine}
 use Rattle.lexopt_spec.specs.Steps.{Reply, positional, short, no_memory, NextStep, joined_value, equals_value, next_in_cluster, after_separator, next_word, ReadsPositional, no_word_left, word_left, ReadsWord, no_word, reads_separator, reads_long, reads_cluster, reads_positional}
-use Rattle.lexopt_base.specs.Replies.{CanReply}
+use Rattle.lexopt_base.specs.Replies.{IsReplyOfNext}
 
 -- the word of a reply that is a positional argument
 abbrev word_of : Reply → List ℕ
@@ -35,6 +35,6 @@ in_step u w after (after_separator tail ended reads) = in_words u w after reads
 in_step u w after (next_word tail ended reads) = in_word u w after reads
 
 -- a word that `next` can answer as a positional argument is one of the words
-pub positional_is_a_word : (u : UnreadLine) (w : List ℕ) → CanReply u (Some (positional w)) → Contains u.words w
+pub positional_is_a_word : (u : UnreadLine) (w : List ℕ) → IsReplyOfNext u (Some (positional w)) → Contains u.words w
 positional_is_a_word u w (after, inl step) = in_step u w after step
 positional_is_a_word u w (after, inr refused) = let is : positional w ≡ no_memory = refused.reply_is in cc

@@ -7,7 +7,7 @@ ghost use Rattle.lexopt_spec.specs.Runs.{Run, Step, next, raw, value, values};
 ghost use Rattle.lexopt_spec.specs.Steps as steps;
 ghost use Rattle.lexopt_spec.specs.Steps.{items, positional, short, taken};
 ghost use Rattle.lexopt_spec.specs.UnreadLine.{pending};
-ghost use Rattle.lexopt_base.specs.Replies.{CanReply, RepliesWith, error_reply};
+ghost use Rattle.lexopt_base.specs.Replies.{IsReplyOfNext, RepliesWith, error_reply};
 ghost use Rattle.test_callers.specs.Callers.{IsNegative, TakesNegative};
 
 use lexopt::replay::{Call, Reply, replay};
@@ -38,9 +38,9 @@ pub fn option_and_value(
 pub fn next_file(parser: &mut Parser) -> Result<Option<OsString>, Error>
     ensures file { IfOk result (λ found. IfSome found (λ word. Contains parser.old.words word)) }
     ensures other { IfOk result (λ found. IfNone found ((reply : steps.Reply)
-        × CanReply parser.old (Some reply)
+        × IsReplyOfNext parser.old (Some reply)
         × ((word : List ℕ) → reply ≢ positional word))) }
-    ensures err { IfErr result (λ e. CanReply parser.old (error_reply e)) }
+    ensures err { IfErr result (λ e. IsReplyOfNext parser.old (error_reply e)) }
 {
     match parser.next()? {
         Some(Arg::Value(word)) => Ok(Some(word)),

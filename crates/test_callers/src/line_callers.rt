@@ -10,7 +10,7 @@ ghost use Rattle.lexopt_spec.specs.UnreadLine.{UnreadLine};
 ghost use Rattle.lexopt_line_spec.specs.Bound.{bound, replies_count};
 ghost use Rattle.lexopt_line_spec.specs.Clusters.{ReadsPieces};
 ghost use Rattle.lexopt_line_spec.specs.Readings.{IsReading, start};
-ghost use Rattle.lexopt_line_spec.specs.Script.{IsOutput};
+ghost use Rattle.lexopt_calls.specs.Script.{IsOutput};
 ghost use Rattle.lexopt_line_spec.specs.Speller.{HasFault, IsAtFault, SpelledAs};
 ghost use Rattle.lexopt_line_spec.specs.Spelling.{HaveWholeNames, Shows, Spells};
 ghost use Rattle.lexopt_line_spec.specs.Table as spec;
@@ -22,8 +22,7 @@ ghost use Rattle.lexopt_items.specs.Lines.{IsAnswered, ShowsNothing};
 ghost use Rattle.lexopt_spell.specs.Lines.{NoWordsShow};
 ghost use Rattle.lexopt_spell.specs.Models.{reason_view};
 
-use lexopt::items::{Item, Table, read_items};
-use lexopt::replay::{Call, Reply, RunError, replay, run};
+use lexopt::replay::{Call, Item, Reply, RunError, Table, read_items, replay, run};
 use lexopt::spell::{Reason, SpellError, spell};
 use lexopt::{Error, OsString, Parser};
 use std::alloc::Global;
@@ -142,9 +141,6 @@ pub fn spell_line(
         (record { index = fault.0; reason = reason_view fault.1 }))) }
     ensures at_fault { IfErr result (λ e. IfSome e (λ fault.
         IsAtFault (table_view table.now) short_equals (map item_view items.now) fault.0)) }
-    ensures one_fault { (i j : ℕ)
-        → IsAtFault (table_view table.now) short_equals (map item_view items.now) i
-        → IsAtFault (table_view table.now) short_equals (map item_view items.now) j → i ≡ j }
     ensures none { IfErr result (λ e. IfSome e (λ _. (words : List (List ℕ))
         → Shows (table_view table.now) short_equals words (map item_view items.now) → ⊥)) }
 {

@@ -1,7 +1,7 @@
 //! Errors: what each prints, what it holds, and what becomes one. Those of scripts, with their
 //! status.
 use lexopt_base::{Arg, Error, OsString};
-use lexopt_script::run_error::RunError;
+use lexopt_calls::run_error::RunError;
 use std::alloc::{AllocError, AllocFailed, Global};
 use std::test::Fail;
 use test_helpers::errors::prints;

@@ -85,10 +85,3 @@ fn views_and_the_switch(rt: HostRuntime) -> Result<(), Fail> {
     assert!(rt; answers(rt.alloc(), &mut parser, &calls, replies)?);
     Ok(())
 }
-
-#[test]
-fn calls_that_read_the_line(rt: HostRuntime) {
-    assert!(rt; Call::Next.reads_line());
-    assert!(rt; Call::Raw(0).reads_line());
-    assert!(rt; !Call::Switch(true).reads_line());
-}

@@ -1,7 +1,7 @@
 //! Whole lines: a table of options of one value; the option `-`, which no script can put into a
 //! table; and items as values. Other lines are cases of `test_cases`.
 use lexopt::Error;
-use lexopt::items::{Table, read_items};
+use lexopt::replay::{Table, read_items};
 use std::alloc::{AllocError, Global};
 use std::test::Fail;
 use test_helpers::items::Given::{LongMany, LongValue, Positional, Short, ShortMany, ShortValue};

@@ -5,7 +5,7 @@
 //! differ.
 #![tactic(auto)]
 
-use lexopt_run::run::run;
+use lexopt_calls::run::run;
 use std::alloc::{AllocError, Global};
 use std::io;
 

@@ -1,9 +1,11 @@
 //! Tries every sequence of `next`, `value`, `optional_value` and `values` on every list of at most
 //! three of 25 words.
 //!
-//! Each call is made on the parser, and by `replay` on a copy: the replies agree. A sequence ends
-//! when `next` finds nothing more, or when there is no value or no optional value; `values` is read
-//! to its end. Before each call it checks what `raw_args`, `try_raw_args` and `optional_value` say
+//! Each call is made on the parser, and by `replay` on a copy: the replies agree. So do those of a
+//! second parser of the same words, on which `advance` and `long_name` are called in place of
+//! `next`, `take` in place of `value` and `begin_values` in place of `values`. A sequence ends when
+//! `next` finds nothing more, or when there is no value or no optional value; `values` is read to
+//! its end. Before each call it checks what `raw_args`, `try_raw_args` and `optional_value` say
 //! about the line, on copies if they consume something.
 //!
 //! It prints how many lists it tried, and what went wrong first, if anything did.
@@ -11,7 +13,7 @@
 mod line;
 mod step;
 
-use crate::sequences::step::{STEPS, Step, is_last, made, replayed};
+use crate::sequences::step::{STEPS, Step, is_last, made, replayed, taken};
 use lexopt_base::{Error, Parser};
 use std::alloc::Global;
 use std::io;
@@ -29,11 +31,25 @@ struct Tried {
     fault: Option<&'static str>,
 }
 
-// A parser after some calls.
+// A parser after some calls, and one on which the other calls were made.
 #[derive(Drop)]
 struct Place {
     parser: Parser,
+    other: Parser,
     calls: u32,
+}
+
+impl Place {
+    // Both parsers, after one call more.
+    fn copy(&self) -> Result<Place, Error> {
+        let parser = self.parser.clone()?;
+        let other = self.other.clone()?;
+        Ok(Place {
+            parser,
+            other,
+            calls: self.calls.saturating_add(1),
+        })
+    }
 }
 
 impl Tried {
@@ -43,20 +59,23 @@ impl Tried {
         }
     }
 
-    // Makes one call on the parser of a place in both ways: on this one, and by `replay` on a copy.
-    // Returns whether a sequence goes on after it.
+    // Makes one call on both parsers of a place, and by `replay` on a copy. Returns whether a
+    // sequence goes on after it.
     fn call(
         &mut self,
         alloc: Global,
-        parser: &mut Parser,
+        place: &mut Place,
         mut copy: Parser,
         step: Step,
     ) -> Result<bool, Error> {
-        let reply = made(alloc, parser, step)?;
+        let reply = made(alloc, &mut place.parser, step)?;
         if reply != replayed(alloc, &mut copy, step)? {
             self.fault("replay says otherwise");
         }
-        if !line::agrees_with(step, &reply, parser)? {
+        if reply != taken(alloc, &mut place.other, step)? {
+            self.fault("advance, take or begin_values says otherwise");
+        }
+        if !line::agrees_with(step, &reply, &mut place.parser)? {
             self.fault("words are left, or no values");
         }
         Ok(!is_last(&reply))
@@ -64,22 +83,21 @@ impl Tried {
 
     // Makes one call after a place. Returns the place after it, if a sequence goes on there.
     fn step(&mut self, alloc: Global, place: &Place, step: Step) -> Result<Option<Place>, Error> {
-        let mut parser = place.parser.clone()?;
-        if !self.call(alloc, &mut parser, place.parser.clone()?, step)? {
+        let mut next = place.copy()?;
+        if !self.call(alloc, &mut next, place.parser.clone()?, step)? {
             return Ok(None);
         }
-        let calls = place.calls.saturating_add(1);
-        if calls > MOST_CALLS {
+        if next.calls > MOST_CALLS {
             self.fault("no end");
             return Ok(None);
         }
-        Ok(Some(Place { parser, calls }))
+        Ok(Some(next))
     }
 
-    // Tries every sequence on a parser.
-    fn sequences(&mut self, alloc: Global, parser: Parser) -> Result<(), Error> {
+    // Tries every sequence from a place.
+    fn sequences(&mut self, alloc: Global, place: Place) -> Result<(), Error> {
         let mut places = Vec::new(alloc);
-        places.push(Place { parser, calls: 0 })?;
+        places.push(place)?;
         for _ in 0..u64::MAX {
             let Some(mut place) = places.pop() else {
                 break;
@@ -99,7 +117,16 @@ impl Tried {
     // Tries every sequence on these words.
     fn list(&mut self, alloc: Global, words: &[&[u8]]) -> Result<(), Error> {
         self.lists = self.lists.saturating_add(1);
-        self.sequences(alloc, parser_of(alloc, words)?)
+        let parser = parser_of(alloc, words)?;
+        let other = parser.clone()?;
+        self.sequences(
+            alloc,
+            Place {
+                parser,
+                other,
+                calls: 0,
+            },
+        )
     }
 
     fn lists(&mut self, alloc: Global) -> Result<(), Error> {

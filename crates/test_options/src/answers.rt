@@ -103,7 +103,7 @@ fn is_answered(
     wanted: Do,
     text: &str,
 ) -> Result<bool, AllocError> {
-    let answer = options.answer(alloc, words_of(alloc, line)?, 40);
+    let answer = options.answer(alloc, words_of(alloc, line)?, 40)?;
     Ok(done_by(&answer) == wanted && shown(alloc, &answer)?.as_str() == text)
 }
 
@@ -114,7 +114,7 @@ fn is_script(
     line: &[u8],
     front: &str,
 ) -> Result<bool, AllocError> {
-    let answer = options.answer(alloc, words_of(alloc, line)?, 40);
+    let answer = options.answer(alloc, words_of(alloc, line)?, 40)?;
     let text = shown(alloc, &answer)?;
     Ok(
         done_by(&answer) == Print

@@ -1,6 +1,6 @@
 //! What can stand where a word is typed.
 use crate::archive::{FILES, OPTIONS, archive, words_of};
-use lexopt_options::{Options, OsString, Positional, Role};
+use lexopt_options::{Options, OsString, Role};
 use std::alloc::{AllocError, Global};
 use std::test::Fail;
 
@@ -150,21 +150,12 @@ fn are_spellings(alloc: Global, spellings: &[String], wanted: &str) -> Result<bo
     Ok(text.as_str() == wanted)
 }
 
-// Whether a row is as it says, and this is said of damage.
-fn is_offered(
-    alloc: Global,
-    options: &Options<'_>,
-    row: &Row,
-    is_damaged: bool,
-) -> Result<bool, AllocError> {
+// Whether a row is as it says.
+fn is_offered(alloc: Global, options: &Options<'_>, row: &Row) -> Result<bool, AllocError> {
     let words = words_of(alloc, row.words)?;
     let typed = OsString::from_bytes(alloc, row.typed)?;
     let completion = options.complete(alloc, &words, &typed)?;
-    Ok(
-        completion.is_damaged == is_damaged
-            && completion.word == row.word
-            && are_spellings(alloc, &completion.spellings, row.spellings)?,
-    )
+    Ok(completion.word == row.word && are_spellings(alloc, &completion.spellings, row.spellings)?)
 }
 
 // The row of these that is not as it says, or none.
@@ -174,7 +165,7 @@ fn first_wrong(
     rows: &[Row],
 ) -> Result<Option<usize>, AllocError> {
     for (index, row) in rows.iter().enumerate() {
-        if !is_offered(alloc, options, row, false)? {
+        if !is_offered(alloc, options, row)? {
             return Ok(Some(index));
         }
     }
@@ -190,50 +181,85 @@ fn rows(rt: HostRuntime) -> Result<(), Fail> {
     Err(Fail::new("the options cannot be declared"))
 }
 
-// Whether a row is as it says with these positionals, and this is said of damage.
-fn is_offered_with(
-    alloc: Global,
-    positionals: &'static [Positional<'static>],
-    row: &Row,
-    is_damaged: bool,
-) -> Result<bool, AllocError> {
-    match archive(&OPTIONS, positionals) {
-        Some(options) => is_offered(alloc, &options, row, is_damaged),
-        None => Ok(false),
-    }
-}
-
-const DAMAGED: Row = Row {
-    words: b"",
-    typed: b"\xFF",
-    spellings: "",
-    word: Some(Role::Argument),
-};
-
-const DAMAGED_OPTION: Row = Row {
-    words: b"",
-    typed: b"--v\xFF",
-    spellings: "",
-    word: None,
-};
+// No spelling is offered for a word that is not UTF-8.
+const DAMAGED_ROWS: [Row; 2] = [
+    Row {
+        words: b"",
+        typed: b"\xFF",
+        spellings: "",
+        word: Some(Role::Argument),
+    },
+    Row {
+        words: b"",
+        typed: b"--v\xFF",
+        spellings: "",
+        word: None,
+    },
+];
 
 #[test]
 fn damage(rt: HostRuntime) -> Result<(), Fail> {
-    assert!(rt; is_offered_with(rt.alloc(), &FILES, &DAMAGED, true)?);
-    assert!(rt; is_offered_with(rt.alloc(), &FILES, &DAMAGED_OPTION, true)?);
-    Ok(())
+    if let Some(options) = archive(&OPTIONS, &FILES) {
+        assert_eq!(rt; first_wrong(rt.alloc(), &options, &DAMAGED_ROWS)?, None);
+        return Ok(());
+    }
+    Err(Fail::new("the options cannot be declared"))
 }
 
-// An option can stand where a further argument cannot.
-const OPTION_ALONE: Row = Row {
-    words: b"",
-    typed: b"--h",
-    spellings: "--help",
-    word: None,
-};
+// Where no argument can stand, an option or a value can.
+const ROWS_WITHOUT_ARGUMENTS: [Row; 7] = [
+    Row {
+        words: b"",
+        typed: b"--h",
+        spellings: "--help",
+        word: None,
+    },
+    Row {
+        words: b"-v",
+        typed: b"",
+        spellings: ALL,
+        word: None,
+    },
+    Row {
+        words: b"-o --",
+        typed: b"",
+        spellings: ALL,
+        word: None,
+    },
+    Row {
+        words: b"-x a",
+        typed: b"",
+        spellings: ALL,
+        word: Some(Role::Value(3)),
+    },
+    Row {
+        words: b"--exclude=a",
+        typed: b"",
+        spellings: ALL,
+        word: None,
+    },
+    Row {
+        words: b"-x a --",
+        typed: b"",
+        spellings: "",
+        word: None,
+    },
+    Row {
+        words: b"a",
+        typed: b"",
+        spellings: "",
+        word: None,
+    },
+];
 
 #[test]
 fn no_arguments(rt: HostRuntime) -> Result<(), Fail> {
-    assert!(rt; is_offered_with(rt.alloc(), &[], &OPTION_ALONE, false)?);
-    Ok(())
+    if let Some(options) = archive(&OPTIONS, &[]) {
+        assert_eq!(rt;
+            first_wrong(rt.alloc(), &options, &ROWS_WITHOUT_ARGUMENTS)?,
+            None
+        );
+        return Ok(());
+    }
+    Err(Fail::new("the options cannot be declared"))
 }

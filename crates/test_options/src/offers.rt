@@ -1,7 +1,7 @@
 //! Completion beside reading: a spelling is offered after some words exactly if the words, it and
 //! what may come after it can be read as what the words say, and then its option.
 use crate::archive::{FILES, OPTIONS, archive};
-use lexopt_options::{Options, OsString, Said};
+use lexopt_options::{Options, OsString, ReadError, Said};
 use std::alloc::{AllocError, Global};
 use std::test::Fail;
 
@@ -35,7 +35,11 @@ fn said_by(
     for word in back {
         words.push(OsString::from_bytes(alloc, word)?)?;
     }
-    Ok(options.read(alloc, words).ok())
+    match options.read(alloc, words) {
+        Ok(said) => Ok(Some(said)),
+        Err(ReadError::Refused(_)) => Ok(None),
+        Err(ReadError::OutOfMemory) => Err(AllocError),
+    }
 }
 
 // Whether this is the option of this index.

@@ -1,6 +1,6 @@
 //! What lines say.
 use crate::archive::{FILES, OPTIONS, archive, words_of};
-use lexopt_options::Options;
+use lexopt_options::{Options, ReadError};
 use std::alloc::{AllocError, Global};
 use std::test::Fail;
 
@@ -13,7 +13,8 @@ fn says(
 ) -> Result<bool, AllocError> {
     match options.read(alloc, words_of(alloc, line)?) {
         Ok(said) => Ok(format!(in alloc; "{said:?}")?.as_str() == wanted),
-        Err(_) => Ok(false),
+        Err(ReadError::Refused(_)) => Ok(false),
+        Err(ReadError::OutOfMemory) => Err(AllocError),
     }
 }
 

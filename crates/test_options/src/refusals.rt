@@ -1,20 +1,25 @@
 //! What is printed of lines that are refused, and what they say before.
 use crate::archive::{FILES, OPTIONS, SOURCE_AND_TARGET, archive, words_of};
-use lexopt_options::{Declared, Error, Mistake, Names, Options, OsString, Refused, ValueExt};
+use lexopt_options::{Declared, Error, Names, Options, OsString, ReadError, Refused, ValueExt};
 use std::alloc::{AllocError, Global};
 use std::test::Fail;
 
-// Whether a refusal prints this mistake, and where help is.
-fn prints(alloc: Global, refused: &Refused<'_>, mistake: &str) -> Result<bool, AllocError> {
+// Whether what was printed is this mistake, and where help is.
+fn tells(alloc: Global, printed: &str, mistake: &str) -> Result<bool, AllocError> {
     let wanted = format!(in alloc;
         "archive: {mistake}\nTry 'archive --help' for more information."
     )?;
-    Ok(refused.to_string(alloc)?.as_str() == wanted.as_str())
+    Ok(wanted.as_str() == printed)
 }
 
-// Whether it says this before.
-fn says_before(alloc: Global, refused: &Refused<'_>, before: &str) -> Result<bool, AllocError> {
-    Ok(format!(in alloc; "{:?}", refused.before)?.as_str() == before)
+// Whether the line says this before its mistake.
+fn says_before(alloc: Global, error: &ReadError<'_>, before: &str) -> Result<bool, AllocError> {
+    match error {
+        ReadError::Refused(refused) => {
+            Ok(format!(in alloc; "{:?}", refused.before)?.as_str() == before)
+        }
+        ReadError::OutOfMemory => Err(AllocError),
+    }
 }
 
 // Whether a line is refused with this mistake, and says this before.
@@ -27,8 +32,9 @@ fn is_refused(
 ) -> Result<bool, AllocError> {
     match options.read(alloc, words_of(alloc, line)?) {
         Ok(_) => Ok(false),
-        Err(refused) => {
-            Ok(says_before(alloc, &refused, before)? && prints(alloc, &refused, mistake)?)
+        Err(error) => {
+            let printed = error.to_string(alloc)?;
+            Ok(says_before(alloc, &error, before)? && tells(alloc, printed.as_str(), mistake)?)
         }
     }
 }
@@ -120,7 +126,10 @@ fn tells_invalid(
     mistake: &str,
 ) -> Result<bool, AllocError> {
     match archive(declared, &FILES) {
-        Some(options) => prints(alloc, &options.invalid(alloc, index, error), mistake),
+        Some(options) => {
+            let printed = options.invalid(index, error).to_string(alloc)?;
+            tells(alloc, printed.as_str(), mistake)
+        }
         None => Ok(false),
     }
 }
@@ -178,18 +187,12 @@ fn invalid_values(rt: HostRuntime) -> Result<(), Fail> {
     Ok(())
 }
 
-// Whether refused memory is told of.
-fn tells_of_memory(alloc: Global) -> Result<bool, AllocError> {
-    let refused = Refused {
-        program: "archive",
-        before: Vec::new(alloc),
-        mistake: Mistake::OutOfMemory,
-    };
-    prints(alloc, &refused, "out of memory")
-}
-
+// Refused memory has no line, and as the error of a value it has two.
 #[test]
 fn no_memory(rt: HostRuntime) -> Result<(), Fail> {
-    assert!(rt; tells_of_memory(rt.alloc())?);
+    let printed = ReadError::OutOfMemory.to_string(rt.alloc())?;
+    assert_eq!(rt; printed.as_str(), "out of memory");
+    let error = Error::OutOfMemory;
+    assert!(rt; tells_invalid(rt.alloc(), &OPTIONS, Some(1), error, "out of memory")?);
     Ok(())
 }

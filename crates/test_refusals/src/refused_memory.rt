@@ -3,12 +3,11 @@
 //!
 //! One request of a test is refused in a run. Each test checks what stands afterwards, and then
 //! fails and says which call was refused. Where nothing is refused, each test passes.
-use lexopt::items::read_items;
-use lexopt::options::{self, Answer, Count, Declared, HELP, Kind, Mistake, Names, Options};
 use lexopt::os_string::arguments;
-use lexopt::replay::{Call, Reply, RunError, replay, run};
+use lexopt::replay::{Call, Reply, RunError, read_items, replay, run};
 use lexopt::spell::{Reason, SpellError, spell};
 use lexopt::{Arg, Error, OsStr, OsString, Parser, ValueExt};
+use lexopt_options::{Answer, Count, Declared, HELP, Kind, Names, Options};
 use std::alloc::{AllocError, Global};
 use std::str::FromStr;
 use std::test::Fail;
@@ -834,20 +833,10 @@ const DECLARED: [Declared<'static>; 3] = [
     HELP,
 ];
 
-const FILES: [options::Positional<'static>; 1] = [options::Positional {
+const FILES: [lexopt_options::Positional<'static>; 1] = [lexopt_options::Positional {
     placeholder: "FILE",
     count: Count::AnyNumber,
 }];
-
-// Whether memory was refused: then nothing is said of the line.
-fn is_refused(answer: &Answer<'_>) -> bool {
-    match answer {
-        Answer::Refused(refused) => {
-            matches!(refused.mistake, Mistake::OutOfMemory) && refused.before.is_empty()
-        }
-        Answer::Said(_) | Answer::Text(_) => false,
-    }
-}
 
 // Adds what is answered.
 fn write_answer(answer: &Answer<'_>, text: &mut String) -> Result<(), AllocError> {
@@ -858,14 +847,11 @@ fn write_answer(answer: &Answer<'_>, text: &mut String) -> Result<(), AllocError
     }
 }
 
-// Whether the answer is that memory was refused; `None` if it is another one than this text.
-fn answers(alloc: Global, answer: &Answer<'_>, wanted: &str) -> Result<Option<bool>, AllocError> {
-    if is_refused(answer) {
-        return Ok(Some(true));
-    }
+// Whether the answer is this text.
+fn is_answer(alloc: Global, answer: &Answer<'_>, wanted: &str) -> Result<bool, AllocError> {
     let mut text = String::with_capacity(alloc, 300)?;
     write_answer(answer, &mut text)?;
-    Ok((text.as_str() == wanted).then_some(false))
+    Ok(text.as_str() == wanted)
 }
 
 // What a program with declared options is to do about these words, or that it was refused memory.
@@ -876,8 +862,13 @@ fn answers_so(alloc: Global, lines: &[u8], wanted: &str) -> Result<(), Fail> {
     let Ok(words) = split_words(alloc, lines) else {
         return told(true, "the list");
     };
-    let answer = options.answer(alloc, words, 40);
-    ended(answers(alloc, &answer, wanted)?, "answer")
+    match options.answer(alloc, words, 40) {
+        Ok(answer) => ended(
+            is_answer(alloc, &answer, wanted)?.then_some(false),
+            "answer",
+        ),
+        Err(_) => told(true, "answer"),
+    }
 }
 
 #[test]

@@ -1,4 +1,5 @@
-//! One call, by itself and by `replay`.
+//! One call, by itself, by `replay`, and by what whole lines and declared options are read with.
+use lexopt_base::parser::Found;
 use lexopt_base::{Arg, Error, Parser};
 use lexopt_calls::replay::replay;
 use lexopt_calls::reply::{Call, Reply};
@@ -68,6 +69,39 @@ pub fn replayed(alloc: Global, parser: &mut Parser, step: Step) -> Result<Reply,
     match replay(alloc, parser, &[call])?.pop() {
         Some(reply) => Ok(reply),
         None => Ok(Reply::Busy),
+    }
+}
+
+fn advanced(alloc: Global, parser: &mut Parser) -> Result<Reply, Error> {
+    match parser.advance() {
+        Ok(Found::Short(option)) => Ok(Reply::Short(option)),
+        Ok(Found::Long) => {
+            let name = String::from_str(alloc, parser.long_name())?;
+            Ok(Reply::LongName(name))
+        }
+        Ok(Found::Value(word)) => Ok(Reply::Positional(word)),
+        Ok(Found::End) => Ok(Reply::End),
+        Err(reason) => refusal(Error::from(reason)),
+    }
+}
+
+fn begun(alloc: Global, parser: &mut Parser) -> Result<Reply, Error> {
+    match parser.begin_values() {
+        Ok(view) => Ok(Reply::Items(view.collect(alloc)?)),
+        Err(reason) => refusal(Error::from(reason)),
+    }
+}
+
+/// The reply to the same call made by `advance` and `long_name`, by `take` or by `begin_values`.
+pub fn taken(alloc: Global, parser: &mut Parser, step: Step) -> Result<Reply, Error> {
+    match step {
+        Step::Next => advanced(alloc, parser),
+        Step::Value => match parser.take() {
+            Ok(word) => Ok(Reply::Taken(word)),
+            Err(reason) => refusal(Error::from(reason)),
+        },
+        Step::Optional => Ok(Reply::Maybe(parser.optional_value())),
+        Step::Values => begun(alloc, parser),
     }
 }
 

@@ -1,6 +1,6 @@
 -- `call_next` lends the parser to `next` for a new lifetime, copies the reply out under it, and ends it. So the parser is back at what `next` says of it.
 use Rattle.std.proofs.Common.{◌≡◌, ℕ, Some, refl}
-use Rattle.std.specs.Prelude.{IfOk}
+use Rattle.std.specs.Prelude.{IfOk, IsSome}
 use Rattle.std.proofs.raw_atomic.Walks.{proved}
 use mathlib.Core.List.{List, [], ◌∷◌}
 use base.Fraction.{full_share}
@@ -42,15 +42,15 @@ use Rattle.lexopt_words.proofs.error.Arg.TheLaws as Arg-laws
 use Rattle.lexopt_words.proofs.error.Error.TheLaws as Error-laws
 use Rattle.lexopt_spec.specs.UnreadLine.{UnreadLine}
 use Rattle.lexopt_spec.specs.Steps.{Next}
-use Rattle.lexopt_base.specs.Replies.{CanReply, RepliesWith, next_reply}
-use Rattle.lexopt_base.specs.Ends.{EndsAfter}
+use Rattle.lexopt_base.specs.Replies.{IsReplyOfNext, RepliesWith, next_reply}
+use Rattle.lexopt_base.specs.Ends.{LineAfterNext}
 use Rattle.lexopt_base.proofs.Ends.{ends_said}
 use Rattle.lexopt_base.specs.contracts.parser.Parser.next as next
 use Rattle.lexopt_base.proofs.parser.Parser.next.Met.{met as next_met}
-use Rattle.lexopt_calls.specs.Replies.{next_view}
-use Rattle.lexopt_calls.specs.contracts.replay.NextReply as NextReply-type
-use Rattle.lexopt_calls.proofs.replay.NextReply.TheLaws as NextReply-laws
-use Rattle.lexopt_calls.proofs.StepReplies.{copied as copied_reply, given}
+use Rattle.lexopt_calls.specs.Replies.{reply_view}
+use Rattle.lexopt_calls.specs.contracts.reply.Reply as Reply-type
+use Rattle.lexopt_calls.proofs.reply.Reply.TheLaws as Reply-laws
+use Rattle.lexopt_calls.proofs.StepReplies.{copied as copied_reply, given, some_reply}
 use Rattle.lexopt_calls.specs.contracts.replay.copy_reply as copied
 use Rattle.lexopt_calls.proofs.replay.copy_reply.Met.{met as copied_met}
 use Rattle.lexopt_calls.specs.contracts.replay.call_next as f
@@ -65,10 +65,10 @@ stayed = (stay_dropped (plain (λ _. Al)) yes, (stay_ref (0 ∷ []) tt (plain (�
 
 -- what `call_next` gives
 abbrev Tr : RattleType
-Tr = Result-type.the_row NextReply-type.the_row AllocError-type.the_row
+Tr = Result-type.the_row Reply-type.the_row AllocError-type.the_row
 
 Tr-laws : Laws Tr
-Tr-laws = Result-laws.the_row_laws NextReply-type.the_row AllocError-type.the_row NextReply-laws.the_row_laws AllocError-laws.the_row_laws
+Tr-laws = Result-laws.the_row_laws Reply-type.the_row AllocError-type.the_row Reply-laws.the_row_laws AllocError-laws.the_row_laws
 
 pub call_next_spec : {M : Type 1} → statement M
 call_next_spec 𝓤 𝓛 𝓜 𝓡 wired =
@@ -101,7 +101,7 @@ call_next_spec 𝓤 𝓛 𝓜 𝓡 wired =
     calls_at ! (framed 𝓤 𝓛.H 𝓜 (tables 𝓤 𝓛.H 𝓜 𝓡 𝓡.env)) N (next_met 𝓤 𝓛 𝓜 𝓡 (code.calls-lexopt_base::parser::Parser::next 𝓡.env wired)) z
     (and_then ! (get ! refl) (no_more !)) (λ u.
     use1 𝓛 (later (some (λ (y : Or.Denot). ((‵ (flft (α ∷ []) full_share) ⊛ ‵ ftrue) ⊛ ‵ (Or.own_val y (u ∷ []))) ⊛
-    some (λ (ws : Lasts next.ended z.0.0 z.0.3). ‵ (lasts next.ended z.0.0 z.0.3 ws) ⊛ (‵ (EndsAfter lent y) ⊛ raw (fact 𝓤 (CanReply r.now (next_reply y)))))))) (id⊢ 𝓤 _) $
+    some (λ (ws : Lasts next.ended z.0.0 z.0.3). ‵ (lasts next.ended z.0.0 z.0.3 ws) ⊛ (‵ (LineAfterNext lent y) ⊛ raw (fact 𝓤 (IsReplyOfNext r.now (next_reply y)))))))) (id⊢ 𝓤 _) $
     await ! tt $ pick ! (λ y. split ! $ split ! $ split ! $ move ! (2 ∷ []) $
     -- [the reply; the token of α; nothing; the rest; what the lender keeps; the allocator]
     move ! (3 ∷ []) $ pick ! (λ ws. split ! $ drop ! $ split ! $ move ! (1 ∷ []) $ heard ! _ (λ can.
@@ -111,14 +111,14 @@ call_next_spec 𝓤 𝓛 𝓜 𝓡 wired =
     lands_as ! refl refl typed $ sets ! (of_opd ! (get ! refl)) refl typed $
     let C = triple_of 𝓛 copied.signature (copied.spec 𝓛 𝓜.mem 𝓡.returns) in
     let zc : C.Ghost = (((α ∷ [], tt), (full_share, tt), tt, (al, (y, tt)), (va ∷ [], (u ∷ [], tt))), tt) in
-    let Asked = (line : UnreadLine) × CanReply line (next_reply y) in
+    let Asked = IsSome (next_reply y) in
     -- [the reply; what `next` says; the token of α; nothing; what the lender keeps; the allocator]
     nothing ! $ move ! (1 ∷ 0 ∷ []) $ join ! $ move ! (5 ∷ 0 ∷ []) $ join ! $ nothing ! $ move ! (3 ∷ 0 ∷ []) $ join ! $ join ! $
-    use0 𝓛 (raw (fact 𝓤 Asked)) (fact_i 𝓤 Asked (emp 𝓤) (r.now, can)) $ move ! (1 ∷ 0 ∷ []) $ use2 𝓛 (raw (C.pre zc)) (id⊢ 𝓤 _) $
+    use0 𝓛 (raw (fact 𝓤 Asked)) (fact_i 𝓤 Asked (emp 𝓤) (some_reply Next r.now (next_reply y) can.0 can.1)) $ move ! (1 ∷ 0 ∷ []) $ use2 𝓛 (raw (C.pre zc)) (id⊢ 𝓤 _) $
     calls_at ! (framed 𝓤 𝓛.H 𝓜 (tables 𝓤 𝓛.H 𝓜 𝓡 𝓡.env)) C (copied_met 𝓤 𝓛 𝓜 𝓡 (code.calls-lexopt_calls::replay::copy_reply 𝓡.env wired)) zc
     (and_then ! (get ! refl) (and_then ! (get ! refl) (no_more !))) (λ v.
     use1 𝓛 (later (some (λ (t : Tr.Denot). ((‵ (flft (α ∷ []) full_share) ⊛ ‵ ftrue) ⊛ ‵ (Tr.own_val t (v ∷ []))) ⊛
-    some (λ (ws : Lasts copied.ended zc.0.0 zc.0.3). ‵ (lasts copied.ended zc.0.0 zc.0.3 ws) ⊛ raw (fact 𝓤 (IfOk t (λ x. next_reply y ≡ Some (next_view x)))))))) (id⊢ 𝓤 _) $
+    some (λ (ws : Lasts copied.ended zc.0.0 zc.0.3). ‵ (lasts copied.ended zc.0.0 zc.0.3 ws) ⊛ raw (fact 𝓤 (IfOk t (λ x. next_reply y ≡ Some (reply_view x)))))))) (id⊢ 𝓤 _) $
     await ! tt $ pick ! (λ t. split ! $ split ! $ split ! $ lft_end ! tt $ move ! (2 ∷ []) $
     peeks ! Tr (Is Tr) (shows 𝓛 Tr) t (v ∷ []) (λ is'.
     lands_as ! refl refl (((Tr-laws.lawful 𝓛).typed t (v ∷ []) is').0) $ move ! (3 ∷ []) $ pick ! (λ ws'. split ! $ drop ! $ heard ! _ (λ same.

@@ -9,7 +9,7 @@ use Rattle.lexopt_calls.proofs.replay.call_try_raw.Goals as goal
 pub returns-in_err-take_words-in-Some : goal.returns-in_err-take_words-in-Some
 returns-in_err-take_words-in-Some c =
     let h = c.in_err-take_words-in-Some.ensures.items in
-    let made = try_raw_made h.0 c.args.parser.now c.in-Some.view.parser.now _ h.1 (c.in-Some.ensures.nothing_pending.0 refl) c.in-Some.ensures.unchanged h.3 in (
+    let made = try_raw_made h.0 c.args.parser.now c.in-Some.view.parser.now _ h.1 (c.in-Some.ensures.nothing_pending.0 refl) c.in-Some.ensures.view.1 h.3 in (
       h.0,
       items h.1,
       h.2,
@@ -20,7 +20,7 @@ returns-in_err-take_words-in-Some c =
 pub returns-in_ok-take_words-in-Some : goal.returns-in_ok-take_words-in-Some
 returns-in_ok-take_words-in-Some c =
     let h = c.in_ok-take_words-in-Some.ensures.items in
-    let made = try_raw_made h.0 c.args.parser.now c.in-Some.view.parser.now _ h.1 (c.in-Some.ensures.nothing_pending.0 refl) c.in-Some.ensures.unchanged h.3 in (
+    let made = try_raw_made h.0 c.args.parser.now c.in-Some.view.parser.now _ h.1 (c.in-Some.ensures.nothing_pending.0 refl) c.in-Some.ensures.view.1 h.3 in (
       h.0,
       items h.1,
       h.2,

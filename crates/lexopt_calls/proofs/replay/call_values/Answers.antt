@@ -3,16 +3,16 @@ use Rattle.std.proofs.lemmas.Result.{IfOk-from_err}
 use Rattle.lexopt_spec.specs.UnreadLine.{UnreadLine}
 use Rattle.lexopt_spec.specs.Steps.{items}
 use Rattle.lexopt_spec.specs.Runs.{Step, values}
-use Rattle.lexopt_base.specs.Refusals.{refusal_reply}
 use Rattle.lexopt_base.specs.Replies.{error_reply}
+use Rattle.lexopt_calls.specs.Replies.{reply_view}
 use Rattle.lexopt_calls.proofs.StepReplies.{err_told, refusal_given, some_reply}
-use Rattle.lexopt_calls.proofs.Views.{values_made}
+use Rattle.lexopt_base.proofs.ValueCalls.{values_made}
 use Rattle.lexopt_calls.proofs.replay.call_values.Goals as goal
 
 pub returns-in_err-take_values-in-Ok : goal.returns-in_err-take_values-in-Ok
 returns-in_err-take_values-in-Ok c =
     let h = c.in_err-take_values-in-Ok.ensures.items in
-    let made = values_made h.0 c.args.parser.now c.in-Ok.view.parser.now _ _ _ h.1 c.in-Ok.ensures.found c.in-Ok.ensures.unchanged c.in-Ok.ensures.going_on h.3 in (
+    let made = values_made h.0 c.args.parser.now c.in-Ok.view.parser.now _ _ _ h.1 c.in-Ok.ensures.view.3 c.in-Ok.ensures.view.1 c.in-Ok.ensures.view.2 h.3 in (
       h.0,
       items h.1,
       h.2,
@@ -23,7 +23,7 @@ returns-in_err-take_values-in-Ok c =
 pub returns-in_ok-take_values-in-Ok : goal.returns-in_ok-take_values-in-Ok
 returns-in_ok-take_values-in-Ok c =
     let h = c.in_ok-take_values-in-Ok.ensures.items in
-    let made = values_made h.0 c.args.parser.now c.in-Ok.view.parser.now _ _ _ h.1 c.in-Ok.ensures.found c.in-Ok.ensures.unchanged c.in-Ok.ensures.going_on h.3 in (
+    let made = values_made h.0 c.args.parser.now c.in-Ok.view.parser.now _ _ _ h.1 c.in-Ok.ensures.view.3 c.in-Ok.ensures.view.1 c.in-Ok.ensures.view.2 h.3 in (
       h.0,
       items h.1,
       h.2,
@@ -31,8 +31,8 @@ returns-in_ok-take_values-in-Ok c =
       (h.4.0, ap items h.4.1),
     )
 
-pub of_error-requires : goal.of_error-requires
-of_error-requires c =
+pub reply_of-requires : goal.reply_of-requires
+reply_of-requires c =
     let told = err_told c.values.result c.in-Err.error _ c.in-Err.is c.values.follows.holds-at-none in
     some_reply (Step (values c.args.count)) c.args.parser.now (error_reply c.in-Err.error) _ (told c.args.count)
 
@@ -40,8 +40,8 @@ pub returns-in-Err : goal.returns-in-Err
 returns-in-Err c =
     let told = err_told c.values.result c.in-Err.error _ c.in-Err.is c.values.follows.holds-at-none in (
       c.args.count,
-      refusal_reply c.of_error.result,
+      reply_view c.reply_of.result,
       omega arith,
-      refusal_given (Step (values c.args.count)) c.args.parser.now (error_reply c.in-Err.error) _ _ (told c.args.count) c.of_error.ensures,
-      (refl, c.from.ensures),
+      refusal_given (Step (values c.args.count)) c.args.parser.now (error_reply c.in-Err.error) _ _ (told c.args.count) c.reply_of.ensures,
+      (refl, refl),
     )

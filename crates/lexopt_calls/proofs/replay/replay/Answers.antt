@@ -7,7 +7,7 @@ use Rattle.lexopt_line_spec.proofs.Bounds.{run_bound}
 use Rattle.lexopt_line_spec.proofs.Clusters.{cluster_read}
 use Rattle.lexopt_line_spec.proofs.Parts.{part_suffix}
 use Rattle.lexopt_line_spec.proofs.RunAccounts.{run_keeps, run_shown, run_suffix}
-use Rattle.lexopt_line_spec.proofs.RunLemmas.{Run-more}
+use Rattle.lexopt_calls.proofs.RunLemmas.{Run-more}
 use Rattle.lexopt_calls.specs.Replies.{call_view, reply_view}
 use Rattle.lexopt_calls.proofs.Parts.{on_err, part_made}
 use Rattle.lexopt_calls.proofs.replay.replay.Goals as goal

@@ -1,22 +1,16 @@
 use Rattle.std.proofs.Common.{refl, sym, ap, subst, ◌∙◌, inl}
-use Rattle.std.proofs.lemmas.Result.{IfOk-from_err}
 use Rattle.lexopt_spec.specs.Steps.{maybe, done}
 use Rattle.lexopt_spec.specs.Runs as runs
 use Rattle.lexopt_spec.specs.Runs.{Step, values, raw, try_raw, up_to}
 use Rattle.lexopt_line_spec.proofs.Parts.{up_to_values, up_to_raw, up_to_try_raw}
 use Rattle.lexopt_calls.specs.Replies.{call_view, reply_view}
-use Rattle.lexopt_calls.proofs.StepReplies.{all_told}
+use Rattle.lexopt_calls.proofs.StepReplies.{all_told, told_also}
 use Rattle.lexopt_calls.proofs.replay.reply_to.Goals as goal
 
-pub returns-in_err-call_next-in-Next : goal.returns-in_err-call_next-in-Next
-returns-in_err-call_next-in-Next c =
+pub returns-in-Next : goal.returns-in-Next
+returns-in-Next c =
     let h = c.call_next.ensures in
-    (0, h.0, rw c.in-Next.is h.1, IfOk-from_err c.from_residual.result _ c.from_residual.ensures.0)
-
-pub returns-in_ok-call_next-in-Next : goal.returns-in_ok-call_next-in-Next
-returns-in_ok-call_next-in-Next c =
-    let h = c.in_ok-call_next-in-Next.ensures in
-    (0, h.0, rw c.in-Next.is h.1, (rw c.in-Next.is refl, c.from.ensures ∙ h.2))
+    (0, h.0, rw c.in-Next.is h.1, told_also c.call_next.result _ _ (rw c.in-Next.is refl) h.2)
 
 pub returns-in-Value : goal.returns-in-Value
 returns-in-Value c = (0, reply_view c.call_value.result, rw c.in-Value.is c.call_value.ensures, (rw c.in-Value.is refl, refl))

@@ -1,51 +1,51 @@
-use Rattle.std.proofs.Common.{◌≡◌, string_bytes, subst, sym}
+use Rattle.std.proofs.Common.{◌≡◌, List, ℕ, subst, sym}
 use Rattle.lexopt_line_spec.specs.Table.{Item, short, long, positional}
-use Rattle.lexopt_items.specs.Items.{ReadsItem, table_view}
-use Rattle.lexopt_calls.specs.declared.replay.NextReply.TheVariants as next
+use Rattle.lexopt_items.specs.Items.{ReadsItem, item_with, table_view}
+use Rattle.lexopt_base.specs.declared.parser.Found.TheVariants as found
+use Rattle.lexopt_base.proofs.Refusals.{named}
 use Rattle.lexopt_items.proofs.ReadsItems.{gave, option_read, option_refused, positional_read, next_refused, handed_on, joins}
 use Rattle.lexopt_items.proofs.items.read_item.Goals as goal
 
-pub returns-in_ok-values-in-Short-clause-ok :
-    goal.returns-in_ok-values-in-Short-clause-ok
+pub returns-in_ok-values-in-Short-clause-ok : goal.returns-in_ok-values-in-Short-clause-ok
 returns-in_ok-values-in-Short-clause-ok c =
-    let is : c.in_ok-option.field-0 ≡ (next.Short c.in-Short.option) = cc in
+    let is : c.in_ok-option.field-0 ≡ (found.Short c.in-Short.option) = cc in
     joins (table_view c.args.table.now) c.args.parser.now c.read_values.new.parser _ _ _ c.add.result
     (subst (λ (i : Item). ReadsItem (table_view c.args.table.now) c.args.parser.now i c.read_values.new.parser) (sym c.of_short.ensures)
-    (option_read (table_view c.args.table.now) c.args.parser.now c.call_next.new.parser c.read_values.new.parser (short c.in-Short.option) c.kind_of_short.result
+    (option_read (table_view c.args.table.now) c.args.parser.now c.advance.new.self c.read_values.new.parser (short c.in-Short.option) c.kind_of_short.result
     c.in_ok-values-in-Short.values c.kind_of_short.ensures (gave _ _ _ _ c.in_ok-option.ensures is) c.in_ok-values-in-Short.ensures.ok)) c.add.ensures.ok
 
-pub returns-in_ok-values-in-Long-clause-ok :
-    goal.returns-in_ok-values-in-Long-clause-ok
+pub returns-in_ok-values-in-Long-clause-ok : goal.returns-in_ok-values-in-Long-clause-ok
 returns-in_ok-values-in-Long-clause-ok c =
-    let is : c.in_ok-option.field-0 ≡ (next.Long c.in-Long.name) = cc in
+    let is : c.in_ok-option.field-0 ≡ found.Long = cc in
+    let step = named _ _ c.long_name-name.result.now (gave _ _ _ _ c.in_ok-option.ensures is) c.long_name-name.ensures in
     joins (table_view c.args.table.now) c.args.parser.now c.read_values-in-Long.new.parser _ _ _ c.add-in-Long.result
     (subst (λ (i : Item). ReadsItem (table_view c.args.table.now) c.args.parser.now i c.read_values-in-Long.new.parser) (sym c.of_long.ensures)
-    (option_read (table_view c.args.table.now) c.args.parser.now c.call_next.new.parser c.read_values-in-Long.new.parser (long (string_bytes c.in-Long.name))
-    c.kind_of_long.result c.in_ok-values-in-Long.values c.kind_of_long.ensures (gave _ _ _ _ c.in_ok-option.ensures is) c.in_ok-values-in-Long.ensures.ok)) c.add-in-Long.ensures.ok
+    (subst (λ (n : List ℕ). ReadsItem (table_view c.args.table.now) c.args.parser.now (item_with (long n) c.in_ok-values-in-Long.values) c.read_values-in-Long.new.parser) (sym c.in_ok-name-in-Long.ensures.ok)
+    (option_read (table_view c.args.table.now) c.args.parser.now c.advance.new.self c.read_values-in-Long.new.parser (long c.long_name-name.result.now)
+    c.kind_of_long-kind.result c.in_ok-values-in-Long.values c.kind_of_long-kind.ensures step c.in_ok-values-in-Long.ensures.ok))) c.add-in-Long.ensures.ok
 
 pub returns-in-Value-clause-ok : goal.returns-in-Value-clause-ok
 returns-in-Value-clause-ok c =
-    let is : c.in_ok-option.field-0 ≡ (next.Value c.in-Value.word) = cc in
-    joins (table_view c.args.table.now) c.args.parser.now c.call_next.new.parser _ _ (positional c.in-Value.word) c.add-in-Value.result
-    (positional_read (table_view c.args.table.now) c.args.parser.now c.call_next.new.parser c.in-Value.word (gave _ _ _ _ c.in_ok-option.ensures is)) c.add-in-Value.ensures.ok
+    let is : c.in_ok-option.field-0 ≡ (found.Value c.in-Value.word) = cc in
+    joins (table_view c.args.table.now) c.args.parser.now c.advance.new.self _ _ (positional c.in-Value.word) c.add-in-Value.result
+    (positional_read (table_view c.args.table.now) c.args.parser.now c.advance.new.self c.in-Value.word (gave _ _ _ _ c.in_ok-option.ensures is)) c.add-in-Value.ensures.ok
 
-pub returns-in-UnexpectedValue-clause-err : goal.returns-in-UnexpectedValue-clause-err
-returns-in-UnexpectedValue-clause-err c =
-    let is : c.in_ok-option.field-0 ≡ (next.UnexpectedValue c.in-UnexpectedValue.option c.in-UnexpectedValue.value) = cc in
-    next_refused (table_view c.args.table.now) c.args.parser.now c.call_next.new.parser c.in-UnexpectedValue.option c.in-UnexpectedValue.value (gave _ _ _ _ c.in_ok-option.ensures is)
+pub returns-in_err-option-clause-err : goal.returns-in_err-option-clause-err
+returns-in_err-option-clause-err c =
+    handed_on c.from_residual.result c.in_err-option.field-0.0 _ c.from_residual.ensures.1
+    (next_refused (table_view c.args.table.now) c.args.parser.now c.advance.new.self c.in_err-option.field-0.0 c.in_err-option.ensures)
 
-pub returns-in_err-values-in-Short-clause-err :
-    goal.returns-in_err-values-in-Short-clause-err
+pub returns-in_err-values-in-Short-clause-err : goal.returns-in_err-values-in-Short-clause-err
 returns-in_err-values-in-Short-clause-err c =
-    let is : c.in_ok-option.field-0 ≡ (next.Short c.in-Short.option) = cc in
+    let is : c.in_ok-option.field-0 ≡ (found.Short c.in-Short.option) = cc in
     handed_on c.from_residual-in_err-values-in-Short.result c.in_err-values-in-Short.field-0.0 _ c.from_residual-in_err-values-in-Short.ensures.1
-    (option_refused (table_view c.args.table.now) c.args.parser.now c.call_next.new.parser (short c.in-Short.option) c.kind_of_short.result _ c.kind_of_short.ensures
+    (option_refused (table_view c.args.table.now) c.args.parser.now c.advance.new.self (short c.in-Short.option) c.kind_of_short.result _ c.kind_of_short.ensures
     (gave _ _ _ _ c.in_ok-option.ensures is) c.in_err-values-in-Short.ensures.err)
 
-pub returns-in_err-values-in-Long-clause-err :
-    goal.returns-in_err-values-in-Long-clause-err
+pub returns-in_err-values-in-Long-clause-err : goal.returns-in_err-values-in-Long-clause-err
 returns-in_err-values-in-Long-clause-err c =
-    let is : c.in_ok-option.field-0 ≡ (next.Long c.in-Long.name) = cc in
+    let is : c.in_ok-option.field-0 ≡ found.Long = cc in
+    let step = named _ _ c.long_name-name.result.now (gave _ _ _ _ c.in_ok-option.ensures is) c.long_name-name.ensures in
     handed_on c.from_residual-in_err-values-in-Long.result c.in_err-values-in-Long.field-0.0 _ c.from_residual-in_err-values-in-Long.ensures.1
-    (option_refused (table_view c.args.table.now) c.args.parser.now c.call_next.new.parser (long (string_bytes c.in-Long.name)) c.kind_of_long.result _ c.kind_of_long.ensures
-    (gave _ _ _ _ c.in_ok-option.ensures is) c.in_err-values-in-Long.ensures.err)
+    (option_refused (table_view c.args.table.now) c.args.parser.now c.advance.new.self (long c.long_name-name.result.now) c.kind_of_long-kind.result _ c.kind_of_long-kind.ensures
+    step c.in_err-values-in-Long.ensures.err)

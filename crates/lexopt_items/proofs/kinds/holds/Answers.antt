@@ -6,6 +6,6 @@ use Rattle.lexopt_items.proofs.kinds.holds.Goals as goal
 
 pub returns : goal.returns
 returns c =
-    c.contains.ensures.value
-    ∙ ap (list_any (λ (n : String Global). pointwise ◌==◌ (string_bytes n) (string_bytes c.args.name.now))) c.deref.ensures.value
-    ∙ sym (list_any-map (string_bytes {Z = Global}) (λ n. pointwise ◌==◌ n (string_bytes c.args.name.now)) c.args.names.now.items)
+    c.any_is.ensures
+    ∙ ap (list_any (λ (n : String Global). pointwise ◌==◌ (string_bytes n) c.args.name.now)) c.deref.ensures.value
+    ∙ sym (list_any-map (string_bytes {Z = Global}) (λ n. pointwise ◌==◌ n c.args.name.now) c.args.names.now.items)

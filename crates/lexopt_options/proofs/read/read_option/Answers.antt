@@ -1,11 +1,24 @@
-use Rattle.std.proofs.Common.{None, refl, sym, subst}
-use Rattle.lexopt_items.specs.Items.{ReadsValues}
-use Rattle.lexopt_items.specs.declared.kinds.Kind.{Kind}
+use Rattle.std.proofs.Common.{None, ap, refl, sym, ◌∙◌}
+use Rattle.lexopt_options.specs.Declarations.{declaration_of}
+use Rattle.lexopt_options.specs.Kinds.{kind_at}
+use Rattle.lexopt_items.specs.Items.{kind_view}
+use Rattle.lexopt_items.specs.declared.kinds.Kind.TheVariants.{Flag}
 use Rattle.lexopt_items.specs.declared.values.Values.TheVariants.{AtMostOne}
+use Rattle.lexopt_options.specs.declared.said.Said.TheVariants as said
+use Rattle.lexopt_options.proofs.ReadNext.{option_said}
 use Rattle.lexopt_options.proofs.read.read_option.Goals as goal
 
-pub returns-in-Flag-clause-ok : goal.returns-in-Flag-clause-ok
-returns-in-Flag-clause-ok c = (AtMostOne None, refl, subst (λ (k : Kind). ReadsValues k c.args.parser.now (AtMostOne None) c.args.parser.now) (sym c.in-Flag.is) refl)
+pub returns-in-Flag : goal.returns-in-Flag
+returns-in-Flag c = λ count u name step found.
+    option_said (declaration_of c.args.options.now) count u c.args.parser.now c.args.parser.now name Flag c.args.index (said.Option c.args.index None) c.args.options.now.sound
+    (ap kind_view (sym c.in-Flag.is) ∙ c.kind_at-kind.ensures ∙ ap (λ os. kind_at os c.args.index) c.options.ensures.view) step found (AtMostOne None, refl, refl)
 
-pub returns-in-Err-clause-err : goal.returns-in-Err-clause-err
-returns-in-Err-clause-err c = c.stop_of.ensures c.args.kind c.args.parser.now c.in-Err.ensures.err
+pub returns-in-Ok : goal.returns-in-Ok
+returns-in-Ok c = λ count u name step found.
+    option_said (declaration_of c.args.options.now) count u c.args.parser.now c.read_values.new.parser name c.kind_at-kind.result c.args.index c.of_values.result c.args.options.now.sound
+    (c.kind_at-kind.ensures ∙ ap (λ os. kind_at os c.args.index) c.options.ensures.view) step found (c.in-Ok.values, c.of_values.ensures, c.in-Ok.ensures.ok)
+
+pub returns-in_ok-missing_value-in-Err : goal.returns-in_ok-missing_value-in-Err
+returns-in_ok-missing_value-in-Err c = λ count u name step found.
+    c.in_ok-missing_value-in-Err.ensures count c.kind_at-kind.result u c.args.parser.now name step found
+    (c.kind_at-kind.ensures ∙ ap (λ os. kind_at os c.args.index) c.options.ensures.view) c.in-Err.ensures.err

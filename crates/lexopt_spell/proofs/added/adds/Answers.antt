@@ -21,7 +21,8 @@ returns-in-Long c =
     c.long_added.ensures
     ∙ ap (λ (u : Bool). tables.long_added u has place name (form_answer c.long_form.result)) (sym (is_utf8-from_IsUtf8 name (IsUtf8-string_bytes c.in-Long.name)))
     ∙ ap (λ (f : Result Form Reason). tables.long_added (is_utf8 name) has place name f)
-    (c.long_form.ensures ∙ ap (λ (k : Kind). tables.long_form k c.in-Long.value) c.kind_of_long-kind.ensures)
+    (c.long_form.ensures ∙ ap (λ (k : Kind). tables.long_form k c.in-Long.value)
+    (c.kind_of_long-kind.ensures ∙ ap (λ n. kind (table_view c.args.table.now) (long n)) c.deref-in-Long.ensures))
     ∙ ap (λ i. tables.adds (table_view c.args.table.now) c.args.short_equals joins due place (item_view i)) (sym c.in-Long.is)
 
 pub returns-in-LongMany : goal.returns-in-LongMany
@@ -34,8 +35,9 @@ returns-in-LongMany c =
     c.long_added-in-LongMany.ensures
     ∙ ap (λ (u : Bool). tables.long_added u has place name (form_answer c.long_many_form.result)) (sym (is_utf8-from_IsUtf8 name (IsUtf8-string_bytes c.in-LongMany.name)))
     ∙ ap (λ (f : Result Form Reason). tables.long_added (is_utf8 name) has place name f)
-    (c.long_many_form.ensures ∙ ap (λ (k : Kind). tables.long_many_form k c.deref-in-LongMany.result.now) c.kind_of_long-kind-in-LongMany.ensures
-    ∙ ap (λ vs. tables.long_many_form (kind (table_view c.args.table.now) (long name)) vs) c.deref-in-LongMany.ensures.value)
+    (c.long_many_form.ensures ∙ ap (λ (k : Kind). tables.long_many_form k c.deref-in-LongMany-2.result.now)
+    (c.kind_of_long-kind-in-LongMany.ensures ∙ ap (λ n. kind (table_view c.args.table.now) (long n)) c.deref-in-LongMany.ensures)
+    ∙ ap (λ vs. tables.long_many_form (kind (table_view c.args.table.now) (long name)) vs) c.deref-in-LongMany-2.ensures.value)
     ∙ ap (λ i. tables.adds (table_view c.args.table.now) c.args.short_equals joins due place (item_view i)) (sym c.in-LongMany.is)
 
 pub returns-in_ok-short_many_form-in-ShortMany : goal.returns-in_ok-short_many_form-in-ShortMany

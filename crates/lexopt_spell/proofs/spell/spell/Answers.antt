@@ -1,6 +1,6 @@
 use Rattle.std.proofs.Common.{map, sym, ap, ◌∙◌, inr}
 use Rattle.lexopt_line_spec.proofs.SpellerAgrees.{are_words, is_fault, words_spell, fault_named}
-use Rattle.lexopt_line_spec.proofs.SpellerFaults.{same_fault, words_read, words_said}
+use Rattle.lexopt_line_spec.proofs.SpellerFaults.{words_read, words_said}
 use Rattle.lexopt_items.specs.Items.{item_view, table_view}
 use Rattle.lexopt_spell.specs.Models.{added_answer, added_view, place_view, reason_view}
 use Rattle.lexopt_spell.proofs.Answered.{none_shown}
@@ -46,16 +46,3 @@ returns-in-Err-clause-answered c = λ words shows.
 pub returns-in-Err-clause-none : goal.returns-in-Err-clause-none
 returns-in-Err-clause-none c = inr (λ words shows.
     none_shown (table_view c.args.table.now) c.args.short_equals words (map item_view c.args.items.now) (record { index = c.loop-index.index; reason = reason_view c.in-Err.reason }) (returns-in-Err-clause-fault c) shows)
-
-pub returns-in-Err-clause-one_fault : goal.returns-in-Err-clause-one_fault
-returns-in-Err-clause-one_fault c = λ i j one other. same_fault (table_view c.args.table.now) c.args.short_equals (map item_view c.args.items.now) i j one other
-
-pub returns-clause-one_fault : goal.returns-clause-one_fault
-returns-clause-one_fault c = λ i j one other. same_fault (table_view c.args.table.now) c.args.short_equals (map item_view c.args.items.now) i j one other
-
-pub returns-in_err-push-in-Ok-clause-one_fault : goal.returns-in_err-push-in-Ok-clause-one_fault
-returns-in_err-push-in-Ok-clause-one_fault c = λ i j one other.
-    same_fault (table_view c.args.table.now) c.args.short_equals (map item_view c.args.items.now) i j one other
-
-pub returns-in_err-words-clause-one_fault : goal.returns-in_err-words-clause-one_fault
-returns-in_err-words-clause-one_fault c = λ i j one other. same_fault (table_view c.args.table.now) c.args.short_equals (map item_view c.args.items.now) i j one other

@@ -1,14 +1,23 @@
-use Rattle.std.proofs.Common.{◌≡◌, ◌<◌, List, ℕ, Bool, Some, drop, length, sym, ap, subst, ◌∙◌, inl, true≢false, arith, length-drop}
+use Rattle.std.proofs.Common.{◌≡◌, ◌<◌, ◌-◌, true, List, ℕ, Bool, Some, drop, length, sym, ap, subst, ◌∙◌, inl, true≢false, arith, length-drop}
 use Rattle.lexopt_spec.specs.UnreadLine.{UnreadLine, pending, pending_in, rest_of, short_option}
 use Rattle.lexopt_spec.specs.Steps.{short, NextStep, ReadsPositional, ReadsWord, next_in_cluster, after_separator, next_word}
 use Rattle.lexopt_spec.proofs.LineLemmas.{goes_on, rest_of-some, same_parts}
 use Rattle.lexopt_base.specs.Models.{tail_of, ended_of, IsPlaced, IsShortRead}
-use Rattle.lexopt_base.specs.Found.{found_as, found_reply}
+use Rattle.lexopt_base.specs.Found.{found_as, advance_reply}
 use Rattle.lexopt_base.specs.declared.parser.State.{State}
 use Rattle.lexopt_base.proofs.States.{flag_in}
 use Rattle.lexopt_base.proofs.Refusals.{refuses, gives_map, gives_step}
 use Rattle.lexopt_base.proofs.parser.Parser.advance.Goals.{After-pending_at-start}
 use Rattle.lexopt_base.proofs.parser.Parser.advance.Goals as goal
+
+pub refuse-requires-clause-value : goal.refuse-requires-clause-value
+refuse-requires-clause-value c =
+    let p = c.self.inside in (
+      drop c.in-PendingValue.position p.words.current,
+      true,
+      ap pending (sym c.self.view_is) ∙ ap (λ (s : State). pending_in p.short_equals (tail_of p.words.current s)) c.in-PendingValue.is,
+      length-drop c.in-PendingValue.position p.words.current ∙ ap (λ (w : List ℕ). length w - c.in-PendingValue.position) (sym c.current.ensures),
+    )
 
 pub returns-in-PendingValue : goal.returns-in-PendingValue
 returns-in-PendingValue c =
@@ -77,4 +86,4 @@ returns-in-Ready c =
     let tail = ap (λ (l : UnreadLine). l.tail) (sym c.self.view_is) ∙ ap (λ (s : State). tail_of p.words.current s) c.in-Ready.is in
     let ended = ap (λ (l : UnreadLine). l.ended) (sym c.self.view_is) ∙ ap ended_of c.in-Ready.is in
     gives_map ReadsWord NextStep u (λ r v step. next_word tail ended step)
-    (found_reply c.read_word.new.self.last c.read_word.result) c.read_word.new.self c.read_word.ensures
+    (advance_reply c.read_word.new.self.last c.read_word.result) c.read_word.new.self c.read_word.ensures

@@ -47,8 +47,8 @@ use Rattle.lexopt_words.proofs.error.Error.TheLaws as Error-laws
 use Rattle.lexopt_spec.specs.UnreadLine.{UnreadLine}
 use Rattle.lexopt_spec.specs.Steps.{Reply, Next}
 use Rattle.lexopt_base.specs.Replies.{RepliesWith, next_reply}
-use Rattle.lexopt_base.specs.Found.{found_reply}
-use Rattle.lexopt_base.specs.Ends.{EndsAfter}
+use Rattle.lexopt_base.specs.Found.{advance_reply}
+use Rattle.lexopt_base.specs.Ends.{LineAfterNext}
 use Rattle.lexopt_base.proofs.Ends.{ends_after, told_of}
 use Rattle.lexopt_base.specs.contracts.parser.Parser.next as f
 use Rattle.lexopt_base.specs.contracts.parser.Parser.advance as g
@@ -95,7 +95,7 @@ next_spec 𝓤 𝓛 𝓜 𝓡 wired =
     calls_at ! (framed 𝓤 𝓛.H 𝓜 (tables 𝓤 𝓛.H 𝓜 𝓡 𝓡.env)) G (advance_met 𝓤 𝓛 𝓜 𝓡 (code.calls-lexopt_base::parser::Parser::advance 𝓡.env wired)) z
     (and_then ! (get ! refl) (no_more !)) (λ v.
     use1 𝓛 (later (some (λ (x : Fr.Denot). ((‵ (flft (α ∷ []) full_share) ⊛ ‵ ftrue) ⊛ ‵ (Fr.own_val x (v ∷ []))) ⊛
-    some (λ (ws : UnreadLine × Unit {0}). ‵ (lasts g.ended z.0.0 z.0.3 ws) ⊛ raw (fact 𝓤 (RepliesWith Next r.now (found_reply ws.0.last x) ws.0)))))) (id⊢ 𝓤 _) $
+    some (λ (ws : UnreadLine × Unit {0}). ‵ (lasts g.ended z.0.0 z.0.3 ws) ⊛ raw (fact 𝓤 (RepliesWith Next r.now (advance_reply ws.0.last x) ws.0)))))) (id⊢ 𝓤 _) $
     await ! tt $ pick ! (λ x. split ! $ split ! $ split ! $ lft_end ! tt $ move ! (2 ∷ []) $
     -- [what was found; α is over; nothing; the rest; what the lender keeps]
     peeks ! Fr (Is Fr) (shows 𝓛 Fr) x (v ∷ []) (λ is.
@@ -122,14 +122,14 @@ next_spec 𝓤 𝓛 𝓜 𝓡 wired =
     calls_at ! (framed 𝓤 𝓛.H 𝓜 (tables 𝓤 𝓛.H 𝓜 𝓡 𝓡.env)) H (lend_met 𝓤 𝓛 𝓜 𝓡 (code.calls-lexopt_base::parser::Parser::lend 𝓡.env wired)) zz
     (and_then ! (get ! refl) (and_then ! (get ! refl) (no_more !))) (λ u.
     use1 𝓛 (later (some (λ (y : Or.Denot). ((‵ (flft κ q) ⊛ ‵ ftrue) ⊛ ‵ (Or.own_val y (u ∷ []))) ⊛
-    some (λ (ws' : Lasts h.ended zz.0.0 zz.0.3). ‵ (lasts h.ended zz.0.0 zz.0.3 ws') ⊛ raw (fact 𝓤 ((reply : Reply) → found_reply w.last x ≡ Some reply → next_reply y ≡ Some reply)))))) (id⊢ 𝓤 _) $
+    some (λ (ws' : Lasts h.ended zz.0.0 zz.0.3). ‵ (lasts h.ended zz.0.0 zz.0.3 ws') ⊛ raw (fact 𝓤 ((reply : Reply) → advance_reply w.last x ≡ Some reply → next_reply y ≡ Some reply)))))) (id⊢ 𝓤 _) $
     await ! tt $ pick ! (λ y. split ! $ split ! $ split ! $ move ! (2 ∷ []) $
     -- [the result; the token of κ; nothing; the rest; the last value of self; ..]
     peeks ! Or (Is Or) (shows 𝓛 Or) y (u ∷ []) (λ is'.
     lands_as ! refl refl (((Or-laws.lawful 𝓛).typed y (u ∷ []) is').0) $ move ! (3 ∷ []) $ pick ! (λ ws'. split ! $ drop ! $ heard ! _ (λ same.
     returns ! (look_at ! 0 refl) $ free_all ! refl $ keep ! (0 ∷ 1 ∷ 3 ∷ []) $ move ! (2 ∷ []) $
-    let told : RepliesWith Next r.now (next_reply y) w = told_of r.now w (found_reply w.last x) (next_reply y) steps same in
-    use1 𝓛 (‵ (EndsAfter r y)) (ends_after 𝓛 r y w told) $
+    let told : RepliesWith Next r.now (next_reply y) w = told_of r.now w (advance_reply w.last x) (next_reply y) steps same in
+    use1 𝓛 (‵ (LineAfterNext r y)) (ends_after 𝓛 r y w told) $
     -- [the clause; the result; the token of κ]
     suffices ! _ (ends_at 𝓛 f.ended stayed c ((κs, qs, bounds, a, (vs, tt)), tt) u y (tt, tt) (tt, tt)) $
     move ! (1 ∷ []) $ nothing ! $ nothing ! $ join ! $ nothing ! $ move ! (4 ∷ 0 ∷ []) $ join ! $ move ! (0 ∷ 1 ∷ 2 ∷ []) $ group ! 3 $ frame ! $ says ! (w, told) $ done !))))))))))))))

@@ -6,7 +6,7 @@ use Rattle.lexopt_spec.specs.Steps.{Answers, long, short, ReadsPositional, Reads
 use Rattle.lexopt_spec.proofs.LineLemmas.{first_word, got_word, same_parts, long_exists}
 use Rattle.lexopt_base.specs.Models.{tail_of, last_of, line_of, IsShortRead}
 use Rattle.lexopt_base.specs.Replies.{RepliesWith}
-use Rattle.lexopt_base.specs.Found.{found_as, found_reply}
+use Rattle.lexopt_base.specs.Found.{found_as, advance_reply}
 use Rattle.lexopt_base.proofs.Refusals.{refused, gives_step, positional_read}
 use Rattle.lexopt_base.proofs.parser.Parser.read_word.Goals as goal
 
@@ -21,7 +21,7 @@ returns-in_err-keep_name-in-Long c =
     let made = err_from_is_err_and c.from_residual.result c.from_residual.ensures.1 in
     let same : line_of (record p { name = c.keep_name.new.kept }) ≡ u =
     ap (λ (n : List ℕ). record (line_of p) { last = last_of p.last_option n }) c.in_err-keep_name-in-Long.ensures.err ∙ c.self.view_is in
-    subst (λ (l : UnreadLine). RepliesWith (Answers ReadsWord) u (found_reply l.last c.from_residual.result) l) (sym same)
+    subst (λ (l : UnreadLine). RepliesWith (Answers ReadsWord) u (advance_reply l.last c.from_residual.result) l) (sym same)
     (rw (made.1, made.2)
     (refused ReadsWord u (long (lossy named.0)) _
     (reads_long text.0 named.0 named.1 seen.0 words text.2 named.2 refl refl) tt))

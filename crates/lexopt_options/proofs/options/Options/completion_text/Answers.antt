@@ -5,5 +5,4 @@ pub returns : goal.returns
 returns c =
     let asked = rw c.if-not-is_text.false at c.is_text.ensures in
     let apart = ends_apart c.args.words.now c.first-item.result c.typed-item.result c.in-len2-up.len_at_least c.first-item.is c.typed-item.is in
-    let k = c.in_ok-completion.ensures in
-    (_, c.typed-item.result, c.in_ok-completion.completion, rw (← asked) apart, record { sound = k.sound; complete = k.complete; in_order = k.in_order; word = k.word; joined = k.joined; damaged = k.damaged }, c.in_ok-text_of.ensures)
+    (_, c.typed-item.result, c.in_ok-completion.completion, rw (← asked) apart, c.in_ok-completion.ensures, c.in_ok-text_of.ensures)

@@ -1,26 +1,22 @@
-use Rattle.std.proofs.Common.{◌≡◌, ◌∷◌, [], List, MatchOption, Option, Vec, ℕ, ap, subst, sym, ◌∙◌}
-use Rattle.std.specs.Global.{Global}
+use Rattle.std.proofs.Common.{◌≡◌, ◌∷◌, [], List, MatchOption, ℕ, ap, subst, sym, ◌∙◌}
 use Rattle.lexopt_options_spec.specs.Completion.{IsOption, is_long_with_equals}
 use Rattle.lexopt_options.specs.declared.said.Said.{Said}
+use Rattle.lexopt_options.specs.Completions.{Opens}
 use Rattle.lexopt_options.specs.Fronts.{IsPart}
 use Rattle.lexopt_options.specs.Reading.{said_view}
 use Rattle.lexopt_options.proofs.Completing.{none_joined, some_joined, unsaid_joined}
 use Rattle.lexopt_options.proofs.options.Options.joined_option.Goals as goal
 
-pub returns-then-not-branch : goal.returns-then-not-branch
-returns-then-not-branch c =
-    let none = rw c.if-not-branch.true at c.in_ok-is_open.ensures in
-    none_joined c.args.self.now c.args.words.now c.args.typed.now none
+pub returns-then-not-opens : goal.returns-then-not-opens
+returns-then-not-opens c = λ words opens. none_joined c.args.self.now words c.args.typed.now (subst (Opens c.args.self.now words) c.if-not-opens.true opens)
 
 pub returns-in-Some : goal.returns-in-Some
-returns-in-Some c =
-    let opens = rw c.if-not-branch.false at c.in_ok-is_open.ensures in
+returns-in-Some c = λ words opens.
     let with_equals = ap is_long_with_equals (sym c.as_bytes.ensures) ∙ sym c.is_long_with_equals.ensures ∙ c.if-not-is_long_with_equals.false in
     let P : List Said → Type 0 = λ items. MatchOption c.only_option.result ((i : ℕ) (s : Said) → items ≡ s ∷ [] → ¬ IsOption i (said_view s)) (λ i. (s : Said) × (items ≡ s ∷ []) × IsOption i (said_view s)) in
-    some_joined c.args.self.now c.args.words.now c.in_ok-one_word.field-0.items c.args.typed.now opens.0 c.in-Some.said c.only_option.result with_equals opens.1 c.in_ok-one_word.ensures
-    (subst (λ (f : Option (Vec Said Global)). IsPart c.args.self.now c.in_ok-one_word.field-0.items f) c.in-Some.is c.in_ok-said.ensures) (subst P c.deref.ensures.value c.only_option.ensures)
+    some_joined c.args.self.now words c.in_ok-one_word.field-0.items c.args.typed.now c.in-Some.said c.only_option.result with_equals (subst (Opens c.args.self.now words) c.if-not-opens.false opens)
+    c.in_ok-one_word.ensures (subst (IsPart c.args.self.now c.in_ok-one_word.field-0.items) c.in-Some.is c.in_ok-said.ensures) (subst P c.deref.ensures.value c.only_option.ensures)
 
 pub returns-in-None : goal.returns-in-None
-returns-in-None c =
-    unsaid_joined c.args.self.now c.args.words.now c.in_ok-one_word.field-0.items c.args.typed.now c.in_ok-one_word.ensures
-    (subst (λ (f : Option (Vec Said Global)). IsPart c.args.self.now c.in_ok-one_word.field-0.items f) c.in-None.is c.in_ok-said.ensures)
+returns-in-None c = λ words opens.
+    unsaid_joined c.args.self.now words c.in_ok-one_word.field-0.items c.args.typed.now c.in_ok-one_word.ensures (subst (IsPart c.args.self.now c.in_ok-one_word.field-0.items) c.in-None.is c.in_ok-said.ensures)

@@ -1,0 +1,80 @@
+//! Reads words by ten options many times, so that the cost of a read can be measured. `crates/bench_options/src/main.rt` does the same
+//! with the declared options of this repository, and says what the arguments and standard input are.
+
+mod said;
+mod seen;
+
+use seen::Seen;
+use std::env;
+use std::ffi::{OsStr, OsString};
+use std::io::{self, Read};
+use std::os::unix::ffi::OsStrExt;
+
+// What is done each time.
+#[derive(Clone, Copy)]
+enum Work {
+    Copy,
+    Said,
+}
+
+impl Work {
+    fn of_name(name: &str) -> Option<Work> {
+        match name {
+            "copy" => Some(Work::Copy),
+            "said" => Some(Work::Said),
+            _ => None,
+        }
+    }
+}
+
+// A copy of these words.
+fn copies(words: &[&[u8]]) -> Vec<OsString> {
+    let mut copied = Vec::with_capacity(words.len());
+    for word in words {
+        copied.push(OsStr::from_bytes(word).to_os_string());
+    }
+    copied
+}
+
+// Reads a line to its end.
+fn read_line(words: Vec<OsString>, seen: &mut Seen) -> bool {
+    match said::read(words) {
+        Ok(line) => {
+            seen.line(&line);
+            true
+        }
+        Err(_) => false,
+    }
+}
+
+fn main() -> Result<(), Box<dyn std::error::Error>> {
+    let mut args = env::args();
+    let (Some(_program), Some(work), Some(times)) = (args.next(), args.next(), args.next()) else {
+        return Err("usage: options copy|said TIMES".into());
+    };
+    let work = Work::of_name(&work).ok_or("the work is copy or said")?;
+    let times = times.parse::<u64>()?;
+
+    let mut input = Vec::new();
+    io::stdin().read_to_end(&mut input)?;
+    let mut words: Vec<&[u8]> = input.split(|byte| *byte == 0).collect();
+    let _after_the_last = words.pop();
+
+    let mut seen = Seen::new();
+    for _ in 0..times {
+        let copied = copies(&words);
+        let goes_on = match work {
+            Work::Copy => {
+                seen.copies(&copied);
+                true
+            }
+            Work::Said => read_line(copied, &mut seen),
+        };
+        if !goes_on {
+            return Err("an error that no workload should lead to".into());
+        }
+        seen.stop_hashing();
+    }
+    print!("{seen}");
+    Ok(())
+}

@@ -1,0 +1,139 @@
+//! Reads words by declared options many times, so that the cost of a read can be measured.
+//! `bench/src/bin/options` does the same with the Rust crate, by a `match` over the names.
+//!
+//! The first argument is the work, and the second how many times it is done. Standard input has the
+//! words, each ended by a NUL. Each time
+//!
+//! - `copy` copies the words;
+//! - `said` copies them too, and reads the copies by ten declared options;
+//! - `declare` declares these options, and copies nothing.
+//!
+//! Last it prints what was seen.
+#![tactic(auto)]
+
+mod declared;
+mod seen;
+
+use anyhow::{Context, Result, bail};
+use declared::{FILES, OPTIONS};
+use lexopt_options::{Declared, Options, OsString, Positional};
+use seen::Seen;
+use std::alloc::{AllocError, Global};
+use std::env;
+use std::io::Read;
+
+// What is done each time.
+#[derive(Clone, Copy)]
+enum Work {
+    Copy,
+    Said,
+    Declare,
+}
+
+impl Work {
+    fn of_name(name: &str) -> Option<Work> {
+        match name {
+            "copy" => Some(Work::Copy),
+            "said" => Some(Work::Said),
+            "declare" => Some(Work::Declare),
+            _ => None,
+        }
+    }
+}
+
+// A copy of these words.
+fn copies(alloc: Global, words: &[&[u8]]) -> Result<Vec<OsString>, AllocError> {
+    let mut copied = Vec::with_capacity(alloc, words.len())?;
+    for word in words {
+        copied.push(OsString::from_bytes(alloc, word)?)?;
+    }
+    Ok(copied)
+}
+
+// Declares the options, and counts them. It is not inlined, so that it is done each time.
+#[inline(never)]
+fn declare<'a>(
+    options: &'a [Declared<'a>],
+    files: &'a [Positional<'a>],
+    seen: &mut Seen,
+) -> Option<Options<'a>> {
+    match Options::new("bench_options", "Reads words.", options, files) {
+        Ok(options) => {
+            seen.options(options.options().len());
+            Some(options)
+        }
+        Err(_) => None,
+    }
+}
+
+// Reads a line to its end.
+fn read_line(alloc: Global, words: Vec<OsString>, options: &Options<'_>, seen: &mut Seen) -> bool {
+    match options.read(alloc, words) {
+        Ok(line) => {
+            seen.line(&line);
+            true
+        }
+        Err(_) => false,
+    }
+}
+
+// Does the work once.
+fn do_once(
+    alloc: Global,
+    work: Work,
+    words: &[&[u8]],
+    options: &Options<'_>,
+    seen: &mut Seen,
+) -> Result<bool, AllocError> {
+    match work {
+        Work::Copy => {
+            seen.copies(&copies(alloc, words)?);
+            Ok(true)
+        }
+        Work::Said => Ok(read_line(alloc, copies(alloc, words)?, options, seen)),
+        Work::Declare => Ok(declare(options.options(), options.positionals(), seen).is_some()),
+    }
+}
+
+// Repeats the work. Returns whether no line was refused.
+fn repeat(
+    alloc: Global,
+    work: Work,
+    times: u64,
+    input: &[u8],
+    seen: &mut Seen,
+) -> Result<bool, AllocError> {
+    let mut words: Vec<&[u8]> = input.split(|byte| *byte == 0).collect(alloc)?;
+    let _after_the_last = words.pop();
+    let declared = OPTIONS;
+    let files = FILES;
+    let Some(options) = declare(&declared, &files, &mut Seen::new()) else {
+        return Ok(false);
+    };
+    for _ in 0..times {
+        if !do_once(alloc, work, &words, &options, seen)? {
+            return Ok(false);
+        }
+        seen.stop_hashing();
+    }
+    Ok(true)
+}
+
+fn main(rt: HostRuntime) -> Result<()> {
+    let alloc = rt.alloc();
+    let mut args = env::args(&rt)?;
+    let (Some(_program), Some(work), Some(times)) = (args.next(), args.next(), args.next()) else {
+        bail!("usage: bench_options copy|said|declare TIMES");
+    };
+    let work = Work::of_name(&work).context("the work is copy, said or declare")?;
+    let times = times.parse::<u64>().context("how many times")?;
+
+    let mut input = Vec::new(alloc);
+    rt.reader().read_to_end(&mut input)?;
+    let mut seen = Seen::new();
+    if !repeat(alloc, work, times, &input, &mut seen)? {
+        bail!("an error that no workload should lead to");
+    }
+    print!(rt; "{seen}")?;
+    Ok(())
+}

@@ -1,0 +1,95 @@
+use Rattle.std.proofs.Common.{◌≡◌, ◌∙◌, Ok, Err, List, ℕ, string_bytes, refl, subst, sym, ap}
+use Rattle.std.proofs.lemmas.Result.{IfOk-weaker}
+use Rattle.lexopt_line_spec.specs.Table.{long, short}
+use Rattle.lexopt_options_spec.specs.Declaration.{index_of}
+use Rattle.lexopt_options_spec.specs.Stops as stops
+use Rattle.lexopt_options_spec.specs.Stops.{Stops}
+use Rattle.lexopt_base.specs.declared.parser.Found.TheVariants as found
+use Rattle.lexopt_base.specs.declared.refusal.Refusal.TheVariants as refused
+use Rattle.lexopt_base.proofs.Refusals.{named}
+use Rattle.lexopt_options.specs.Declarations.{declaration_of}
+use Rattle.lexopt_options.proofs.ReadNext.{answered, never_missing, one_name, positional_said}
+use Rattle.lexopt_options.proofs.read.read_next.Goals as goal
+
+pub read_option-requires : goal.read_option-requires
+read_option-requires c =
+    let is : c.advance.result ≡ Ok (found.Short c.in-Ok-Short.option) = cc in
+    (c.args.parser.now, short c.in-Ok-Short.option, answered _ _ _ _ c.advance.ensures is)
+
+pub read_option-requires-in-Some-index_of_long : goal.read_option-requires-in-Some-index_of_long
+read_option-requires-in-Some-index_of_long c =
+    let is : c.advance.result ≡ Ok found.Long = cc in
+    (c.args.parser.now, long c.long_name.result.now, named _ _ c.long_name.result.now (answered _ _ _ _ c.advance.ensures is) c.long_name.ensures)
+
+pub returns-in-Some : goal.returns-in-Some
+returns-in-Some c =
+    let is : c.advance.result ≡ Ok (found.Short c.in-Ok-Short.option) = cc in
+    IfOk-weaker c.read_option.result _ _
+    (λ outcome comes. comes c.args.count c.args.parser.now (short c.in-Ok-Short.option) (answered _ _ _ _ c.advance.ensures is)
+    (sym (ap (λ os. index_of os (short c.in-Ok-Short.option)) c.options.ensures.view) ∙ sym c.index_of_short.ensures ∙ c.in-Some.is)) c.read_option.ensures
+
+pub returns-in-Some-index_of_long : goal.returns-in-Some-index_of_long
+returns-in-Some-index_of_long c =
+    let is : c.advance.result ≡ Ok found.Long = cc in
+    let step = named _ _ c.long_name.result.now (answered _ _ _ _ c.advance.ensures is) c.long_name.ensures in
+    IfOk-weaker c.read_option-in-Some-index_of_long.result _ _
+    (λ outcome comes. comes c.args.count c.args.parser.now (long c.long_name.result.now) step
+    (sym (ap (λ os. index_of os (long c.long_name.result.now)) c.options-in-Ok-Long.ensures.view) ∙ sym c.index_of_long.ensures ∙ c.in-Some-index_of_long.is)) c.read_option-in-Some-index_of_long.ensures
+
+pub returns-in_ok-unknown_option-in-None : goal.returns-in_ok-unknown_option-in-None
+returns-in_ok-unknown_option-in-None c =
+    let is : c.advance.result ≡ Ok (found.Short c.in-Ok-Short.option) = cc in
+    record {
+      why = stops.unknown_option (short c.in-Ok-Short.option);
+      told = c.in_ok-unknown_option-in-None.ensures;
+      stops = stops.not_declared (short c.in-Ok-Short.option) c.advance.new.self (answered _ _ _ _ c.advance.ensures is)
+          (sym (ap (λ os. index_of os (short c.in-Ok-Short.option)) c.options.ensures.view) ∙ sym c.index_of_short.ensures ∙ c.in-None.is);
+    }
+
+pub returns-in_ok-unknown_option-in-None-index_of_long : goal.returns-in_ok-unknown_option-in-None-index_of_long
+returns-in_ok-unknown_option-in-None-index_of_long c =
+    let is : c.advance.result ≡ Ok found.Long = cc in
+    let step = named _ _ c.long_name.result.now (answered _ _ _ _ c.advance.ensures is) c.long_name.ensures in
+    let name = c.in_ok-from_str-in-None-index_of_long.field-0 in
+    let same : c.long_name.result.now ≡ string_bytes name = one_name _ _ _ _ (answered _ _ _ _ c.advance.ensures is) c.long_name.ensures c.long_name-in-None-index_of_long.ensures ∙ sym c.in_ok-from_str-in-None-index_of_long.ensures.ok in
+    record {
+      why = stops.unknown_option (long (string_bytes name));
+      told = c.in_ok-unknown_option-in-None-index_of_long.ensures;
+      stops = subst (λ (n : List ℕ). Stops (declaration_of c.args.options.now) c.args.count c.args.parser.now (stops.unknown_option (long n))) same
+          (stops.not_declared (long c.long_name.result.now) c.advance.new.self step
+          (sym (ap (λ os. index_of os (long c.long_name.result.now)) c.options-in-Ok-Long.ensures.view) ∙ sym c.index_of_long.ensures ∙ c.in-None-index_of_long.is));
+    }
+
+pub returns-then-is_full : goal.returns-then-is_full
+returns-then-is_full c =
+    let is : c.advance.result ≡ Ok (found.Value c.in-Ok-Value.word) = cc in
+    record {
+      why = stops.unexpected_argument c.in-Ok-Value.word;
+      told = refl;
+      stops = stops.one_too_many c.in-Ok-Value.word c.advance.new.self (answered _ _ _ _ c.advance.ensures is) (sym c.requires.limit ∙ c.is_full.ensures.full c.if-is_full.true);
+    }
+
+pub returns-else-is_full : goal.returns-else-is_full
+returns-else-is_full c =
+    let is : c.advance.result ≡ Ok (found.Value c.in-Ok-Value.word) = cc in
+    positional_said (declaration_of c.args.options.now) c.args.count c.args.parser.now c.advance.new.self c.in-Ok-Value.word
+    (λ full. c.is_full.ensures.room c.if-is_full.false (c.requires.limit ∙ full)) (answered _ _ _ _ c.advance.ensures is)
+
+pub returns-in-Ok-End : goal.returns-in-Ok-End
+returns-in-Ok-End c =
+    let is : c.advance.result ≡ Ok found.End = cc in
+    c.finish.ensures c.args.parser.now c.advance.new.self (answered _ _ _ _ c.advance.ensures is)
+
+pub returns-in-UnexpectedValue : goal.returns-in-UnexpectedValue
+returns-in-UnexpectedValue c =
+    let is : c.advance.result ≡ Err (refused.UnexpectedValue c.in-UnexpectedValue.option c.in-UnexpectedValue.value) = cc in
+    record {
+      why = stops.unexpected_value (string_bytes c.in-UnexpectedValue.option) c.in-UnexpectedValue.value;
+      told = refl;
+      stops = stops.value_of_flag (string_bytes c.in-UnexpectedValue.option) c.in-UnexpectedValue.value c.advance.new.self (answered _ _ _ _ c.advance.ensures is);
+    }
+
+pub unreachable-requires : goal.unreachable-requires
+unreachable-requires c =
+    let is : c.advance.result ≡ Err (refused.MissingValue c.in-MissingValue.field-0) = cc in
+    never_missing c.args.parser.now c.advance.new.self c.in-MissingValue.field-0 (answered _ _ _ _ c.advance.ensures is)

@@ -1,0 +1,25 @@
+-- What is wrong with a line, as contracts see it.
+use Rattle.std.specs.Prelude.{◌≡◌, ℕ, option_map, string_bytes}
+use Rattle.lexopt_options_spec.specs.Declaration.{Declaration}
+use Rattle.lexopt_options_spec.specs.Nearest.{IsHint}
+use Rattle.lexopt_options_spec.specs.Stops as stops
+use Rattle.lexopt_options_spec.specs.Stops.{placeholder_at, required_placeholder}
+use Rattle.lexopt_options.specs.Names.{name_view}
+use Rattle.lexopt_options.specs.declared.mistake.Mistake.{Mistake}
+use Rattle.lexopt_options.specs.declared.mistake.Mistake.TheVariants.{UnknownOption}
+use Rattle.lexopt_options.specs.declared.mistake.Mistake.TheVariants.{UnexpectedValue, MissingValue}
+use Rattle.lexopt_options.specs.declared.mistake.Mistake.TheVariants.{UnexpectedArgument}
+use Rattle.lexopt_options.specs.declared.mistake.Mistake.TheVariants.{MissingArgument}
+
+-- the mistake is this one of the definitions
+abbrev pub IsMistake : Declaration → Mistake → stops.Mistake → Type 0
+IsMistake d (UnknownOption name nearest) m = (m ≡ stops.unknown_option (name_view name))
+    × IsHint d.options (name_view name) (option_map (λ text. text.now) nearest)
+IsMistake d (UnexpectedValue option value) m =
+    m ≡ stops.unexpected_value (string_bytes option) value
+IsMistake d (MissingValue option placeholder) m = (index : ℕ)
+    × (m ≡ stops.missing_value index (string_bytes option))
+    × (placeholder.now ≡ placeholder_at d.options index)
+IsMistake d (UnexpectedArgument word) m = m ≡ stops.unexpected_argument word
+IsMistake d (MissingArgument placeholder) m = (count : ℕ) × (m ≡ stops.missing_argument count)
+    × (placeholder.now ≡ required_placeholder d.positionals count)

@@ -1,5 +1,0 @@
-use Rattle.std.proofs.Common.{rules}
-use Rattle.lexopt_script.proofs.script.meaning_alone.Goals as goal
-
-pub returns-in-empty : goal.returns-in-empty
-returns-in-empty c = search rules

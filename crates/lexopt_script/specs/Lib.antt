@@ -1,3 +1,0 @@
-pub mod RunError
-pub mod Meanings
-pub mod Output
