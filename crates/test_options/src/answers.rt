@@ -1,5 +1,5 @@
 //! What a program is to do about its words.
-use crate::archive::{FILES, OPTIONS, archive, words_of};
+use crate::archive::{archive, archive_of_files, debug_of, words_of};
 use lexopt_options::{Answer, Declared, HELP, Names, Options, Positional};
 use std::alloc::{AllocError, Global};
 use std::test::Fail;
@@ -33,7 +33,7 @@ Packs files.
 ";
 
 // Lines, what is to be done, and what is said or printed.
-const LINES: [(&[u8], Do, &str); 16] = [
+static LINES: [(&[u8], Do, &str); 16] = [
     (b"", Work, "[]"),
     (b"-v a", Work, "[Option(0, None), Positional(\"a\")]"),
     (b"-h", Print, HELP_AT_40),
@@ -68,7 +68,7 @@ const LINES: [(&[u8], Do, &str); 16] = [
 ];
 
 // Lines that ask for a script, and how it begins.
-const SCRIPTS: [(&[u8], &str); 3] = [
+static SCRIPTS: [(&[u8], &str); 3] = [
     (b"__script bash", "# Source this.\n_complete_archive() {"),
     (b"__script zsh", "#compdef archive\n"),
     (
@@ -77,21 +77,16 @@ const SCRIPTS: [(&[u8], &str); 3] = [
     ),
 ];
 
-// What is to be done.
-fn done_by(answer: &Answer<'_>) -> Do {
-    match answer {
-        Answer::Said(_) => Work,
-        Answer::Text(_) => Print,
-        Answer::Refused(_) => Refuse,
-    }
-}
-
-// What is said or printed.
-fn shown(alloc: Global, answer: &Answer<'_>) -> Result<String, AllocError> {
-    match answer {
-        Answer::Said(said) => format!(in alloc; "{said:?}"),
-        Answer::Text(text) => String::from_str(alloc, text.as_str()),
-        Answer::Refused(refused) => refused.to_string(alloc),
+// What is to be done about a line, and what is said or printed.
+fn answer_to(
+    alloc: Global,
+    options: &Options<'_>,
+    line: &[u8],
+) -> Result<(Do, String), AllocError> {
+    match options.answer(alloc, words_of(alloc, line)?, 40)? {
+        Answer::Said(said) => Ok((Work, debug_of(alloc, &said)?)),
+        Answer::Text(text) => Ok((Print, text)),
+        Answer::Refused(refused) => Ok((Refuse, refused.to_string(alloc)?)),
     }
 }
 
@@ -103,8 +98,8 @@ fn is_answered(
     wanted: Do,
     text: &str,
 ) -> Result<bool, AllocError> {
-    let answer = options.answer(alloc, words_of(alloc, line)?, 40)?;
-    Ok(done_by(&answer) == wanted && shown(alloc, &answer)?.as_str() == text)
+    let (done, found) = answer_to(alloc, options, line)?;
+    Ok(done == wanted && found.as_str() == text)
 }
 
 // Whether a line asks for a script that begins so.
@@ -114,23 +109,21 @@ fn is_script(
     line: &[u8],
     front: &str,
 ) -> Result<bool, AllocError> {
-    let answer = options.answer(alloc, words_of(alloc, line)?, 40)?;
-    let text = shown(alloc, &answer)?;
-    Ok(
-        done_by(&answer) == Print
-            && text.as_str().starts_with(front)
-            && text.as_str().ends_with('\n'),
-    )
+    let (done, text) = answer_to(alloc, options, line)?;
+    Ok(done == Print && text.as_str().starts_with(front) && text.as_str().ends_with('\n'))
 }
 
-// The row of these that is not as it says, or none.
+// The row of these that is not as it says, or none. With no options the first one is not.
 fn first_wrong(
     alloc: Global,
-    options: &Options<'_>,
+    options: Option<Options<'_>>,
     rows: &[(&[u8], Do, &'static str)],
 ) -> Result<Option<usize>, AllocError> {
+    let Some(options) = options else {
+        return Ok(Some(0));
+    };
     for (row, (line, wanted, text)) in rows.iter().enumerate() {
-        if !is_answered(alloc, options, line, *wanted, text)? {
+        if !is_answered(alloc, &options, line, *wanted, text)? {
             return Ok(Some(row));
         }
     }
@@ -139,17 +132,20 @@ fn first_wrong(
 
 #[test]
 fn lines(rt: HostRuntime) -> Result<(), Fail> {
-    if let Some(options) = archive(&OPTIONS, &FILES) {
-        assert_eq!(rt; first_wrong(rt.alloc(), &options, &LINES)?, None);
-        return Ok(());
-    }
-    Err(Fail::new("the options cannot be declared"))
+    assert_eq!(rt; first_wrong(rt.alloc(), archive_of_files(), &LINES)?, None);
+    Ok(())
 }
 
-// The script of these that does not begin so, or none.
-fn first_wrong_script(alloc: Global, options: &Options<'_>) -> Result<Option<usize>, AllocError> {
+// The script that does not begin as its row says, or none. With no options the first one does not.
+fn first_wrong_script(
+    alloc: Global,
+    options: Option<Options<'_>>,
+) -> Result<Option<usize>, AllocError> {
+    let Some(options) = options else {
+        return Ok(Some(0));
+    };
     for (row, (line, front)) in SCRIPTS.iter().enumerate() {
-        if !is_script(alloc, options, line, front)? {
+        if !is_script(alloc, &options, line, front)? {
             return Ok(Some(row));
         }
     }
@@ -158,11 +154,8 @@ fn first_wrong_script(alloc: Global, options: &Options<'_>) -> Result<Option<usi
 
 #[test]
 fn scripts(rt: HostRuntime) -> Result<(), Fail> {
-    if let Some(options) = archive(&OPTIONS, &FILES) {
-        assert_eq!(rt; first_wrong_script(rt.alloc(), &options)?, None);
-        return Ok(());
-    }
-    Err(Fail::new("the options cannot be declared"))
+    assert_eq!(rt; first_wrong_script(rt.alloc(), archive_of_files())?, None);
+    Ok(())
 }
 
 // Whether `-h` is answered so under these options and arguments.

@@ -1,9 +1,11 @@
 //! The declaration that the tests share, and lines of words.
-use lexopt_options::{Count, Declared, HELP, Kind, Names, Options, OsString, Positional};
+use lexopt_options::{
+    Count, Declared, HELP, Kind, Names, Options, OsString, Positional, ReadError, Said,
+};
 use std::alloc::{AllocError, Global};
 
 /// The options, one of each kind and that of the help.
-pub const OPTIONS: [Declared<'static>; 5] = [
+pub static OPTIONS: [Declared<'static>; 5] = [
     Declared {
         names: Names::Both('v', "verbose"),
         kind: Kind::Flag,
@@ -28,13 +30,13 @@ pub const OPTIONS: [Declared<'static>; 5] = [
 ];
 
 /// Any number of files.
-pub const FILES: [Positional<'static>; 1] = [Positional {
+pub static FILES: [Positional<'static>; 1] = [Positional {
     placeholder: "FILE",
     count: Count::AnyNumber,
 }];
 
 /// One argument that has to stand, and one that may be left out.
-pub const SOURCE_AND_TARGET: [Positional<'static>; 2] = [
+pub static SOURCE_AND_TARGET: [Positional<'static>; 2] = [
     Positional {
         placeholder: "SOURCE",
         count: Count::Once,
@@ -62,4 +64,45 @@ pub fn archive<'a>(
     positionals: &'a [Positional<'a>],
 ) -> Option<Options<'a>> {
     Options::new("archive", "Packs files.", options, positionals).ok()
+}
+
+/// The program with one option of each kind and any number of files.
+pub fn archive_of_files() -> Option<Options<'static>> {
+    archive(&OPTIONS, &FILES)
+}
+
+/// Whether a text is a mistake, and where help is.
+pub fn tells(text: &str, mistake: &str) -> bool {
+    text.strip_prefix("archive: ")
+        .and_then(|rest| rest.strip_prefix(mistake))
+        == Some("\nTry 'archive --help' for more information.")
+}
+
+/// What is said, as `Debug` writes it.
+pub fn debug_of(alloc: Global, said: &[Said]) -> Result<String, AllocError> {
+    format!(in alloc; "{said:?}")
+}
+
+/// What words say, as `Debug` writes it. If they have a mistake, its message follows.
+pub fn text_of_words(
+    alloc: Global,
+    options: &Options<'_>,
+    words: Vec<OsString>,
+) -> Result<String, AllocError> {
+    match options.read(alloc, words) {
+        Ok(said) => debug_of(alloc, &said),
+        Err(error) => text_of_error(alloc, &error),
+    }
+}
+
+// What is said before the mistake, and then what the error prints.
+fn text_of_error(alloc: Global, error: &ReadError<'_>) -> Result<String, AllocError> {
+    match error {
+        ReadError::Refused(refused) => {
+            let mut text = debug_of(alloc, &refused.before)?;
+            text.push_str(error.to_string(alloc)?.as_str())?;
+            Ok(text)
+        }
+        ReadError::OutOfMemory => Err(AllocError),
+    }
 }

@@ -1,5 +1,5 @@
 //! What can stand where a word is typed.
-use crate::archive::{FILES, OPTIONS, archive, words_of};
+use crate::archive::{OPTIONS, archive, archive_of_files, words_of};
 use lexopt_options::{Options, OsString, Role};
 use std::alloc::{AllocError, Global};
 use std::test::Fail;
@@ -14,7 +14,7 @@ struct Row {
 
 const ALL: &str = "-v --verbose -o --output -b --backup -x --exclude -h --help";
 
-const ROWS: [Row; 20] = [
+static ROWS: [Row; 20] = [
     Row {
         words: b"",
         typed: b"",
@@ -158,14 +158,17 @@ fn is_offered(alloc: Global, options: &Options<'_>, row: &Row) -> Result<bool, A
     Ok(completion.word == row.word && are_spellings(alloc, &completion.spellings, row.spellings)?)
 }
 
-// The row of these that is not as it says, or none.
+// The row of these that is not as it says, or none. With no options the first one is not.
 fn first_wrong(
     alloc: Global,
-    options: &Options<'_>,
+    options: Option<Options<'_>>,
     rows: &[Row],
 ) -> Result<Option<usize>, AllocError> {
+    let Some(options) = options else {
+        return Ok(Some(0));
+    };
     for (index, row) in rows.iter().enumerate() {
-        if !is_offered(alloc, options, row)? {
+        if !is_offered(alloc, &options, row)? {
             return Ok(Some(index));
         }
     }
@@ -174,15 +177,12 @@ fn first_wrong(
 
 #[test]
 fn rows(rt: HostRuntime) -> Result<(), Fail> {
-    if let Some(options) = archive(&OPTIONS, &FILES) {
-        assert_eq!(rt; first_wrong(rt.alloc(), &options, &ROWS)?, None);
-        return Ok(());
-    }
-    Err(Fail::new("the options cannot be declared"))
+    assert_eq!(rt; first_wrong(rt.alloc(), archive_of_files(), &ROWS)?, None);
+    Ok(())
 }
 
 // No spelling is offered for a word that is not UTF-8.
-const DAMAGED_ROWS: [Row; 2] = [
+static DAMAGED_ROWS: [Row; 2] = [
     Row {
         words: b"",
         typed: b"\xFF",
@@ -199,15 +199,12 @@ const DAMAGED_ROWS: [Row; 2] = [
 
 #[test]
 fn damage(rt: HostRuntime) -> Result<(), Fail> {
-    if let Some(options) = archive(&OPTIONS, &FILES) {
-        assert_eq!(rt; first_wrong(rt.alloc(), &options, &DAMAGED_ROWS)?, None);
-        return Ok(());
-    }
-    Err(Fail::new("the options cannot be declared"))
+    assert_eq!(rt; first_wrong(rt.alloc(), archive_of_files(), &DAMAGED_ROWS)?, None);
+    Ok(())
 }
 
 // Where no argument can stand, an option or a value can.
-const ROWS_WITHOUT_ARGUMENTS: [Row; 7] = [
+static ROWS_WITHOUT_ARGUMENTS: [Row; 7] = [
     Row {
         words: b"",
         typed: b"--h",
@@ -254,12 +251,7 @@ const ROWS_WITHOUT_ARGUMENTS: [Row; 7] = [
 
 #[test]
 fn no_arguments(rt: HostRuntime) -> Result<(), Fail> {
-    if let Some(options) = archive(&OPTIONS, &[]) {
-        assert_eq!(rt;
-            first_wrong(rt.alloc(), &options, &ROWS_WITHOUT_ARGUMENTS)?,
-            None
-        );
-        return Ok(());
-    }
-    Err(Fail::new("the options cannot be declared"))
+    let options = archive(&OPTIONS, &[]);
+    assert_eq!(rt; first_wrong(rt.alloc(), options, &ROWS_WITHOUT_ARGUMENTS)?, None);
+    Ok(())
 }

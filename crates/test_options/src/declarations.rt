@@ -1,5 +1,5 @@
 //! Which options can be declared, and the table of those that can.
-use crate::archive::{FILES, OPTIONS, archive};
+use crate::archive::archive_of_files;
 use lexopt_options::{DeclarationError, Declared, HELP, Kind, Names, Options, Reason};
 use std::alloc::{AllocError, Global};
 use std::test::Fail;
@@ -23,7 +23,7 @@ fn is_refused_for(names: Names<'_>, kind: Kind<'_>, reason: Option<Reason>) -> b
     fault_of(names, kind) == wanted
 }
 
-const FAULTS: [(Names<'static>, Kind<'static>, Option<Reason>); 16] = [
+static FAULTS: [(Names<'static>, Kind<'static>, Option<Reason>); 16] = [
     (Names::Short('-'), Kind::Flag, Some(Reason::DashName)),
     (Names::Both('-', "dash"), Kind::Flag, Some(Reason::DashName)),
     (Names::Long(""), Kind::Flag, Some(Reason::EmptyName)),
@@ -82,7 +82,7 @@ fn are(shorts: &[char], longs: &[String], short: char, long: &str) -> bool {
 
 // Whether the table has each option that takes values where it belongs.
 fn has_each_kind(alloc: Global) -> Result<bool, AllocError> {
-    let Some(options) = archive(&OPTIONS, &FILES) else {
+    let Some(options) = archive_of_files() else {
         return Ok(false);
     };
     let table = options.table(alloc)?;

@@ -1,14 +1,14 @@
 //! Completion beside reading: a spelling is offered after some words exactly if the words, it and
 //! what may come after it can be read as what the words say, and then its option.
-use crate::archive::{FILES, OPTIONS, archive};
+use crate::archive::archive_of_files;
 use lexopt_options::{Options, OsString, ReadError, Said};
 use std::alloc::{AllocError, Global};
 use std::test::Fail;
 
-const WORDS: [&[u8]; 8] = [b"-v", b"-o", b"--output=", b"--", b"a", b"-x", b"", b"-bz"];
+static WORDS: [&[u8]; 8] = [b"-v", b"-o", b"--output=", b"--", b"a", b"-x", b"", b"-bz"];
 
 // Each spelling, with the index of its option.
-const SPELLINGS: [(&str, usize); 10] = [
+static SPELLINGS: [(&str, usize); 10] = [
     ("-v", 0),
     ("--verbose", 0),
     ("-o", 1),
@@ -21,6 +21,15 @@ const SPELLINGS: [(&str, usize); 10] = [
     ("--help", 4),
 ];
 
+// These words, and then those.
+fn line_of(alloc: Global, front: &[&[u8]], back: &[&[u8]]) -> Result<Vec<OsString>, AllocError> {
+    let mut words = Vec::new(alloc);
+    for word in front.iter().chain(back) {
+        words.push(OsString::from_bytes(alloc, word)?)?;
+    }
+    Ok(words)
+}
+
 // What a line says, if it says something.
 fn said_by(
     alloc: Global,
@@ -28,14 +37,7 @@ fn said_by(
     front: &[&[u8]],
     back: &[&[u8]],
 ) -> Result<Option<Vec<Said>>, AllocError> {
-    let mut words = Vec::new(alloc);
-    for word in front {
-        words.push(OsString::from_bytes(alloc, word)?)?;
-    }
-    for word in back {
-        words.push(OsString::from_bytes(alloc, word)?)?;
-    }
-    match options.read(alloc, words) {
+    match options.read(alloc, line_of(alloc, front, back)?) {
         Ok(said) => Ok(Some(said)),
         Err(ReadError::Refused(_)) => Ok(None),
         Err(ReadError::OutOfMemory) => Err(AllocError),
@@ -77,10 +79,7 @@ fn can_stand(
 
 // Whether what is offered after these words is what can stand there.
 fn agrees(alloc: Global, options: &Options<'_>, words: &[&[u8]]) -> Result<bool, AllocError> {
-    let mut line = Vec::new(alloc);
-    for word in words {
-        line.push(OsString::from_bytes(alloc, word)?)?;
-    }
+    let line = line_of(alloc, words, &[])?;
     let offered = options
         .complete(alloc, &line, &OsString::new(alloc))?
         .spellings;
@@ -105,7 +104,7 @@ fn agrees_after(alloc: Global, options: &Options<'_>, first: &[u8]) -> Result<bo
 
 // Whether they agree after no word, and after one or two of these.
 fn all_agree(alloc: Global) -> Result<bool, AllocError> {
-    let Some(options) = archive(&OPTIONS, &FILES) else {
+    let Some(options) = archive_of_files() else {
         return Ok(false);
     };
     for first in WORDS {

@@ -1,6 +1,6 @@
 //! What lines say.
-use crate::archive::{FILES, OPTIONS, archive, words_of};
-use lexopt_options::{Options, ReadError};
+use crate::archive::{archive_of_files, text_of_words, words_of};
+use lexopt_options::Options;
 use std::alloc::{AllocError, Global};
 use std::test::Fail;
 
@@ -11,14 +11,10 @@ fn says(
     line: &[u8],
     wanted: &str,
 ) -> Result<bool, AllocError> {
-    match options.read(alloc, words_of(alloc, line)?) {
-        Ok(said) => Ok(format!(in alloc; "{said:?}")?.as_str() == wanted),
-        Err(ReadError::Refused(_)) => Ok(false),
-        Err(ReadError::OutOfMemory) => Err(AllocError),
-    }
+    Ok(text_of_words(alloc, options, words_of(alloc, line)?)?.as_str() == wanted)
 }
 
-const LINES: [(&[u8], &str); 8] = [
+static LINES: [(&[u8], &str); 8] = [
     (b"", "[]"),
     (
         b"-vo=x --output y -bz --exclude a b -- -f",
@@ -48,14 +44,17 @@ const LINES: [(&[u8], &str); 8] = [
     (b"-o\xFF", "[Option(1, Some(\"\\xFF\"))]"),
 ];
 
-// The row of these that is not as it says, or none.
+// The row of these that is not as it says, or none. With no options the first one is not.
 fn first_wrong(
     alloc: Global,
-    options: &Options<'_>,
+    options: Option<Options<'_>>,
     rows: &[(&[u8], &'static str)],
 ) -> Result<Option<usize>, AllocError> {
+    let Some(options) = options else {
+        return Ok(Some(0));
+    };
     for (row, (line, wanted)) in rows.iter().enumerate() {
-        if !says(alloc, options, line, wanted)? {
+        if !says(alloc, &options, line, wanted)? {
             return Ok(Some(row));
         }
     }
@@ -64,16 +63,13 @@ fn first_wrong(
 
 #[test]
 fn lines(rt: HostRuntime) -> Result<(), Fail> {
-    if let Some(options) = archive(&OPTIONS, &FILES) {
-        assert_eq!(rt; first_wrong(rt.alloc(), &options, &LINES)?, None);
-        return Ok(());
-    }
-    Err(Fail::new("the options cannot be declared"))
+    assert_eq!(rt; first_wrong(rt.alloc(), archive_of_files(), &LINES)?, None);
+    Ok(())
 }
 
 // Whether `=` belongs to the value if it is a character like any other.
 fn keeps_equals(alloc: Global) -> Result<bool, AllocError> {
-    match archive(&OPTIONS, &FILES) {
+    match archive_of_files() {
         Some(options) => says(
             alloc,
             &options.without_short_equals(),

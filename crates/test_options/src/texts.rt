@@ -1,6 +1,6 @@
 //! The help and the usage line.
 use crate::archive::{FILES, OPTIONS, SOURCE_AND_TARGET, archive};
-use lexopt_options::{Declared, Names, VERSION, WIDTH};
+use lexopt_options::{Declared, Names, Positional, VERSION, WIDTH};
 use std::alloc::{AllocError, Global};
 use std::test::Fail;
 
@@ -65,9 +65,15 @@ and
 exit
 ";
 
-// Whether the help is this, at this width.
-fn is_help(alloc: Global, width: usize, wanted: &str) -> Result<bool, AllocError> {
-    match archive(&OPTIONS, &FILES) {
+// Whether the help of these options and arguments is this, at this width.
+fn is_help(
+    alloc: Global,
+    declared: &[Declared<'_>],
+    positionals: &[Positional<'_>],
+    width: usize,
+    wanted: &str,
+) -> Result<bool, AllocError> {
+    match archive(declared, positionals) {
         Some(options) => Ok(options.help(alloc, width)?.as_str() == wanted),
         None => Ok(false),
     }
@@ -75,17 +81,14 @@ fn is_help(alloc: Global, width: usize, wanted: &str) -> Result<bool, AllocError
 
 #[test]
 fn help(rt: HostRuntime) -> Result<(), Fail> {
-    assert!(rt; is_help(rt.alloc(), 80, HELP_AT_80)?);
-    assert!(rt; is_help(rt.alloc(), 0, HELP_AT_0)?);
+    assert!(rt; is_help(rt.alloc(), &OPTIONS, &FILES, 80, HELP_AT_80)?);
+    assert!(rt; is_help(rt.alloc(), &OPTIONS, &FILES, 0, HELP_AT_0)?);
     Ok(())
 }
 
 // Whether the help of these options, with no arguments, is this, at the usual width.
 fn is_help_of(alloc: Global, declared: &[Declared<'_>], wanted: &str) -> Result<bool, AllocError> {
-    match archive(declared, &[]) {
-        Some(options) => Ok(options.help(alloc, WIDTH)?.as_str() == wanted),
-        None => Ok(false),
-    }
+    is_help(alloc, declared, &[], WIDTH, wanted)
 }
 
 #[test]
