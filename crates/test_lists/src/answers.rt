@@ -17,7 +17,7 @@
 mod written;
 
 use crate::answers::written::Answers;
-use anyhow::{Result, bail};
+use anyhow::Result;
 use lexopt_base::prelude::ValueExt;
 use lexopt_base::{Arg, Error, OsString, Parser, RawArgs};
 use std::alloc::{AllocError, Global};
@@ -122,6 +122,15 @@ fn rest(parser: &mut Parser, answers: &mut Answers) -> Result<(), Error> {
     }
 }
 
+fn value(parser: &mut Parser, answers: &mut Answers) -> Result<(), Error> {
+    answers.bytes(b'V', parser.value()?.as_bytes())
+}
+
+fn go_on_with_a_copy(parser: &mut Parser) -> Result<(), Error> {
+    *parser = parser.clone()?;
+    Ok(())
+}
+
 // Makes a call.
 fn make_call(
     alloc: Global,
@@ -131,22 +140,24 @@ fn make_call(
     answers: &mut Answers,
 ) -> Result<(), Error> {
     match call {
-        b'n' => next(parser, answers)?,
-        b'u' => unexpected(alloc, parser, answers)?,
-        b'v' => answers.bytes(b'V', parser.value()?.as_bytes())?,
-        b'p' => converted(parser, answers)?,
-        b'o' => answers.word(parser.optional_value())?,
-        b's' => values(parser, number, answers)?,
-        b'r' => raw(parser, number, answers)?,
-        b't' => try_raw(parser, number, answers)?,
-        b'l' => look(parser, answers)?,
-        b'i' => take_if(parser, number, answers)?,
-        b'e' => parser.set_short_equals(number > 0),
-        b'c' => *parser = parser.clone()?,
-        b'b' => bin_name(parser, answers)?,
-        _ => return Err(Error::from("no call has this letter")),
+        b'n' => next(parser, answers),
+        b'u' => unexpected(alloc, parser, answers),
+        b'v' => value(parser, answers),
+        b'p' => converted(parser, answers),
+        b'o' => answers.word(parser.optional_value()),
+        b's' => values(parser, number, answers),
+        b'r' => raw(parser, number, answers),
+        b't' => try_raw(parser, number, answers),
+        b'l' => look(parser, answers),
+        b'i' => take_if(parser, number, answers),
+        b'e' => {
+            parser.set_short_equals(number > 0);
+            Ok(())
+        }
+        b'c' => go_on_with_a_copy(parser),
+        b'b' => bin_name(parser, answers),
+        _ => Err(Error::from("no call has this letter")),
     }
-    Ok(())
 }
 
 // The value of a hexadecimal digit.
@@ -185,33 +196,42 @@ fn parser_of(alloc: Global, constructor: &str, words: Vec<OsString>) -> Result<P
     }
 }
 
+// Makes the call of a letter and a digit, and answers it.
+fn answer_call(
+    alloc: Global,
+    parser: &mut Parser,
+    call: &[u8],
+    answers: &mut Answers,
+) -> Result<(), Error> {
+    let [call, number] = call else {
+        return Err(Error::from("a call is a letter and a digit"));
+    };
+    let number = usize::from(digit(*number));
+    if let Err(error) = make_call(alloc, parser, *call, number, answers) {
+        answers.error(&error)?;
+    }
+    answers.letter(b' ')
+}
+
 // Makes these calls, and says what is left.
 fn make_calls(
     alloc: Global,
     parser: &mut Parser,
     calls: &str,
     answers: &mut Answers,
-) -> Result<()> {
+) -> Result<(), Error> {
     for call in calls.as_bytes().chunks(2) {
-        let [call, number] = call else {
-            bail!("a call is a letter and a digit");
-        };
-        let number = usize::from(digit(*number));
-        if let Err(error) = make_call(alloc, parser, *call, number, answers) {
-            answers.error(&error)?;
-        }
-        answers.letter(b' ')?;
+        answer_call(alloc, parser, call, answers)?;
     }
     rest(parser, answers)?;
-    answers.letter(b'\n')?;
-    Ok(())
+    answers.letter(b'\n')
 }
 
-fn answer(alloc: Global, case: &str, answers: &mut Answers) -> Result<()> {
+fn answer(alloc: Global, case: &str, answers: &mut Answers) -> Result<(), Error> {
     let mut parts = case.split(' ');
     let (Some(constructor), Some(text), Some(calls)) = (parts.next(), parts.next(), parts.next())
     else {
-        bail!("a case has three parts");
+        return Err(Error::from("a case has three parts"));
     };
     let mut parser = parser_of(alloc, constructor, words(alloc, text)?)?;
     make_calls(alloc, &mut parser, calls, answers)

@@ -22,6 +22,11 @@ const CALLS: usize = 10;
 
 const LAST_CALLS: usize = 2;
 
+// A parser of copies of the words.
+fn parser_of(alloc: Global, words: &[OsString]) -> Result<Parser, Error> {
+    Parser::from_args(alloc, copies(alloc, words)?)
+}
+
 // Makes calls on the words, and takes what is left. Returns the law that was broken, if one was.
 fn calls_by_chance(
     alloc: Global,
@@ -29,21 +34,27 @@ fn calls_by_chance(
     words: &[OsString],
 ) -> Result<Option<&'static str>, Error> {
     let calls = chance.calls(alloc, CALLS)?;
-    let mut parser = Parser::from_args(alloc, copies(alloc, words)?)?;
+    let mut parser = parser_of(alloc, words)?;
     let mut replies = replay(alloc, &mut parser, &calls)?;
     if !is_same_in_parts(alloc, chance, words, &calls, &replies)? {
         return Ok(Some("calls made in two parts have the same replies"));
     }
-    let mut rest = replay(
-        alloc,
-        &mut parser,
-        &[Call::Optional, Call::Raw(words.len())],
-    )?;
+    take_rest(alloc, &mut parser, words, &mut replies)
+}
+
+// Takes what is left after these replies. Returns the law that was broken, if one was.
+fn take_rest(
+    alloc: Global,
+    parser: &mut Parser,
+    words: &[OsString],
+    replies: &mut Vec<Reply>,
+) -> Result<Option<&'static str>, Error> {
+    let mut rest = replay(alloc, parser, &[Call::Optional, Call::Raw(words.len())])?;
     if !laws::is_end_of(&rest, words) {
         return Ok(Some("the words left are the last ones"));
     }
     replies.append(&mut rest)?;
-    Ok(laws::broken_by_replies(words, &replies))
+    Ok(laws::broken_by_replies(words, replies))
 }
 
 // Whether these calls have the same replies if they are made in two parts.
@@ -57,7 +68,7 @@ fn is_same_in_parts(
     let (first, second) = calls.split_at(
         chance.below(calls.len().saturating_add(1)).min(calls.len()),
     );
-    let mut parser = Parser::from_args(alloc, copies(alloc, words)?)?;
+    let mut parser = parser_of(alloc, words)?;
     let before = replay(alloc, &mut parser, first)?;
     let after = replay(alloc, &mut parser, second)?;
     Ok(replies.starts_with(&before) && replies.ends_with(&after))

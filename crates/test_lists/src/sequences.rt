@@ -15,6 +15,7 @@ mod step;
 
 use crate::sequences::step::{STEPS, Step, is_last, made, replayed, taken};
 use lexopt_base::{Error, Parser};
+use lexopt_calls::reply::Reply;
 use std::alloc::Global;
 use std::io;
 use test_helpers::lists::{list_of, numbers_of};
@@ -52,6 +53,21 @@ impl Place {
     }
 }
 
+// Whether `replay` gives this reply to the call.
+fn is_replayed(
+    alloc: Global,
+    parser: &mut Parser,
+    step: Step,
+    reply: &Reply,
+) -> Result<bool, Error> {
+    Ok(replayed(alloc, parser, step)? == *reply)
+}
+
+// Whether this is the reply by `advance`, `take` or `begin_values`.
+fn is_taken(alloc: Global, parser: &mut Parser, step: Step, reply: &Reply) -> Result<bool, Error> {
+    Ok(taken(alloc, parser, step)? == *reply)
+}
+
 impl Tried {
     fn fault(&mut self, what: &'static str) {
         if self.fault.is_none() {
@@ -59,39 +75,53 @@ impl Tried {
         }
     }
 
-    // Makes one call on both parsers of a place, and by `replay` on a copy. Returns whether a
-    // sequence goes on after it.
-    fn call(
+    // Compares a call's reply with those to the other calls, and with the words that are left. The
+    // copy is of the parser before the call.
+    fn compare(
         &mut self,
         alloc: Global,
         place: &mut Place,
-        mut copy: Parser,
+        copy: &mut Parser,
         step: Step,
-    ) -> Result<bool, Error> {
-        let reply = made(alloc, &mut place.parser, step)?;
-        if reply != replayed(alloc, &mut copy, step)? {
+        reply: &Reply,
+    ) -> Result<(), Error> {
+        if !is_replayed(alloc, copy, step, reply)? {
             self.fault("replay says otherwise");
         }
-        if reply != taken(alloc, &mut place.other, step)? {
+        if !is_taken(alloc, &mut place.other, step, reply)? {
             self.fault("advance, take or begin_values says otherwise");
         }
-        if !line::agrees_with(step, &reply, &mut place.parser)? {
+        if !line::agrees_with(step, reply, &mut place.parser)? {
             self.fault("words are left, or no values");
         }
-        Ok(!is_last(&reply))
+        Ok(())
+    }
+
+    // Makes one call on both parsers of a place, and by `replay` on a copy. Returns whether a
+    // sequence goes on after it.
+    fn call(&mut self, alloc: Global, place: &mut Place, step: Step) -> Result<bool, Error> {
+        let mut copy = place.parser.clone()?;
+        let reply = made(alloc, &mut place.parser, step)?;
+        self.compare(alloc, place, &mut copy, step, &reply)?;
+        Ok(!is_last(&reply) && self.is_short(place.calls))
+    }
+
+    // Whether a sequence of so many calls is not too long.
+    fn is_short(&mut self, calls: u32) -> bool {
+        if calls > MOST_CALLS {
+            self.fault("no end");
+        }
+        calls <= MOST_CALLS
     }
 
     // Makes one call after a place. Returns the place after it, if a sequence goes on there.
     fn step(&mut self, alloc: Global, place: &Place, step: Step) -> Result<Option<Place>, Error> {
         let mut next = place.copy()?;
-        if !self.call(alloc, &mut next, place.parser.clone()?, step)? {
-            return Ok(None);
+        if self.call(alloc, &mut next, step)? {
+            Ok(Some(next))
+        } else {
+            Ok(None)
         }
-        if next.calls > MOST_CALLS {
-            self.fault("no end");
-            return Ok(None);
-        }
-        Ok(Some(next))
     }
 
     // Tries every sequence from a place.

@@ -199,7 +199,10 @@ static DAMAGED_ROWS: [Row; 2] = [
 
 #[test]
 fn damage(rt: HostRuntime) -> Result<(), Fail> {
-    assert_eq!(rt; first_wrong(rt.alloc(), archive_of_files(), &DAMAGED_ROWS)?, None);
+    assert_eq!(rt;
+        first_wrong(rt.alloc(), archive_of_files(), &DAMAGED_ROWS)?,
+        None
+    );
     Ok(())
 }
 
@@ -252,6 +255,9 @@ static ROWS_WITHOUT_ARGUMENTS: [Row; 7] = [
 #[test]
 fn no_arguments(rt: HostRuntime) -> Result<(), Fail> {
     let options = archive(&OPTIONS, &[]);
-    assert_eq!(rt; first_wrong(rt.alloc(), options, &ROWS_WITHOUT_ARGUMENTS)?, None);
+    assert_eq!(rt;
+        first_wrong(rt.alloc(), options, &ROWS_WITHOUT_ARGUMENTS)?,
+        None
+    );
     Ok(())
 }

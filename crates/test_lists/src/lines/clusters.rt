@@ -1,8 +1,10 @@
 //! Clusters of a few bytes each, read by `next` with `short_equals` false: one option for each
 //! piece, and then the end.
 use crate::lines::pieces::first_piece;
-use lexopt_base::{Arg, Error, OsString, Parser};
+use lexopt_base::{Error, Parser};
 use std::alloc::Global;
+use test_helpers::calls::{is_at_end, reads_short};
+use test_helpers::parsers::parser_of;
 
 // The bytes at both ends of the ranges of table 3-7, and bytes that no row of it has.
 const BYTES: [u8; 20] = [
@@ -17,39 +19,34 @@ pub struct Counts {
     pub differed: u64,
 }
 
-// Whether the next argument is this option of one character.
-fn reads(parser: &mut Parser, option: char) -> Result<bool, Error> {
-    match parser.next()? {
-        Some(Arg::Short(found)) => Ok(found == option),
-        _ => Ok(false),
-    }
-}
-
-// Whether the cluster of these bytes is read as the character of each piece.
-fn agrees(alloc: Global, bytes: &[u8]) -> Result<bool, Error> {
+// A parser of the cluster of these bytes.
+fn parser_of_cluster(alloc: Global, bytes: &[u8]) -> Result<Parser, Error> {
     let mut word = Vec::new(alloc);
     word.push(b'-')?;
     word.extend_from_slice(bytes)?;
-    let mut words = Vec::new(alloc);
-    words.push(OsString::from_vec(word))?;
-    let mut parser = Parser::from_args(alloc, words)?;
+    let mut parser = parser_of(alloc, &[word.as_slice()])?;
     parser.set_short_equals(false);
+    Ok(parser)
+}
+
+// Whether the parser gives an option of the character of each piece, and then nothing.
+fn reads_pieces(parser: &mut Parser, bytes: &[u8]) -> Result<bool, Error> {
     let mut rest = bytes;
     for _ in 0..bytes.len() {
         let Some(piece) = first_piece(rest) else {
             break;
         };
-        if !reads(&mut parser, piece.shown())? {
+        if !reads_short(parser, piece.shown())? {
             return Ok(false);
         }
         rest = piece.rest;
     }
-    Ok(parser.next()?.is_none())
+    is_at_end(parser)
 }
 
 impl Counts {
     fn read(&mut self, alloc: Global, bytes: &[u8]) -> Result<(), Error> {
-        if agrees(alloc, bytes)? {
+        if reads_pieces(&mut parser_of_cluster(alloc, bytes)?, bytes)? {
             self.agreed = self.agreed.saturating_add(1);
         } else {
             self.differed = self.differed.saturating_add(1);
