@@ -1,5 +1,5 @@
 -- What is offered after some words.
-use Rattle.std.proofs.Common.{◌≡◌, ◌≢◌, ◌≤◌, ◌-◌, ◌+◌, ℕ, Bool, not, true, false, List, [], ◌∷◌, ◌++◌, map, filter, get_or, length, MatchBool, MatchOption, Option, Some, None, Vec, nat_eq, option_map, refl, sym, ap, subst, ◌∙◌, inl, inr, arith}
+use Rattle.std.proofs.Common.{◌≡◌, ◌≢◌, ◌↔◌, ◌≤◌, ◌-◌, ◌+◌, ℕ, Bool, IsTrue, not, true, false, List, [], ◌∷◌, ◌++◌, map, filter, get_or, length, MatchOption, Option, Some, None, Vec, nat_eq, option_map, refl, sym, ap, subst, ◌∙◌, inl, inr, arith}
 use Rattle.std.proofs.Common.{Result, Ok, Err, String, IfOk, OnOk, string_bytes}
 use Rattle.std.specs.Global.{Global}
 use Rattle.std.specs.List.{Contains, starts_with}
@@ -60,33 +60,38 @@ ends_at (s ∷ t ∷ l) last some is =
 -- ---- whether an option can stand
 
 opens_by : (o : Options) (words : List (List ℕ)) (l m : Vec Said Global) (r : Bool) → SaysFront (declaration_of o) (words ++ dashes ∷ []) (map said_view l.items)
-    → SaysFront (declaration_of o) (words ++ [] ∷ []) (map said_view m.items) → MatchBool r (TakeAnyWord l.items m.items) (TakeAnyWord l.items m.items → ⊥) → Opens o words (not r)
-opens_by o words l m true dashed plain (same, ends) = λ n is.
-    let d = declaration_of o in
-    let e = one_front d (words ++ dashes ∷ []) n (map said_view l.items) is.with_separator dashed in
-    open_adds d words n (map said_view m.items) is plain (ends_so m.items ends) (length-map m.items said_view ∙ sym same ∙ sym (length-map l.items said_view) ∙ sym (ap length e))
-opens_by o words l m false dashed plain other = go (open_or_not (declaration_of o) words (map said_view l.items) dashed)
+    → SaysFront (declaration_of o) (words ++ [] ∷ []) (map said_view m.items) → (IsTrue r ↔ TakeAnyWord l.items m.items) → Opens o words (not r)
+opens_by o words l m true dashed plain takes = (
+  (λ yes. absurd (false≢true yes)),
+  (λ there.
+      let d = declaration_of o in
+      let some = takes.0 refl in
+      let e = one_front d (words ++ dashes ∷ []) there.0 (map said_view l.items) there.1.with_separator dashed in
+      absurd
+      (open_adds d words there.0 (map said_view m.items) there.1 plain (ends_so m.items some.1) (length-map m.items said_view ∙ sym some.0 ∙ sym (length-map l.items said_view) ∙ sym (ap length e)))),
+)
+opens_by o words l m false dashed plain takes = ((λ yes. go (open_or_not (declaration_of o) words (map said_view l.items) dashed)), (λ there. refl))
   where
     go : OpenOrNot (declaration_of o) words (map said_view l.items) → (n : List legal.Said) × IsOpen (declaration_of o) words n
     go (open_words.opens is) = (map said_view l.items, is)
     go (takes_any_word as_much) =
         let e = one_front (declaration_of o) (words ++ [] ∷ []) (map said_view m.items) as_much.said plain as_much.front in
         absurd
-        (other (
+        (false≢true (takes.1 (
           sym (length-map l.items said_view) ∙ sym as_much.same ∙ sym (ap length e) ∙ length-map m.items said_view,
           so_ends m.items as_much.ends.front as_much.ends.last (e ∙ as_much.ends.are) as_much.ends.one,
-        ))
+        )))
 
 pub opens_so : (o : Options) (words : List (List ℕ)) (l m : Vec Said Global) (xs ys : List Said) (r : Bool) → xs ≡ l.items → ys ≡ m.items
     → SaysFront (declaration_of o) (words ++ dashes ∷ []) (map said_view l.items) → SaysFront (declaration_of o) (words ++ [] ∷ []) (map said_view m.items)
-    → MatchBool r (TakeAnyWord xs ys) (TakeAnyWord xs ys → ⊥) → Opens o words (not r)
+    → (IsTrue r ↔ TakeAnyWord xs ys) → Opens o words (not r)
 opens_so o words l m xs ys r dashed_is plain_is dashed plain takes =
     opens_by o words l m r dashed plain
-    (subst (λ (x : List Said). MatchBool r (TakeAnyWord x m.items) (TakeAnyWord x m.items → ⊥)) dashed_is (subst (λ (y : List Said). MatchBool r (TakeAnyWord xs y) (TakeAnyWord xs y → ⊥)) plain_is takes))
+    (subst (λ (x : List Said). IsTrue r ↔ TakeAnyWord x m.items) dashed_is (subst (λ (y : List Said). IsTrue r ↔ TakeAnyWord xs y) plain_is takes))
 
 -- nothing is said with an empty word
 pub opens_full : (o : Options) (words : List (List ℕ)) (l : Vec Said Global) → SaysFront (declaration_of o) (words ++ dashes ∷ []) (map said_view l.items) → IsPart o (words ++ [] ∷ []) None → Opens o words true
-opens_full o words l dashed plain = go (open_or_not (declaration_of o) words (map said_view l.items) dashed)
+opens_full o words l dashed plain = ((λ yes. go (open_or_not (declaration_of o) words (map said_view l.items) dashed)), (λ there. refl))
   where
     go : OpenOrNot (declaration_of o) words (map said_view l.items) → (n : List legal.Said) × IsOpen (declaration_of o) words n
     go (open_words.opens is) = (map said_view l.items, is)
@@ -94,7 +99,7 @@ opens_full o words l dashed plain = go (open_or_not (declaration_of o) words (ma
 
 -- nothing is said with `--`
 pub opens_never : (o : Options) (words : List (List ℕ)) → IsPart o (words ++ dashes ∷ []) None → Opens o words false
-opens_never o words dashed = λ l is. dashed l is.with_separator
+opens_never o words dashed = ((λ yes. absurd (false≢true yes)), (λ there. absurd (dashed there.0 there.1.with_separator)))
 
 -- ---- what an empty word would be
 
@@ -118,8 +123,9 @@ some_role o words said (Some role) says (before, last, items_are, role_is) = (
 
 -- it adds nothing where an option can stand
 pub no_dashed : (o : Options) (words : List (List ℕ)) → Opens o words true → IsDashedRole (declaration_of o) words None
-no_dashed o words (l, is) = λ before s other.
-    subst (SaysFront (declaration_of o) words) (one_front (declaration_of o) (words ++ dashes ∷ []) l (before ++ s ∷ []) is.with_separator other) is.front
+no_dashed o words opens = λ before s other.
+    let there = opens.0 refl in
+    subst (SaysFront (declaration_of o) words) (one_front (declaration_of o) (words ++ dashes ∷ []) there.0 (before ++ s ∷ []) there.1.with_separator other) there.1.front
 
 pub unsaid_dashed : (o : Options) (words : List (List ℕ)) → IsPart o (words ++ dashes ∷ []) None → IsDashedRole (declaration_of o) words None
 unsaid_dashed o words none = λ before s other. absurd (none (before ++ s ∷ []) other)
@@ -134,7 +140,7 @@ some_dashed o words said (Some role) closed says (before, last, items_are, role_
       map said_view before,
       said_view last,
       dashed,
-      (λ front. closed (map said_view before ++ said_view last ∷ []) (record { front = front; with_separator = dashed })),
+      (λ front. false≢true (closed.1 (map said_view before ++ said_view last ∷ [], record { front = front; with_separator = dashed }))),
       role_is,
     )
 
@@ -144,7 +150,7 @@ pub not_joined : (o : Options) (words : List (List ℕ)) (typed : List ℕ) → 
 not_joined o words typed without = λ l i s is opens front. absurd (false≢true (sym without ∙ is))
 
 pub none_joined : (o : Options) (words : List (List ℕ)) (typed : List ℕ) → Opens o words false → IsJoined (declaration_of o) words typed None
-none_joined o words typed none = λ l i s is opens front. absurd (none l opens)
+none_joined o words typed none = λ l i s is opens front. absurd (false≢true (none.1 (l, opens)))
 
 pub unsaid_joined : (o : Options) (words one : List (List ℕ)) (typed : List ℕ) → one ≡ typed ∷ [] → IsPart o one None → IsJoined (declaration_of o) words typed None
 unsaid_joined o words one typed is none = λ l i s with_equals opens front. absurd (none (s ∷ []) (subst (λ ws. SaysFront (declaration_of o) ws (s ∷ [])) (sym is) front))
@@ -161,18 +167,19 @@ some_joined o words one typed said None with_equals opens is says none = λ m i 
     let d = declaration_of o in
     let x = only_one said.items s (one_front d (typed ∷ []) (map said_view said.items) (s ∷ []) (subst (λ ws. SaysFront d ws (map said_view said.items)) is says) front) in
     none i x.0 x.1 (subst (IsOption i) (sym x.2) option)
-some_joined o words one typed said (Some i) with_equals (l, is_open) is says (s, are, option) =
+some_joined o words one typed said (Some i) with_equals opens is says (s, are, option) =
     let d = declaration_of o in
-    (l, said_view s, with_equals, is_open, subst (SaysFront d (typed ∷ [])) (ap (map said_view) are) (subst (λ ws. SaysFront d ws (map said_view said.items)) is says), option)
+    let there = opens.0 refl in
+    (there.0, said_view s, with_equals, there.1, subst (SaysFront d (typed ∷ [])) (ap (map said_view) are) (subst (λ ws. SaysFront d ws (map said_view said.items)) is says), option)
 
 -- ---- spellings
 
 pub offered : (o : Options) (words : List (List ℕ)) (typed : List ℕ) (list : List (List ℕ)) → IsUtf8 typed → Opens o words true → AreText (declaration_of o).options
     → list ≡ filter (λ x. starts_with nat_eq x typed) (spellings (declaration_of o).options) → AreOffered (declaration_of o) words typed list
-offered o words typed list utf8 (l, open_words_are) text is = record {
+offered o words typed list utf8 opens text is = record {
   sound = λ s has.
       let k = kept (λ x. starts_with nat_eq x typed) (spellings (declaration_of o).options) s (subst (λ x. Contains x s) is has) in
-      record { text = utf8; begins = k.1; stands = offered_stands (declaration_of o) words l s o.sound text open_words_are k.0 };
+      record { text = utf8; begins = k.1; stands = let there = opens.0 refl in offered_stands (declaration_of o) words there.0 s o.sound text there.1 k.0 };
   complete = λ s completes.
       subst (λ x. Contains x s) (sym is)
       (keeps (λ x. starts_with nat_eq x typed) (spellings (declaration_of o).options) s (stands_offered (declaration_of o) words s completes.stands) completes.begins);
@@ -195,6 +202,6 @@ none_there s (k, below, is) = omega (arith, below)
 pub none_stands : (o : Options) (words : List (List ℕ)) (typed : List ℕ) → Opens o words false → AreOffered (declaration_of o) words typed []
 none_stands o words typed closed = record {
   sound = λ s has. absurd (none_there s has);
-  complete = λ s completes. absurd (closed completes.stands.before (stands_open (declaration_of o) words s completes.stands));
+  complete = λ s completes. absurd (false≢true (closed.1 (completes.stands.before, stands_open (declaration_of o) words s completes.stands)));
   in_order = inr refl;
 }

@@ -146,6 +146,11 @@ one_more d u v w l count s read counted reads = record {
 pub count_more : (l : List legal.Said) (count n : ℕ) (s : legal.Said) → count ≡ positional_count l → counts s ≡ n → count + n ≡ positional_count (l ++ s ∷ [])
 count_more l count n s counted is = let e = count_append l (s ∷ []) in omega arith
 
+pub counts_none : (s : legal.Said) → counts s ≢ 1 → counts s ≡ 0
+counts_none (legal.option i v) other = refl
+counts_none (legal.several i v) other = refl
+counts_none (legal.positional w) other = absurd (other refl)
+
 pub count_small : (l : List legal.Said) → positional_count l ≤ length l
 count_small [] = omega arith
 count_small (legal.option i v ∷ l) = let rest = count_small l in omega arith

@@ -1,5 +1,5 @@
 -- What can stand where a word is typed, as contracts see it.
-use Rattle.std.specs.Prelude.{◌≡◌, ◌⊎◌, ◌∷◌, ℕ, Bool, true, false, List, [], MatchBool, filter}
+use Rattle.std.specs.Prelude.{◌≡◌, ◌⊎◌, ◌↔◌, ◌∷◌, ℕ, Bool, true, false, IsTrue, List, [], filter}
 use Rattle.std.specs.Prelude.{length, map, nat_eq, option_map, string_bytes}
 use Rattle.std.specs.List.{Contains, starts_with}
 use Rattle.lexopt_options_spec.specs.Declaration.{Declaration}
@@ -35,8 +35,7 @@ pub record IsCompletion (o : Options) (words : List (List ℕ)) (typed : List �
 
 -- this tells whether an option can stand after these words
 abbrev pub Opens : Options → List (List ℕ) → Bool → Type 0
-Opens o words b = MatchBool b ((l : List legal.Said) × IsOpen (declaration_of o) words l)
-    ((l : List legal.Said) → ¬ IsOpen (declaration_of o) words l)
+Opens o words b = IsTrue b ↔ ((l : List legal.Said) × IsOpen (declaration_of o) words l)
 
 -- it is no option of several values
 abbrev pub is_one : Said → Bool

@@ -1,6 +1,6 @@
 //! What a program does about the words that it was called with: its work, or it writes a text, or
 //! it refuses them.
-ghost use Rattle.std.specs.Prelude.{◌≡◌, IfOk, MatchBool, string_bytes};
+ghost use Rattle.std.specs.Prelude.{◌≡◌, ◌↔◌, IfOk, IsTrue, string_bytes};
 ghost use Rattle.std.specs.Option.{MatchOption};
 ghost use Rattle.lexopt_options.specs.Answers.{AsksForScript, completion_text, is_said_of};
 ghost use Rattle.lexopt_options.specs.Reading.{said_view};
@@ -47,7 +47,7 @@ fn text_of(alloc: Global, completion: &Completion) -> Result<String, AllocError>
 
 // Whether a word is this text.
 fn is_text(word: &OsString, text: &str) -> bool
-    ensures { MatchBool result (word.now ≡ text.now) (word.now ≡ text.now → ⊥) }
+    ensures { IsTrue result ↔ (word.now ≡ text.now) }
 {
     word.as_bytes() == text.as_bytes()
 }

@@ -1,5 +1,5 @@
 //! What can stand where a word is typed, for shells.
-ghost use Rattle.std.specs.Prelude.{◌≡◌, ◌∷◌, ◌++◌, ℕ, IfOk, List, MatchBool, MatchOption, []};
+ghost use Rattle.std.specs.Prelude.{◌≡◌, ◌↔◌, ◌∷◌, ◌++◌, ℕ, IfOk, IsTrue, List, MatchOption, []};
 ghost use Rattle.std.specs.Prelude.{option_map};
 ghost use Rattle.lexopt_spec.specs.UnreadLine.{BeginsWith, dash};
 ghost use Rattle.lexopt_options_spec.specs.Completion as spec;
@@ -69,8 +69,7 @@ fn ends_in_one(said: &[Said]) -> bool
 // word is no option of several values: the next word is the value of an option, or a positional
 // argument after the separator, whatever it looks like.
 fn take_any_word(dashed: &[Said], plain: &[Said]) -> bool
-    ensures { MatchBool result (TakeAnyWord dashed.now plain.now)
-        (TakeAnyWord dashed.now plain.now → ⊥) }
+    ensures { IsTrue result ↔ TakeAnyWord dashed.now plain.now }
 {
     dashed.len() == plain.len() && ends_in_one(plain)
 }
@@ -143,7 +142,7 @@ fn dashed_role(opens: bool, dashed: Option<Vec<Said>>) -> Option<Role>
 
 // Whether a dash was typed first.
 fn begins_with_dash(typed: &OsString) -> bool
-    ensures { MatchBool result (BeginsWith dash typed.now) (¬ BeginsWith dash typed.now) }
+    ensures { IsTrue result ↔ BeginsWith dash typed.now }
 {
     typed.as_bytes().first() == Some(&b'-')
 }

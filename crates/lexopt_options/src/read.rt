@@ -1,6 +1,6 @@
 //! Reading a line by a declaration.
-ghost use Rattle.std.specs.Prelude.{◌≡◌, ◌≢◌, ◌∷◌, ◌++◌, ℕ, List, [], IfErr, IfOk, OnOk, Some};
-ghost use Rattle.std.specs.Prelude.{false, map, true};
+ghost use Rattle.std.specs.Prelude.{◌≡◌, ◌≢◌, ◌↔◌, ◌∷◌, ◌++◌, ℕ, List, [], IfErr, IfOk, OnOk};
+ghost use Rattle.std.specs.Prelude.{IsTrue, Some, map};
 ghost use Rattle.lexopt_spec.specs.UnreadLine.{IsLine, UnreadLine};
 ghost use Rattle.lexopt_spec.specs.Steps as steps;
 ghost use Rattle.lexopt_spec.specs.Steps.{Next};
@@ -126,8 +126,7 @@ fn unknown_option<'a>(
 
 // Whether `count` positional arguments are as many as there may be.
 fn is_full(limit: Option<usize>, count: usize) -> bool
-    ensures full { result ≡ true → limit ≡ Some count }
-    ensures room { result ≡ false → limit ≢ Some count }
+    ensures { IsTrue result ↔ (limit ≡ Some count) }
 {
     match limit {
         Some(limit) => limit == count,

@@ -1,5 +1,5 @@
 //! What a line says, by the options of a declaration.
-ghost use Rattle.std.specs.Prelude.{◌≡◌, false, true};
+ghost use Rattle.std.specs.Prelude.{◌≡◌, ◌↔◌, IsTrue};
 ghost use Rattle.lexopt_options_spec.specs.Legal.{counts};
 ghost use Rattle.lexopt_options.specs.Reading.{said_with, said_view};
 
@@ -21,8 +21,7 @@ pub enum Said {
 impl Said {
     /// Whether it is a positional argument.
     pub fn is_positional(&self) -> bool
-        ensures positional { result ≡ true → counts (said_view self.now) ≡ 1 }
-        ensures option { result ≡ false → counts (said_view self.now) ≡ 0 }
+        ensures { IsTrue result ↔ (counts (said_view self.now) ≡ 1) }
     {
         match self {
             Said::Positional(_) => true,

@@ -1,11 +1,12 @@
 use Rattle.std.proofs.Common.{◌≡◌, ◌++◌, ◌∷◌, [], List, map, arith, add-zero, ap, sym, subst, ◌∙◌}
+use Rattle.std.proofs.lemmas.Bool.{false≢true}
 use Rattle.std.proofs.lemmas.List.{length-map}
 use Rattle.lexopt_options_spec.specs.Legal as legal
 use Rattle.lexopt_options_spec.specs.Legal.{positional_count}
 use Rattle.lexopt_options_spec.specs.Stops.{ReadsUpTo}
 use Rattle.lexopt_options.specs.Declarations.{declaration_of}
 use Rattle.lexopt_options.specs.Reading.{said_view}
-use Rattle.lexopt_options.proofs.ReadNext.{count_more, count_small, one_more}
+use Rattle.lexopt_options.proofs.ReadNext.{count_more, count_small, counts_none, one_more}
 use Rattle.lexopt_options.proofs.WholeLines.{line_said}
 use Rattle.lexopt_options.proofs.read.read_line.Goals as goal
 
@@ -23,7 +24,7 @@ loop-said-preserved-then-more c =
     record {
       read = subst (λ (m : List legal.Said). ReadsUpTo d c.args.parser.now m c.read_next.new.parser) (sym added)
           (one_more d c.args.parser.now c.loop-said.parser c.read_next.new.parser l c.loop-said.count (said_view c.in-Said.item) c.loop-said.invariant.read c.loop-said.invariant.counted reads);
-      counted = count_more l c.loop-said.count 1 (said_view c.in-Said.item) c.loop-said.invariant.counted (c.is_positional-more.ensures.positional c.if-more.true)
+      counted = count_more l c.loop-said.count 1 (said_view c.in-Said.item) c.loop-said.invariant.counted (c.is_positional-more.ensures.0 c.if-more.true)
           ∙ ap positional_count (sym added);
     }
 
@@ -36,7 +37,7 @@ loop-said-preserved c =
     record {
       read = subst (λ (m : List legal.Said). ReadsUpTo d c.args.parser.now m c.read_next.new.parser) (sym added)
           (one_more d c.args.parser.now c.loop-said.parser c.read_next.new.parser l c.loop-said.count (said_view c.in-Said.item) c.loop-said.invariant.read c.loop-said.invariant.counted reads);
-      counted = sym (add-zero c.loop-said.count) ∙ count_more l c.loop-said.count 0 (said_view c.in-Said.item) c.loop-said.invariant.counted (c.is_positional-more.ensures.option c.if-more.false)
+      counted = sym (add-zero c.loop-said.count) ∙ count_more l c.loop-said.count 0 (said_view c.in-Said.item) c.loop-said.invariant.counted (counts_none (said_view c.in-Said.item) (λ one. false≢true (sym c.if-more.false ∙ c.is_positional-more.ensures.1 one)))
           ∙ ap positional_count (sym added);
     }
 

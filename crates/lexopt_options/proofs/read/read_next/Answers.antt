@@ -1,4 +1,5 @@
 use Rattle.std.proofs.Common.{◌≡◌, ◌∙◌, Ok, Err, List, ℕ, string_bytes, refl, subst, sym, ap}
+use Rattle.std.proofs.lemmas.Bool.{false≢true}
 use Rattle.std.proofs.lemmas.Result.{IfOk-weaker}
 use Rattle.lexopt_line_spec.specs.Table.{long, short}
 use Rattle.lexopt_options_spec.specs.Declaration.{index_of}
@@ -66,14 +67,14 @@ returns-then-is_full c =
     record {
       why = stops.unexpected_argument c.in-Ok-Value.word;
       told = refl;
-      stops = stops.one_too_many c.in-Ok-Value.word c.advance.new.self (answered _ _ _ _ c.advance.ensures is) (sym c.requires.limit ∙ c.is_full.ensures.full c.if-is_full.true);
+      stops = stops.one_too_many c.in-Ok-Value.word c.advance.new.self (answered _ _ _ _ c.advance.ensures is) (sym c.requires.limit ∙ c.is_full.ensures.0 c.if-is_full.true);
     }
 
 pub returns-else-is_full : goal.returns-else-is_full
 returns-else-is_full c =
     let is : c.advance.result ≡ Ok (found.Value c.in-Ok-Value.word) = cc in
     positional_said (declaration_of c.args.options.now) c.args.count c.args.parser.now c.advance.new.self c.in-Ok-Value.word
-    (λ full. c.is_full.ensures.room c.if-is_full.false (c.requires.limit ∙ full)) (answered _ _ _ _ c.advance.ensures is)
+    (λ full. false≢true (sym c.if-is_full.false ∙ c.is_full.ensures.1 (c.requires.limit ∙ full))) (answered _ _ _ _ c.advance.ensures is)
 
 pub returns-in-Ok-End : goal.returns-in-Ok-End
 returns-in-Ok-End c =
