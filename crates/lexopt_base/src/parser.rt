@@ -242,11 +242,16 @@ impl Parser {
     pub fn value(&mut self) -> Result<OsString, Error>
         ensures { RepliesWith Value self.old (value_reply result) self.new }
     {
-        // A word is returned at once, for the same reason as in `lend`.
-        match self.take() {
-            Ok(word) => return Ok(word),
-            Err(refusal) => Err(Error::from(refusal)),
+        // The body of `take` stands here again. If the answer of a call of it were matched, its
+        // two refusals would meet before the error is made of them, and each call of a function
+        // that hands the error on by `?` would cost some 20 instructions more.
+        if let Some(pending) = self.pending() {
+            return Ok(self.take_value(pending.count));
         }
+        if let Some(next) = self.take_word() {
+            return Ok(next);
+        }
+        Err(Error::from(self.missing_value()))
     }
 
     /// Takes a value for the last option, as [`Parser::value`] does, for whoever builds on the
@@ -575,8 +580,12 @@ impl Parser {
             LastOption::Nothing => return Ok(None),
             LastOption::Short(option) => format!(in self.alloc; "-{option}"),
             LastOption::Long => {
-                let name = &self.name;
-                format!(in self.alloc; "--{name}")
+                // Two texts put together cost less than a format.
+                let name = self.name.as_str();
+                let mut text = String::with_capacity(self.alloc, name.len().saturating_add(2))?;
+                text.push_str("--")?;
+                text.push_str(name)?;
+                return Ok(Some(text));
             }
         };
         Ok(Some(text?))
@@ -680,7 +689,9 @@ fn keep_name(alloc: Global, kept: &mut String, name: &[u8]) -> Result<(), AllocE
         *kept = lossy_text(alloc, name)?;
         return Ok(());
     };
-    kept.reserve(text.len().saturating_sub(kept.len()))?;
+    if kept.capacity() < text.len() {
+        kept.reserve(text.len().saturating_sub(kept.len()))?;
+    }
     kept.clear();
     kept.push_str(text)
 }

@@ -175,9 +175,8 @@ fn read_item(
             add(items, values.of_short(option))
         }
         Found::Long => {
-            let name = parser.long_name();
-            let kind = kind_of_long(table, name);
-            let name = String::from_str(alloc, name)?;
+            let name = String::from_str(alloc, parser.long_name())?;
+            let kind = kind_of_long(table, &name);
             let values = read_values(alloc, parser, kind)?;
             add(items, values.of_long(name))
         }

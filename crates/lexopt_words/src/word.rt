@@ -21,8 +21,13 @@ pub fn kind_of(word: &[u8]) -> WordKind
     ensures { IsOfKind word.now result }
 {
     match word {
-        b"--" => WordKind::Separator,
-        [b'-', b'-', ..] => WordKind::Long,
+        [b'-', b'-', name @ ..] => {
+            if name.is_empty() {
+                WordKind::Separator
+            } else {
+                WordKind::Long
+            }
+        }
         [b'-', _, ..] => WordKind::Shorts,
         _ => WordKind::Positional,
     }

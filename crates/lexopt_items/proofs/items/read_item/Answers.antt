@@ -1,6 +1,7 @@
-use Rattle.std.proofs.Common.{◌≡◌, List, ℕ, subst, sym}
-use Rattle.lexopt_line_spec.specs.Table.{Item, short, long, positional}
-use Rattle.lexopt_items.specs.Items.{ReadsItem, item_with, table_view}
+use Rattle.std.proofs.Common.{◌≡◌, List, ℕ, subst, sym, string_bytes}
+use Rattle.lexopt_spec.specs.Steps as steps
+use Rattle.lexopt_line_spec.specs.Table.{Item, kind, short, long, positional}
+use Rattle.lexopt_items.specs.Items.{ReadsItem, kind_view, table_view}
 use Rattle.lexopt_base.specs.declared.parser.Found.TheVariants as found
 use Rattle.lexopt_base.proofs.Refusals.{named}
 use Rattle.lexopt_items.proofs.ReadsItems.{gave, option_read, option_refused, positional_read, next_refused, handed_on, joins}
@@ -17,12 +18,14 @@ returns-in_ok-values-in-Short-clause-ok c =
 pub returns-in_ok-values-in-Long-clause-ok : goal.returns-in_ok-values-in-Long-clause-ok
 returns-in_ok-values-in-Long-clause-ok c =
     let is : c.in_ok-option.field-0 ≡ found.Long = cc in
-    let step = named _ _ c.long_name-name.result.now (gave _ _ _ _ c.in_ok-option.ensures is) c.long_name-name.ensures in
+    let step = named _ _ c.long_name.result.now (gave _ _ _ _ c.in_ok-option.ensures is) c.long_name.ensures in
+    let name = string_bytes c.in_ok-name-in-Long.name in
+    let copied = subst (λ (n : List ℕ). steps.Next c.args.parser.now (steps.long n) c.advance.new.self) (sym c.in_ok-name-in-Long.ensures.ok) step in
+    let known = subst (λ (n : List ℕ). kind_view c.kind_of_long-kind.result ≡ kind (table_view c.args.table.now) (long n)) c.deref.ensures c.kind_of_long-kind.ensures in
     joins (table_view c.args.table.now) c.args.parser.now c.read_values-in-Long.new.parser _ _ _ c.add-in-Long.result
     (subst (λ (i : Item). ReadsItem (table_view c.args.table.now) c.args.parser.now i c.read_values-in-Long.new.parser) (sym c.of_long.ensures)
-    (subst (λ (n : List ℕ). ReadsItem (table_view c.args.table.now) c.args.parser.now (item_with (long n) c.in_ok-values-in-Long.values) c.read_values-in-Long.new.parser) (sym c.in_ok-name-in-Long.ensures.ok)
-    (option_read (table_view c.args.table.now) c.args.parser.now c.advance.new.self c.read_values-in-Long.new.parser (long c.long_name-name.result.now)
-    c.kind_of_long-kind.result c.in_ok-values-in-Long.values c.kind_of_long-kind.ensures step c.in_ok-values-in-Long.ensures.ok))) c.add-in-Long.ensures.ok
+    (option_read (table_view c.args.table.now) c.args.parser.now c.advance.new.self c.read_values-in-Long.new.parser (long name)
+    c.kind_of_long-kind.result c.in_ok-values-in-Long.values known copied c.in_ok-values-in-Long.ensures.ok)) c.add-in-Long.ensures.ok
 
 pub returns-in-Value-clause-ok : goal.returns-in-Value-clause-ok
 returns-in-Value-clause-ok c =
@@ -45,7 +48,10 @@ returns-in_err-values-in-Short-clause-err c =
 pub returns-in_err-values-in-Long-clause-err : goal.returns-in_err-values-in-Long-clause-err
 returns-in_err-values-in-Long-clause-err c =
     let is : c.in_ok-option.field-0 ≡ found.Long = cc in
-    let step = named _ _ c.long_name-name.result.now (gave _ _ _ _ c.in_ok-option.ensures is) c.long_name-name.ensures in
+    let step = named _ _ c.long_name.result.now (gave _ _ _ _ c.in_ok-option.ensures is) c.long_name.ensures in
+    let name = string_bytes c.in_ok-name-in-Long.name in
+    let copied = subst (λ (n : List ℕ). steps.Next c.args.parser.now (steps.long n) c.advance.new.self) (sym c.in_ok-name-in-Long.ensures.ok) step in
+    let known = subst (λ (n : List ℕ). kind_view c.kind_of_long-kind.result ≡ kind (table_view c.args.table.now) (long n)) c.deref.ensures c.kind_of_long-kind.ensures in
     handed_on c.from_residual-in_err-values-in-Long.result c.in_err-values-in-Long.field-0.0 _ c.from_residual-in_err-values-in-Long.ensures.1
-    (option_refused (table_view c.args.table.now) c.args.parser.now c.advance.new.self (long c.long_name-name.result.now) c.kind_of_long-kind.result _ c.kind_of_long-kind.ensures
-    step c.in_err-values-in-Long.ensures.err)
+    (option_refused (table_view c.args.table.now) c.args.parser.now c.advance.new.self (long name) c.kind_of_long-kind.result _ known copied
+    c.in_err-values-in-Long.ensures.err)
