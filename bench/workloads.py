@@ -59,8 +59,8 @@ DAMAGED_VALUES = [
 
 # Why a row may cost more.
 OF_ERRORS = (
-    "An `Error` has room for its cause, some 300 bytes. The function with the loop has a few of them, which are zeroed as it "
-    "begins: some 180 instructions, once for each line."
+    "An `Error` has room for its cause, some 300 bytes. The function with the loop has one of them or more, which are zeroed as it "
+    "begins, once for each line."
 )
 OF_EMPTY_WORDS = (
     "A word that is taken leaves an empty one in its place, which is written and, at the end, dropped: some 10 instructions. The "
@@ -156,7 +156,7 @@ WORKLOADS = [
         repeated([b""]),
         times=100,
         is_declared=True,
-        bounds={"next": (1.75, OF_ERRORS)},
+        bounds={"next": (1.2, OF_ERRORS)},
     ),
     Workload("{size} positionals, by `from_args`", 10_000, repeated([b"file.txt"]), work="collected"),
     Workload(
