@@ -242,9 +242,8 @@ impl Parser {
     pub fn value(&mut self) -> Result<OsString, Error>
         ensures { RepliesWith Value self.old (value_reply result) self.new }
     {
-        // The body of `take` stands here again. If the answer of a call of it were matched, its
-        // two refusals would meet before the error is made of them, and each call of a function
-        // that hands the error on by `?` would cost some 20 instructions more.
+        // This repeats the body of `take`. With a `match` on what `take` returns, a function that
+        // returns the error by `?` was measured to cost some 20 instructions more a call.
         if let Some(pending) = self.pending() {
             return Ok(self.take_value(pending.count));
         }
@@ -580,7 +579,7 @@ impl Parser {
             LastOption::Nothing => return Ok(None),
             LastOption::Short(option) => format!(in self.alloc; "-{option}"),
             LastOption::Long => {
-                // Two texts put together cost less than a format.
+                // This costs fewer instructions than `format!`.
                 let name = self.name.as_str();
                 let mut text = String::with_capacity(self.alloc, name.len().saturating_add(2))?;
                 text.push_str("--")?;

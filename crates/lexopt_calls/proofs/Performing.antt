@@ -94,7 +94,7 @@ run_done script commands (c ∷ cs) (r ∷ rs) u v on text done run =
     (run_done script (commands ++ call c ∷ []) cs rs run.0 v (short_equals_after on c) (text ++ with_newline (reply_text r))
     (call_done script commands c r u run.0 on text done run.1) run.2)
 
--- so many calls more
+-- the script that makes these calls after its commands
 pub calls_done : (script : Script) (commands : List Command) (calls : List Call) (u v : UnreadLine) (on now : Bool) (text new : List ℕ) → Done script commands u on text
     → MakesCalls calls u on text v now new → Done script (commands ++ map call calls) v now new
 calls_done script commands calls u v on now text new done made =

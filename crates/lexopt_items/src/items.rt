@@ -175,6 +175,8 @@ fn read_item(
             add(items, values.of_short(option))
         }
         Found::Long => {
+            // The name is copied first: a kind that is looked up just before its values are read
+            // costs fewer instructions.
             let name = String::from_str(alloc, parser.long_name())?;
             let kind = kind_of_long(table, &name);
             let values = read_values(alloc, parser, kind)?;

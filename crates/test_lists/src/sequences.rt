@@ -106,7 +106,7 @@ impl Tried {
         Ok(!is_last(&reply) && self.is_short(place.calls))
     }
 
-    // Whether a sequence of so many calls is not too long.
+    // Whether a sequence of `calls` calls is not too long.
     fn is_short(&mut self, calls: u32) -> bool {
         if calls > MOST_CALLS {
             self.fault("no end");
