@@ -1,64 +1,63 @@
-//! Two tools in one program, as busybox has many: `echo [-n] [WORD]..` and `basename NAME`.
+//! Two tools in one program, as busybox has many: `head`, which prints the first lines of standard
+//! input, and `timeout`, which reads its own options and passes the rest of its line on.
 //!
-//! The name that the program is called by says which tool it is. Where that is none of them, the
-//! first argument does: `example_multicall echo a b`.
+//! The name that the program is called by is the tool's. If no tool has that name, the first
+//! argument is the tool: `example_multicall head -3`.
 //!
-//! A word may be of any bytes, and goes out byte for byte.
-//!
-//! The exit status is 0, or 2 where the command line, or memory to read it, was refused, or 1 where
-//! a line could not be printed; then standard error says why, after the name that the program is
+//! The exit status is 0, or 2 if the command line, or memory to read it, was refused, or 1 if a line
+//! could not be read or printed; then standard error says why, after the name that the program is
 //! called by.
 #![tactic(auto)]
 
+mod head;
+mod timeout;
+
 use lexopt_base::prelude::{Long, Short, Value};
-use lexopt_base::{Error, OsString, Parser};
+use lexopt_base::{Error, Parser};
 use std::alloc::Global;
 use std::env::Env;
 use std::io;
-use std::io::Write;
 use std::process::ExitCode;
 
-// Its name where it is called by none.
+// The program's name if it is called by none.
 const NAME: &str = "example_multicall";
 
 const HELP: &str = "Usage: example_multicall TOOL [ARGUMENT]..
-       echo [-n] [WORD]..
-       basename NAME
+       head [-NUM] [-n|--lines=NUM] [--number]
+       timeout [-s|--signal=NAME] [-k|--kill-after=SECONDS] SECONDS COMMAND [ARG]..
 
-  -n          end with no newline
-  -h, --help  print this and end";
+  -NUM, -n, --lines=NUM     print NUM lines; 10 by default
+        --number            print its number before each line
+  -s, --signal=NAME         the signal that ends the command
+  -k, --kill-after=SECONDS  kill it SECONDS seconds later
+  -h, --help                print this and end";
 
 #[derive(Clone, Copy)]
 enum Tool {
-    Echo,
-    Basename,
+    Head,
+    Timeout,
 }
 
 // What a command line asks for.
 #[derive(Drop)]
 enum Request {
     Help,
-    Echo { words: Vec<OsString>, newline: bool },
-    Basename(OsString),
+    Head(head::Options),
+    Timeout(timeout::Plan),
 }
 
 impl Tool {
     // The tool of this name, which may have a path before it.
     fn of_name(name: &[u8]) -> Option<Tool> {
-        match last_part(name) {
-            b"echo" => Some(Tool::Echo),
-            b"basename" => Some(Tool::Basename),
+        match name.rsplit(|byte| *byte == b'/').next()? {
+            b"head" => Some(Tool::Head),
+            b"timeout" => Some(Tool::Timeout),
             _ => None,
         }
     }
 }
 
-// The last part of a path.
-fn last_part(path: &[u8]) -> &[u8] {
-    path.rsplit(|byte| *byte == b'/').next().unwrap_or(path)
-}
-
-// The tool that the program is called by, or else the first argument; none where help is asked for.
+// The tool that the program is called by, or else the first argument; `None` if that asks for help.
 fn read_tool(alloc: Global, parser: &mut Parser) -> Result<Option<Tool>, Error> {
     if let Some(tool) = parser
         .bin_name()
@@ -70,74 +69,26 @@ fn read_tool(alloc: Global, parser: &mut Parser) -> Result<Option<Tool>, Error> 
         Some(Short('h') | Long("help")) => Ok(None),
         Some(Value(word)) => match Tool::of_name(word.as_bytes()) {
             Some(tool) => Ok(Some(tool)),
-            None => Err(Error::from("the tool is echo or basename")),
+            None => Err(Error::from("the tool is head or timeout")),
         },
         Some(argument) => Err(argument.unexpected(alloc)),
         None => Err(Error::from("missing argument TOOL")),
     }
 }
 
-fn read_echo(alloc: Global, parser: &mut Parser) -> Result<Request, Error> {
-    let mut words = Vec::new(alloc);
-    let mut newline = true;
-    for _ in 0..u64::MAX {
-        match parser.next()? {
-            Some(Short('h') | Long("help")) => return Ok(Request::Help),
-            Some(Short('n')) => newline = false,
-            Some(Value(word)) => words.push(word)?,
-            Some(argument) => return Err(argument.unexpected(alloc)),
-            None => break,
-        }
-    }
-    Ok(Request::Echo { words, newline })
-}
-
-fn read_basename(alloc: Global, parser: &mut Parser) -> Result<Request, Error> {
-    let mut name = None;
-    for _ in 0..u64::MAX {
-        match parser.next()? {
-            Some(Short('h') | Long("help")) => return Ok(Request::Help),
-            Some(Value(word)) if name.is_none() => name = Some(word),
-            Some(argument) => return Err(argument.unexpected(alloc)),
-            None => break,
-        }
-    }
-    match name {
-        Some(name) => Ok(Request::Basename(name)),
-        None => Err(Error::from("missing argument NAME")),
-    }
-}
-
 fn read_request(alloc: Global, parser: &mut Parser) -> Result<Request, Error> {
     match read_tool(alloc, parser)? {
-        Some(Tool::Echo) => read_echo(alloc, parser),
-        Some(Tool::Basename) => read_basename(alloc, parser),
+        Some(Tool::Head) => head::read_request(alloc, parser),
+        Some(Tool::Timeout) => timeout::read_request(alloc, parser),
         None => Ok(Request::Help),
     }
 }
 
-fn echo(writer: &mut impl Write, words: &[OsString], newline: bool) -> io::Result<()> {
-    for (place, word) in words.iter().enumerate() {
-        if place > 0 {
-            writer.write_all(b" ")?;
-        }
-        writer.write_all(word.as_bytes())?;
-    }
-    if newline {
-        writer.write_all(b"\n")?;
-    }
-    Ok(())
-}
-
-fn answer(rt: &impl Print, request: &Request) -> io::Result<()> {
-    let mut writer = io::writer(rt);
+fn answer(rt: &(impl Input + Print + AllocGlobal), request: &Request) -> io::Result<()> {
     match request {
         Request::Help => rt.println(HELP),
-        Request::Echo { words, newline } => echo(&mut writer, words, *newline),
-        Request::Basename(name) => {
-            writer.write_all(last_part(name.as_bytes()))?;
-            writer.write_all(b"\n")
-        }
+        Request::Head(options) => head::print_lines(rt, *options),
+        Request::Timeout(plan) => timeout::print_plan(rt, plan),
     }
 }
 

@@ -1,27 +1,16 @@
-//! Reads its own options, and passes the rest of the line on unchanged, as `timeout` does:
-//! `example_timeout [-s|--signal=NAME] [-k|--kill-after=SECONDS] SECONDS COMMAND [ARG]..`.
+//! `timeout [-s|--signal=NAME] [-k|--kill-after=SECONDS] SECONDS COMMAND [ARG]..` reads its own
+//! options, and passes the rest of the line on unchanged.
 //!
 //! It starts no command: it prints what it has read, and then each word that the command would be
 //! started with, quoted. A word may be of any bytes.
-//!
-//! The exit status is 0, or 2 where the command line, or memory to read it, was refused, or 1 where
-//! a line could not be printed; then standard error says why.
-#![tactic(auto)]
 
+use crate::Request;
 use lexopt_base::prelude::{Long, Short, Value, ValueExt};
 use lexopt_base::{Error, OsString, Parser, Quoted};
 use std::alloc::Global;
-use std::env::Env;
 use std::io;
-use std::process::ExitCode;
 
-const HELP: &str = "Usage: example_timeout [OPTION].. SECONDS COMMAND [ARG]..
-
-  -s, --signal=NAME         the signal that ends the command
-  -k, --kill-after=SECONDS  kill it, so many seconds later
-  -h, --help                print this and end";
-
-// What stands before the command.
+// What comes before the command.
 #[derive(Drop)]
 struct Limits {
     signal: Option<OsString>,
@@ -31,20 +20,13 @@ struct Limits {
 
 // A command, and what limits it.
 #[derive(Drop)]
-struct Plan {
+pub struct Plan {
     limits: Limits,
     command: Vec<OsString>,
 }
 
-// What a command line asks for.
-#[derive(Drop)]
-enum Request {
-    Help,
-    Run(Plan),
-}
-
-// Reads up to the first positional argument, which is the number of seconds; none where help is
-// asked for.
+// Reads up to the first positional argument, which is the number of seconds; `None` if help is asked
+// for.
 fn read_limits(alloc: Global, parser: &mut Parser) -> Result<Option<Limits>, Error> {
     let mut signal = None;
     let mut kill_after = None;
@@ -68,7 +50,7 @@ fn read_limits(alloc: Global, parser: &mut Parser) -> Result<Option<Limits>, Err
 }
 
 // After the number of seconds no word is read as an option: each one is the command's own.
-fn read_request(alloc: Global, parser: &mut Parser) -> Result<Request, Error> {
+pub fn read_request(alloc: Global, parser: &mut Parser) -> Result<Request, Error> {
     let Some(limits) = read_limits(alloc, parser)? else {
         return Ok(Request::Help);
     };
@@ -76,12 +58,7 @@ fn read_request(alloc: Global, parser: &mut Parser) -> Result<Request, Error> {
     if command.is_empty() {
         return Err(Error::from("missing argument COMMAND"));
     }
-    Ok(Request::Run(Plan { limits, command }))
-}
-
-fn own_request(rt: &(impl Env + AllocGlobal)) -> Result<Request, Error> {
-    let mut parser = Parser::from_env_os(rt, rt.alloc())?;
-    read_request(rt.alloc(), &mut parser)
+    Ok(Request::Timeout(Plan { limits, command }))
 }
 
 fn print_word(rt: &impl Print, name: &str, word: &OsString) -> io::Result<()> {
@@ -89,7 +66,7 @@ fn print_word(rt: &impl Print, name: &str, word: &OsString) -> io::Result<()> {
     println!(rt; "{name}: {word}")
 }
 
-fn print_plan(rt: &impl Print, plan: &Plan) -> io::Result<()> {
+pub fn print_plan(rt: &impl Print, plan: &Plan) -> io::Result<()> {
     let limits = &plan.limits;
     let seconds = limits.seconds;
     println!(rt; "seconds: {seconds}")?;
@@ -103,26 +80,4 @@ fn print_plan(rt: &impl Print, plan: &Plan) -> io::Result<()> {
         print_word(rt, "word", word)?;
     }
     Ok(())
-}
-
-// Says what is wrong with the command line, and where help is.
-fn refuse(rt: &impl Eprint, error: &Error) -> ExitCode {
-    let _ = eprintln!(rt; "example_timeout: {error}");
-    let _ = eprintln!(rt; "Try 'example_timeout --help' for more information.");
-    ExitCode::from(2)
-}
-
-fn main(rt: HostRuntime) -> ExitCode {
-    let printed = match own_request(&rt) {
-        Ok(Request::Run(plan)) => print_plan(&rt, &plan),
-        Ok(Request::Help) => rt.println(HELP),
-        Err(error) => return refuse(&rt, &error),
-    };
-    match printed {
-        Ok(()) => ExitCode::SUCCESS,
-        Err(error) => {
-            let _ = eprintln!(rt; "example_timeout: {error}");
-            ExitCode::FAILURE
-        }
-    }
 }

@@ -1,6 +1,6 @@
 //! Completion beside reading: a spelling is offered after some words exactly if the words, it and
 //! what may come after it can be read as what the words say, and then its option.
-use crate::archive::archive_of_files;
+use crate::options::archive::archive_of_files;
 use lexopt_options::{Options, OsString, ReadError, Said};
 use std::alloc::{AllocError, Global};
 use std::test::Fail;

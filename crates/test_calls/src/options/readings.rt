@@ -1,5 +1,5 @@
 //! What lines say.
-use crate::archive::{archive_of_files, text_of_words, words_of};
+use crate::options::archive::{archive_of_files, text_of_words, words_of};
 use lexopt_options::Options;
 use std::alloc::{AllocError, Global};
 use std::test::Fail;

@@ -1,5 +1,7 @@
 //! What is printed of lines that are refused, and what they say before.
-use crate::archive::{FILES, OPTIONS, SOURCE_AND_TARGET, archive, tells, text_of_words, words_of};
+use crate::options::archive::{
+    FILES, OPTIONS, SOURCE_AND_TARGET, archive, tells, text_of_words, words_of,
+};
 use lexopt_options::{Declared, Error, Names, Options, OsString, ReadError, Refused, ValueExt};
 use std::alloc::{AllocError, Global};
 use std::test::Fail;

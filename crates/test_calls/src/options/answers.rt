@@ -1,5 +1,5 @@
 //! What a program is to do about its words.
-use crate::archive::{archive, archive_of_files, debug_of, words_of};
+use crate::options::archive::{archive, archive_of_files, debug_of, words_of};
 use lexopt_options::{Answer, Declared, HELP, Names, Options, Positional};
 use std::alloc::{AllocError, Global};
 use std::test::Fail;

@@ -1,5 +1,5 @@
 //! The help and the usage line.
-use crate::archive::{FILES, OPTIONS, SOURCE_AND_TARGET, archive};
+use crate::options::archive::{FILES, OPTIONS, SOURCE_AND_TARGET, archive};
 use lexopt_options::{Declared, Names, Positional, VERSION, WIDTH};
 use std::alloc::{AllocError, Global};
 use std::test::Fail;

@@ -1,5 +1,5 @@
 //! What can stand where a word is typed.
-use crate::archive::{OPTIONS, archive, archive_of_files, words_of};
+use crate::options::archive::{OPTIONS, archive, archive_of_files, words_of};
 use lexopt_options::{Options, OsString, Role};
 use std::alloc::{AllocError, Global};
 use std::test::Fail;

@@ -1,5 +1,5 @@
 //! Which options can be declared, and the table of those that can.
-use crate::archive::archive_of_files;
+use crate::options::archive::archive_of_files;
 use lexopt_options::{DeclarationError, Declared, HELP, Kind, Names, Options, Reason};
 use std::alloc::{AllocError, Global};
 use std::test::Fail;
