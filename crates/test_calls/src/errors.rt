@@ -3,6 +3,7 @@
 use lexopt_base::{Arg, Error, OsString};
 use lexopt_calls::run_error::RunError;
 use std::alloc::{AllocError, AllocFailed, Global};
+use std::process::Abort;
 use std::test::Fail;
 use test_helpers::errors::prints;
 
@@ -30,33 +31,39 @@ enum Made {
     OfFailedAlloc,
 }
 
-fn error_of(alloc: Global, made: Made) -> Result<Error, AllocError> {
-    Ok(match made {
+fn error_of(rt: &(impl Abort + AllocGlobal), made: Made) -> Error {
+    let alloc = rt.alloc();
+    match made {
         Made::Missing => Error::MissingValue { option: None },
         Made::MissingOf(option) => {
-            let option = Some(String::from_str(alloc, option)?);
+            let option = Some(String::from_str(alloc, option).expect(rt, "memory"));
             Error::MissingValue { option }
         }
         Made::OfShort(option) => Arg::Short(option).unexpected(alloc),
         Made::OfLong(name) => Arg::Long(name).unexpected(alloc),
-        Made::OfWord(word) => Arg::Value(OsString::from_bytes(alloc, word)?).unexpected(alloc),
+        Made::OfWord(word) => {
+            let word = OsString::from_bytes(alloc, word).expect(rt, "memory");
+            Arg::Value(word).unexpected(alloc)
+        }
         Made::OfValue(option, value) => {
-            let option = String::from_str(alloc, option)?;
-            let value = OsString::from_text(alloc, value)?;
+            let option = String::from_str(alloc, option).expect(rt, "memory");
+            let value = OsString::from_text(alloc, value).expect(rt, "memory");
             Error::UnexpectedValue { option, value }
         }
-        Made::OfBytes(word) => Error::from(OsString::from_bytes(alloc, word)?),
+        Made::OfBytes(word) => Error::from(OsString::from_bytes(alloc, word).expect(rt, "memory")),
         Made::OfParse(value, cause) => {
-            let value = String::from_str(alloc, value)?;
+            let value = String::from_str(alloc, value).expect(rt, "memory");
             let error = anyhow::Error::msg(cause);
             Error::ParsingFailed { value, error }
         }
         Made::OfStr(message) => Error::from(message),
-        Made::OfString(message) => Error::from(String::from_str(alloc, message)?),
+        Made::OfString(message) => {
+            Error::from(String::from_str(alloc, message).expect(rt, "memory"))
+        }
         Made::OfCustom(message) => Error::Custom(anyhow::Error::msg(message)),
         Made::OfAlloc => Error::from(AllocError),
         Made::OfFailedAlloc => Error::from(AllocFailed { value: 0u8 }),
-    })
+    }
 }
 
 const MESSAGES: [(Made, &str); 16] = [
@@ -103,28 +110,26 @@ const MESSAGES: [(Made, &str); 16] = [
 ];
 
 // Whether the error prints this message.
-fn tells(alloc: Global, made: Made, message: &str) -> Result<bool, AllocError> {
-    let error = error_of(alloc, made)?;
-    prints(alloc, &error, message)
+fn tells(rt: &(impl Abort + AllocGlobal), made: Made, message: &str) -> bool {
+    prints(rt.alloc(), &error_of(rt, made), message).expect(rt, "memory")
 }
 
 // The first message of these that its error does not print, or none.
 fn first_not_told(
-    alloc: Global,
+    rt: &(impl Abort + AllocGlobal),
     rows: &[(Made, &'static str)],
-) -> Result<Option<&'static str>, AllocError> {
+) -> Option<&'static str> {
     for (made, message) in rows {
-        if !tells(alloc, *made, message)? {
-            return Ok(Some(*message));
+        if !tells(rt, *made, message) {
+            return Some(*message);
         }
     }
-    Ok(None)
+    None
 }
 
 #[test]
-fn messages(rt: HostRuntime) -> Result<(), Fail> {
-    assert_eq!(rt; first_not_told(rt.alloc(), &MESSAGES)?, None);
-    Ok(())
+fn messages(rt: HostRuntime) {
+    assert_eq!(rt; first_not_told(&rt, &MESSAGES), None);
 }
 
 // `anyhow` keeps at most 120 bytes of a message: of 121 letters it keeps a front and a mark that
@@ -146,27 +151,19 @@ fn long_message(rt: HostRuntime) -> Result<(), Fail> {
 }
 
 // Whether the cause of an error says this; none is that there is no cause.
-fn is_caused(alloc: Global, made: Made, by: Option<&str>) -> Result<bool, AllocError> {
-    let error = error_of(alloc, made)?;
-    match error.cause() {
-        Some(cause) => Ok(Some(cause.to_string(alloc)?.as_str()) == by),
-        None => Ok(by.is_none()),
+fn is_caused(rt: &(impl Abort + AllocGlobal), made: Made, by: Option<&str>) -> bool {
+    match error_of(rt, made).cause() {
+        Some(cause) => Some(cause.to_string(rt.alloc()).expect(rt, "memory").as_str()) == by,
+        None => by.is_none(),
     }
 }
 
 #[test]
-fn causes(rt: HostRuntime) -> Result<(), Fail> {
+fn causes(rt: HostRuntime) {
     let custom = "this is an error message";
-    assert!(rt; is_caused(rt.alloc(), Made::OfStr(custom), Some(custom))?);
-    assert!(rt;
-        is_caused(
-            rt.alloc(),
-            Made::OfParse("1\t2", "no number"),
-            Some("no number")
-        )?
-    );
-    assert!(rt; is_caused(rt.alloc(), Made::OfShort('o'), None)?);
-    Ok(())
+    assert!(rt; is_caused(&rt, Made::OfStr(custom), Some(custom)));
+    assert!(rt; is_caused(&rt, Made::OfParse("1\t2", "no number"), Some("no number")));
+    assert!(rt; is_caused(&rt, Made::OfShort('o'), None));
 }
 
 // Whether an error of a script prints this message.

@@ -2,6 +2,7 @@
 use lexopt_base::{Error, Parser};
 use std::alloc::Global;
 use std::env;
+use std::process::Abort;
 use std::test::Fail;
 use test_helpers::calls::{is_at_end, reads_short, takes};
 use test_helpers::environments::Arguments;
@@ -58,22 +59,19 @@ fn reads_after_a_name(parser: &mut Parser) -> Result<bool, Error> {
 
 // Whether a copy has the same name, and reads the same words; and a copy of a parser with no name
 // has none.
-fn copies_have_names(alloc: Global) -> Result<bool, Error> {
-    let mut parser = named(alloc, &[b"foo", b"-x"])?;
-    let mut copy = parser.clone()?;
-    let nameless = parser_of(alloc, &[b"foo"])?;
-    Ok(
-        reads_after_a_name(&mut copy)?
-            && reads_after_a_name(&mut parser)?
-            && nameless.bin_name().is_none()
-            && nameless.clone()?.bin_name().is_none(),
-    )
+fn copies_have_names(rt: &(impl Abort + AllocGlobal)) -> bool {
+    let mut parser = named(rt.alloc(), &[b"foo", b"-x"]).expect(rt, "memory");
+    let mut copy = parser.clone().expect(rt, "memory");
+    let nameless = parser_of(rt.alloc(), &[b"foo"]).expect(rt, "memory");
+    reads_after_a_name(&mut copy).expect(rt, "a line")
+        && reads_after_a_name(&mut parser).expect(rt, "a line")
+        && nameless.bin_name().is_none()
+        && nameless.clone().expect(rt, "memory").bin_name().is_none()
 }
 
 #[test]
-fn names_of_copies(rt: HostRuntime) -> Result<(), Fail> {
-    assert!(rt; copies_have_names(rt.alloc())?);
-    Ok(())
+fn names_of_copies(rt: HostRuntime) {
+    assert!(rt; copies_have_names(&rt));
 }
 
 fn parser_of_arguments(alloc: Global, words: &[&[u8]]) -> Result<Parser, Error> {

@@ -2,7 +2,8 @@
 //! reason why items have no words, and what it prints.
 use lexopt_items::items::Table;
 use lexopt_spell::spell::{Reason, SpellError, spell};
-use std::alloc::{AllocError, Global};
+use std::alloc::AllocError;
+use std::process::Abort;
 use std::test::Fail;
 use test_helpers::items::Given::{
     Long, LongMany, LongValue, Positional, Short, ShortMany, ShortValue,
@@ -39,89 +40,99 @@ enum More {
     NamelessOfSeveral,
 }
 
-fn table_with(alloc: Global, more: More) -> Result<Table, AllocError> {
-    let mut table = table_of_each_kind(alloc)?;
+fn table_with(rt: &(impl Abort + AllocGlobal), more: More) -> Table {
+    let mut table = table_of_each_kind(rt.alloc()).expect(rt, "memory");
     match more {
         More::Nothing => {}
         More::Marks => {
-            table.shorts.push('-')?;
-            table.longs.push(String::new(alloc))?;
+            table.shorts.push('-').expect(rt, "memory");
+            table
+                .longs
+                .push(String::new(rt.alloc()))
+                .expect(rt, "memory");
         }
-        More::OptionalDash => table.optional_shorts.push('-')?,
-        More::DashOfSeveral => table.several_shorts.push('-')?,
-        More::NamelessOfSeveral => table.several_longs.push(String::new(alloc))?,
+        More::OptionalDash => table.optional_shorts.push('-').expect(rt, "memory"),
+        More::DashOfSeveral => table.several_shorts.push('-').expect(rt, "memory"),
+        More::NamelessOfSeveral => {
+            table
+                .several_longs
+                .push(String::new(rt.alloc()))
+                .expect(rt, "memory");
+        }
     }
-    Ok(table)
+    table
 }
 
 // Whether the words spell the items.
 fn is_spelled_so(
-    alloc: Global,
+    rt: &(impl Abort + AllocGlobal),
     row: &Row,
     short_equals: bool,
     table: &Table,
-) -> Result<bool, SpellError> {
-    let items = items_of(alloc, row.items)?;
-    let words = spell(alloc, &items, short_equals, table)?;
-    Ok(are_words(&words, row.words))
+) -> bool {
+    let items = items_of(rt.alloc(), row.items).expect(rt, "memory");
+    match spell(rt.alloc(), &items, short_equals, table) {
+        Ok(words) => are_words(&words, row.words),
+        Err(_) => false,
+    }
 }
 
 // The place of the first row whose items other words spell, with this setting of `short_equals`,
 // or none.
 fn spelled_otherwise(
-    alloc: Global,
+    rt: &(impl Abort + AllocGlobal),
     rows: &[Row],
     short_equals: bool,
     more: More,
-) -> Result<Option<usize>, SpellError> {
-    let table = table_with(alloc, more)?;
+) -> Option<usize> {
+    let table = table_with(rt, more);
     for (place, row) in rows.iter().enumerate() {
-        if !is_spelled_so(alloc, row, short_equals, &table)? {
-            return Ok(Some(place));
+        if !is_spelled_so(rt, row, short_equals, &table) {
+            return Some(place);
         }
     }
-    Ok(None)
+    None
 }
 
-// Whether the items are refused so, the error prints that, and its reason what stands after the
+// Whether the items are refused so, the error prints that, and its reason what comes after the
 // first `: ` of it.
 fn is_refused_so(
-    alloc: Global,
+    rt: &(impl Abort + AllocGlobal),
     fault: &Fault,
     short_equals: bool,
     table: &Table,
-) -> Result<bool, AllocError> {
+) -> bool {
     let Some((_, message)) = fault.printed.split_once(": ") else {
-        return Ok(false);
+        return false;
     };
-    let items = items_of(alloc, fault.items)?;
-    let Err(error) = spell(alloc, &items, short_equals, table) else {
-        return Ok(false);
+    let items = items_of(rt.alloc(), fault.items).expect(rt, "memory");
+    let Err(error) = spell(rt.alloc(), &items, short_equals, table) else {
+        return false;
     };
     let index = fault.index;
     let reason = fault.reason;
-    Ok(
-        error == SpellError::AtFault { index, reason }
-            && error.to_string(alloc)?.as_str() == fault.printed
-            && reason.to_string(alloc)?.as_str() == message,
-    )
+    let printed = error.to_string(rt.alloc()).expect(rt, "memory");
+    let told = reason.to_string(rt.alloc()).expect(rt, "memory");
+    error == SpellError::AtFault { index, reason }
+        && printed.as_str() == fault.printed
+        && told.as_str() == message
 }
 
 // The place of the first fault that is told otherwise, with this setting of `short_equals`, or
 // none.
 fn told_otherwise(
-    alloc: Global,
+    rt: &(impl Abort + AllocGlobal),
     faults: &[Fault],
     short_equals: bool,
     more: More,
-) -> Result<Option<usize>, AllocError> {
-    let table = table_with(alloc, more)?;
+) -> Option<usize> {
+    let table = table_with(rt, more);
     for (place, fault) in faults.iter().enumerate() {
-        if !is_refused_so(alloc, fault, short_equals, &table)? {
-            return Ok(Some(place));
+        if !is_refused_so(rt, fault, short_equals, &table) {
+            return Some(place);
         }
     }
-    Ok(None)
+    None
 }
 
 const FLAGS: [Row; 5] = [
@@ -476,17 +487,17 @@ const OFF: &[bool] = &[false];
 // The places of the first rows, and of the first row among them, whose items other words spell, or
 // none.
 fn first_otherwise(
-    alloc: Global,
+    rt: &(impl Abort + AllocGlobal),
     forms: &[(&[Row], More, &[bool])],
-) -> Result<Option<(usize, usize)>, SpellError> {
+) -> Option<(usize, usize)> {
     for (place, (rows, more, settings)) in forms.iter().enumerate() {
         for short_equals in settings.iter() {
-            if let Some(row) = spelled_otherwise(alloc, rows, *short_equals, *more)? {
-                return Ok(Some((place, row)));
+            if let Some(row) = spelled_otherwise(rt, rows, *short_equals, *more) {
+                return Some((place, row));
             }
         }
     }
-    Ok(None)
+    None
 }
 
 // Rows, the table that they go by, and the settings of `short_equals` under which they
@@ -500,9 +511,8 @@ const OF_SHORTS: [(&[Row], More, &[bool]); 5] = [
 ];
 
 #[test]
-fn short_options(rt: HostRuntime) -> Result<(), Fail> {
-    assert_eq!(rt; first_otherwise(rt.alloc(), &OF_SHORTS)?, None);
-    Ok(())
+fn short_options(rt: HostRuntime) {
+    assert_eq!(rt; first_otherwise(&rt, &OF_SHORTS), None);
 }
 
 const OF_LONGS: [(&[Row], More, &[bool]); 6] = [
@@ -515,9 +525,8 @@ const OF_LONGS: [(&[Row], More, &[bool]); 6] = [
 ];
 
 #[test]
-fn long_options_and_marks(rt: HostRuntime) -> Result<(), Fail> {
-    assert_eq!(rt; first_otherwise(rt.alloc(), &OF_LONGS)?, None);
-    Ok(())
+fn long_options_and_marks(rt: HostRuntime) {
+    assert_eq!(rt; first_otherwise(&rt, &OF_LONGS), None);
 }
 
 const OF_SEVERAL: [(&[Row], More, &[bool]); 3] = [
@@ -527,9 +536,8 @@ const OF_SEVERAL: [(&[Row], More, &[bool]); 3] = [
 ];
 
 #[test]
-fn several_values(rt: HostRuntime) -> Result<(), Fail> {
-    assert_eq!(rt; first_otherwise(rt.alloc(), &OF_SEVERAL)?, None);
-    Ok(())
+fn several_values(rt: HostRuntime) {
+    assert_eq!(rt; first_otherwise(&rt, &OF_SEVERAL), None);
 }
 
 const OF_POSITIONALS: [(&[Row], More, &[bool]); 2] = [
@@ -538,9 +546,8 @@ const OF_POSITIONALS: [(&[Row], More, &[bool]); 2] = [
 ];
 
 #[test]
-fn positionals_and_damage(rt: HostRuntime) -> Result<(), Fail> {
-    assert_eq!(rt; first_otherwise(rt.alloc(), &OF_POSITIONALS)?, None);
-    Ok(())
+fn positionals_and_damage(rt: HostRuntime) {
+    assert_eq!(rt; first_otherwise(&rt, &OF_POSITIONALS), None);
 }
 
 const EQUALS_IN_NAME: [Fault; 3] = [
@@ -844,23 +851,22 @@ const FAULTS: [(&[Fault], More, &[bool]); 13] = [
 
 // The places of the first faults, and of the first among them, that are told otherwise, or none.
 fn first_told_otherwise(
-    alloc: Global,
+    rt: &(impl Abort + AllocGlobal),
     kinds: &[(&[Fault], More, &[bool])],
-) -> Result<Option<(usize, usize)>, AllocError> {
+) -> Option<(usize, usize)> {
     for (place, (faults, more, settings)) in kinds.iter().enumerate() {
         for short_equals in settings.iter() {
-            if let Some(fault) = told_otherwise(alloc, faults, *short_equals, *more)? {
-                return Ok(Some((place, fault)));
+            if let Some(fault) = told_otherwise(rt, faults, *short_equals, *more) {
+                return Some((place, fault));
             }
         }
     }
-    Ok(None)
+    None
 }
 
 #[test]
-fn items_at_fault(rt: HostRuntime) -> Result<(), Fail> {
-    assert_eq!(rt; first_told_otherwise(rt.alloc(), &FAULTS)?, None);
-    Ok(())
+fn items_at_fault(rt: HostRuntime) {
+    assert_eq!(rt; first_told_otherwise(&rt, &FAULTS), None);
 }
 
 #[test]

@@ -2,6 +2,7 @@
 //! can. Also the callers of `test_callers`.
 use lexopt::{Error, OsStr, OsString, Parser, RawArgs, ValuesIter};
 use std::alloc::Global;
+use std::process::Abort;
 use std::test::Fail;
 use test_callers::callers::{negative_number, next_file, option_and_value, two_values};
 use test_helpers::calls::{gives, is_at_end, reads_short, reads_word, takes};
@@ -115,22 +116,20 @@ fn words_lent(rt: HostRuntime) -> Result<(), Fail> {
 }
 
 // Whether `two_values` takes `b` and `c`, and `negative_number` takes `-10` but not `d`.
-fn takes_by_callers(parser: &mut Parser) -> Result<bool, Error> {
-    let (first, second) = two_values(parser)?;
-    Ok(
-        gives(first, b"b")
-            && gives(second, b"c")
-            && negative_number(parser)?.is_none()
-            && takes(parser, b"d")?
-            && gives(negative_number(parser)?, b"-10"),
-    )
+fn takes_by_callers(rt: &impl Abort, parser: &mut Parser) -> bool {
+    let (first, second) = two_values(parser).expect(rt, "two values");
+    gives(first, b"b")
+        && gives(second, b"c")
+        && negative_number(parser).expect(rt, "a word").is_none()
+        && takes(parser, b"d").expect(rt, "a value")
+        && gives(negative_number(parser).expect(rt, "a number"), b"-10")
 }
 
 #[test]
 fn callers(rt: HostRuntime) -> Result<(), Fail> {
     let mut parser = parser_of(rt.alloc(), &[b"-a", b"b", b"c", b"d", b"-10", b"-e"])?;
     assert!(rt; reads_short(&mut parser, 'a')?);
-    assert!(rt; takes_by_callers(&mut parser)? && reads_short(&mut parser, 'e')?);
+    assert!(rt; takes_by_callers(&rt, &mut parser) && reads_short(&mut parser, 'e')?);
     Ok(())
 }
 

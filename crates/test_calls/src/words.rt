@@ -2,15 +2,16 @@
 use lexopt_base::{Arg, Error, OsStr, OsString, Quoted};
 use std::alloc::{AllocError, Global};
 use std::hash::{DefaultHasher, Hash, Hasher};
+use std::process::Abort;
 use std::test::Fail;
 
 // Whether a word has these bytes, and its copy, the view of it, its list of bytes and the word of
 // that list.
-fn has_bytes(alloc: Global, bytes: &[u8]) -> Result<bool, AllocError> {
+fn has_bytes(rt: &(impl Abort + AllocGlobal), bytes: &[u8]) -> bool {
     let view = OsStr::from_bytes(bytes);
-    let word = OsString::from_bytes(alloc, bytes)?;
-    let copy = word.clone()?;
-    let of_view = view.to_os_string(alloc)?;
+    let word = OsString::from_bytes(rt.alloc(), bytes).expect(rt, "memory");
+    let copy = word.clone().expect(rt, "memory");
+    let of_view = view.to_os_string(rt.alloc()).expect(rt, "memory");
     let are_same = copy == word && of_view == word && word.as_os_str() == view;
     let have_bytes = view.bytes == bytes
         && word.as_bytes() == bytes
@@ -21,43 +22,39 @@ fn has_bytes(alloc: Global, bytes: &[u8]) -> Result<bool, AllocError> {
     let list = word.into_vec();
     let is_list = list.as_slice() == bytes;
     let is_again = OsString::from_vec(list).as_bytes() == bytes;
-    Ok(are_same && have_bytes && is_long && is_list && is_again)
+    are_same && have_bytes && is_long && is_list && is_again
 }
 
 #[test]
-fn bytes_of_words(rt: HostRuntime) -> Result<(), Fail> {
+fn bytes_of_words(rt: HostRuntime) {
     for bytes in [
         b"".as_slice(),
         b"foo".as_slice(),
         b"foo\xff".as_slice(),
         b"\xff\xfe\0-".as_slice(),
     ] {
-        assert!(rt; has_bytes(rt.alloc(), bytes)?, "{bytes:?}");
+        assert!(rt; has_bytes(&rt, bytes), "{bytes:?}");
     }
-    Ok(())
 }
 
 // Whether the word of a text has its bytes, and words of other bytes are others.
-fn differ(alloc: Global) -> Result<bool, AllocError> {
-    let empty = OsString::new(alloc);
-    let text = OsString::from_text(alloc, "foo")?;
-    let word = OsString::from_bytes(alloc, b"foo\xff")?;
+fn differ(rt: &(impl Abort + AllocGlobal)) -> bool {
+    let empty = OsString::new(rt.alloc());
+    let text = OsString::from_text(rt.alloc(), "foo").expect(rt, "memory");
+    let word = OsString::from_bytes(rt.alloc(), b"foo\xff").expect(rt, "memory");
     let views = OsStr::from_bytes(b"foo") != OsStr::from_bytes(b"foo\xff")
         && OsStr::from_bytes(b"foo") != OsStr::from_bytes(b"fox");
-    Ok(
-        views
-            && empty.is_empty()
-            && empty.as_bytes() == b"".as_slice()
-            && text.as_bytes() == b"foo".as_slice()
-            && word != empty
-            && text != word,
-    )
+    views
+        && empty.is_empty()
+        && empty.as_bytes() == b"".as_slice()
+        && text.as_bytes() == b"foo".as_slice()
+        && word != empty
+        && text != word
 }
 
 #[test]
-fn other_words(rt: HostRuntime) -> Result<(), Fail> {
-    assert!(rt; differ(rt.alloc())?);
-    Ok(())
+fn other_words(rt: HostRuntime) {
+    assert!(rt; differ(&rt));
 }
 
 // Whether a word without its front is a value, and that without its own front the last letter.
@@ -98,22 +95,20 @@ fn quoted_bytes(rt: HostRuntime) -> Result<(), Fail> {
 
 // Whether bytes are this text, in a view, in a word and in the text that a word becomes; a word
 // that is none stays one.
-fn has_text(alloc: Global, bytes: &[u8], text: Option<&str>) -> Result<bool, AllocError> {
-    let word = OsString::from_bytes(alloc, bytes)?;
+fn has_text(rt: &(impl Abort + AllocGlobal), bytes: &[u8], text: Option<&str>) -> bool {
+    let word = OsString::from_bytes(rt.alloc(), bytes).expect(rt, "memory");
     let is_text = OsStr::from_bytes(bytes).to_str() == text && word.to_str() == text;
-    Ok(
-        is_text
-            && match word.into_string() {
-                Ok(found) => {
-                    Some(found.as_str()) == text && OsString::from_string(found).as_bytes() == bytes
-                }
-                Err(word) => text.is_none() && word.as_bytes() == bytes,
-            },
-    )
+    is_text
+        && match word.into_string() {
+            Ok(found) => {
+                Some(found.as_str()) == text && OsString::from_string(found).as_bytes() == bytes
+            }
+            Err(word) => text.is_none() && word.as_bytes() == bytes,
+        }
 }
 
 #[test]
-fn texts_of_words(rt: HostRuntime) -> Result<(), Fail> {
+fn texts_of_words(rt: HostRuntime) {
     for (bytes, text) in [
         (b"".as_slice(), Some("")),
         (b"foo".as_slice(), Some("foo")),
@@ -125,22 +120,21 @@ fn texts_of_words(rt: HostRuntime) -> Result<(), Fail> {
         (b"\xf0\x9d\x84".as_slice(), None),
         (b"\xed\xa0\x80".as_slice(), None),
     ] {
-        assert!(rt; has_text(rt.alloc(), bytes, text)?, "{bytes:?}");
+        assert!(rt; has_text(&rt, bytes, text), "{bytes:?}");
     }
-    Ok(())
 }
 
 // Whether `Debug` writes this, of a word and of a view.
-fn debugs(alloc: Global, bytes: &[u8], text: &str) -> Result<bool, AllocError> {
-    let word = OsString::from_bytes(alloc, bytes)?;
+fn debugs(rt: &(impl Abort + AllocGlobal), bytes: &[u8], text: &str) -> bool {
+    let word = OsString::from_bytes(rt.alloc(), bytes).expect(rt, "memory");
     let view = OsStr::from_bytes(bytes);
-    let of_word = format!(in alloc; "{word:?}")?;
-    let of_view = format!(in alloc; "{view:?}")?;
-    Ok(of_word.as_str() == text && of_view.as_str() == text)
+    let of_word = format!(in rt.alloc(); "{word:?}").expect(rt, "memory");
+    let of_view = format!(in rt.alloc(); "{view:?}").expect(rt, "memory");
+    of_word.as_str() == text && of_view.as_str() == text
 }
 
 #[test]
-fn debug_text_of_words(rt: HostRuntime) -> Result<(), Fail> {
+fn debug_text_of_words(rt: HostRuntime) {
     for (bytes, text) in [
         (b"".as_slice(), "\"\""),
         (b"foo\xff".as_slice(), "\"foo\\xFF\""),
@@ -149,9 +143,8 @@ fn debug_text_of_words(rt: HostRuntime) -> Result<(), Fail> {
             "\"\\u{1b}\\u{1}\\xF0\\x9D'\"",
         ),
     ] {
-        assert!(rt; debugs(rt.alloc(), bytes, text)?, "{text}");
+        assert!(rt; debugs(&rt, bytes, text), "{text}");
     }
-    Ok(())
 }
 
 // Words in their order, which is that of their lists of bytes: the first byte that differs decides,
@@ -172,30 +165,27 @@ const ORDERED: [&[u8]; 12] = [
 ];
 
 // Whether words stand to each other as their places do.
-fn are_ordered(alloc: Global, place: usize, other_place: usize) -> Result<bool, AllocError> {
+fn are_ordered(rt: &(impl Abort + AllocGlobal), place: usize, other_place: usize) -> bool {
     let (Some(bytes), Some(others)) = (ORDERED.get(place), ORDERED.get(other_place)) else {
-        return Ok(false);
+        return false;
     };
-    let word = OsString::from_bytes(alloc, bytes)?;
-    let other = OsString::from_bytes(alloc, others)?;
-    Ok(
-        word.cmp(&other) == place.cmp(&other_place)
-            && (word < other) == (place < other_place)
-            && (word == other) == (place == other_place),
-    )
+    let word = OsString::from_bytes(rt.alloc(), bytes).expect(rt, "memory");
+    let other = OsString::from_bytes(rt.alloc(), others).expect(rt, "memory");
+    word.cmp(&other) == place.cmp(&other_place)
+        && (word < other) == (place < other_place)
+        && (word == other) == (place == other_place)
 }
 
 #[test]
-fn order_of_words(rt: HostRuntime) -> Result<(), Fail> {
+fn order_of_words(rt: HostRuntime) {
     for place in 0..ORDERED.len() {
         for other_place in 0..ORDERED.len() {
             assert!(rt;
-                are_ordered(rt.alloc(), place, other_place)?,
+                are_ordered(&rt, place, other_place),
                 "{place} {other_place}"
             );
         }
     }
-    Ok(())
 }
 
 fn hash_of<T: Hash>(value: &T) -> u64 {
@@ -205,18 +195,17 @@ fn hash_of<T: Hash>(value: &T) -> u64 {
 }
 
 // Whether a word has the hash of its copy and of its bytes, and another word another one.
-fn hashes(alloc: Global) -> Result<bool, AllocError> {
-    let word = OsString::from_bytes(alloc, b"foo\xff")?;
-    let copy = word.clone()?;
-    let other = OsString::from_text(alloc, "foo!")?;
+fn hashes(rt: &(impl Abort + AllocGlobal)) -> bool {
+    let word = OsString::from_bytes(rt.alloc(), b"foo\xff").expect(rt, "memory");
+    let copy = word.clone().expect(rt, "memory");
+    let other = OsString::from_text(rt.alloc(), "foo!").expect(rt, "memory");
     let hash = hash_of(&word);
-    Ok(hash == hash_of(&copy) && hash == hash_of(&b"foo\xff".as_slice()) && hash != hash_of(&other))
+    hash == hash_of(&copy) && hash == hash_of(&b"foo\xff".as_slice()) && hash != hash_of(&other)
 }
 
 #[test]
-fn hashes_of_words(rt: HostRuntime) -> Result<(), Fail> {
-    assert!(rt; hashes(rt.alloc())?);
-    Ok(())
+fn hashes_of_words(rt: HostRuntime) {
+    assert!(rt; hashes(&rt));
 }
 
 // Whether the copy of an argument is the same, and `Debug` writes this of it.

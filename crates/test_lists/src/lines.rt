@@ -9,23 +9,16 @@
 //! The items that the plain reader finds are spelled by `spell`. The words are read as these items,
 //! and spelling what is read gives the same words.
 //!
-//! By each table it also spells every list of at most three of 27 items, under either setting of
-//! `short_equals`. If there are words, they are read as the items. If an item is at fault, those
-//! before it have words, and with it they have none; nor is any short list of words read as these.
-//! If the words of one setting are read alike under the other, both settings have the same words.
-//!
 //! For each table it prints how many readings agreed and how many differed, under either setting,
-//! and the first list that differed; the same for the items that were spelled again; and the counts
-//! of the lists of items. Items are compared as values, and errors by their messages.
+//! and the first list that differed; and the same for the items that were spelled again. Items are
+//! compared as values, and errors by their messages.
 //!
 //! Last it reads clusters, with `short_equals` false: each list of one to four of twenty bytes, by
 //! `next` and by the plain pieces.
 
 mod clusters;
-mod lists;
 mod pieces;
 mod plain;
-mod short_lists;
 mod shown;
 mod spelled;
 mod tables;
@@ -168,61 +161,28 @@ impl Found {
     }
 }
 
-// What was found with all tables.
-#[derive(Drop)]
-struct Total {
-    found: Found,
-    lists: lists::Counts,
+impl Choice {
+    // Reads all lists of words by this choice of tables, and prints what was found.
+    fn read(self, rt: &(impl Print + AllocGlobal)) -> io::Result<Found> {
+        let table = self.table(rt.alloc())?;
+        let name = self.name(rt.alloc())?;
+        let mut found = Found::new();
+        found.read_all(rt.alloc(), &table)?;
+        found.print(rt, name.as_str())?;
+        Ok(found)
+    }
 }
 
-impl Total {
-    fn new() -> Total {
-        Total {
-            found: Found::new(),
-            lists: lists::Counts::new(),
-        }
+// Reads all lists of words by all tables.
+fn print_lists(rt: &(impl Print + AllocGlobal)) -> io::Result<()> {
+    let mut total = Found::new();
+    for number in 0..CHOICES {
+        total.add(&Choice::of_kinds(number).read(rt)?);
     }
-
-    // Reads all lists of words by this table, and adds what is found.
-    fn read_words(
-        &mut self,
-        rt: &(impl Print + AllocGlobal),
-        table: &Table,
-        name: &str,
-    ) -> io::Result<()> {
-        let mut found = Found::new();
-        found.read_all(rt.alloc(), table)?;
-        self.found.add(&found);
-        found.print(rt, name)
+    for lists in OVERLAPS {
+        total.add(&Choice::same(lists).read(rt)?);
     }
-
-    // Spells all lists of items by this table, and adds what is found.
-    fn spell_items(&mut self, rt: &(impl Print + AllocGlobal), table: &Table) -> io::Result<()> {
-        let mut lists = lists::Counts::new();
-        lists.spell_all(rt.alloc(), table)?;
-        self.lists.add(&lists);
-        lists.print(rt)
-    }
-
-    // Does both by this choice of tables.
-    fn read_by(&mut self, rt: &(impl Print + AllocGlobal), choice: Choice) -> io::Result<()> {
-        let table = choice.table(rt.alloc())?;
-        let name = choice.name(rt.alloc())?;
-        self.read_words(rt, &table, name.as_str())?;
-        self.spell_items(rt, &table)
-    }
-
-    // Does both by all tables.
-    fn read_by_all(&mut self, rt: &(impl Print + AllocGlobal)) -> io::Result<()> {
-        for number in 0..CHOICES {
-            self.read_by(rt, Choice::of_kinds(number))?;
-        }
-        for lists in OVERLAPS {
-            self.read_by(rt, Choice::same(lists))?;
-        }
-        self.found.print(rt, "total")?;
-        self.lists.print(rt)
-    }
+    total.print(rt, "total")
 }
 
 // Reads clusters.
@@ -235,6 +195,6 @@ fn print_clusters(rt: &(impl Print + AllocGlobal)) -> io::Result<()> {
 
 /// Prints what was found.
 pub fn print(rt: &(impl Print + AllocGlobal)) -> io::Result<()> {
-    Total::new().read_by_all(rt)?;
+    print_lists(rt)?;
     print_clusters(rt)
 }

@@ -4,6 +4,7 @@ use crate::options::archive::archive_of_files;
 use lexopt_options::{Options, OsString, ReadError, Said};
 use std::alloc::{AllocError, Global};
 use std::test::Fail;
+use test_helpers::parsers::words_from;
 
 static WORDS: [&[u8]; 8] = [b"-v", b"-o", b"--output=", b"--", b"a", b"-x", b"", b"-bz"];
 
@@ -23,8 +24,8 @@ static SPELLINGS: [(&str, usize); 10] = [
 
 // These words, and then those.
 fn line_of(alloc: Global, front: &[&[u8]], back: &[&[u8]]) -> Result<Vec<OsString>, AllocError> {
-    let mut words = Vec::new(alloc);
-    for word in front.iter().chain(back) {
+    let mut words = words_from(alloc, front)?;
+    for word in back {
         words.push(OsString::from_bytes(alloc, word)?)?;
     }
     Ok(words)
