@@ -1,6 +1,6 @@
 //! Runs scripts: `run` reads a script, does what it says, and writes a line for each reply and each
 //! whole line.
-ghost use Rattle.std.specs.Prelude.{◌≡◌, ◌⊎◌, ◌+◌, ◌++◌, ◌≤◌, ◌<◌, ℕ, List, None, Some, Err, IfOk};
+ghost use Rattle.std.specs.Prelude.{◌≡◌, ◌⊎◌, ◌+◌, ◌++◌, ◌≤◌, ◌<◌, ℕ, List, [], None, Some, Err, IfOk};
 ghost use Rattle.std.specs.Prelude.{IfErr, OnOk, fold, length, map, codes, string_bytes};
 ghost use Rattle.std.specs.Io.KnownBytes.{Appends, Consumes};
 ghost use Rattle.lexopt_line_spec.specs.ItemText.{bracketed};
@@ -112,6 +112,26 @@ fn make_calls(
     Ok(short_equals_after(on, calls))
 }
 
+// Does what a script says on a parser of its words, and writes a line for each command.
+fn perform(
+    alloc: Global,
+    script: &Script,
+    parser: &mut Parser,
+    text: &mut String,
+) -> Result<(), AllocError>
+    requires fresh { parser.old ≡ fresh script.now.words.items }
+    requires empty { string_bytes text.old ≡ [] }
+    ensures { OnOk result (IsWritten script.now (string_bytes text.new)) }
+{
+    let mut on = true;
+    for calls in &script.calls_before {
+        on = make_calls(alloc, calls, parser, on, text)?;
+        write_whole_line(alloc, &script.words, on, &script.table, text)?;
+    }
+    make_calls(alloc, &script.last_calls, parser, on, text)?;
+    Ok(())
+}
+
 // Does what a script says, and returns what to write for it.
 fn perform_all(alloc: Global, script: &Script) -> Result<String, RunError>
     ensures ok { IfOk result (λ text. IsWritten script.now (string_bytes text)) }
@@ -119,12 +139,7 @@ fn perform_all(alloc: Global, script: &Script) -> Result<String, RunError>
 {
     let mut parser = Parser::from_vec(copies(alloc, &script.words)?);
     let mut text = String::new(alloc);
-    let mut on = true;
-    for calls in &script.calls_before {
-        on = make_calls(alloc, calls, &mut parser, on, &mut text)?;
-        write_whole_line(alloc, &script.words, on, &script.table, &mut text)?;
-    }
-    make_calls(alloc, &script.last_calls, &mut parser, on, &mut text)?;
+    perform(alloc, script, &mut parser, &mut text)?;
     Ok(text)
 }
 

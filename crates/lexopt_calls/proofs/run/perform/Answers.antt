@@ -8,7 +8,7 @@ use Rattle.lexopt_calls.specs.Meanings.{calls_and_line, commands_view}
 use Rattle.lexopt_calls.specs.Performed.{MakesCalls}
 use Rattle.lexopt_calls.proofs.Commands.{line_more}
 use Rattle.lexopt_calls.proofs.Performing.{Done, calls_done, line_done}
-use Rattle.lexopt_calls.proofs.run.perform_all.Goals as goal
+use Rattle.lexopt_calls.proofs.run.perform.Goals as goal
 
 pub loop-calls-preserved : goal.loop-calls-preserved
 loop-calls-preserved c =
@@ -22,14 +22,14 @@ loop-calls-preserved c =
     let commands = ap (flat_map calls_and_line) (take_more all index here within ∙ ap (λ (calls : Vec Call Global). take index all ++ calls ∷ []) (sym is)) ∙ line_more (take index all) here in
     let made = calls_done script (flat_map calls_and_line (take index all)) (map call_view here.items) _ _ _ _ _ _ c.loop-calls.invariant
     (subst (λ (calls : List Call). MakesCalls (map call_view calls) c.loop-calls.parser c.loop-calls.on (string_bytes c.loop-calls.text) c.make_calls.new.parser c.in_ok-on.on (string_bytes c.make_calls.new.text))
-    c.deref-in-loop-calls.ensures.value c.in_ok-on.ensures) in
+    c.deref.ensures.value c.in_ok-on.ensures) in
     let line = c.in_ok-write_whole_line.ensures in
     rw (commands, line.2)
     (line_done script (commands_view (take index all) here.items) _ _ _ line.0 made
-    (subst (λ (words : List (List ℕ)). WholeLineText (table_view script.table) c.in_ok-on.on words line.0) c.deref-in-loop-calls-2.ensures.value line.1))
+    (subst (λ (words : List (List ℕ)). WholeLineText (table_view script.table) c.in_ok-on.on words line.0) c.deref-in-loop-calls.ensures.value line.1))
 
-pub returns-clause-ok : goal.returns-clause-ok
-returns-clause-ok c =
+pub returns : goal.returns
+returns c =
     let script = c.args.script.now in
     let all = script.calls_before.items in
     let index = c.loop-calls.calls-index in
