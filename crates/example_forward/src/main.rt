@@ -31,9 +31,8 @@ const HELP: &str = "Usage: example_forward [OPTION].. [FILE]..
                       passed on: all words up to the next option
   -h, --help          print this and end";
 
-// The options of the other program that have values, which are those of this one.
-fn table(alloc: Global) -> Result<Table, AllocError> {
-    let mut table = Table::new(alloc);
+// Adds the options of the other program that have values, which are those of this one.
+fn add_options(alloc: Global, table: &mut Table) -> Result<(), AllocError> {
     table.shorts.push('j')?;
     table.longs.push(String::from_str(alloc, "jobs")?)?;
     table
@@ -43,7 +42,7 @@ fn table(alloc: Global) -> Result<Table, AllocError> {
     table
         .several_longs
         .push(String::from_str(alloc, "exclude")?)?;
-    Ok(table)
+    Ok(())
 }
 
 fn forwarded_long(
@@ -80,28 +79,46 @@ fn is_help(item: &Item) -> bool {
     }
 }
 
-// The line for the other program; none where help is asked for.
-fn quoted_line(rt: &(impl Env + AllocGlobal)) -> Result<Option<Vec<u8>>> {
+// What the line for the other program is to say; `None` if help is asked for.
+fn forwarded_items(
+    rt: &(impl Env + AllocGlobal),
+    table: &Table,
+) -> Result<Option<Vec<Item>>, lexopt::Error> {
     let alloc = rt.alloc();
-    let table = table(alloc)?;
     let mut items = Vec::new(alloc);
     // The first word is the name that the program was called by.
     let words: Vec<OsString> = arguments(rt, alloc)?.into_iter().skip(1).collect(alloc)?;
-    for item in read_items(alloc, words, true, &table)? {
+    for item in read_items(alloc, words, true, table)? {
         if is_help(&item) {
             return Ok(None);
         }
         items.push(forwarded(alloc, item)?)?;
     }
+    Ok(Some(items))
+}
+
+// The words that say these items, quoted, on a line.
+fn quoted_line(alloc: Global, items: &[Item], table: &Table) -> Result<Vec<u8>> {
     let mut line = Vec::new(alloc);
-    for word in spell(alloc, &items, true, &table)? {
+    for word in spell(alloc, items, true, table)? {
         if !line.is_empty() {
             line.push(b' ')?;
         }
         line.extend(quoted(alloc, word.as_bytes())?)?;
     }
     line.push(b'\n')?;
-    Ok(Some(line))
+    Ok(line)
+}
+
+// The line for the other program; `None` if help is asked for.
+fn forwarded_line(rt: &(impl Env + AllocGlobal)) -> Result<Option<Vec<u8>>> {
+    let alloc = rt.alloc();
+    let mut table = Table::new(alloc);
+    add_options(alloc, &mut table)?;
+    match forwarded_items(rt, &table)? {
+        Some(items) => Ok(Some(quoted_line(alloc, &items, &table)?)),
+        None => Ok(None),
+    }
 }
 
 // Says what is wrong with the command line, and where help is.
@@ -112,7 +129,7 @@ fn refuse(rt: &impl Eprint, error: &Error) -> ExitCode {
 }
 
 fn main(rt: HostRuntime) -> ExitCode {
-    let printed = match quoted_line(&rt) {
+    let printed = match forwarded_line(&rt) {
         Ok(Some(line)) => io::writer(&rt).write_all(&line),
         Ok(None) => rt.println(HELP),
         Err(error) => return refuse(&rt, &error),

@@ -4,7 +4,6 @@ use lexopt_words::os_string::arguments;
 use std::alloc::{AllocError, Global};
 use std::env;
 use std::env::Env;
-use std::test::Fail;
 use test_helpers::calls::{has_words, is_at_end, reads_short, reads_word, takes};
 use test_helpers::environments::Arguments;
 use test_helpers::errors::prints;
@@ -73,9 +72,11 @@ fn first_not_read(
 }
 
 #[test]
-fn lines_of_any_bytes(rt: HostRuntime) -> Result<(), Fail> {
-    assert_eq!(rt; first_not_read(rt.alloc(), &LINES)?, None);
-    Ok(())
+fn lines_of_any_bytes(rt: HostRuntime) {
+    assert_eq!(rt;
+        first_not_read(rt.alloc(), &LINES).expect(&rt, "success"),
+        None
+    );
 }
 
 // Words of so many bytes, of which the one at place N begins with the byte N + 1.
@@ -100,9 +101,8 @@ fn lengths_are_read(alloc: Global, lengths: &[usize]) -> Result<bool, Error> {
 }
 
 #[test]
-fn long_and_short_words(rt: HostRuntime) -> Result<(), Fail> {
-    assert!(rt; lengths_are_read(rt.alloc(), &LENGTHS)?);
-    Ok(())
+fn long_and_short_words(rt: HostRuntime) {
+    assert!(rt; lengths_are_read(rt.alloc(), &LENGTHS).expect(&rt, "success"));
 }
 
 // So many words, each of which is its place.
@@ -115,9 +115,15 @@ fn places(alloc: Global, count: usize) -> Result<Vec<OsString>, AllocError> {
 }
 
 #[test]
-fn many_words(rt: HostRuntime) -> Result<(), Fail> {
-    assert!(rt; are_read(rt.alloc(), &places(rt.alloc(), 2_000)?, Some("0"))?);
-    Ok(())
+fn many_words(rt: HostRuntime) {
+    assert!(rt;
+        are_read(
+            rt.alloc(),
+            &places(rt.alloc(), 2_000).expect(&rt, "success"),
+            Some("0")
+        )
+        .expect(&rt, "success")
+    );
 }
 
 // Whether the words after the name are read as on any line: an option, with damage as its value,
@@ -132,11 +138,12 @@ fn reads_a_line(parser: &mut Parser) -> Result<bool, Error> {
 }
 
 #[test]
-fn line_of_an_environment(rt: HostRuntime) -> Result<(), Fail> {
-    let words = words_from(rt.alloc(), &[b"tool", b"-x\xff", b"a\xff"])?;
-    let mut parser = Parser::from_env_os(&Arguments { words: &words }, rt.alloc())?;
-    assert!(rt; reads_a_line(&mut parser)?);
-    Ok(())
+fn line_of_an_environment(rt: HostRuntime) {
+    let words = words_from(rt.alloc(), &[b"tool", b"-x\xff", b"a\xff"]).expect(&rt, "success");
+    let mut parser = Parser::from_env_os(&Arguments { words: &words }, rt.alloc()).expect(
+        &rt, "success",
+    );
+    assert!(rt; reads_a_line(&mut parser).expect(&rt, "success"));
 }
 
 // Whether there is no name, and nothing to read.
@@ -145,10 +152,11 @@ fn has_nothing(parser: &mut Parser) -> Result<bool, Error> {
 }
 
 #[test]
-fn no_words_at_all(rt: HostRuntime) -> Result<(), Fail> {
-    let mut parser = Parser::from_env_os(&Arguments { words: &[] }, rt.alloc())?;
-    assert!(rt; has_nothing(&mut parser)?);
-    Ok(())
+fn no_words_at_all(rt: HostRuntime) {
+    let mut parser = Parser::from_env_os(&Arguments { words: &[] }, rt.alloc()).expect(
+        &rt, "success",
+    );
+    assert!(rt; has_nothing(&mut parser).expect(&rt, "success"));
 }
 
 // Whether an error is a custom one, and prints this message.
@@ -166,19 +174,22 @@ fn are_refused(alloc: Global, words: &[OsString], message: &str) -> Result<bool,
 
 // Damage, for both calls.
 #[test]
-fn words_that_are_no_text(rt: HostRuntime) -> Result<(), Fail> {
-    let words = words_from(rt.alloc(), &[b"tool", b"foo\xff"])?;
-    assert!(rt; are_refused(rt.alloc(), &words, "arguments unavailable")?);
-    assert!(rt; are_read(rt.alloc(), &words, Some("tool"))?);
-    Ok(())
+fn words_that_are_no_text(rt: HostRuntime) {
+    let words = words_from(rt.alloc(), &[b"tool", b"foo\xff"]).expect(&rt, "success");
+    assert!(rt; are_refused(rt.alloc(), &words, "arguments unavailable").expect(&rt, "success"));
+    assert!(rt; are_read(rt.alloc(), &words, Some("tool")).expect(&rt, "success"));
 }
 
 #[test]
-fn words_of_this_program(rt: HostRuntime) -> Result<(), Fail> {
-    let words: Vec<OsString> = env::args(&rt)?
+fn words_of_this_program(rt: HostRuntime) {
+    let words: Vec<OsString> = env::args(&rt)
+        .expect(&rt, "success")
         .map(OsString::from_string)
-        .collect(rt.alloc())?;
-    let name = env::args(&rt)?.next();
-    assert!(rt; !words.is_empty() && come_whole(&rt, rt.alloc(), &words, name.as_deref())?);
-    Ok(())
+        .collect(rt.alloc())
+        .expect(&rt, "success");
+    let name = env::args(&rt).expect(&rt, "success").next();
+    assert!(rt;
+        !words.is_empty()
+            && come_whole(&rt, rt.alloc(), &words, name.as_deref()).expect(&rt, "success")
+    );
 }

@@ -2,7 +2,6 @@
 //! itself. The tests beside this one make the other calls that read a line, and rows of them are
 //! cases of `test_cases`.
 use lexopt::{Error, Parser};
-use std::test::Fail;
 use test_helpers::calls::{gives, reads_short, reads_word, takes};
 use test_helpers::parsers::parser_of;
 
@@ -20,10 +19,9 @@ fn takes_with_equals(parser: &mut Parser) -> Result<bool, Error> {
 }
 
 #[test]
-fn optional_values(rt: HostRuntime) -> Result<(), Fail> {
-    let mut parser = parser_of(rt.alloc(), &[b"-c=d", b"e"])?;
-    assert!(rt; takes_with_equals(&mut parser)?);
-    Ok(())
+fn optional_values(rt: HostRuntime) {
+    let mut parser = parser_of(rt.alloc(), &[b"-c=d", b"e"]).expect(&rt, "success");
+    assert!(rt; takes_with_equals(&mut parser).expect(&rt, "success"));
 }
 
 // Whether a copy takes one value, and then the parser itself another. After the copy is made,
@@ -36,15 +34,19 @@ fn both_take(parser: &mut Parser, on: bool, of_copy: &[u8], own: &[u8]) -> Resul
 
 // A copy has the pending value.
 #[test]
-fn copies_of_parsers(rt: HostRuntime) -> Result<(), Fail> {
-    let mut parser = parser_of(rt.alloc(), &[b"-ab"])?;
-    assert!(rt; reads_short(&mut parser, 'a')? && both_take(&mut parser, true, b"b", b"b")?);
-    Ok(())
+fn copies_of_parsers(rt: HostRuntime) {
+    let mut parser = parser_of(rt.alloc(), &[b"-ab"]).expect(&rt, "success");
+    assert!(rt;
+        reads_short(&mut parser, 'a').expect(&rt, "success")
+            && both_take(&mut parser, true, b"b", b"b").expect(&rt, "success")
+    );
 }
 
 #[test]
-fn copy_has_a_switch_of_its_own(rt: HostRuntime) -> Result<(), Fail> {
-    let mut parser = parser_of(rt.alloc(), &[b"-c=d"])?;
-    assert!(rt; reads_short(&mut parser, 'c')? && both_take(&mut parser, false, b"d", b"=d")?);
-    Ok(())
+fn copy_has_a_switch_of_its_own(rt: HostRuntime) {
+    let mut parser = parser_of(rt.alloc(), &[b"-c=d"]).expect(&rt, "success");
+    assert!(rt;
+        reads_short(&mut parser, 'c').expect(&rt, "success")
+            && both_take(&mut parser, false, b"d", b"=d").expect(&rt, "success")
+    );
 }

@@ -1,7 +1,6 @@
 //! Code points: what some bytes begin with, and the lossy text of bytes.
 use lexopt_words::codepoint::{FirstCodepoint, first_codepoint, lossy_text};
 use std::alloc::{AllocError, Global};
-use std::test::Fail;
 
 // What bytes begin with: a character, or damage where there is none; and its length, which is 0
 // where there are no bytes.
@@ -42,7 +41,7 @@ fn is_lossy(alloc: Global, bytes: &[u8], text: &str) -> Result<bool, AllocError>
 }
 
 #[test]
-fn lossy_texts(rt: HostRuntime) -> Result<(), Fail> {
+fn lossy_texts(rt: HostRuntime) {
     for (bytes, text) in [
         (b"a\xffc".as_slice(), "a\u{FFFD}c"),
         (b"\xed\xa0\x80", "\u{FFFD}\u{FFFD}\u{FFFD}"),
@@ -50,7 +49,9 @@ fn lossy_texts(rt: HostRuntime) -> Result<(), Fail> {
         (b"\xef\xbf\xbd", "\u{FFFD}"),
         (b"", ""),
     ] {
-        assert!(rt; is_lossy(rt.alloc(), bytes, text)?, "{bytes:?}");
+        assert!(rt;
+            is_lossy(rt.alloc(), bytes, text).expect(&rt, "success"),
+            "{bytes:?}"
+        );
     }
-    Ok(())
 }

@@ -3,7 +3,6 @@ use lexopt_base::prelude::{Value, ValueExt};
 use lexopt_base::{Error, OsString, Parser};
 use std::alloc::{AllocError, Global};
 use std::fmt;
-use std::test::Fail;
 use test_helpers::calls::reads_short;
 use test_helpers::errors::prints;
 use test_helpers::parsers::parser_of;
@@ -47,10 +46,12 @@ fn is_given_back(alloc: Global, bytes: &[u8]) -> Result<bool, Error> {
 }
 
 #[test]
-fn texts(rt: HostRuntime) -> Result<(), Fail> {
-    assert!(rt; is_text(rt.alloc(), "")? && is_text(rt.alloc(), "-10")?);
-    assert!(rt; is_given_back(rt.alloc(), b"foo\xff")?);
-    Ok(())
+fn texts(rt: HostRuntime) {
+    assert!(rt;
+        is_text(rt.alloc(), "").expect(&rt, "success")
+            && is_text(rt.alloc(), "-10").expect(&rt, "success")
+    );
+    assert!(rt; is_given_back(rt.alloc(), b"foo\xff").expect(&rt, "success"));
 }
 
 // Whether the answer to a word is this number, or this message where it is none.
@@ -67,7 +68,7 @@ fn is_number(
 }
 
 #[test]
-fn numbers(rt: HostRuntime) -> Result<(), Fail> {
+fn numbers(rt: HostRuntime) {
     for (word, number, message) in [
         (b"-10".as_slice(), Some(-10), ""),
         (
@@ -76,9 +77,11 @@ fn numbers(rt: HostRuntime) -> Result<(), Fail> {
             "argument is invalid unicode: \"foo\\xFF\"",
         ),
     ] {
-        assert!(rt; is_number(rt.alloc(), word, number, message)?, "{message}");
+        assert!(rt;
+            is_number(rt.alloc(), word, number, message).expect(&rt, "success"),
+            "{message}"
+        );
     }
-    Ok(())
 }
 
 // Whether a function of the text answers, and whether its error is told.
@@ -97,9 +100,11 @@ fn is_not_asked(alloc: Global) -> Result<bool, Error> {
 }
 
 #[test]
-fn functions_of_texts(rt: HostRuntime) -> Result<(), Fail> {
-    assert!(rt; is_asked(rt.alloc())? && is_not_asked(rt.alloc())?);
-    Ok(())
+fn functions_of_texts(rt: HostRuntime) {
+    assert!(rt;
+        is_asked(rt.alloc()).expect(&rt, "success")
+            && is_not_asked(rt.alloc()).expect(&rt, "success")
+    );
 }
 
 // Whether a number below 0 is none without a sign, and the error has a cause.
@@ -118,9 +123,8 @@ fn has_a_cause(alloc: Global) -> Result<bool, Error> {
 }
 
 #[test]
-fn cause_of_a_failed_parse(rt: HostRuntime) -> Result<(), Fail> {
-    assert!(rt; has_a_cause(rt.alloc())?);
-    Ok(())
+fn cause_of_a_failed_parse(rt: HostRuntime) {
+    assert!(rt; has_a_cause(rt.alloc()).expect(&rt, "success"));
 }
 
 // Whether the value of `-n` is ten, and a positional comes next.
@@ -133,8 +137,7 @@ fn reads_ten(parser: &mut Parser) -> Result<bool, Error> {
 }
 
 #[test]
-fn parsed_value(rt: HostRuntime) -> Result<(), Fail> {
-    let mut parser = parser_of(rt.alloc(), &[b"-n", b"10", b"foo"])?;
-    assert!(rt; reads_ten(&mut parser)?);
-    Ok(())
+fn parsed_value(rt: HostRuntime) {
+    let mut parser = parser_of(rt.alloc(), &[b"-n", b"10", b"foo"]).expect(&rt, "success");
+    assert!(rt; reads_ten(&mut parser).expect(&rt, "success"));
 }

@@ -4,7 +4,6 @@ use lexopt_base::{Arg, Error, OsString};
 use lexopt_calls::run_error::RunError;
 use std::alloc::{AllocError, AllocFailed, Global};
 use std::process::Abort;
-use std::test::Fail;
 use test_helpers::errors::prints;
 
 // How an error comes to be, and of what.
@@ -145,9 +144,8 @@ fn keeps_a_front(alloc: Global) -> Result<bool, AllocError> {
 }
 
 #[test]
-fn long_message(rt: HostRuntime) -> Result<(), Fail> {
-    assert!(rt; keeps_a_front(rt.alloc())?);
-    Ok(())
+fn long_message(rt: HostRuntime) {
+    assert!(rt; keeps_a_front(rt.alloc()).expect(&rt, "success"));
 }
 
 // Whether the cause of an error says this; none is that there is no cause.
@@ -172,7 +170,7 @@ fn says(alloc: Global, error: &RunError, message: &str) -> Result<bool, AllocErr
 }
 
 #[test]
-fn run_errors(rt: HostRuntime) -> Result<(), Fail> {
+fn run_errors(rt: HostRuntime) {
     for (error, message, status) in [
         (RunError::BadLine(12), "line 12 refused", 2),
         (RunError::TooLong, "script too long", 2),
@@ -185,8 +183,10 @@ fn run_errors(rt: HostRuntime) -> Result<(), Fail> {
             1,
         ),
     ] {
-        assert!(rt; says(rt.alloc(), &error, message)?, "{message}");
+        assert!(rt;
+            says(rt.alloc(), &error, message).expect(&rt, "success"),
+            "{message}"
+        );
         assert_eq!(rt; error.status(), status);
     }
-    Ok(())
 }

@@ -1,7 +1,6 @@
 //! A reader of options with an error type of its own.
 use lexopt::{Arg, Error, OsString, Parser};
 use std::alloc::Global;
-use std::test::Fail;
 use test_helpers::calls::gives;
 use test_helpers::items::are_words;
 use test_helpers::parsers::split_words;
@@ -91,9 +90,8 @@ const LINES: [(&[u8], bool, &[&[u8]]); 6] = [
 ];
 
 #[test]
-fn reads_the_example(rt: HostRuntime) -> Result<(), Fail> {
+fn reads_the_example(rt: HostRuntime) {
     for (line, known, files) in LINES {
-        assert!(rt; reads(rt.alloc(), line, known, files)?);
+        assert!(rt; reads(rt.alloc(), line, known, files).expect(&rt, "success"));
     }
-    Ok(())
 }

@@ -3,7 +3,6 @@ use lexopt_base::{Error, Parser};
 use std::alloc::Global;
 use std::env;
 use std::process::Abort;
-use std::test::Fail;
 use test_helpers::calls::{is_at_end, reads_short, takes};
 use test_helpers::environments::Arguments;
 use test_helpers::parsers::{named, parser_of, words_from};
@@ -47,9 +46,11 @@ fn first_otherwise(
 }
 
 #[test]
-fn names(rt: HostRuntime) -> Result<(), Fail> {
-    assert_eq!(rt; first_otherwise(rt.alloc(), &NAMES)?, None);
-    Ok(())
+fn names(rt: HostRuntime) {
+    assert_eq!(rt;
+        first_otherwise(rt.alloc(), &NAMES).expect(&rt, "success"),
+        None
+    );
 }
 
 // Whether the words after a name are read, and the name stays.
@@ -92,9 +93,8 @@ fn reads_an_environment(alloc: Global) -> Result<bool, Error> {
 }
 
 #[test]
-fn words_of_an_environment(rt: HostRuntime) -> Result<(), Fail> {
-    assert!(rt; reads_an_environment(rt.alloc())?);
-    Ok(())
+fn words_of_an_environment(rt: HostRuntime) {
+    assert!(rt; reads_an_environment(rt.alloc()).expect(&rt, "success"));
 }
 
 // Whether no words are no name.
@@ -104,15 +104,13 @@ fn reads_no_words(alloc: Global) -> Result<bool, Error> {
 }
 
 #[test]
-fn no_words_of_an_environment(rt: HostRuntime) -> Result<(), Fail> {
-    assert!(rt; reads_no_words(rt.alloc())?);
-    Ok(())
+fn no_words_of_an_environment(rt: HostRuntime) {
+    assert!(rt; reads_no_words(rt.alloc()).expect(&rt, "success"));
 }
 
 #[test]
-fn words_of_this_program(rt: HostRuntime) -> Result<(), Fail> {
-    let parser = Parser::from_env(&rt, rt.alloc())?;
-    let name = env::args(&rt)?.next();
+fn words_of_this_program(rt: HostRuntime) {
+    let parser = Parser::from_env(&rt, rt.alloc()).expect(&rt, "success");
+    let name = env::args(&rt).expect(&rt, "success").next();
     assert_eq!(rt; parser.bin_name(), name.as_deref());
-    Ok(())
 }

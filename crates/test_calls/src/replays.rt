@@ -2,7 +2,6 @@
 use lexopt::replay::{Call, replay};
 use lexopt::{Error, OsString, Parser};
 use std::alloc::Global;
-use std::test::Fail;
 use test_helpers::parsers::parser_of;
 
 // Whether these calls have these replies, as `Debug` writes them.
@@ -44,33 +43,30 @@ fn gives_the_wanted(alloc: Global, parser: &mut Parser) -> Result<bool, Error> {
 }
 
 #[test]
-fn words_of_which_one_is_wanted(rt: HostRuntime) -> Result<(), Fail> {
-    let mut parser = parser_of(rt.alloc(), &[b"a", b"--", b"-b"])?;
-    assert!(rt; gives_the_wanted(rt.alloc(), &mut parser)?);
-    Ok(())
+fn words_of_which_one_is_wanted(rt: HostRuntime) {
+    let mut parser = parser_of(rt.alloc(), &[b"a", b"--", b"-b"]).expect(&rt, "success");
+    assert!(rt; gives_the_wanted(rt.alloc(), &mut parser).expect(&rt, "success"));
 }
 
 #[test]
-fn values_asked_and_not_asked(rt: HostRuntime) -> Result<(), Fail> {
-    let mut parser = parser_of(rt.alloc(), &[b"-a=b", b"--n=x"])?;
+fn values_asked_and_not_asked(rt: HostRuntime) {
+    let mut parser = parser_of(rt.alloc(), &[b"-a=b", b"--n=x"]).expect(&rt, "success");
     let calls = [Call::Next, Call::Value, Call::Next, Call::Next];
     let replies = "[Short('a'), Taken(\"b\"), LongName(\"n\"), Unexpected(\"--n\", \"x\")]";
-    assert!(rt; answers(rt.alloc(), &mut parser, &calls, replies)?);
-    Ok(())
+    assert!(rt; answers(rt.alloc(), &mut parser, &calls, replies).expect(&rt, "success"));
 }
 
 #[test]
-fn damage_and_a_value(rt: HostRuntime) -> Result<(), Fail> {
-    let mut parser = parser_of(rt.alloc(), &[b"-\xf0\x9da"])?;
+fn damage_and_a_value(rt: HostRuntime) {
+    let mut parser = parser_of(rt.alloc(), &[b"-\xf0\x9da"]).expect(&rt, "success");
     let calls = [Call::Next, Call::Optional];
     let replies = "[Short('\u{FFFD}'), Maybe(Some(\"a\"))]";
-    assert!(rt; answers(rt.alloc(), &mut parser, &calls, replies)?);
-    Ok(())
+    assert!(rt; answers(rt.alloc(), &mut parser, &calls, replies).expect(&rt, "success"));
 }
 
 #[test]
-fn views_and_the_switch(rt: HostRuntime) -> Result<(), Fail> {
-    let mut parser = parser_of(rt.alloc(), &[b"-a=b", b"c", b"d"])?;
+fn views_and_the_switch(rt: HostRuntime) {
+    let mut parser = parser_of(rt.alloc(), &[b"-a=b", b"c", b"d"]).expect(&rt, "success");
     let calls = [
         Call::Next,
         Call::TryRaw(1),
@@ -82,6 +78,5 @@ fn views_and_the_switch(rt: HostRuntime) -> Result<(), Fail> {
     ];
     let replies =
         "[Short('a'), Busy, Done, Items([\"=b\"]), Items([\"c\"]), Taken(\"d\"), Missing(Some(\"-a\"))]";
-    assert!(rt; answers(rt.alloc(), &mut parser, &calls, replies)?);
-    Ok(())
+    assert!(rt; answers(rt.alloc(), &mut parser, &calls, replies).expect(&rt, "success"));
 }

@@ -1,7 +1,6 @@
 //! Long names, many words and long scripts: none of them runs out of memory.
 use lexopt::replay::run;
 use std::alloc::{AllocError, Global};
-use std::test::Fail;
 
 // How many pieces a long name has, and how many words of each kind a long script has.
 const MANY: usize = 1_500;
@@ -26,11 +25,13 @@ fn is_told(alloc: Global, piece: &str, shown: &str) -> Result<bool, AllocError> 
 }
 
 #[test]
-fn long_names(rt: HostRuntime) -> Result<(), Fail> {
+fn long_names(rt: HostRuntime) {
     for (piece, shown) in [("n", "n"), ("µ", "µ"), ("\\xFF", "\u{fffd}")] {
-        assert!(rt; is_told(rt.alloc(), piece, shown)?, "{shown}");
+        assert!(rt;
+            is_told(rt.alloc(), piece, shown).expect(&rt, "success"),
+            "{shown}"
+        );
     }
-    Ok(())
 }
 
 // Whether a script of many words and calls writes each reply.
@@ -44,7 +45,6 @@ fn reads_many(alloc: Global) -> Result<bool, AllocError> {
 }
 
 #[test]
-fn many_words(rt: HostRuntime) -> Result<(), Fail> {
-    assert!(rt; reads_many(rt.alloc())?);
-    Ok(())
+fn many_words(rt: HostRuntime) {
+    assert!(rt; reads_many(rt.alloc()).expect(&rt, "success"));
 }

@@ -4,7 +4,6 @@ use lexopt_items::items::Table;
 use lexopt_spell::spell::{Reason, SpellError, spell};
 use std::alloc::AllocError;
 use std::process::Abort;
-use std::test::Fail;
 use test_helpers::items::Given::{
     Long, LongMany, LongValue, Positional, Short, ShortMany, ShortValue,
 };
@@ -870,11 +869,13 @@ fn items_at_fault(rt: HostRuntime) {
 }
 
 #[test]
-fn refused_memory_is_told(rt: HostRuntime) -> Result<(), Fail> {
+fn refused_memory_is_told(rt: HostRuntime) {
     let error = SpellError::from(AllocError);
     assert!(rt; matches!(error, SpellError::OutOfMemory));
     let copy = error;
     assert!(rt; copy == error);
-    assert_eq!(rt; error.to_string(rt.alloc())?.as_str(), "out of memory");
-    Ok(())
+    assert_eq!(rt;
+        error.to_string(rt.alloc()).expect(&rt, "success").as_str(),
+        "out of memory"
+    );
 }

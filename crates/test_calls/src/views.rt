@@ -3,7 +3,6 @@
 use lexopt::{Error, OsStr, OsString, Parser, RawArgs, ValuesIter};
 use std::alloc::Global;
 use std::process::Abort;
-use std::test::Fail;
 use test_callers::callers::{negative_number, next_file, option_and_value, two_values};
 use test_helpers::calls::{gives, is_at_end, reads_short, reads_word, takes};
 use test_helpers::items::are_words;
@@ -29,10 +28,12 @@ fn has_both(parser: &mut Parser) -> Result<bool, Error> {
 }
 
 #[test]
-fn several_values(rt: HostRuntime) -> Result<(), Fail> {
-    let mut parser = parser_of(rt.alloc(), &[b"-a", b"b", b"c", b"-d"])?;
-    assert!(rt; has_both(&mut parser)? && reads_short(&mut parser, 'd')?);
-    Ok(())
+fn several_values(rt: HostRuntime) {
+    let mut parser = parser_of(rt.alloc(), &[b"-a", b"b", b"c", b"-d"]).expect(&rt, "success");
+    assert!(rt;
+        has_both(&mut parser).expect(&rt, "success")
+            && reads_short(&mut parser, 'd').expect(&rt, "success")
+    );
 }
 
 // How many values `collect` gives for `-a`.
@@ -45,10 +46,12 @@ fn collect_words(alloc: Global, parser: &mut Parser) -> Result<usize, Error> {
 }
 
 #[test]
-fn collected_values(rt: HostRuntime) -> Result<(), Fail> {
-    let mut parser = parser_of(rt.alloc(), &[b"-ab", b"c", b"-d"])?;
-    assert!(rt; collect_words(rt.alloc(), &mut parser)? == 2 && reads_short(&mut parser, 'd')?);
-    Ok(())
+fn collected_values(rt: HostRuntime) {
+    let mut parser = parser_of(rt.alloc(), &[b"-ab", b"c", b"-d"]).expect(&rt, "success");
+    assert!(rt;
+        collect_words(rt.alloc(), &mut parser).expect(&rt, "success") == 2
+            && reads_short(&mut parser, 'd').expect(&rt, "success")
+    );
 }
 
 // The length of the longest of these values.
@@ -69,10 +72,12 @@ fn longest_of_a(parser: &mut Parser) -> Result<usize, Error> {
 }
 
 #[test]
-fn values_in_a_loop(rt: HostRuntime) -> Result<(), Fail> {
-    let mut parser = parser_of(rt.alloc(), &[b"-a", b"b", b"ccc", b"dd"])?;
-    assert!(rt; longest_of_a(&mut parser)? == 3 && is_at_end(&mut parser)?);
-    Ok(())
+fn values_in_a_loop(rt: HostRuntime) {
+    let mut parser = parser_of(rt.alloc(), &[b"-a", b"b", b"ccc", b"dd"]).expect(&rt, "success");
+    assert!(rt;
+        longest_of_a(&mut parser).expect(&rt, "success") == 3
+            && is_at_end(&mut parser).expect(&rt, "success")
+    );
 }
 
 fn looks_first(view: &mut RawArgs<'_>) -> bool {
@@ -87,10 +92,12 @@ fn looks_first(view: &mut RawArgs<'_>) -> bool {
 }
 
 #[test]
-fn words_looked_at(rt: HostRuntime) -> Result<(), Fail> {
-    let mut parser = parser_of(rt.alloc(), &[b"a"])?;
-    assert!(rt; looks_first(&mut parser.raw_args()?) && is_at_end(&mut parser)?);
-    Ok(())
+fn words_looked_at(rt: HostRuntime) {
+    let mut parser = parser_of(rt.alloc(), &[b"a"]).expect(&rt, "success");
+    assert!(rt;
+        looks_first(&mut parser.raw_args().expect(&rt, "success"))
+            && is_at_end(&mut parser).expect(&rt, "success")
+    );
 }
 
 // Whether a view gives `-a`, lends the two words after it, and then gives `--`.
@@ -109,10 +116,9 @@ fn lends_if_free(parser: &mut Parser) -> bool {
 }
 
 #[test]
-fn words_lent(rt: HostRuntime) -> Result<(), Fail> {
-    let mut parser = parser_of(rt.alloc(), &[b"-a", b"--", b"b"])?;
-    assert!(rt; lends_if_free(&mut parser) && reads_word(&mut parser, b"b")?);
-    Ok(())
+fn words_lent(rt: HostRuntime) {
+    let mut parser = parser_of(rt.alloc(), &[b"-a", b"--", b"b"]).expect(&rt, "success");
+    assert!(rt; lends_if_free(&mut parser) && reads_word(&mut parser, b"b").expect(&rt, "success"));
 }
 
 // Whether `two_values` takes `b` and `c`, and `negative_number` takes `-10` but not `d`.
@@ -126,11 +132,14 @@ fn takes_by_callers(rt: &impl Abort, parser: &mut Parser) -> bool {
 }
 
 #[test]
-fn callers(rt: HostRuntime) -> Result<(), Fail> {
-    let mut parser = parser_of(rt.alloc(), &[b"-a", b"b", b"c", b"d", b"-10", b"-e"])?;
-    assert!(rt; reads_short(&mut parser, 'a')?);
-    assert!(rt; takes_by_callers(&rt, &mut parser) && reads_short(&mut parser, 'e')?);
-    Ok(())
+fn callers(rt: HostRuntime) {
+    let mut parser = parser_of(rt.alloc(), &[b"-a", b"b", b"c", b"d", b"-10", b"-e"]).expect(
+        &rt, "success",
+    );
+    assert!(rt; reads_short(&mut parser, 'a').expect(&rt, "success"));
+    assert!(rt;
+        takes_by_callers(&rt, &mut parser) && reads_short(&mut parser, 'e').expect(&rt, "success")
+    );
 }
 
 // Whether `option_and_value` reads `-n` and takes the value `10`.
@@ -155,8 +164,12 @@ fn reads_by_callers(alloc: Global, parser: &mut Parser) -> Result<bool, Error> {
 }
 
 #[test]
-fn callers_of_next(rt: HostRuntime) -> Result<(), Fail> {
-    let mut parser = parser_of(rt.alloc(), &[b"-n10", b"-n", b"a", b"b", b"c"])?;
-    assert!(rt; reads_by_callers(rt.alloc(), &mut parser)? && is_at_end(&mut parser)?);
-    Ok(())
+fn callers_of_next(rt: HostRuntime) {
+    let mut parser = parser_of(rt.alloc(), &[b"-n10", b"-n", b"a", b"b", b"c"]).expect(
+        &rt, "success",
+    );
+    assert!(rt;
+        reads_by_callers(rt.alloc(), &mut parser).expect(&rt, "success")
+            && is_at_end(&mut parser).expect(&rt, "success")
+    );
 }

@@ -3,7 +3,6 @@ use lexopt_base::{Arg, Error, OsStr, OsString, Quoted};
 use std::alloc::{AllocError, Global};
 use std::hash::{DefaultHasher, Hash, Hasher};
 use std::process::Abort;
-use std::test::Fail;
 
 // Whether a word has these bytes, and its copy, the view of it, its list of bytes and the word of
 // that list.
@@ -67,9 +66,8 @@ fn is_cut(alloc: Global) -> Result<bool, AllocError> {
 }
 
 #[test]
-fn words_without_their_front(rt: HostRuntime) -> Result<(), Fail> {
-    assert!(rt; is_cut(rt.alloc())?);
-    Ok(())
+fn words_without_their_front(rt: HostRuntime) {
+    assert!(rt; is_cut(rt.alloc()).expect(&rt, "success"));
 }
 
 fn quotes(alloc: Global, bytes: &[u8], text: &str) -> Result<bool, AllocError> {
@@ -77,7 +75,7 @@ fn quotes(alloc: Global, bytes: &[u8], text: &str) -> Result<bool, AllocError> {
 }
 
 #[test]
-fn quoted_bytes(rt: HostRuntime) -> Result<(), Fail> {
+fn quoted_bytes(rt: HostRuntime) {
     for (bytes, text) in [
         (b"".as_slice(), "\"\""),
         (
@@ -88,9 +86,11 @@ fn quoted_bytes(rt: HostRuntime) -> Result<(), Fail> {
         (b"\xe2\x82A".as_slice(), "\"\\xE2\\x82A\""),
         (b"\xf0\x9d".as_slice(), "\"\\xF0\\x9D\""),
     ] {
-        assert!(rt; quotes(rt.alloc(), bytes, text)?, "{text}");
+        assert!(rt;
+            quotes(rt.alloc(), bytes, text).expect(&rt, "success"),
+            "{text}"
+        );
     }
-    Ok(())
 }
 
 // Whether bytes are this text, in a view, in a word and in the text that a word becomes; a word
@@ -215,13 +215,12 @@ fn is_copied(alloc: Global, argument: &Arg<'_>, text: &str) -> Result<bool, Erro
 }
 
 #[test]
-fn copies_of_arguments(rt: HostRuntime) -> Result<(), Fail> {
+fn copies_of_arguments(rt: HostRuntime) {
     let alloc = rt.alloc();
-    let word = Arg::Value(OsString::from_text(alloc, "foo")?);
+    let word = Arg::Value(OsString::from_text(alloc, "foo").expect(&rt, "success"));
     assert!(rt;
-        is_copied(alloc, &Arg::Short('a'), "Short('a')")?
-            && is_copied(alloc, &Arg::Long("n"), "Long(\"n\")")?
-            && is_copied(alloc, &word, "Value(\"foo\")")?
+        is_copied(alloc, &Arg::Short('a'), "Short('a')").expect(&rt, "success")
+            && is_copied(alloc, &Arg::Long("n"), "Long(\"n\")").expect(&rt, "success")
+            && is_copied(alloc, &word, "Value(\"foo\")").expect(&rt, "success")
     );
-    Ok(())
 }

@@ -62,6 +62,12 @@ pub fn are_words(words: &[OsString], wanted: &[&[u8]]) -> bool {
 /// `cmd` several.
 pub fn table_of_each_kind(alloc: Global) -> Result<Table, AllocError> {
     let mut table = Table::new(alloc);
+    add_options(alloc, &mut table)?;
+    Ok(table)
+}
+
+// Adds two options of each kind.
+fn add_options(alloc: Global, table: &mut Table) -> Result<(), AllocError> {
     table.shorts.push('o')?;
     table.longs.push(String::from_str(alloc, "out")?)?;
     table.optional_shorts.push('c')?;
@@ -70,5 +76,5 @@ pub fn table_of_each_kind(alloc: Global) -> Result<Table, AllocError> {
         .push(String::from_str(alloc, "color")?)?;
     table.several_shorts.push('d')?;
     table.several_longs.push(String::from_str(alloc, "cmd")?)?;
-    Ok(table)
+    Ok(())
 }

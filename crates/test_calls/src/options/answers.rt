@@ -2,7 +2,6 @@
 use crate::options::archive::{archive, archive_of_files, debug_of, words_of};
 use lexopt_options::{Answer, Declared, HELP, Names, Options, Positional};
 use std::alloc::{AllocError, Global};
-use std::test::Fail;
 
 // What a program is to do about a line.
 #[derive(Clone, Copy, PartialEq, Eq)]
@@ -131,9 +130,11 @@ fn first_wrong(
 }
 
 #[test]
-fn lines(rt: HostRuntime) -> Result<(), Fail> {
-    assert_eq!(rt; first_wrong(rt.alloc(), archive_of_files(), &LINES)?, None);
-    Ok(())
+fn lines(rt: HostRuntime) {
+    assert_eq!(rt;
+        first_wrong(rt.alloc(), archive_of_files(), &LINES).expect(&rt, "success"),
+        None
+    );
 }
 
 // The script that does not begin as its row says, or none. With no options the first one does not.
@@ -153,9 +154,11 @@ fn first_wrong_script(
 }
 
 #[test]
-fn scripts(rt: HostRuntime) -> Result<(), Fail> {
-    assert_eq!(rt; first_wrong_script(rt.alloc(), archive_of_files())?, None);
-    Ok(())
+fn scripts(rt: HostRuntime) {
+    assert_eq!(rt;
+        first_wrong_script(rt.alloc(), archive_of_files()).expect(&rt, "success"),
+        None
+    );
 }
 
 // Whether `-h` is answered so under these options and arguments.
@@ -181,10 +184,13 @@ Packs files.
 
 // The help is printed although an argument is missing. It is no help if no option has that name.
 #[test]
-fn help(rt: HostRuntime) -> Result<(), Fail> {
+fn help(rt: HostRuntime) {
     let source = [Positional::once("SOURCE")];
-    assert!(rt; is_answered_by(rt.alloc(), &[HELP], &source, Print, HELP_OF_SOURCE)?);
+    assert!(rt;
+        is_answered_by(rt.alloc(), &[HELP], &source, Print, HELP_OF_SOURCE).expect(&rt, "success")
+    );
     let other = [Declared::flag(Names::Short('h'), "")];
-    assert!(rt; is_answered_by(rt.alloc(), &other, &[], Work, "[Option(0, None)]")?);
-    Ok(())
+    assert!(rt;
+        is_answered_by(rt.alloc(), &other, &[], Work, "[Option(0, None)]").expect(&rt, "success")
+    );
 }

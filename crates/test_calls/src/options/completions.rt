@@ -2,7 +2,6 @@
 use crate::options::archive::{OPTIONS, archive, archive_of_files, words_of};
 use lexopt_options::{Options, OsString, Role};
 use std::alloc::{AllocError, Global};
-use std::test::Fail;
 
 // What was typed after which words, and what can stand there.
 struct Row {
@@ -176,9 +175,11 @@ fn first_wrong(
 }
 
 #[test]
-fn rows(rt: HostRuntime) -> Result<(), Fail> {
-    assert_eq!(rt; first_wrong(rt.alloc(), archive_of_files(), &ROWS)?, None);
-    Ok(())
+fn rows(rt: HostRuntime) {
+    assert_eq!(rt;
+        first_wrong(rt.alloc(), archive_of_files(), &ROWS).expect(&rt, "success"),
+        None
+    );
 }
 
 // No spelling is offered for a word that is not UTF-8.
@@ -198,12 +199,11 @@ static DAMAGED_ROWS: [Row; 2] = [
 ];
 
 #[test]
-fn damage(rt: HostRuntime) -> Result<(), Fail> {
+fn damage(rt: HostRuntime) {
     assert_eq!(rt;
-        first_wrong(rt.alloc(), archive_of_files(), &DAMAGED_ROWS)?,
+        first_wrong(rt.alloc(), archive_of_files(), &DAMAGED_ROWS).expect(&rt, "success"),
         None
     );
-    Ok(())
 }
 
 // Where no argument can stand, an option or a value can.
@@ -253,11 +253,10 @@ static ROWS_WITHOUT_ARGUMENTS: [Row; 7] = [
 ];
 
 #[test]
-fn no_arguments(rt: HostRuntime) -> Result<(), Fail> {
+fn no_arguments(rt: HostRuntime) {
     let options = archive(&OPTIONS, &[]);
     assert_eq!(rt;
-        first_wrong(rt.alloc(), options, &ROWS_WITHOUT_ARGUMENTS)?,
+        first_wrong(rt.alloc(), options, &ROWS_WITHOUT_ARGUMENTS).expect(&rt, "success"),
         None
     );
-    Ok(())
 }

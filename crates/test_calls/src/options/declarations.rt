@@ -2,7 +2,6 @@
 use crate::options::archive::archive_of_files;
 use lexopt_options::{DeclarationError, Declared, HELP, Kind, Names, Options, Reason};
 use std::alloc::{AllocError, Global};
-use std::test::Fail;
 
 // What is wrong with an option that is declared after the help.
 fn fault_of(names: Names<'_>, kind: Kind<'_>) -> Option<DeclarationError> {
@@ -68,9 +67,8 @@ fn first_wrong(rows: &[(Names<'static>, Kind<'static>, Option<Reason>)]) -> Opti
 }
 
 #[test]
-fn faults(rt: HostRuntime) -> Result<(), Fail> {
+fn faults(rt: HostRuntime) {
     assert_eq!(rt; first_wrong(&FAULTS), None);
-    Ok(())
 }
 
 // Whether these are the one character and the one name.
@@ -94,7 +92,6 @@ fn has_each_kind(alloc: Global) -> Result<bool, AllocError> {
 }
 
 #[test]
-fn tables(rt: HostRuntime) -> Result<(), Fail> {
-    assert!(rt; has_each_kind(rt.alloc())?);
-    Ok(())
+fn tables(rt: HostRuntime) {
+    assert!(rt; has_each_kind(rt.alloc()).expect(&rt, "success"));
 }

@@ -1,9 +1,8 @@
 //! Completion beside reading: a spelling is offered after some words exactly if the words, it and
 //! what may come after it can be read as what the words say, and then its option.
 use crate::options::archive::archive_of_files;
-use lexopt_options::{Options, OsString, ReadError, Said};
-use std::alloc::{AllocError, Global};
-use std::test::Fail;
+use lexopt_options::{Options, OsString, Said};
+use std::process::Abort;
 use test_helpers::parsers::words_from;
 
 static WORDS: [&[u8]; 8] = [b"-v", b"-o", b"--output=", b"--", b"a", b"-x", b"", b"-bz"];
@@ -23,26 +22,23 @@ static SPELLINGS: [(&str, usize); 10] = [
 ];
 
 // These words, and then those.
-fn line_of(alloc: Global, front: &[&[u8]], back: &[&[u8]]) -> Result<Vec<OsString>, AllocError> {
-    let mut words = words_from(alloc, front)?;
+fn line_of(rt: &(impl Abort + AllocGlobal), front: &[&[u8]], back: &[&[u8]]) -> Vec<OsString> {
+    let mut words = words_from(rt.alloc(), front).expect(rt, "memory");
     for word in back {
-        words.push(OsString::from_bytes(alloc, word)?)?;
+        let word = OsString::from_bytes(rt.alloc(), word).expect(rt, "memory");
+        words.push(word).expect(rt, "memory");
     }
-    Ok(words)
+    words
 }
 
 // What a line says, if it says something.
 fn said_by(
-    alloc: Global,
+    rt: &(impl Abort + AllocGlobal),
     options: &Options<'_>,
     front: &[&[u8]],
     back: &[&[u8]],
-) -> Result<Option<Vec<Said>>, AllocError> {
-    match options.read(alloc, line_of(alloc, front, back)?) {
-        Ok(said) => Ok(Some(said)),
-        Err(ReadError::Refused(_)) => Ok(None),
-        Err(ReadError::OutOfMemory) => Err(AllocError),
-    }
+) -> Option<Vec<Said>> {
+    options.read(rt.alloc(), line_of(rt, front, back)).ok()
 }
 
 // Whether this is the option of this index.
@@ -61,63 +57,66 @@ fn goes_on(before: &[Said], said: &Option<Vec<Said>>, index: usize) -> bool {
     }
 }
 
-// Whether a spelling can stand after these words, alone or with a value after it.
-fn can_stand(
-    alloc: Global,
+// Whether a spelling can occur after these words, alone or with a value after it.
+fn can_occur(
+    rt: &(impl Abort + AllocGlobal),
     options: &Options<'_>,
     words: &[&[u8]],
     spelling: &str,
     index: usize,
-) -> Result<bool, AllocError> {
-    let Some(before) = said_by(alloc, options, words, &[])? else {
-        return Ok(false);
+) -> bool {
+    let Some(before) = said_by(rt, options, words, &[]) else {
+        return false;
     };
     let spelling = spelling.as_bytes();
-    let alone = said_by(alloc, options, words, &[spelling])?;
-    let with_value = said_by(alloc, options, words, &[spelling, b"a"])?;
-    Ok(goes_on(&before, &alone, index) || goes_on(&before, &with_value, index))
+    let alone = said_by(rt, options, words, &[spelling]);
+    let with_value = said_by(rt, options, words, &[spelling, b"a"]);
+    goes_on(&before, &alone, index) || goes_on(&before, &with_value, index)
 }
 
-// Whether what is offered after these words is what can stand there.
-fn agrees(alloc: Global, options: &Options<'_>, words: &[&[u8]]) -> Result<bool, AllocError> {
-    let line = line_of(alloc, words, &[])?;
-    let offered = options
-        .complete(alloc, &line, &OsString::new(alloc))?
-        .spellings;
+// Whether exactly the spellings that can occur after these words are offered there.
+fn agrees(rt: &(impl Abort + AllocGlobal), options: &Options<'_>, words: &[&[u8]]) -> bool {
+    let line = line_of(rt, words, &[]);
+    let typed = OsString::new(rt.alloc());
+    let completion = options
+        .complete(rt.alloc(), &line, &typed)
+        .expect(rt, "memory");
     for (spelling, index) in SPELLINGS {
-        let is_offered = offered.iter().any(|text| text.as_str() == spelling);
-        if is_offered != can_stand(alloc, options, words, spelling, index)? {
-            return Ok(false);
+        let is_offered = completion
+            .spellings
+            .iter()
+            .any(|text| text.as_str() == spelling);
+        if is_offered != can_occur(rt, options, words, spelling, index) {
+            return false;
         }
     }
-    Ok(true)
+    true
 }
 
-// Whether they agree after no word, after this one, and after this one and each other.
-fn agrees_after(alloc: Global, options: &Options<'_>, first: &[u8]) -> Result<bool, AllocError> {
+// Whether they agree after this word, and after it and each other.
+fn agrees_after(rt: &(impl Abort + AllocGlobal), options: &Options<'_>, first: &[u8]) -> bool {
     for second in WORDS {
-        if !agrees(alloc, options, &[first, second])? {
-            return Ok(false);
+        if !agrees(rt, options, &[first, second]) {
+            return false;
         }
     }
-    agrees(alloc, options, &[first])
+    agrees(rt, options, &[first])
 }
 
 // Whether they agree after no word, and after one or two of these.
-fn all_agree(alloc: Global) -> Result<bool, AllocError> {
+fn all_agree(rt: &(impl Abort + AllocGlobal)) -> bool {
     let Some(options) = archive_of_files() else {
-        return Ok(false);
+        return false;
     };
     for first in WORDS {
-        if !agrees_after(alloc, &options, first)? {
-            return Ok(false);
+        if !agrees_after(rt, &options, first) {
+            return false;
         }
     }
-    agrees(alloc, &options, &[])
+    agrees(rt, &options, &[])
 }
 
 #[test]
-fn offers(rt: HostRuntime) -> Result<(), Fail> {
-    assert!(rt; all_agree(rt.alloc())?);
-    Ok(())
+fn offers(rt: HostRuntime) {
+    assert!(rt; all_agree(&rt));
 }

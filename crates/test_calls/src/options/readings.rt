@@ -2,7 +2,6 @@
 use crate::options::archive::{archive_of_files, text_of_words, words_of};
 use lexopt_options::Options;
 use std::alloc::{AllocError, Global};
-use std::test::Fail;
 
 // Whether a line says this.
 fn says(
@@ -62,9 +61,11 @@ fn first_wrong(
 }
 
 #[test]
-fn lines(rt: HostRuntime) -> Result<(), Fail> {
-    assert_eq!(rt; first_wrong(rt.alloc(), archive_of_files(), &LINES)?, None);
-    Ok(())
+fn lines(rt: HostRuntime) {
+    assert_eq!(rt;
+        first_wrong(rt.alloc(), archive_of_files(), &LINES).expect(&rt, "success"),
+        None
+    );
 }
 
 // Whether `=` belongs to the value if it is a character like any other.
@@ -81,7 +82,6 @@ fn keeps_equals(alloc: Global) -> Result<bool, AllocError> {
 }
 
 #[test]
-fn equals(rt: HostRuntime) -> Result<(), Fail> {
-    assert!(rt; keeps_equals(rt.alloc())?);
-    Ok(())
+fn equals(rt: HostRuntime) {
+    assert!(rt; keeps_equals(rt.alloc()).expect(&rt, "success"));
 }

@@ -4,7 +4,7 @@ use crate::options::archive::{
 };
 use lexopt_options::{Declared, Error, Names, Options, OsString, ReadError, Refused, ValueExt};
 use std::alloc::{AllocError, Global};
-use std::test::Fail;
+use std::process::Abort;
 
 // Whether a line is refused with this mistake, and says this before.
 fn is_refused(
@@ -82,69 +82,71 @@ fn first_wrong(
 }
 
 #[test]
-fn mistakes(rt: HostRuntime) -> Result<(), Fail> {
+fn mistakes(rt: HostRuntime) {
     let options = archive(&OPTIONS, &SOURCE_AND_TARGET);
-    assert_eq!(rt; first_wrong(rt.alloc(), options, &MISTAKES)?, None);
-    Ok(())
+    assert_eq!(rt;
+        first_wrong(rt.alloc(), options, &MISTAKES).expect(&rt, "success"),
+        None
+    );
 }
 
 #[test]
-fn status(rt: HostRuntime) -> Result<(), Fail> {
+fn status(rt: HostRuntime) {
     assert_eq!(rt; Refused::STATUS, 2);
-    Ok(())
 }
 
-// The error of a word that is no number.
-fn error_of(alloc: Global, word: &[u8]) -> Result<Option<Error>, AllocError> {
-    Ok(OsString::from_bytes(alloc, word)?.parse::<u32>().err())
+// The error of a word that is not a number.
+fn error_of(rt: &(impl Abort + AllocGlobal), word: &[u8]) -> Option<Error> {
+    let word = OsString::from_bytes(rt.alloc(), word).expect(rt, "memory");
+    word.parse::<u32>().err()
 }
 
 // Whether a value of this option that cannot be converted, or of a positional, is refused with this
 // mistake.
 fn tells_invalid(
-    alloc: Global,
+    rt: &(impl Abort + AllocGlobal),
     declared: &[Declared<'_>],
     index: Option<usize>,
     error: Error,
     mistake: &str,
-) -> Result<bool, AllocError> {
+) -> bool {
     match archive(declared, &FILES) {
         Some(options) => {
-            let printed = options.invalid(index, error).to_string(alloc)?;
-            Ok(tells(printed.as_str(), mistake))
+            let invalid = options.invalid(index, error);
+            let printed = invalid.to_string(rt.alloc()).expect(rt, "memory");
+            tells(printed.as_str(), mistake)
         }
-        None => Ok(false),
+        None => false,
     }
 }
 
-// Whether a word that is no number is refused with this mistake, for this option.
+// Whether a word that is not a number is refused with this mistake, for this option.
 fn is_invalid(
-    alloc: Global,
+    rt: &(impl Abort + AllocGlobal),
     declared: &[Declared<'_>],
     index: Option<usize>,
     word: &[u8],
     mistake: &str,
-) -> Result<bool, AllocError> {
-    match error_of(alloc, word)? {
-        Some(error) => tells_invalid(alloc, declared, index, error, mistake),
-        None => Ok(false),
+) -> bool {
+    match error_of(rt, word) {
+        Some(error) => tells_invalid(rt, declared, index, error, mistake),
+        None => false,
     }
 }
 
 // An option with no long name, and a value that is wrong in another way.
 #[test]
-fn other_invalid_values(rt: HostRuntime) -> Result<(), Fail> {
+fn other_invalid_values(rt: HostRuntime) {
     let jobs = [Declared::one(Names::Short('k'), "NUMBER", "")];
     let mistake = "invalid value \"x\" for '-k': invalid digit found in string";
-    assert!(rt; is_invalid(rt.alloc(), &jobs, Some(0), b"x", mistake)?);
+    assert!(rt; is_invalid(&rt, &jobs, Some(0), b"x", mistake));
     let error = Error::from("no such key");
     let mistake = "invalid value for '-k': no such key";
-    assert!(rt; tells_invalid(rt.alloc(), &jobs, Some(0), error, mistake)?);
-    Ok(())
+    assert!(rt; tells_invalid(&rt, &jobs, Some(0), error, mistake));
 }
 
 #[test]
-fn invalid_values(rt: HostRuntime) -> Result<(), Fail> {
+fn invalid_values(rt: HostRuntime) {
     for (index, word, mistake) in [
         (
             Some(1),
@@ -163,19 +165,19 @@ fn invalid_values(rt: HostRuntime) -> Result<(), Fail> {
         ),
     ] {
         assert!(rt;
-            is_invalid(rt.alloc(), &OPTIONS, index, word, mistake)?,
+            is_invalid(&rt, &OPTIONS, index, word, mistake),
             "{mistake}"
         );
     }
-    Ok(())
 }
 
 // Refused memory has no line, and as the error of a value it has two.
 #[test]
-fn no_memory(rt: HostRuntime) -> Result<(), Fail> {
-    let printed = ReadError::OutOfMemory.to_string(rt.alloc())?;
+fn no_memory(rt: HostRuntime) {
+    let printed = ReadError::OutOfMemory
+        .to_string(rt.alloc())
+        .expect(&rt, "success");
     assert_eq!(rt; printed.as_str(), "out of memory");
     let error = Error::OutOfMemory;
-    assert!(rt; tells_invalid(rt.alloc(), &OPTIONS, Some(1), error, "out of memory")?);
-    Ok(())
+    assert!(rt; tells_invalid(&rt, &OPTIONS, Some(1), error, "out of memory"));
 }

@@ -2,7 +2,6 @@
 use crate::options::archive::{FILES, OPTIONS, SOURCE_AND_TARGET, archive};
 use lexopt_options::{Declared, Names, Positional, VERSION, WIDTH};
 use std::alloc::{AllocError, Global};
-use std::test::Fail;
 
 const HELP_AT_80: &str = "Usage: archive [OPTION]... [FILE]...
 Packs files.
@@ -80,10 +79,9 @@ fn is_help(
 }
 
 #[test]
-fn help(rt: HostRuntime) -> Result<(), Fail> {
-    assert!(rt; is_help(rt.alloc(), &OPTIONS, &FILES, 80, HELP_AT_80)?);
-    assert!(rt; is_help(rt.alloc(), &OPTIONS, &FILES, 0, HELP_AT_0)?);
-    Ok(())
+fn help(rt: HostRuntime) {
+    assert!(rt; is_help(rt.alloc(), &OPTIONS, &FILES, 80, HELP_AT_80).expect(&rt, "success"));
+    assert!(rt; is_help(rt.alloc(), &OPTIONS, &FILES, 0, HELP_AT_0).expect(&rt, "success"));
 }
 
 // Whether the help of these options, with no arguments, is this, at the usual width.
@@ -92,9 +90,10 @@ fn is_help_of(alloc: Global, declared: &[Declared<'_>], wanted: &str) -> Result<
 }
 
 #[test]
-fn no_options(rt: HostRuntime) -> Result<(), Fail> {
-    assert!(rt; is_help_of(rt.alloc(), &[], "Usage: archive\nPacks files.\n")?);
-    Ok(())
+fn no_options(rt: HostRuntime) {
+    assert!(rt;
+        is_help_of(rt.alloc(), &[], "Usage: archive\nPacks files.\n").expect(&rt, "success")
+    );
 }
 
 // A name of 200 characters.
@@ -113,10 +112,9 @@ fn is_on_one_line(alloc: Global) -> Result<bool, AllocError> {
 }
 
 #[test]
-fn long_name(rt: HostRuntime) -> Result<(), Fail> {
+fn long_name(rt: HostRuntime) {
     assert_eq!(rt; LONG.len(), 200);
-    assert!(rt; is_on_one_line(rt.alloc())?);
-    Ok(())
+    assert!(rt; is_on_one_line(rt.alloc()).expect(&rt, "success"));
 }
 
 // Labels of one kind each, with one name. An accent that is a character of its own takes no column.
@@ -155,9 +153,8 @@ fn are_labels(alloc: Global) -> Result<bool, AllocError> {
 }
 
 #[test]
-fn labels(rt: HostRuntime) -> Result<(), Fail> {
-    assert!(rt; are_labels(rt.alloc())?);
-    Ok(())
+fn labels(rt: HostRuntime) {
+    assert!(rt; are_labels(rt.alloc()).expect(&rt, "success"));
 }
 
 // Whether the usage line of these options is this, at this width.
@@ -191,7 +188,6 @@ fn are_usages(alloc: Global) -> Result<bool, AllocError> {
 }
 
 #[test]
-fn usage(rt: HostRuntime) -> Result<(), Fail> {
-    assert!(rt; are_usages(rt.alloc())?);
-    Ok(())
+fn usage(rt: HostRuntime) {
+    assert!(rt; are_usages(rt.alloc()).expect(&rt, "success"));
 }
