@@ -20,7 +20,6 @@ use lexopt_options::{Declared, Options, OsString, Positional};
 use seen::Seen;
 use std::alloc::{AllocError, Global};
 use std::env;
-use std::env::Env;
 use std::io::Read;
 
 // What is done each time.
@@ -120,19 +119,15 @@ fn repeat(
     Ok(true)
 }
 
-// The work, and how many times it is done.
-fn read_arguments(rt: &(impl Env + AllocGlobal)) -> Result<(Work, u64)> {
-    let mut args = env::args(rt)?;
+fn main(rt: HostRuntime) -> Result<()> {
+    let alloc = rt.alloc();
+    let mut args = env::args(&rt)?;
     let (Some(_program), Some(work), Some(times)) = (args.next(), args.next(), args.next()) else {
         bail!("usage: bench_options copy|said|declare TIMES");
     };
     let work = Work::of_name(&work).context("the work is copy, said or declare")?;
-    Ok((work, times.parse::<u64>().context("how many times")?))
-}
+    let times = times.parse::<u64>().context("how many times")?;
 
-fn main(rt: HostRuntime) -> Result<()> {
-    let alloc = rt.alloc();
-    let (work, times) = read_arguments(&rt)?;
     let mut input = Vec::new(alloc);
     rt.reader().read_to_end(&mut input)?;
     let mut seen = Seen::new();

@@ -27,7 +27,6 @@ use lexopt::{Arg, Error, OsString, Parser, ValueExt};
 use seen::Seen;
 use std::alloc::{AllocError, Global};
 use std::env;
-use std::env::Env;
 use std::io::Read;
 
 // What a damaged name of the workloads is read as, which has a value there.
@@ -223,18 +222,17 @@ fn read_or_fail(words: Vec<OsString>, seen: &mut Seen) -> Result<(), Error> {
     Ok(())
 }
 
-// Adds what `read_items` reads by: one option of one character and one with a name for each number
-// of values.
-fn add_options(alloc: Global, table: &mut Table) -> Result<(), AllocError> {
-    table.shorts.push('n')?;
-    table.longs.push(String::from_str(alloc, "name")?)?;
-    table.optional_shorts.push('o')?;
-    table
-        .optional_longs
-        .push(String::from_str(alloc, DAMAGED_NAME)?)?;
-    table.several_shorts.push('x')?;
-    table.several_longs.push(String::from_str(alloc, "exec")?)?;
-    Ok(())
+// The table that `read_items` reads by: one option of one character and one with a name for each
+// number of values.
+fn options(alloc: Global) -> Result<Table, AllocError> {
+    Ok(Table {
+        shorts: vec![in alloc; 'n']?,
+        longs: vec![in alloc; String::from_str(alloc, "name")?]?,
+        optional_shorts: vec![in alloc; 'o']?,
+        optional_longs: vec![in alloc; String::from_str(alloc, DAMAGED_NAME)?]?,
+        several_shorts: vec![in alloc; 'x']?,
+        several_longs: vec![in alloc; String::from_str(alloc, "exec")?]?,
+    })
 }
 
 // Spells the items, and copies the words that spell them, if the work wants it. It is no part of
@@ -259,28 +257,23 @@ fn spell_items(
     Ok(())
 }
 
-// The work, and how many times it is done.
-fn read_arguments(rt: &(impl Env + AllocGlobal)) -> Result<(Work, u64)> {
-    let mut args = env::args(rt)?;
+fn main(rt: HostRuntime) -> Result<()> {
+    let alloc = rt.alloc();
+    let mut args = env::args(&rt)?;
     let (Some(_program), Some(work), Some(times)) = (args.next(), args.next(), args.next()) else {
         bail!("usage: bench_port WORK TIMES");
     };
     let work = Work::of_name(&work).context(
         "the work is copy, next, collected, fallible, values, raw, parse, items, spell or spelled",
     )?;
-    Ok((work, times.parse::<u64>().context("how many times")?))
-}
+    let times = times.parse::<u64>().context("how many times")?;
 
-fn main(rt: HostRuntime) -> Result<()> {
-    let alloc = rt.alloc();
-    let (work, times) = read_arguments(&rt)?;
     let mut input = Vec::new(alloc);
     rt.reader().read_to_end(&mut input)?;
     let mut words: Vec<&[u8]> = input.split(|byte| *byte == 0).collect(alloc)?;
     let _after_the_last = words.pop();
 
-    let mut table = Table::new(alloc);
-    add_options(alloc, &mut table)?;
+    let table = options(alloc)?;
     let mut seen = Seen::new();
     for _ in 0..times {
         let copied = copies(alloc, &words)?;
