@@ -1,7 +1,8 @@
 //! Completion beside reading: a spelling is offered after some words exactly if the words, it and
 //! what may come after it can be read as what the words say, and then its option.
 use crate::options::archive::archive_of_files;
-use lexopt_options::{Options, OsString, Said};
+use lexopt_options::{Options, OsString, ReadError, Said};
+use std::alloc::{AllocError, Global};
 use std::process::Abort;
 use test_helpers::parsers::words_from;
 
@@ -33,12 +34,25 @@ fn line_of(rt: &(impl Abort + AllocGlobal), front: &[&[u8]], back: &[&[u8]]) -> 
 
 // What a line says, if it says something.
 fn said_by(
+    alloc: Global,
+    options: &Options<'_>,
+    words: Vec<OsString>,
+) -> Result<Option<Vec<Said>>, AllocError> {
+    match options.read(alloc, words) {
+        Ok(said) => Ok(Some(said)),
+        Err(ReadError::Refused(_)) => Ok(None),
+        Err(ReadError::OutOfMemory) => Err(AllocError),
+    }
+}
+
+// What these words, and then those, say, if they say something.
+fn said_by_both(
     rt: &(impl Abort + AllocGlobal),
     options: &Options<'_>,
     front: &[&[u8]],
     back: &[&[u8]],
 ) -> Option<Vec<Said>> {
-    options.read(rt.alloc(), line_of(rt, front, back)).ok()
+    said_by(rt.alloc(), options, line_of(rt, front, back)).expect(rt, "memory")
 }
 
 // Whether this is the option of this index.
@@ -65,12 +79,12 @@ fn can_occur(
     spelling: &str,
     index: usize,
 ) -> bool {
-    let Some(before) = said_by(rt, options, words, &[]) else {
+    let Some(before) = said_by_both(rt, options, words, &[]) else {
         return false;
     };
     let spelling = spelling.as_bytes();
-    let alone = said_by(rt, options, words, &[spelling]);
-    let with_value = said_by(rt, options, words, &[spelling, b"a"]);
+    let alone = said_by_both(rt, options, words, &[spelling]);
+    let with_value = said_by_both(rt, options, words, &[spelling, b"a"]);
     goes_on(&before, &alone, index) || goes_on(&before, &with_value, index)
 }
 
