@@ -1,61 +1,49 @@
 //! What the program declares: options of every kind, with a short name, a long one or both, and any
 //! number of positional arguments.
-use lexopt_options::{Count, Declared, Kind, Names, Positional};
+use lexopt_options::{Declaration, Names, declare};
 
-pub const OPTIONS: [Declared<'static>; 10] = [
-    Declared {
-        names: Names::Both('v', "verbose"),
-        kind: Kind::Flag,
-        help: "tell more",
-    },
-    Declared {
-        names: Names::Short('a'),
-        kind: Kind::Flag,
-        help: "all",
-    },
-    Declared {
-        names: Names::Short('b'),
-        kind: Kind::Flag,
-        help: "brief",
-    },
-    Declared {
-        names: Names::Short('c'),
-        kind: Kind::Flag,
-        help: "count",
-    },
-    Declared {
-        names: Names::Long("shout"),
-        kind: Kind::Flag,
-        help: "in capitals",
-    },
-    Declared {
-        names: Names::Short('n'),
-        kind: Kind::One("NUMBER"),
-        help: "how many",
-    },
-    Declared {
-        names: Names::Long("name"),
-        kind: Kind::One("NAME"),
-        help: "whose",
-    },
-    Declared {
-        names: Names::Both('o', "output"),
-        kind: Kind::One("FILE"),
-        help: "where to",
-    },
-    Declared {
-        names: Names::Long("color"),
-        kind: Kind::Optional("WHEN"),
-        help: "in color",
-    },
-    Declared {
-        names: Names::Both('x', "exclude"),
-        kind: Kind::Several("PATTERN"),
-        help: "leave these out",
-    },
-];
+// A number is the place of the option in the declaration.
 
-pub const FILES: [Positional<'static>; 1] = [Positional {
-    placeholder: "FILE",
-    count: Count::AnyNumber,
-}];
+#[derive(Clone, Copy)]
+pub enum Flag {
+    Verbose = 0,
+    All = 1,
+    Brief = 2,
+    Count = 3,
+    Shout = 4,
+}
+
+#[derive(Clone, Copy)]
+pub enum Value {
+    Number = 5,
+    Name = 6,
+    Output = 7,
+}
+
+#[derive(Clone, Copy)]
+pub enum Maybe {
+    Color = 8,
+}
+
+#[derive(Clone, Copy)]
+pub enum Values {
+    Exclude = 9,
+}
+
+pub const DECLARATION: Declaration<'static, Flag, Value, Maybe, Values> = declare! {
+    program: "bench_options",
+    about: "Reads words.",
+    options: [
+        flag(Flag::Verbose, Names::Both('v', "verbose"), "tell more"),
+        flag(Flag::All, Names::Short('a'), "all"),
+        flag(Flag::Brief, Names::Short('b'), "brief"),
+        flag(Flag::Count, Names::Short('c'), "count"),
+        flag(Flag::Shout, Names::Long("shout"), "in capitals"),
+        value(Value::Number, Names::Short('n'), "NUMBER", "how many"),
+        value(Value::Name, Names::Long("name"), "NAME", "whose"),
+        value(Value::Output, Names::Both('o', "output"), "FILE", "where to"),
+        maybe(Maybe::Color, Names::Long("color"), "WHEN", "in color"),
+        values(Values::Exclude, Names::Both('x', "exclude"), "PATTERN", "leave these out"),
+    ],
+    positionals: [any_number("FILE")],
+};

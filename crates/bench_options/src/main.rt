@@ -15,8 +15,8 @@ mod declared;
 mod seen;
 
 use anyhow::{Context, Result, bail};
-use declared::{FILES, OPTIONS};
-use lexopt_options::{Declared, Options, OsString, Positional};
+use declared::{DECLARATION, Flag, Maybe, Value, Values};
+use lexopt_options::{Declaration, Line, Options, OsString};
 use seen::Seen;
 use std::alloc::{AllocError, Global};
 use std::env;
@@ -53,11 +53,10 @@ fn copies(alloc: Global, words: &[&[u8]]) -> Result<Vec<OsString>, AllocError> {
 // Declares the options, and counts them. It is not inlined, so that it is done each time.
 #[inline(never)]
 fn declare<'a>(
-    options: &'a [Declared<'a>],
-    files: &'a [Positional<'a>],
+    declaration: &'a Declaration<'a, Flag, Value, Maybe, Values>,
     seen: &mut Seen,
-) -> Option<Options<'a>> {
-    match Options::new("bench_options", "Reads words.", options, files) {
+) -> Option<Options<'a, Flag, Value, Maybe, Values>> {
+    match Options::try_new(declaration) {
         Ok(options) => {
             seen.options(options.options().len());
             Some(options)
@@ -67,13 +66,18 @@ fn declare<'a>(
 }
 
 // Reads a line to its end.
-fn read_line(alloc: Global, words: Vec<OsString>, options: &Options<'_>, seen: &mut Seen) -> bool {
+fn read_line(
+    alloc: Global,
+    words: Vec<OsString>,
+    options: &Options<'_, Flag, Value, Maybe, Values>,
+    seen: &mut Seen,
+) -> bool {
     match options.read(alloc, words) {
-        Ok(line) => {
+        Ok(Line::Said(line)) => {
             seen.line(&line);
             true
         }
-        Err(_) => false,
+        Ok(_) | Err(_) => false,
     }
 }
 
@@ -82,7 +86,8 @@ fn do_once(
     alloc: Global,
     work: Work,
     words: &[&[u8]],
-    options: &Options<'_>,
+    declaration: &Declaration<'_, Flag, Value, Maybe, Values>,
+    options: &Options<'_, Flag, Value, Maybe, Values>,
     seen: &mut Seen,
 ) -> Result<bool, AllocError> {
     match work {
@@ -91,7 +96,7 @@ fn do_once(
             Ok(true)
         }
         Work::Said => Ok(read_line(alloc, copies(alloc, words)?, options, seen)),
-        Work::Declare => Ok(declare(options.options(), options.positionals(), seen).is_some()),
+        Work::Declare => Ok(declare(declaration, seen).is_some()),
     }
 }
 
@@ -105,13 +110,12 @@ fn repeat(
 ) -> Result<bool, AllocError> {
     let mut words: Vec<&[u8]> = input.split(|byte| *byte == 0).collect(alloc)?;
     let _after_the_last = words.pop();
-    let declared = OPTIONS;
-    let files = FILES;
-    let Some(options) = declare(&declared, &files, &mut Seen::new()) else {
+    let declaration = DECLARATION;
+    let Some(options) = declare(&declaration, &mut Seen::new()) else {
         return Ok(false);
     };
     for _ in 0..times {
-        if !do_once(alloc, work, &words, &options, seen)? {
+        if !do_once(alloc, work, &words, &declaration, &options, seen)? {
             return Ok(false);
         }
         seen.stop_hashing();

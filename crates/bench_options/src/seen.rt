@@ -1,5 +1,6 @@
 //! What the reads saw: counts, and a hash of the first read, since one of every read would cost
 //! more than what is measured.
+use crate::declared::{Flag, Maybe, Value, Values};
 use lexopt_options::{OsString, Said};
 use std::fmt;
 
@@ -43,17 +44,22 @@ impl Seen {
     }
 
     /// What a line says.
-    pub fn line(&mut self, line: &[Said]) {
+    pub fn line(&mut self, line: &[Said<Flag, Value, Maybe, Values>]) {
         for said in line {
             match said {
-                Said::Option(index, value) => {
-                    self.option(*index);
+                Said::Flag(flag) => self.option(*flag as u64),
+                Said::Value(option, value) => {
+                    self.option(*option as u64);
+                    self.value(value.as_bytes());
+                }
+                Said::Maybe(option, value) => {
+                    self.option(*option as u64);
                     if let Some(value) = value {
                         self.value(value.as_bytes());
                     }
                 }
-                Said::Several(index, values) => {
-                    self.option(*index);
+                Said::Values(option, values) => {
+                    self.option(*option as u64);
                     self.several(values);
                 }
                 Said::Positional(word) => self.positional(word.as_bytes()),
@@ -61,10 +67,10 @@ impl Seen {
         }
     }
 
-    // The option of this index.
-    fn option(&mut self, index: usize) {
+    // The option at this place of the declaration.
+    fn option(&mut self, place: u64) {
         self.options = self.options.wrapping_add(1);
-        self.text(b'o', &(index as u64).to_le_bytes());
+        self.text(b'o', &place.to_le_bytes());
     }
 
     fn value(&mut self, value: &[u8]) {

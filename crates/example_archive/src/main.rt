@@ -9,24 +9,66 @@
 #![tactic(auto)]
 
 use lexopt_options::{
-    Answer, Declared, HELP, Names, Options, OsString, Positional, Quoted, Refused, Said, WIDTH,
-    arguments,
+    Answer, Declaration, Names, Options, OsString, Quoted, Said, USAGE_ERROR, declare,
 };
 use std::io;
 use std::process::ExitCode;
+
+#[derive(Clone, Copy)]
+enum Flag {
+    Verbose,
+}
+
+#[derive(Clone, Copy)]
+enum Value {
+    Output,
+}
+
+#[derive(Clone, Copy)]
+enum Maybe {
+    Backup,
+}
+
+#[derive(Clone, Copy)]
+enum Values {
+    Exclude,
+}
+
+static DECLARATION: Declaration<'static, Flag, Value, Maybe, Values> = declare! {
+    program: "example_archive",
+    about: "Prints what it has read.",
+    options: [
+        flag(Flag::Verbose, Names::Both('v', "verbose"), "tell more"),
+        value(Value::Output, Names::Both('o', "output"), "FILE", "the archive"),
+        maybe(
+            Maybe::Backup,
+            Names::Both('b', "backup"),
+            "SUFFIX",
+            "keep an archive that is there, with this suffix",
+        ),
+        values(
+            Values::Exclude,
+            Names::Both('x', "exclude"),
+            "PATTERN",
+            "leave these out: all words up to the next option",
+        ),
+        help(Names::Both('h', "help")),
+    ],
+    positionals: [any_number("FILE")],
+};
 
 fn print_word(rt: &impl Print, name: &str, word: &OsString) -> io::Result<()> {
     let word = Quoted::new(word.as_bytes());
     println!(rt; "{name}: {word}")
 }
 
-fn print_said(rt: &impl Print, said: &Said) -> io::Result<()> {
+fn print_said(rt: &impl Print, said: &Said<Flag, Value, Maybe, Values>) -> io::Result<()> {
     match said {
-        Said::Option(1, Some(file)) => print_word(rt, "output", file),
-        Said::Option(2, Some(suffix)) => print_word(rt, "backup", suffix),
-        Said::Option(2, None) => rt.println("backup"),
-        Said::Option(_, _) => rt.println("verbose"),
-        Said::Several(_, patterns) => {
+        Said::Flag(Flag::Verbose) => rt.println("verbose"),
+        Said::Value(Value::Output, file) => print_word(rt, "output", file),
+        Said::Maybe(Maybe::Backup, Some(suffix)) => print_word(rt, "backup", suffix),
+        Said::Maybe(Maybe::Backup, None) => rt.println("backup"),
+        Said::Values(Values::Exclude, patterns) => {
             for pattern in patterns {
                 print_word(rt, "exclude", pattern)?;
             }
@@ -37,33 +79,7 @@ fn print_said(rt: &impl Print, said: &Said) -> io::Result<()> {
 }
 
 fn run(rt: &HostRuntime) -> io::Result<ExitCode> {
-    let alloc = rt.alloc();
-    let declared = [
-        Declared::flag(Names::Both('v', "verbose"), "tell more"),
-        Declared::one(Names::Both('o', "output"), "FILE", "the archive"),
-        Declared::optional(
-            Names::Both('b', "backup"),
-            "SUFFIX",
-            "keep an archive that is there, with this suffix",
-        ),
-        Declared::several(
-            Names::Both('x', "exclude"),
-            "PATTERN",
-            "leave these out: all words up to the next option",
-        ),
-        HELP,
-    ];
-    let files = [Positional::any_number("FILE")];
-    let about = "Prints what it has read.";
-    let options = match Options::new("example_archive", about, &declared, &files) {
-        Ok(options) => options,
-        Err(error) => {
-            let _ = eprintln!(rt; "example_archive: {error:?}");
-            return Ok(ExitCode::FAILURE);
-        }
-    };
-    let words: Vec<OsString> = arguments(rt, alloc)?.into_iter().skip(1).collect(alloc)?;
-    match options.answer(alloc, words, WIDTH)? {
+    match Options::new(&DECLARATION).from_env(rt)? {
         Answer::Said(line) => {
             for said in &line {
                 print_said(rt, said)?;
@@ -72,7 +88,7 @@ fn run(rt: &HostRuntime) -> io::Result<ExitCode> {
         Answer::Text(text) => rt.print(text)?,
         Answer::Refused(refused) => {
             let _ = eprintln!(rt; "{refused}");
-            return Ok(ExitCode::from(Refused::STATUS));
+            return Ok(ExitCode::from(USAGE_ERROR));
         }
     }
     Ok(ExitCode::SUCCESS)

@@ -10,15 +10,15 @@ use Rattle.lexopt_declaration.specs.declared.declaration.Reason.{Reason}
 use Rattle.lexopt_declaration.specs.Models.{option_view, reason_view}
 
 -- the fault of the option at an index
-abbrev pub IsFault : List Declared → ℕ → Declared → Option Reason → Type 0
+abbrev pub IsFault : {F V M S : Type 0} → List (Declared F V M S) → ℕ → Declared F V M S → Option Reason → Type 0
 IsFault os i d f = option_map reason_view f ≡ fault (map option_view (take i os)) (option_view (get_or os i d))
 
-here : (os : List Declared) (i : ℕ) (d : Declared) (f : Option Reason) → i < length os → IsFault os i d f → option_map reason_view f ≡ fault (take i (map option_view os)) (get_or (map option_view os) i (option_view d))
+here : {F V M S : Type 0} (os : List (Declared F V M S)) (i : ℕ) (d : Declared F V M S) (f : Option Reason) → i < length os → IsFault os i d f → option_map reason_view f ≡ fault (take i (map option_view os)) (get_or (map option_view os) i (option_view d))
 here os i d f within is = is
     ∙ sym (ap (λ l. fault l (option_view (get_or os i d))) (take-map option_view i os))
     ∙ sym (ap (λ o. fault (take i (map option_view os)) o) (get_or-map option_view os i d (option_view d) within))
 
-pub first_fault : (os : List Declared) (i : ℕ) (d : Declared) (f : Option Reason) (reason : Reason) → i < length os → IsFault os i d f → f ≡ Some reason
+pub first_fault : {F V M S : Type 0} (os : List (Declared F V M S)) (i : ℕ) (d : Declared F V M S) (f : Option Reason) (reason : Reason) → i < length os → IsFault os i d f → f ≡ Some reason
     → list_all is_none (take i (faults [] (map option_view os))) ≡ true → IsFirstFault (map option_view os) i (reason_view reason)
 first_fault os i d f reason within is some so =
     let many : i < length (map option_view os) = omega (arith, length-map os option_view) in
@@ -28,10 +28,10 @@ first_fault os i d f reason within is some so =
       before = so;
     }
 
-pub no_fault : (os : List Declared) (i : ℕ) (d : Declared) (f : Option Reason) → i < length os → IsFault os i d f → f ≡ None
+pub no_fault : {F V M S : Type 0} (os : List (Declared F V M S)) (i : ℕ) (d : Declared F V M S) (f : Option Reason) → i < length os → IsFault os i d f → f ≡ None
     → list_all is_none (take i (faults [] (map option_view os))) ≡ true → list_all is_none (take (i + 1) (faults [] (map option_view os))) ≡ true
 no_fault os i d f within is none so =
     sound_more (map option_view os) i (option_view d) (omega (arith, length-map os option_view)) so (sym (here os i d f within is) ∙ ap (option_map reason_view) none)
 
-pub none_at_fault : (os : List Declared) (i : ℕ) → length os ≤ i → list_all is_none (take i (faults [] (map option_view os))) ≡ true → is_sound (map option_view os) ≡ true
+pub none_at_fault : {F V M S : Type 0} (os : List (Declared F V M S)) (i : ℕ) → length os ≤ i → list_all is_none (take i (faults [] (map option_view os))) ≡ true → is_sound (map option_view os) ≡ true
 none_at_fault os i all so = sound_all (map option_view os) i (omega (arith, length-map os option_view)) so

@@ -3,3 +3,4 @@ pub mod Positions
 pub mod Counting
 pub mod Rows
 pub mod Candidates
+pub mod Spelled

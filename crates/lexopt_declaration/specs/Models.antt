@@ -2,10 +2,14 @@
 use Rattle.std.specs.Prelude.{ℕ, List, [], Option, Some, None}
 use Rattle.lexopt_line_spec.specs.Table.{Kind as SpecKind, flag, one, optional, several}
 use Rattle.lexopt_options_spec.specs.Declaration as spec
+use Rattle.lexopt_options_spec.specs.Declaration.{Asked, for_help, for_version}
 use Rattle.lexopt_declaration.specs.declared.declaration.Names.{Names}
 use Rattle.lexopt_declaration.specs.declared.declaration.Names.TheVariants.{Short, Long, Both}
 use Rattle.lexopt_declaration.specs.declared.declaration.Kind.{Kind}
-use Rattle.lexopt_declaration.specs.declared.declaration.Kind.TheVariants.{Flag, One, Optional, Several}
+use Rattle.lexopt_declaration.specs.declared.declaration.Kind.TheVariants.{Flag, Value, Maybe, Values}
+use Rattle.lexopt_declaration.specs.declared.declaration.Kind.TheVariants.{Help, Version}
+use Rattle.lexopt_declaration.specs.declared.declaration.Arity.{Arity}
+use Rattle.lexopt_declaration.specs.declared.declaration.Arity.TheVariants.{Zero, One, Optional, Several}
 use Rattle.lexopt_declaration.specs.declared.declaration.Declared.{Declared}
 use Rattle.lexopt_declaration.specs.declared.declaration.Count.{Count}
 use Rattle.lexopt_declaration.specs.declared.declaration.Count.TheVariants.{Once, AtMostOnce, AnyNumber}
@@ -26,25 +30,46 @@ long_name (Short c) = None
 long_name (Long name) = Some name.now
 long_name (Both c name) = Some name.now
 
-abbrev pub kind_of : Kind → SpecKind
-kind_of Flag = flag
-kind_of (One placeholder) = one
-kind_of (Optional placeholder) = optional
-kind_of (Several placeholder) = several
+abbrev pub arity_kind : Arity → SpecKind
+arity_kind Zero = flag
+arity_kind (One placeholder) = one
+arity_kind (Optional placeholder) = optional
+arity_kind (Several placeholder) = several
 
-abbrev pub placeholder_of : Kind → List ℕ
-placeholder_of Flag = []
-placeholder_of (One placeholder) = placeholder.now
-placeholder_of (Optional placeholder) = placeholder.now
-placeholder_of (Several placeholder) = placeholder.now
+abbrev pub arity_placeholder : Arity → List ℕ
+arity_placeholder Zero = []
+arity_placeholder (One placeholder) = placeholder.now
+arity_placeholder (Optional placeholder) = placeholder.now
+arity_placeholder (Several placeholder) = placeholder.now
 
-abbrev pub option_view : Declared → spec.Declared
+abbrev pub kind_of : {F V M S : Type 0} → Kind F V M S → SpecKind
+kind_of (Flag key) = flag
+kind_of (Value key placeholder) = one
+kind_of (Maybe key placeholder) = optional
+kind_of (Values key placeholder) = several
+kind_of Help = flag
+kind_of (Version text) = flag
+
+abbrev pub placeholder_of : {F V M S : Type 0} → Kind F V M S → List ℕ
+placeholder_of (Value key placeholder) = placeholder.now
+placeholder_of (Maybe key placeholder) = placeholder.now
+placeholder_of (Values key placeholder) = placeholder.now
+placeholder_of kind = []
+
+abbrev pub asked_of : {F V M S : Type 0} → Kind F V M S → Option Asked
+asked_of Help = Some for_help
+asked_of (Version text) = Some (for_version text.now)
+asked_of kind = None
+
+abbrev pub option_view : {F V M S : Type 0} → Declared F V M S → spec.Declared
 option_view o = record {
   short_name = short_name o.names;
   long_name = long_name o.names;
   kind = kind_of o.kind;
   placeholder = placeholder_of o.kind;
   help = o.help.now;
+  asks = asked_of o.kind;
+  hidden = o.hidden;
 }
 
 abbrev pub count_view : Count → spec.Count
@@ -53,7 +78,8 @@ count_view AtMostOnce = spec.at_most_once
 count_view AnyNumber = spec.any_number
 
 abbrev pub positional_view : Positional → spec.Positional
-positional_view p = record { placeholder = p.placeholder.now; count = count_view p.count }
+positional_view p =
+    record { placeholder = p.placeholder.now; count = count_view p.count; help = p.help.now }
 
 abbrev pub reason_view : Reason → spec.Reason
 reason_view DashName = spec.dash_name

@@ -1,5 +1,12 @@
--- What is printed of an option's names.
+-- What is printed of an option's names, and of a declaration that cannot be.
 use Rattle.std.specs.Prelude.{ℕ, List, ◌++◌, codes, encode_utf8}
+use Rattle.lexopt_declaration.specs.declared.declaration.DeclarationError.{DeclarationError}
+use Rattle.lexopt_declaration.specs.declared.declaration.Reason.{Reason}
+use Rattle.lexopt_declaration.specs.declared.declaration.Reason.TheVariants.{DashName, EmptyName}
+use Rattle.lexopt_declaration.specs.declared.declaration.Reason.TheVariants.{EqualsInName}
+use Rattle.lexopt_declaration.specs.declared.declaration.Reason.TheVariants.{ReplacementInName}
+use Rattle.lexopt_declaration.specs.declared.declaration.Reason.TheVariants.{BadPlaceholder}
+use Rattle.lexopt_declaration.specs.declared.declaration.Reason.TheVariants.{SameName}
 use Rattle.lexopt_declaration.specs.declared.declaration.Names.{Names}
 use Rattle.lexopt_declaration.specs.declared.declaration.Names.TheVariants.{Short, Long, Both}
 
@@ -8,3 +15,17 @@ abbrev pub names_text : Names → List ℕ
 names_text (Short c) = codes "-" ++ encode_utf8 c
 names_text (Long name) = codes "--" ++ name.now
 names_text (Both c name) = codes "--" ++ name.now
+
+-- why an option cannot be declared
+abbrev pub reason_text : Reason → List ℕ
+reason_text DashName = codes "its character is '-'"
+reason_text EmptyName = codes "its name is empty"
+reason_text EqualsInName = codes "its name has '=' in it"
+reason_text ReplacementInName = codes "its name has U+FFFD in it"
+reason_text BadPlaceholder = codes "its placeholder is empty or begins with '-' or '='"
+reason_text SameName = codes "an option before it has one of its names"
+
+-- which option, and why
+abbrev pub declaration_error_text : DeclarationError → List ℕ
+declaration_error_text error = codes "option '"
+    ++ (names_text error.option ++ (codes "': " ++ reason_text error.reason))

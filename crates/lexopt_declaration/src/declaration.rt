@@ -1,17 +1,22 @@
 //! What a program declares: its options and its positional arguments.
-ghost use Rattle.std.specs.Prelude.{◌≡◌, ◌==◌, true, map, option_map};
+ghost use Rattle.std.specs.Prelude.{◌≡◌, ◌==◌, ◌∷◌, [], true, map, option_map};
 ghost use Rattle.std.specs.Option.{MatchOption};
 ghost use Rattle.std.specs.List.{list_any};
-ghost use Rattle.std.specs.Str.{chars};
+ghost use Rattle.std.specs.Char.{IsScalar};
+ghost use Rattle.std.specs.Str.{IsUtf8, chars};
 ghost use Rattle.lexopt_spec.specs.Pieces.{lossy_characters, replacement};
+ghost use Rattle.lexopt_options_spec.specs.Completion.{AreText};
 ghost use Rattle.lexopt_options_spec.specs.Declaration as spec;
-ghost use Rattle.lexopt_options_spec.specs.Declaration.{IsFirstFault, has, is_sound};
-ghost use Rattle.lexopt_declaration.specs.Models.{kind_of, option_view, placeholder_of, reason_view};
+ghost use Rattle.lexopt_options_spec.specs.Declaration.{has, is_sound};
+ghost use Rattle.lexopt_declaration.specs.Faults.{IsDeclarationError};
+ghost use Rattle.lexopt_declaration.specs.Models.{arity_kind, arity_placeholder, option_view};
+ghost use Rattle.lexopt_declaration.specs.Models.{reason_view};
 
+use std::convert::Infallible;
 use std::fmt;
 
 /// An option's names, without dashes.
-#[derive(Debug, Clone, Copy)]
+#[derive(Debug, Clone, Copy, PartialEq, Eq)]
 pub enum Names<'a> {
     /// One character: `v` for `-v`.
     Short(char),
@@ -82,123 +87,215 @@ impl<'a> Names<'a> {
     }
 }
 
-/// How many values an option has, each with the placeholder that stands for it in messages and in
-/// the help.
+/// How many values an option has, each with the placeholder that messages and the help show for it.
 #[derive(Debug, Clone, Copy)]
-pub enum Kind<'a> {
+pub enum Arity<'a> {
     /// None.
-    Flag,
-    /// One, always: `-o FILE`, `--output=FILE`.
+    Zero,
+    /// One, always.
     One(&'a str),
-    /// One that may be left out: `-c[WHEN]`, `--color[=WHEN]`.
+    /// One that may be left out.
     Optional(&'a str),
-    /// One at least: `-x PATTERN...`.
+    /// One at least.
     Several(&'a str),
 }
 
-impl<'a> Kind<'a> {
+/// What an option is: a flag, or one with values; each with the program's own key for it, which the
+/// program gets when the option occurs. Or it asks for the help or the version.
+///
+/// There is a type of keys for each kind: `F` for flags, `V` for options with a value, `M` for those
+/// whose value may be left out, and `S` for those with several values. Two options may have the same
+/// key; where one is looked up by its key, the first is found.
+#[derive(Debug, Clone, Copy)]
+pub enum Kind<'a, F, V = Infallible, M = Infallible, S = Infallible> {
+    /// No value: `-v`, `--verbose`.
+    Flag(F),
+    /// One value, always, and its placeholder: `-o FILE`, `--output=FILE`.
+    Value(V, &'a str),
+    /// One value that may be left out, and its placeholder: `-c[WHEN]`, `--color[=WHEN]`.
+    Maybe(M, &'a str),
+    /// One value at least, and the placeholder for each: `-x PATTERN...`.
+    Values(S, &'a str),
+    /// No value: it asks for the help.
+    Help,
+    /// No value: it asks for the version, which is this text.
+    Version(&'a str),
+}
+
+impl<'a, F, V, M, S> Kind<'a, F, V, M, S> {
     ghost use Rattle.std.specs.Prelude.{◌≡◌};
+    ghost use Rattle.lexopt_declaration.specs.Models.{arity_kind, arity_placeholder, kind_of};
     ghost use Rattle.lexopt_declaration.specs.Models.{placeholder_of};
 
-    /// What stands for its value: empty if it is a flag.
-    pub fn placeholder(self) -> &'a str
-        ensures { result.now ≡ placeholder_of self.entry }
+    /// How many values it has.
+    pub fn arity(&self) -> Arity<'a>
+        ensures kind { arity_kind result ≡ kind_of self.now }
+        ensures placeholder { arity_placeholder result ≡ placeholder_of self.now }
     {
         match self {
-            Kind::Flag => "",
-            Kind::One(placeholder) | Kind::Optional(placeholder) | Kind::Several(placeholder) => {
-                placeholder
-            }
+            Kind::Flag(_) | Kind::Help | Kind::Version(_) => Arity::Zero,
+            Kind::Value(_, placeholder) => Arity::One(placeholder),
+            Kind::Maybe(_, placeholder) => Arity::Optional(placeholder),
+            Kind::Values(_, placeholder) => Arity::Several(placeholder),
+        }
+    }
+
+    /// The placeholder for its value: empty if it has none.
+    pub fn placeholder(&self) -> &'a str
+        ensures { result.now ≡ placeholder_of self.now }
+    {
+        match self {
+            Kind::Flag(_) | Kind::Help | Kind::Version(_) => "",
+            Kind::Value(_, placeholder)
+            | Kind::Maybe(_, placeholder)
+            | Kind::Values(_, placeholder) => placeholder,
         }
     }
 }
 
 /// An option.
 #[derive(Debug, Clone, Copy)]
-pub struct Declared<'a> {
+pub struct Declared<'a, F, V = Infallible, M = Infallible, S = Infallible> {
     /// Its names.
     pub names: Names<'a>,
-    /// How many values it has.
-    pub kind: Kind<'a>,
-    /// What the help says of it: words with single spaces between them.
+    /// What it is.
+    pub kind: Kind<'a, F, V, M, S>,
+    /// What the help tells of it: words with single spaces between them.
     pub help: &'a str,
+    /// Whether the help leaves it out.
+    pub hidden: bool,
 }
 
-impl<'a> Declared<'a> {
-    ghost use Rattle.std.specs.Prelude.{◌≡◌};
+impl<'a, F, V, M, S> Declared<'a, F, V, M, S> {
+    ghost use Rattle.std.specs.Prelude.{◌≡◌, codes, false, true};
 
     /// An option with no value: `-v`, `--verbose`.
-    pub fn flag(names: Names<'a>, help: &'a str) -> Declared<'a>
-        ensures { result ≡ record { names = names.entry; kind = Kind.Flag; help = help.entry } }
+    pub fn flag(key: F, names: Names<'a>, help: &'a str) -> Declared<'a, F, V, M, S>
+        ensures { result ≡ record {
+          names = names.entry;
+          kind = Kind.Flag key;
+          help = help.entry;
+          hidden = false;
+        } }
     {
         Declared {
             names,
-            kind: Kind::Flag,
+            kind: Kind::Flag(key),
             help,
+            hidden: false,
         }
     }
 
     /// An option with one value: `-o FILE`, `--output=FILE`.
-    pub fn one(names: Names<'a>, placeholder: &'a str, help: &'a str) -> Declared<'a>
+    pub fn value(
+        key: V,
+        names: Names<'a>,
+        placeholder: &'a str,
+        help: &'a str,
+    ) -> Declared<'a, F, V, M, S>
         ensures { result ≡ record {
           names = names.entry;
-          kind = Kind.One placeholder.entry;
+          kind = Kind.Value key placeholder.entry;
           help = help.entry;
+          hidden = false;
         } }
     {
         Declared {
             names,
-            kind: Kind::One(placeholder),
+            kind: Kind::Value(key, placeholder),
             help,
+            hidden: false,
         }
     }
 
     /// An option with a value that may be left out: `-c[WHEN]`, `--color[=WHEN]`.
-    pub fn optional(names: Names<'a>, placeholder: &'a str, help: &'a str) -> Declared<'a>
+    pub fn maybe(
+        key: M,
+        names: Names<'a>,
+        placeholder: &'a str,
+        help: &'a str,
+    ) -> Declared<'a, F, V, M, S>
         ensures { result ≡ record {
           names = names.entry;
-          kind = Kind.Optional placeholder.entry;
+          kind = Kind.Maybe key placeholder.entry;
           help = help.entry;
+          hidden = false;
         } }
     {
         Declared {
             names,
-            kind: Kind::Optional(placeholder),
+            kind: Kind::Maybe(key, placeholder),
             help,
+            hidden: false,
         }
     }
 
     /// An option with several values: `-x PATTERN...`.
-    pub fn several(names: Names<'a>, placeholder: &'a str, help: &'a str) -> Declared<'a>
+    pub fn values(
+        key: S,
+        names: Names<'a>,
+        placeholder: &'a str,
+        help: &'a str,
+    ) -> Declared<'a, F, V, M, S>
         ensures { result ≡ record {
           names = names.entry;
-          kind = Kind.Several placeholder.entry;
+          kind = Kind.Values key placeholder.entry;
           help = help.entry;
+          hidden = false;
         } }
     {
         Declared {
             names,
-            kind: Kind::Several(placeholder),
+            kind: Kind::Values(key, placeholder),
             help,
+            hidden: false,
+        }
+    }
+
+    /// An option that asks for the help, such as `-h`, `--help`. The help tells of it
+    /// `print this help and exit`.
+    pub fn help(names: Names<'a>) -> Declared<'a, F, V, M, S>
+        ensures names { result.names ≡ names.entry }
+        ensures kind { result.kind ≡ Kind.Help }
+        ensures help { result.help.now ≡ codes "print this help and exit" }
+        ensures hidden { result.hidden ≡ false }
+    {
+        Declared {
+            names,
+            kind: Kind::Help,
+            help: "print this help and exit",
+            hidden: false,
+        }
+    }
+
+    /// An option that asks for the version, such as `--version`, and the text that it writes. The
+    /// help tells of it `print the version and exit`.
+    pub fn version(names: Names<'a>, text: &'a str) -> Declared<'a, F, V, M, S>
+        ensures names { result.names ≡ names.entry }
+        ensures kind { result.kind ≡ Kind.Version text.entry }
+        ensures help { result.help.now ≡ codes "print the version and exit" }
+        ensures hidden { result.hidden ≡ false }
+    {
+        Declared {
+            names,
+            kind: Kind::Version(text),
+            help: "print the version and exit",
+            hidden: false,
+        }
+    }
+
+    /// The same option, left out of the help.
+    pub fn hidden(self) -> Declared<'a, F, V, M, S>
+        ensures { result ≡ record self.entry { hidden = true } }
+    {
+        Declared {
+            hidden: true,
+            ..self
         }
     }
 }
 
-/// The options `-h` and `--help`, which take no value.
-pub const HELP: Declared<'static> = Declared {
-    names: Names::Both('h', "help"),
-    kind: Kind::Flag,
-    help: "print this help and exit",
-};
-
-/// The option `--version`, which takes no value.
-pub const VERSION: Declared<'static> = Declared {
-    names: Names::Long("version"),
-    kind: Kind::Flag,
-    help: "print the version and exit",
-};
-
-/// How often a positional argument may stand.
+/// How often a positional argument may occur.
 #[derive(Debug, Clone, Copy, PartialEq, Eq)]
 pub enum Count {
     /// Once, always.
@@ -214,40 +311,54 @@ pub enum Count {
 pub struct Positional<'a> {
     /// What stands for it in messages and in the help.
     pub placeholder: &'a str,
-    /// How often it may stand.
+    /// How often it may occur.
     pub count: Count,
+    /// What the help tells of it. If that has no word, the help has no entry for it.
+    pub help: &'a str,
 }
 
 impl<'a> Positional<'a> {
     ghost use Rattle.std.specs.Prelude.{◌≡◌};
 
-    /// One that has to stand once: `FILE`.
-    pub fn once(placeholder: &'a str) -> Positional<'a>
-        ensures { result ≡ record { placeholder = placeholder.entry; count = Count.Once } }
+    /// One that is required: `FILE`.
+    pub fn once(placeholder: &'a str, help: &'a str) -> Positional<'a>
+        ensures { result
+            ≡ record { placeholder = placeholder.entry; count = Count.Once; help = help.entry } }
     {
         Positional {
             placeholder,
             count: Count::Once,
+            help,
         }
     }
 
     /// One that may be left out: `[FILE]`.
-    pub fn at_most_once(placeholder: &'a str) -> Positional<'a>
-        ensures { result ≡ record { placeholder = placeholder.entry; count = Count.AtMostOnce } }
+    pub fn at_most_once(placeholder: &'a str, help: &'a str) -> Positional<'a>
+        ensures { result ≡ record {
+          placeholder = placeholder.entry;
+          count = Count.AtMostOnce;
+          help = help.entry;
+        } }
     {
         Positional {
             placeholder,
             count: Count::AtMostOnce,
+            help,
         }
     }
 
     /// Any number of them: `[FILE]...`.
-    pub fn any_number(placeholder: &'a str) -> Positional<'a>
-        ensures { result ≡ record { placeholder = placeholder.entry; count = Count.AnyNumber } }
+    pub fn any_number(placeholder: &'a str, help: &'a str) -> Positional<'a>
+        ensures { result ≡ record {
+          placeholder = placeholder.entry;
+          count = Count.AnyNumber;
+          help = help.entry;
+        } }
     {
         Positional {
             placeholder,
             count: Count::AnyNumber,
+            help,
         }
     }
 }
@@ -261,7 +372,7 @@ pub enum Reason {
     EmptyName,
     /// Its name has `=` in it: `--a=b` is `a` with a value.
     EqualsInName,
-    /// Its name has U+FFFD in it, which stands for damage in what was typed.
+    /// Its character or its name has U+FFFD in it, which shows damage in what was typed.
     ReplacementInName,
     /// What stands for its value is empty, or begins with `-` or `=`: a form that the help shows
     /// could be illegal with it, or say another value.
@@ -270,26 +381,63 @@ pub enum Reason {
     SameName,
 }
 
-/// Which option cannot be declared, and why.
+/// An option that cannot be declared after those before it, and why.
 #[derive(Debug, Clone, Copy, PartialEq, Eq)]
-pub struct DeclarationError {
-    /// Which option it is, counted from 0.
-    pub index: usize,
+pub struct DeclarationError<'a> {
+    /// The names of the option.
+    pub option: Names<'a>,
     /// Why it cannot be declared.
     pub reason: Reason,
 }
 
+impl fmt::Display for Reason {
+    ghost use Rattle.std.specs.Prelude.{Some};
+    ghost use Rattle.lexopt_declaration.specs.Texts.{reason_text};
+
+    ghost output = { λ reason. Some (reason_text reason) };
+
+    fn fmt<W: fmt::Write>(&self, f: &mut fmt::Formatter<W>) -> fmt::Result {
+        match self {
+            Reason::DashName => f.write_str("its character is '-'"),
+            Reason::EmptyName => f.write_str("its name is empty"),
+            Reason::EqualsInName => f.write_str("its name has '=' in it"),
+            Reason::ReplacementInName => f.write_str("its name has U+FFFD in it"),
+            Reason::BadPlaceholder => {
+                f.write_str("its placeholder is empty or begins with '-' or '='")
+            }
+            Reason::SameName => f.write_str("an option before it has one of its names"),
+        }
+    }
+}
+
+impl fmt::Display for DeclarationError<'_> {
+    ghost use Rattle.std.specs.Prelude.{Some};
+    ghost use Rattle.lexopt_declaration.specs.Texts.{declaration_error_text};
+
+    ghost output = { λ error. Some (declaration_error_text error) };
+
+    fn fmt<W: fmt::Write>(&self, f: &mut fmt::Formatter<W>) -> fmt::Result {
+        let option = &self.option;
+        let reason = &self.reason;
+        write!(f, "option '{option}': {reason}")
+    }
+}
+
+impl std::error::Error for DeclarationError<'_> {}
+
 /// What a program declares.
-#[derive(Clone, Copy)]
-pub struct Declaration<'a> {
+#[derive(Debug, Clone, Copy)]
+pub struct Declaration<'a, F, V = Infallible, M = Infallible, S = Infallible> {
     /// The name of the program.
     pub program: &'a str,
-    /// What it does, in a line.
+    /// What it does, in a sentence or two. It may be empty.
     pub about: &'a str,
     /// Its options, in the order of the help.
-    pub options: &'a [Declared<'a>],
+    pub options: &'a [Declared<'a, F, V, M, S>],
     /// Its positional arguments, in order.
     pub positionals: &'a [Positional<'a>],
+    /// Paragraphs at the end of the help.
+    pub epilogue: &'a [&'a str],
     /// Whether `=` in a cluster stands between an option and its value.
     pub short_equals: bool,
 }
@@ -335,14 +483,14 @@ fn long_fault(name: Option<&str>) -> Option<Reason>
     }
 }
 
-// What is wrong with what stands for a value.
-fn placeholder_fault(kind: Kind<'_>) -> Option<Reason>
+// What is wrong with the placeholder for a value.
+fn placeholder_fault(arity: Arity<'_>) -> Option<Reason>
     ensures { option_map reason_view result
-        ≡ spec.placeholder_fault (kind_of kind.entry) (placeholder_of kind.entry) }
+        ≡ spec.placeholder_fault (arity_kind arity.entry) (arity_placeholder arity.entry) }
 {
-    let placeholder = match kind {
-        Kind::Flag => return None,
-        Kind::One(placeholder) | Kind::Optional(placeholder) | Kind::Several(placeholder) => {
+    let placeholder = match arity {
+        Arity::Zero => return None,
+        Arity::One(placeholder) | Arity::Optional(placeholder) | Arity::Several(placeholder) => {
             placeholder.as_bytes()
         }
     };
@@ -353,7 +501,10 @@ fn placeholder_fault(kind: Kind<'_>) -> Option<Reason>
 }
 
 // Whether an option has a name of another.
-fn shares_name(option: &Declared<'_>, other: &Declared<'_>) -> bool
+fn shares_name<F, V, M, S>(
+    option: &Declared<'_, F, V, M, S>,
+    other: &Declared<'_, F, V, M, S>,
+) -> bool
     ensures { result ≡ spec.shares_name (option_view option.now) (option_view other.now) }
 {
     let short = match option.names.short() {
@@ -368,7 +519,10 @@ fn shares_name(option: &Declared<'_>, other: &Declared<'_>) -> bool
 }
 
 // Whether one of these options has a name of another.
-fn any_shares_name(option: &Declared<'_>, others: &[Declared<'_>]) -> bool
+fn any_shares_name<F, V, M, S>(
+    option: &Declared<'_, F, V, M, S>,
+    others: &[Declared<'_, F, V, M, S>],
+) -> bool
     ensures { result
         ≡ list_any (λ o. spec.shares_name (option_view option.now) (option_view o)) others.now }
 {
@@ -376,7 +530,10 @@ fn any_shares_name(option: &Declared<'_>, others: &[Declared<'_>]) -> bool
 }
 
 // What is wrong with an option after these.
-fn fault(before: &[Declared<'_>], option: &Declared<'_>) -> Option<Reason>
+fn fault<F, V, M, S>(
+    before: &[Declared<'_, F, V, M, S>],
+    option: &Declared<'_, F, V, M, S>,
+) -> Option<Reason>
     ensures { option_map reason_view result
         ≡ spec.fault (map option_view before.now) (option_view option.now) }
 {
@@ -386,7 +543,7 @@ fn fault(before: &[Declared<'_>], option: &Declared<'_>) -> Option<Reason>
     if let Some(reason) = long_fault(option.names.long()) {
         return Some(reason);
     }
-    if let Some(reason) = placeholder_fault(option.kind) {
+    if let Some(reason) = placeholder_fault(option.kind.arity()) {
         return Some(reason);
     }
     if any_shares_name(option, before) {
@@ -395,14 +552,50 @@ fn fault(before: &[Declared<'_>], option: &Declared<'_>) -> Option<Reason>
     None
 }
 
+// A character is a Unicode scalar value.
+fn character_is_text(character: char)
+    ensures { IsScalar character }
+{}
+
+// A text is UTF-8.
+fn name_is_text(name: &str)
+    ensures { IsUtf8 name.now }
+{}
+
+// The names of an option are text.
+fn option_is_text<F, V, M, S>(option: &Declared<'_, F, V, M, S>)
+    ensures { AreText (option_view option.now ∷ []) }
+{
+    match option.names {
+        Names::Short(character) => character_is_text(character),
+        Names::Long(name) => name_is_text(name),
+        Names::Both(character, name) => {
+            character_is_text(character);
+            name_is_text(name);
+        }
+    }
+}
+
+/// The names of these options are text. It does nothing, and is compiled to nothing.
+pub fn are_text<F, V, M, S>(options: &[Declared<'_, F, V, M, S>])
+    ensures { AreText (map option_view options.now) }
+{
+    for option in options {
+        option_is_text(option);
+    }
+}
+
 /// The first of these options that cannot be declared after those before it.
-pub fn first_fault(options: &[Declared<'_>]) -> Option<DeclarationError>
+pub fn first_fault<'a, F, V, M, S>(
+    options: &'a [Declared<'a, F, V, M, S>],
+) -> Option<DeclarationError<'a>>
     ensures { MatchOption result (is_sound (map option_view options.now) ≡ true)
-        (λ e. IsFirstFault (map option_view options.now) e.index (reason_view e.reason)) }
+        (IsDeclarationError options.now) }
 {
     for (index, option) in options.iter().enumerate() {
         if let Some(reason) = fault(&options[..index], option) {
-            return Some(DeclarationError { index, reason });
+            let option = option.names;
+            return Some(DeclarationError { option, reason });
         }
     }
     None

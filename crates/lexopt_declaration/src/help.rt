@@ -1,15 +1,15 @@
 //! The help of declared options, in the form that the GNU Coding Standards give `--help`, laid out
 //! as `ls --help` is.
 ghost use Rattle.std.specs.Prelude.{◌≡◌, ◌≤◌, ◌+◌, ◌-◌, ◌∷◌, ◌++◌, [], List, ℕ, IfOk, OnOk, nat_lt};
-ghost use Rattle.std.specs.Prelude.{if◌then◌else◌, codes, length, map, string_bytes};
-ghost use Rattle.std.specs.List.{AllZip, concat};
+ghost use Rattle.std.specs.Prelude.{if◌then◌else◌, codes, length, map, not, string_bytes};
+ghost use Rattle.std.specs.List.{AllZip, concat, flat_map, list_any};
 ghost use Rattle.lexopt_options_spec.specs.Help as spec;
-ghost use Rattle.lexopt_options_spec.specs.Help.{IsAbout, IsEntry, IsHelp, IsUsage, Wraps};
-ghost use Rattle.lexopt_declaration.specs.Models.{kind_of, long_name, option_view, placeholder_of};
+ghost use Rattle.lexopt_options_spec.specs.Help.{IsEntry, IsHelp, IsParagraph, IsUsage, Wraps};
+ghost use Rattle.lexopt_declaration.specs.Models.{arity_kind, arity_placeholder, long_name, option_view};
 ghost use Rattle.lexopt_declaration.specs.Models.{positional_view, short_name};
 ghost use Rattle.lexopt_declaration.specs.Declarations.{declaration_view};
 
-use crate::declaration::{Count, Declaration, Declared, Kind, Names, Positional};
+use crate::declaration::{Arity, Count, Declaration, Declared, Names, Positional};
 use bstr::ByteSlice;
 use std::alloc::{AllocError, Global};
 use std::fmt::Write;
@@ -40,62 +40,62 @@ fn push_blanks(out: &mut String, count: usize) -> Result<(), AllocError>
 }
 
 // What stands after a character, if there is no long name.
-fn push_after_short(out: &mut String, kind: Kind<'_>) -> Result<(), AllocError>
+fn push_after_short(out: &mut String, arity: Arity<'_>) -> Result<(), AllocError>
     ensures { IfOk result (λ _. string_bytes out.new ≡ string_bytes out.old
-        ++ spec.after_short (kind_of kind.entry) (placeholder_of kind.entry)) }
+        ++ spec.after_short (arity_kind arity.entry) (arity_placeholder arity.entry)) }
 {
-    match kind {
-        Kind::Flag => Ok(()),
-        Kind::One(value) => write!(out, " {value}"),
-        Kind::Optional(value) => write!(out, "[{value}]"),
-        Kind::Several(value) => write!(out, " {value}..."),
+    match arity {
+        Arity::Zero => Ok(()),
+        Arity::One(value) => write!(out, " {value}"),
+        Arity::Optional(value) => write!(out, "[{value}]"),
+        Arity::Several(value) => write!(out, " {value}..."),
     }
 }
 
 // What stands after a character, if a long name follows.
-fn push_before_long(out: &mut String, kind: Kind<'_>) -> Result<(), AllocError>
+fn push_before_long(out: &mut String, arity: Arity<'_>) -> Result<(), AllocError>
     ensures { IfOk result (λ _. string_bytes out.new ≡ string_bytes out.old
-        ++ spec.before_long (kind_of kind.entry) (placeholder_of kind.entry)) }
+        ++ spec.before_long (arity_kind arity.entry) (arity_placeholder arity.entry)) }
 {
-    match kind {
-        Kind::Optional(value) => write!(out, "[{value}]"),
-        Kind::Flag | Kind::One(_) | Kind::Several(_) => Ok(()),
+    match arity {
+        Arity::Optional(value) => write!(out, "[{value}]"),
+        Arity::Zero | Arity::One(_) | Arity::Several(_) => Ok(()),
     }
 }
 
 // What stands after a long name.
-fn push_after_long(out: &mut String, kind: Kind<'_>) -> Result<(), AllocError>
+fn push_after_long(out: &mut String, arity: Arity<'_>) -> Result<(), AllocError>
     ensures { IfOk result (λ _. string_bytes out.new ≡ string_bytes out.old
-        ++ spec.after_long (kind_of kind.entry) (placeholder_of kind.entry)) }
+        ++ spec.after_long (arity_kind arity.entry) (arity_placeholder arity.entry)) }
 {
-    match kind {
-        Kind::Flag => Ok(()),
-        Kind::One(value) => write!(out, "={value}"),
-        Kind::Optional(value) => write!(out, "[={value}]"),
-        Kind::Several(value) => write!(out, "={value}..."),
+    match arity {
+        Arity::Zero => Ok(()),
+        Arity::One(value) => write!(out, "={value}"),
+        Arity::Optional(value) => write!(out, "[={value}]"),
+        Arity::Several(value) => write!(out, "={value}..."),
     }
 }
 
 // The label of an option.
-fn push_label(out: &mut String, names: Names<'_>, kind: Kind<'_>) -> Result<(), AllocError>
+fn push_label(out: &mut String, names: Names<'_>, arity: Arity<'_>) -> Result<(), AllocError>
     ensures { IfOk result (λ _. string_bytes out.new ≡ string_bytes out.old
-        ++ spec.label_of (short_name names.entry) (long_name names.entry) (kind_of kind.entry)
-        (placeholder_of kind.entry)) }
+        ++ spec.label_of (short_name names.entry) (long_name names.entry) (arity_kind arity.entry)
+        (arity_placeholder arity.entry)) }
 {
     match names {
         Names::Short(character) => {
             write!(out, "-{character}")?;
-            push_after_short(out, kind)
+            push_after_short(out, arity)
         }
         Names::Long(name) => {
             write!(out, "    --{name}")?;
-            push_after_long(out, kind)
+            push_after_long(out, arity)
         }
         Names::Both(character, name) => {
             write!(out, "-{character}")?;
-            push_before_long(out, kind)?;
+            push_before_long(out, arity)?;
             write!(out, ", --{name}")?;
-            push_after_long(out, kind)
+            push_after_long(out, arity)
         }
     }
 }
@@ -109,7 +109,7 @@ fn words_of<'a>(alloc: Global, text: &'a str) -> Result<Vec<&'a str>, AllocError
         .collect(alloc)
 }
 
-// The column where the help of an option begins.
+// The column where the help of an entry begins.
 fn help_column(width: usize) -> usize
     ensures value { result ≡ spec.help_column width }
     ensures bound { result ≤ width }
@@ -173,7 +173,7 @@ fn push_lines(
 }
 
 // The same, and a line feed at the end.
-fn push_paragraph(
+fn push_whole_lines(
     out: &mut String,
     first: &str,
     others: &[&str],
@@ -241,74 +241,141 @@ fn push_labelled(
 }
 
 // The entry of an option.
-fn push_entry(
+fn push_entry<F, V, M, S>(
     out: &mut String,
     alloc: Global,
-    option: &Declared<'_>,
+    option: &Declared<'_, F, V, M, S>,
     width: usize,
 ) -> Result<(), AllocError>
-    ensures { IfOk result (λ _. (text : List ℕ) × IsEntry width (option_view option.now) text
+    ensures { let o = option_view option.now in IfOk result (λ _. (text : List ℕ)
+        × IsEntry width (spec.label o) o.help text
         × (string_bytes out.new ≡ string_bytes out.old ++ text)) }
 {
     let mut label = String::new(alloc);
-    push_label(&mut label, option.names, option.kind)?;
+    push_label(&mut label, option.names, option.kind.arity())?;
     let words = words_of(alloc, option.help)?;
     push_labelled(out, label.as_str(), words.as_slice(), width)
 }
 
-// The entries of the options, after an empty line if there are any.
-fn push_entries(
-    out: &mut String,
+// The entries of the options that are not hidden.
+fn option_entries<F, V, M, S>(
     alloc: Global,
-    options: &[Declared<'_>],
+    options: &[Declared<'_, F, V, M, S>],
     width: usize,
-) -> Result<(), AllocError>
-    ensures { IfOk result (λ _. (entries : List (List ℕ))
-        × AllZip (IsEntry width) (map option_view options.now) entries
-        × (string_bytes out.new ≡ string_bytes out.old
-        ++ spec.before_entries (map option_view options.now) ++ concat entries)) }
+) -> Result<String, AllocError>
+    ensures { IfOk result (λ text. (entries : List (List ℕ))
+        × AllZip (λ o. IsEntry width (spec.label o) o.help)
+        (spec.visible (map option_view options.now)) entries
+        × (string_bytes text ≡ concat entries)) }
 {
-    if options.is_empty() {
-        return Ok(());
-    }
-    out.push('\n')?;
+    let mut text = String::new(alloc);
     for option in options {
-        push_entry(out, alloc, option, width)?;
+        if option.hidden {
+            continue;
+        }
+        push_entry(&mut text, alloc, option, width)?;
     }
-    Ok(())
+    Ok(text)
 }
 
-// What the program does, on lines of at most so many columns.
-fn push_about(out: &mut String, alloc: Global, about: &str, width: usize) -> Result<(), AllocError>
-    ensures { IfOk result (λ _. (text : List ℕ) × IsAbout width about.now text
+// The entries of the positional arguments whose help has a word.
+fn positional_entries(
+    alloc: Global,
+    positionals: &[Positional<'_>],
+    width: usize,
+) -> Result<String, AllocError>
+    ensures { IfOk result (λ text. (entries : List (List ℕ))
+        × AllZip (λ p. IsEntry width p.placeholder p.help)
+        (spec.described (map positional_view positionals.now)) entries
+        × (string_bytes text ≡ concat entries)) }
+{
+    let mut text = String::new(alloc);
+    for positional in positionals {
+        let words = words_of(alloc, positional.help)?;
+        let words = words.as_slice();
+        if words.is_empty() {
+            continue;
+        }
+        push_labelled(&mut text, positional.placeholder, words, width)?;
+    }
+    Ok(text)
+}
+
+// A paragraph, on lines of at most so many columns.
+fn push_paragraph(
+    out: &mut String,
+    alloc: Global,
+    content: &str,
+    width: usize,
+) -> Result<(), AllocError>
+    ensures { IfOk result (λ _. (text : List ℕ) × IsParagraph width content.now text
         × (string_bytes out.new ≡ string_bytes out.old ++ text)) }
 {
-    let words = words_of(alloc, about)?;
-    push_about_lines(out, words.as_slice(), width)
+    let words = words_of(alloc, content)?;
+    push_paragraph_lines(out, words.as_slice(), width)
 }
 
 // The same of its words.
-fn push_about_lines(out: &mut String, words: &[&str], width: usize) -> Result<(), AllocError>
+fn push_paragraph_lines(out: &mut String, words: &[&str], width: usize) -> Result<(), AllocError>
     ensures { IfOk result (λ _. (lines : List spec.Line)
         × Wraps width (map (λ w. w.now) words.now) lines
-        × (string_bytes out.new ≡ string_bytes out.old ++ spec.about_text lines)) }
+        × (string_bytes out.new ≡ string_bytes out.old ++ spec.paragraph lines)) }
 {
     let [first, others @ ..] = words else {
         return Ok(());
     };
-    push_paragraph(out, first, others, width, 0)
+    push_whole_lines(out, first, others, width, 0)
 }
 
-// Adds a mark for the options, if there are any.
-fn add_options_mark(
+// A part of the help, after an empty line. Adds nothing if the part is empty.
+fn push_apart(out: &mut String, part: &str) -> Result<(), AllocError>
+    ensures { IfOk result (λ _.
+        string_bytes out.new ≡ string_bytes out.old ++ spec.set_apart part.now) }
+{
+    if part.is_empty() {
+        return Ok(());
+    }
+    out.push('\n')?;
+    out.push_str(part)
+}
+
+// The paragraphs of the epilogue.
+fn push_epilogue(
+    out: &mut String,
+    alloc: Global,
+    epilogue: &[&str],
+    width: usize,
+) -> Result<(), AllocError>
+    ensures { IfOk result (λ _. (paragraphs : List (List ℕ))
+        × AllZip (IsParagraph width) (map (λ content. content.now) epilogue.now) paragraphs
+        × (string_bytes out.new
+        ≡ string_bytes out.old ++ flat_map spec.set_apart paragraphs)) }
+{
+    for content in epilogue {
+        let mut paragraph = String::new(alloc);
+        push_paragraph(&mut paragraph, alloc, content, width)?;
+        push_apart(out, paragraph.as_str())?;
+    }
+    Ok(())
+}
+
+// Whether any of the options is not hidden.
+fn any_visible<F, V, M, S>(options: &[Declared<'_, F, V, M, S>]) -> bool
+    ensures { result ≡ list_any (λ o. not o.hidden) options.now }
+{
+    options.iter().any(|option| !option.hidden)
+}
+
+// Adds a mark for the options, if there are any that are not hidden.
+fn add_options_mark<F, V, M, S>(
     alloc: Global,
     marks: &mut Vec<String>,
-    options: &[Declared<'_>],
+    options: &[Declared<'_, F, V, M, S>],
 ) -> Result<(), AllocError>
     ensures { OnOk result (map string_bytes marks.new.items ≡ map string_bytes marks.old.items
-        ++ spec.options_mark (map option_view options.now)) }
+        ++ spec.options_mark (spec.visible (map option_view options.now))) }
 {
-    if options.is_empty() {
+    if !any_visible(options) {
         return Ok(());
     }
     marks.push(String::from_str(alloc, "[OPTION]...")?)?;
@@ -329,9 +396,12 @@ fn positional_mark(alloc: Global, positional: &Positional<'_>) -> Result<String,
 }
 
 // What the program can be called with.
-fn marks_of(alloc: Global, declaration: &Declaration<'_>) -> Result<Vec<String>, AllocError>
+fn marks_of<F, V, M, S>(
+    alloc: Global,
+    declaration: &Declaration<'_, F, V, M, S>,
+) -> Result<Vec<String>, AllocError>
     ensures { IfOk result (λ marks. map string_bytes marks.items
-        ≡ spec.options_mark (map option_view declaration.now.options.now)
+        ≡ spec.options_mark (spec.visible (map option_view declaration.now.options.now))
         ++ map spec.positional_mark (map positional_view declaration.now.positionals.now)) }
 {
     let mut marks = Vec::new(alloc);
@@ -367,14 +437,14 @@ fn push_usage_lines(
 {
     out.push_str("Usage: ")?;
     let limit = width.saturating_sub(USAGE_COLUMN);
-    push_paragraph(out, program, words, limit, USAGE_COLUMN)
+    push_whole_lines(out, program, words, limit, USAGE_COLUMN)
 }
 
 // The usage line.
-fn push_usage(
+fn push_usage<F, V, M, S>(
     out: &mut String,
     alloc: Global,
-    declaration: &Declaration<'_>,
+    declaration: &Declaration<'_, F, V, M, S>,
     width: usize,
 ) -> Result<(), AllocError>
     ensures { IfOk result (λ _. (text : List ℕ)
@@ -387,9 +457,9 @@ fn push_usage(
 }
 
 /// The usage line, on lines of at most so many columns, with the line feed at its end.
-pub fn usage(
+pub fn usage<F, V, M, S>(
     alloc: Global,
-    declaration: &Declaration<'_>,
+    declaration: &Declaration<'_, F, V, M, S>,
     width: usize,
 ) -> Result<String, AllocError>
     ensures { IfOk result (λ text.
@@ -401,10 +471,10 @@ pub fn usage(
 }
 
 // The help.
-fn push_help(
+fn push_help<F, V, M, S>(
     out: &mut String,
     alloc: Global,
-    declaration: &Declaration<'_>,
+    declaration: &Declaration<'_, F, V, M, S>,
     width: usize,
 ) -> Result<(), AllocError>
     ensures { IfOk result (λ _. (text : List ℕ)
@@ -412,14 +482,18 @@ fn push_help(
         × (string_bytes out.new ≡ string_bytes out.old ++ text)) }
 {
     push_usage(out, alloc, declaration, width)?;
-    push_about(out, alloc, declaration.about, width)?;
-    push_entries(out, alloc, declaration.options, width)
+    push_paragraph(out, alloc, declaration.about, width)?;
+    let positionals = positional_entries(alloc, declaration.positionals, width)?;
+    push_apart(out, positionals.as_str())?;
+    let options = option_entries(alloc, declaration.options, width)?;
+    push_apart(out, options.as_str())?;
+    push_epilogue(out, alloc, declaration.epilogue, width)
 }
 
 /// The help, for lines of so many columns.
-pub fn help(
+pub fn help<F, V, M, S>(
     alloc: Global,
-    declaration: &Declaration<'_>,
+    declaration: &Declaration<'_, F, V, M, S>,
     width: usize,
 ) -> Result<String, AllocError>
     ensures { IfOk result (λ text.

@@ -6,12 +6,15 @@ ghost use Rattle.lexopt_options_spec.specs.Declaration as spec;
 ghost use Rattle.lexopt_options_spec.specs.Nearest as nearest;
 ghost use Rattle.lexopt_options_spec.specs.Stops.{placeholder_at};
 ghost use Rattle.lexopt_declaration.specs.Models.{option_view};
-ghost use Rattle.lexopt_declaration.specs.Lookups.{names_at};
+ghost use Rattle.lexopt_declaration.specs.Lookups.{help_names, is_help, names_at};
 
-use crate::declaration::{Declared, Names};
+use crate::declaration::{Declared, Kind, Names};
 
 // The place of the first option with this character.
-fn place_of_short(options: &[Declared<'_>], character: char) -> Option<usize>
+fn place_of_short<F, V, M, S>(
+    options: &[Declared<'_, F, V, M, S>],
+    character: char,
+) -> Option<usize>
     ensures { result
         ≡ position (λ o. spec.has_name (table.short character) (option_view o)) options.now }
 {
@@ -21,7 +24,7 @@ fn place_of_short(options: &[Declared<'_>], character: char) -> Option<usize>
 }
 
 // The place of the first option with this name.
-fn place_of_long(options: &[Declared<'_>], name: &str) -> Option<usize>
+fn place_of_long<F, V, M, S>(options: &[Declared<'_, F, V, M, S>], name: &str) -> Option<usize>
     ensures { result
         ≡ position (λ o. spec.has_name (table.long name.now) (option_view o)) options.now }
 {
@@ -29,21 +32,27 @@ fn place_of_long(options: &[Declared<'_>], name: &str) -> Option<usize>
 }
 
 /// Which option has this character, counted from 0: the first.
-pub fn index_of_short(options: &[Declared<'_>], character: char) -> Option<usize>
+pub fn index_of_short<F, V, M, S>(
+    options: &[Declared<'_, F, V, M, S>],
+    character: char,
+) -> Option<usize>
     ensures { result ≡ index_of (map option_view options.now) (table.short character) }
 {
     place_of_short(options, character)
 }
 
 /// Which option has this name, counted from 0: the first.
-pub fn index_of_long(options: &[Declared<'_>], name: &str) -> Option<usize>
+pub fn index_of_long<F, V, M, S>(options: &[Declared<'_, F, V, M, S>], name: &str) -> Option<usize>
     ensures { result ≡ index_of (map option_view options.now) (table.long name.now) }
 {
     place_of_long(options, name)
 }
 
 /// The names of the option of this index.
-pub fn names_of<'a>(options: &'a [Declared<'a>], index: Option<usize>) -> Option<Names<'a>>
+pub fn names_of<'a, F, V, M, S>(
+    options: &'a [Declared<'a, F, V, M, S>],
+    index: Option<usize>,
+) -> Option<Names<'a>>
     ensures { result ≡ names_at options.now index }
 {
     match options.get(index?) {
@@ -52,8 +61,32 @@ pub fn names_of<'a>(options: &'a [Declared<'a>], index: Option<usize>) -> Option
     }
 }
 
+// Whether this is the kind of an option that asks for the help.
+fn is_help<F, V, M, S>(kind: &Kind<'_, F, V, M, S>) -> bool
+    ensures { result ≡ is_help kind.now }
+{
+    matches!(kind, Kind::Help)
+}
+
+// The place of the first option that asks for the help.
+fn place_of_help<F, V, M, S>(options: &[Declared<'_, F, V, M, S>]) -> Option<usize>
+    ensures { result ≡ position (λ o. is_help o.kind) options.now }
+{
+    options.iter().position(|option| is_help(&option.kind))
+}
+
+/// The names of the first option that asks for the help.
+pub fn help_names_of<'a, F, V, M, S>(options: &'a [Declared<'a, F, V, M, S>]) -> Option<Names<'a>>
+    ensures { result ≡ help_names options.now }
+{
+    names_of(options, place_of_help(options))
+}
+
 /// The long name of the option of this index.
-pub fn long_name_of<'a>(options: &'a [Declared<'a>], index: Option<usize>) -> Option<&'a str>
+pub fn long_name_of<'a, F, V, M, S>(
+    options: &'a [Declared<'a, F, V, M, S>],
+    index: Option<usize>,
+) -> Option<&'a str>
     ensures { option_map (λ name. name.now) result
         ≡ nearest.long_name_at (map option_view options.now) index }
 {
@@ -64,7 +97,10 @@ pub fn long_name_of<'a>(options: &'a [Declared<'a>], index: Option<usize>) -> Op
 }
 
 /// What stands for the value of the option of this index: nothing if there is none.
-pub fn option_placeholder<'a>(options: &'a [Declared<'a>], index: usize) -> &'a str
+pub fn option_placeholder<'a, F, V, M, S>(
+    options: &'a [Declared<'a, F, V, M, S>],
+    index: usize,
+) -> &'a str
     ensures { result.now ≡ placeholder_at (map option_view options.now) index }
 {
     match options.get(index) {

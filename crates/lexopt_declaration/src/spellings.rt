@@ -45,10 +45,10 @@ fn add_spelling(
 }
 
 // Adds those of an option's spellings that begin with what was typed.
-fn add_spellings(
+fn add_spellings<F, V, M, S>(
     alloc: Global,
     spellings: &mut Vec<String>,
-    option: &Declared<'_>,
+    option: &Declared<'_, F, V, M, S>,
     typed: &[u8],
 ) -> Result<(), AllocError>
     ensures text { OnOk result (AreText (option_view option.now ∷ [])) }
@@ -67,9 +67,9 @@ fn add_spellings(
 }
 
 /// The spellings of these options that begin with what was typed.
-pub fn spellings_of(
+pub fn spellings_of<F, V, M, S>(
     alloc: Global,
-    options: &[Declared<'_>],
+    options: &[Declared<'_, F, V, M, S>],
     typed: &[u8],
 ) -> Result<Vec<String>, AllocError>
     ensures text { OnOk result (AreText (map option_view options.now)) }

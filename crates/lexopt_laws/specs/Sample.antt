@@ -1,8 +1,8 @@
 -- The options of the worked examples, as `docs/behaviour.md` and `docs/formats.md` have them.
-use Rattle.std.specs.Prelude.{Bool, List, [], ◌∷◌, ℕ, Some, None, codes}
+use Rattle.std.specs.Prelude.{Bool, false, List, [], ◌∷◌, ℕ, Some, None, codes}
 use Rattle.lexopt_line_spec.specs.Table.{flag, one, optional, several}
-use Rattle.lexopt_options_spec.specs.Declaration.{Declared, Declaration, Positional, once}
-use Rattle.lexopt_options_spec.specs.Declaration.{at_most_once, any_number}
+use Rattle.lexopt_options_spec.specs.Declaration.{Declared, Declaration, Positional, for_help}
+use Rattle.lexopt_options_spec.specs.Declaration.{once, at_most_once, any_number}
 
 abbrev pub verbose : Declared
 verbose = record {
@@ -11,6 +11,8 @@ verbose = record {
   kind = flag;
   placeholder = [];
   help = codes "tell more";
+  asks = None;
+  hidden = false;
 }
 
 abbrev pub output : Declared
@@ -20,6 +22,8 @@ output = record {
   kind = one;
   placeholder = codes "FILE";
   help = codes "the archive";
+  asks = None;
+  hidden = false;
 }
 
 abbrev pub backup : Declared
@@ -29,6 +33,8 @@ backup = record {
   kind = optional;
   placeholder = codes "SUFFIX";
   help = codes "keep an archive that is there, with this suffix";
+  asks = None;
+  hidden = false;
 }
 
 abbrev pub exclude : Declared
@@ -38,6 +44,8 @@ exclude = record {
   kind = several;
   placeholder = codes "PATTERN";
   help = codes "leave these out: all words up to the next option";
+  asks = None;
+  hidden = false;
 }
 
 abbrev pub sample_options : List Declared
@@ -45,13 +53,17 @@ sample_options = verbose ∷ output ∷ backup ∷ exclude ∷ []
 
 -- positionals: one that has to stand, one that may be left out, and any number
 abbrev pub mode : Positional
-mode = record { placeholder = codes "MODE"; count = once }
+mode = record { placeholder = codes "MODE"; count = once; help = [] }
 
 abbrev pub target : Positional
-target = record { placeholder = codes "TARGET"; count = at_most_once }
+target = record { placeholder = codes "TARGET"; count = at_most_once; help = [] }
 
 abbrev pub files : Positional
-files = record { placeholder = codes "FILE"; count = any_number }
+files = record { placeholder = codes "FILE"; count = any_number; help = [] }
+
+-- the same with a help text
+abbrev pub described_files : Positional
+described_files = record files { help = codes "a file to read" }
 
 -- these options, with these positionals
 abbrev pub sample : List Positional → Bool → Declaration
@@ -60,6 +72,7 @@ sample positionals short_equals = record {
   about = codes "Prints what it has read.";
   options = sample_options;
   positionals = positionals;
+  epilogue = [];
   short_equals = short_equals;
 }
 
@@ -74,4 +87,6 @@ asks_for_help = record {
   kind = flag;
   placeholder = [];
   help = codes "print this help and exit";
+  asks = Some for_help;
+  hidden = false;
 }

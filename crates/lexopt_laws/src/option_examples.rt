@@ -22,11 +22,12 @@ ghost use Rattle.lexopt_options_spec.specs.Stops.{Mistake, StopsAt, missing_argu
 ghost use Rattle.lexopt_options_spec.specs.Stops.{missing_value, placeholder_at};
 ghost use Rattle.lexopt_options_spec.specs.Stops.{required_placeholder, unexpected_argument};
 ghost use Rattle.lexopt_options_spec.specs.Stops.{unexpected_value, unknown_option};
-ghost use Rattle.lexopt_options_spec.specs.Help.{HasTextNames, IsAbout, IsEntry, IsHelp, IsUsage};
-ghost use Rattle.lexopt_options_spec.specs.Help.{LabelForm, Wraps};
+ghost use Rattle.lexopt_options_spec.specs.Help.{HasTextNames, IsEntry, IsHelp, IsParagraph};
+ghost use Rattle.lexopt_options_spec.specs.Help.{IsUsage, LabelForm, Wraps};
 ghost use Rattle.lexopt_options_spec.specs.Help.{beside, blanks, entry, gap, label, label_of};
 ghost use Rattle.lexopt_options_spec.specs.Help.{line_columns, line_text};
-ghost use Rattle.lexopt_laws.specs.Sample.{asks_for_help, backup, exclude, files, mode, output, sample};
+ghost use Rattle.lexopt_laws.specs.Sample.{asks_for_help, backup, described_files, exclude};
+ghost use Rattle.lexopt_laws.specs.Sample.{files, mode, output, sample};
 ghost use Rattle.lexopt_options_spec.specs.Nearest.{IsDistance, IsHint, IsNearest, long_name_at};
 ghost use Rattle.lexopt_laws.specs.Sample.{named, sample_options, target, verbose};
 
@@ -555,17 +556,17 @@ fn words_are_put_on_lines()
         ((codes "tell" ∷ codes "me" ∷ []) ∷ []) → ⊥ }
 {}
 
-// The entries of options at 80 columns, at 40, where the help begins at column 13, and at 36, where
-// it begins at column 12.
+// Entries at 80 columns, at 40, where the help begins at column 13, and at 36, where it begins at
+// column 12.
 fn entries_are_written()
-    ensures next_to_it { IsEntry 80 verbose (codes "  -v, --verbose         tell more\n") }
-    ensures below_it { IsEntry 80 backup (codes "  -b[SUFFIX], --backup[=SUFFIX]\n                        keep an archive that is there, with this suffix\n") }
-    ensures narrow { IsEntry 40 (record verbose { long_name = None; help = codes "tell more of what is done" })
+    ensures next_to_it { IsEntry 80 (label verbose) verbose.help
+        (codes "  -v, --verbose         tell more\n") }
+    ensures below_it { IsEntry 80 (label backup) backup.help (codes "  -b[SUFFIX], --backup[=SUFFIX]\n                        keep an archive that is there, with this suffix\n") }
+    ensures narrow { IsEntry 40 (codes "-v") (codes "tell more of what is done")
         (codes "  -v         tell more of what is done\n") }
-    ensures two_lines { IsEntry 36 (record verbose { long_name = None; help = codes "tell more of what is done" })
+    ensures two_lines { IsEntry 36 (codes "-v") (codes "tell more of what is done")
         (codes "  -v        tell more of what is\n            done\n") }
-    ensures nothing_to_say { IsEntry 80 (record verbose { help = codes "  " })
-        (codes "  -v, --verbose\n") }
+    ensures nothing_to_say { IsEntry 80 (label verbose) (codes "  ") (codes "  -v, --verbose\n") }
 {}
 
 // Usage lines: on one line, and on as many as a narrow width needs.
@@ -578,16 +579,16 @@ fn usage_lines_are_written()
         (codes "Usage: example_archive\n       [OPTION]...\n") }
 {}
 
-// What a program does, on one line and on two, and nothing.
-fn abouts_are_written()
-    ensures one_line { IsAbout 24 (codes "Prints what it has read.")
+// Paragraphs: on one line and on two, and nothing.
+fn paragraphs_are_written()
+    ensures one_line { IsParagraph 24 (codes "Prints what it has read.")
         (codes "Prints what it has read.\n") }
-    ensures two_lines { IsAbout 12 (codes "Prints what it has read.")
+    ensures two_lines { IsParagraph 12 (codes "Prints what it has read.")
         (codes "Prints what\nit has read.\n") }
-    ensures nothing { IsAbout 80 (codes " ") [] }
+    ensures nothing { IsParagraph 80 (codes " ") [] }
 {}
 
-// Whole helps: the sample of `docs/formats.md`, and that of a program with nothing to say.
+// Whole helps: the sample of `docs/formats.md`, one with every part, and some with few parts.
 fn helps_are_written()
     ensures sample { IsHelp
         (record (sample (files ∷ []) true) { options = sample_options ++ asks_for_help ∷ [] }) 80
@@ -599,4 +600,12 @@ fn helps_are_written()
     ensures positionals { IsHelp
         (record (sample (mode ∷ target ∷ files ∷ []) true) { options = []; about = [] }) 80
         (codes "Usage: example_archive MODE [TARGET] [FILE]...\n") }
+    ensures every_part { IsHelp (record (sample (mode ∷ described_files ∷ []) true) {
+      options = record output { hidden = true } ∷ verbose ∷ [];
+      epilogue = codes "Each file is read once." ∷ codes " " ∷ codes "No file is changed." ∷ [];
+    }) 80
+        (codes "Usage: example_archive [OPTION]... MODE [FILE]...\nPrints what it has read.\n\n  FILE                  a file to read\n\n  -v, --verbose         tell more\n\nEach file is read once.\n\nNo file is changed.\n") }
+    ensures hidden_option { IsHelp
+        (record (sample [] true) { options = record output { hidden = true } ∷ []; about = [] }) 80
+        (codes "Usage: example_archive\n") }
 {}

@@ -1,38 +1,14 @@
 -- What a program is to do.
-use Rattle.std.proofs.Common.{◌≡◌, ◌↔◌, ◌≤◌, ◌<◌, ◌-◌, ◌+◌, ℕ, Bool, true, List, [], ◌∷◌, ◌++◌, map, codes, length, take, drop, get_or, MatchOption, Option, Some, None, Global, String, string_bytes, refl, sym, ap, subst, ◌∙◌, inr, arith}
-use Rattle.std.specs.List.{list_any}
+use Rattle.std.proofs.Common.{◌≡◌, ◌↔◌, ◌≤◌, ◌<◌, ◌-◌, ◌+◌, ℕ, List, [], ◌∷◌, ◌++◌, codes, length, take, drop, get_or, MatchOption, Option, Some, None, Global, String, string_bytes, refl, sym, ap, subst, ◌∙◌, arith}
 use Rattle.std.proofs.lemmas.List.{get_or-drop, take_all, take_more}
-use Rattle.lexopt_line_spec.specs.Table.{long}
-use Rattle.lexopt_line_spec.proofs.Lists.{list_any-map}
-use Rattle.lexopt_options_spec.specs.Declaration.{index_of}
-use Rattle.lexopt_declaration.specs.declared.declaration.Declared.{Declared}
 use Rattle.lexopt_options.specs.declared.options.Options.{Options}
-use Rattle.lexopt_options.specs.declared.refused.Refused.{Refused}
-use Rattle.lexopt_options.specs.declared.said.Said.{Said}
 use Rattle.lexopt_declaration.specs.declared.shell.Shell.{Shell}
-use Rattle.lexopt_options.specs.Answers.{AskForHelp, AsksForScript, IsOrdinary, IsShellText, asks_for_help, is_said_among, is_said_of}
-use Rattle.lexopt_options.specs.Declarations.{declaration_of}
-use Rattle.lexopt_options.specs.Lines.{IsRefused}
-use Rattle.lexopt_declaration.specs.Models.{option_view}
-use Rattle.lexopt_options.specs.Reading.{said_view}
+use Rattle.lexopt_options.specs.Answers.{AsksForScript, IsOrdinary, IsShellText}
 use Rattle.lexopt_declaration.specs.Scripts.{shell_name}
-
--- ---- whether help is asked for
-
-pub asked : (o : Options) (said : List Said) (found : Option ℕ) (options : List Declared) (help : ℕ) (r : Bool) → map option_view options ≡ (declaration_of o).options
-    → found ≡ index_of (map option_view options) (long (codes "help"))
-    → found ≡ Some help → r ≡ list_any (λ s. is_said_of help (said_view s)) said → r ≡ asks_for_help (declaration_of o) (map said_view said)
-asked o said found options help r are is some any =
-    any ∙ sym (list_any-map said_view (is_said_of help) said)
-    ∙ ap (λ i. is_said_among i (map said_view said)) (sym some ∙ is ∙ ap (λ os. index_of os (long (codes "help"))) are)
-
--- a line that is refused after the help was said asks for it
-pub refused_asks : (o : Options) (words : List (List ℕ)) (refused : Refused) → IsRefused o words refused → asks_for_help (declaration_of o) (map said_view refused.before.items) ≡ true → AskForHelp o words
-refused_asks o words refused is asks = (map said_view refused.before.items, inr (is.why, is.stops), asks)
 
 -- ---- what a shell asks for
 
-pub shell_answer : (o : Options) (words more : List (List ℕ)) (width : ℕ) (text : String Global) (found : Option (String Global)) → more ≡ words → found ≡ Some text
+pub shell_answer : {F V M S : Type 0} (o : Options F V M S) (words more : List (List ℕ)) (width : ℕ) (text : String Global) (found : Option (String Global)) → more ≡ words → found ≡ Some text
     → MatchOption found (IsOrdinary more) (λ t. IsShellText o more (string_bytes t)) → IsShellText o words (string_bytes text)
 shell_answer o words more width text found same is found_so =
     let P : Option (String Global) → Type 0 = λ f. MatchOption f (IsOrdinary more) (λ t. IsShellText o more (string_bytes t)) in

@@ -38,14 +38,14 @@ use Rattle.lexopt_items.specs.declared.kinds.Kind.TheVariants.{Flag, One, Option
 use Rattle.lexopt_items.specs.declared.values.Values.{Values}
 use Rattle.lexopt_items.specs.declared.values.Values.TheVariants.{AtMostOne, All}
 use Rattle.lexopt_items.proofs.ReadsItems.{option_read, positional_read}
-use Rattle.lexopt_options.specs.declared.said.Said.{Said}
-use Rattle.lexopt_options.specs.Reading.{ReadsSaid, said_view, said_with}
+use Rattle.lexopt_options.specs.declared.indexed.Indexed.{Indexed}
+use Rattle.lexopt_options.specs.Reading.{ReadsSaid, indexed_view, said_with}
 
 option_item : (d : Declaration) (name : Name) (index : ℕ) (values : Values) → index_of d.options name ≡ Some index → said_item d.options (item_with name values) ≡ Some (said_with index values)
 option_item d name index (AtMostOne value) found = ap (option_map (λ i. legal.option i value)) found
 option_item d name index (All values) found = ap (option_map (λ i. legal.several i values.items)) found
 
-no_count : (index : ℕ) (values : Values) → counts (said_with index values) ≡ 0
+pub no_count : (index : ℕ) (values : Values) → counts (said_with index values) ≡ 0
 no_count index (AtMostOne value) = refl
 no_count index (All values) = refl
 
@@ -69,9 +69,9 @@ kind_of_index (o ∷ os) name index sound found =
     ∙ sym (kind_of_name (o ∷ os) (get_or (o ∷ os) index o) sound (Contains-get_or (o ∷ os) index o at.0) name at.1)
 
 -- an option that is declared, with its values
-pub option_said : (d : Declaration) (count : ℕ) (u v w : UnreadLine) (name : Name) (k : Kind) (index : ℕ) (said : Said) → is_sound d.options ≡ true → kind_view k ≡ kind_at d.options index
-    → Next u (option_reply name) v → index_of d.options name ≡ Some index → (values : Values) × (said_view said ≡ said_with index values) × ReadsValues k v values w
-    → ReadsSaid d count u (said_view said) w
+pub option_said : (d : Declaration) (count : ℕ) (u v w : UnreadLine) (name : Name) (k : Kind) (index : ℕ) (said : Indexed) → is_sound d.options ≡ true → kind_view k ≡ kind_at d.options index
+    → Next u (option_reply name) v → index_of d.options name ≡ Some index → (values : Values) × (indexed_view said ≡ said_with index values) × ReadsValues k v values w
+    → ReadsSaid d count u (indexed_view said) w
 option_said d count u v w name k index said sound k_is step found reads =
     let values = reads.0 in
     subst (λ (s : legal.Said). ReadsSaid d count u s w) (sym reads.1) (record {
@@ -145,11 +145,6 @@ one_more d u v w l count s read counted reads = record {
 
 pub count_more : (l : List legal.Said) (count n : ℕ) (s : legal.Said) → count ≡ positional_count l → counts s ≡ n → count + n ≡ positional_count (l ++ s ∷ [])
 count_more l count n s counted is = let e = count_append l (s ∷ []) in omega arith
-
-pub counts_none : (s : legal.Said) → counts s ≢ 1 → counts s ≡ 0
-counts_none (legal.option i v) other = refl
-counts_none (legal.several i v) other = refl
-counts_none (legal.positional w) other = absurd (other refl)
 
 pub count_small : (l : List legal.Said) → positional_count l ≤ length l
 count_small [] = omega arith

@@ -1,29 +1,32 @@
 -- What a reading of a whole line shows.
-use Rattle.std.proofs.Common.{◌≡◌, ◌≤◌, ◌⊎◌, ℕ, true, List, [], ◌∷◌, ◌++◌, map, Result, Ok, Err, Vec, IfOk, IfErr, refl, sym, ap, subst, ◌∙◌, inl, inr}
-use Rattle.std.specs.Global.{Global}
+use Rattle.std.proofs.Common.{append_assoc, ◌≡◌, ◌≤◌, ◌-◌, ℕ, suc, length, take, arith, true, List, [], ◌∷◌, ◌++◌, map, Some, refl, sym, ap, subst, ◌∙◌, inl, inr}
 use Rattle.lexopt_spec.specs.UnreadLine.{UnreadLine}
 use Rattle.lexopt_spec.specs.Steps as steps
 use Rattle.lexopt_spec.specs.Steps.{Next}
 use Rattle.lexopt_line_spec.specs.Table.{Item}
 use Rattle.lexopt_line_spec.specs.Readings.{IsReading, start}
 use Rattle.lexopt_line_spec.proofs.ReadingSteps.{reads_last}
-use Rattle.lexopt_options_spec.specs.Declaration.{Declaration, is_sound, table}
+use Rattle.lexopt_options_spec.specs.Declaration.{Declaration, Declared, is_sound, table}
 use Rattle.lexopt_options_spec.specs.Legal as legal
 use Rattle.lexopt_options_spec.specs.Legal.{Says, SaysFront, least, positional_count}
 use Rattle.lexopt_options_spec.specs.Stops as stops
-use Rattle.lexopt_options_spec.specs.Stops.{ReadsUpTo, Stops}
-use Rattle.lexopt_options_spec.proofs.Fronts.{front_said, no_front, nothing_said, one_front}
+use Rattle.lexopt_options_spec.specs.Asking.{all_but_last, first_asked, said_before}
+use Rattle.lexopt_options_spec.specs.Stops.{ReadsUpTo, Stops, StopsAt}
+use Rattle.lexopt_options_spec.proofs.Fronts.{front_later, front_said, no_front, nothing_said, one_front}
 use Rattle.lexopt_options.specs.declared.mistake.Mistake.{Mistake}
 use Rattle.lexopt_options.specs.declared.mistake.Mistake.TheVariants as mistake
+use Rattle.lexopt_options.specs.declared.indexed.Indexed.{Indexed}
 use Rattle.lexopt_options.specs.declared.options.Options.{Options}
-use Rattle.lexopt_options.specs.declared.refused.ReadError.{ReadError}
-use Rattle.lexopt_options.specs.declared.refused.ReadError.TheVariants.{Refused, OutOfMemory}
-use Rattle.lexopt_options.specs.declared.refused.Refused as refused
+use Rattle.lexopt_options.specs.declared.refused.Line.{Line}
+use Rattle.lexopt_options.specs.declared.refused.Line.TheVariants as line
+use Rattle.lexopt_declaration.specs.declared.declaration.Declared as declared
+use Rattle.lexopt_options.specs.Declarations.{declaration_of, options_of}
 use Rattle.lexopt_options.specs.declared.said.Said.{Said}
-use Rattle.lexopt_options.specs.Declarations.{declaration_of}
-use Rattle.lexopt_options.specs.Lines.{IsAnswered, IsReadError, IsRefused, LineSays, LineSaysNothing}
+use Rattle.lexopt_options.specs.Keys.{AreSaid, asked_view}
+use Rattle.lexopt_options.proofs.Keys.{asked_here}
+use Rattle.lexopt_options.specs.Lines.{IsLineOf, IsLineRead, before_mistake}
 use Rattle.lexopt_options.specs.Mistakes.{IsMistake}
-use Rattle.lexopt_options.specs.Reading.{StopsBy, said_view}
+use Rattle.lexopt_options.specs.Reading.{indexed_view}
 
 append_nil : (l : List Item) → l ++ [] ≡ l
 append_nil [] = refl
@@ -37,41 +40,66 @@ front d words l v w sound read ends =
     (subst (IsReading (table d.options) (start d.short_equals words) steps.end) (append_nil read.items) (read.read steps.end [] (reads_last (table d.options) v w steps.end tt ends)))
     read.said read.within
 
-pub line_said : (o : Options) (words : List (List ℕ)) (said : List Said) (u v w : UnreadLine) (count : ℕ) → u ≡ start (declaration_of o).short_equals words
-    → ReadsUpTo (declaration_of o) u (map said_view said) v → count ≡ positional_count (map said_view said) → Next v steps.end w → least (declaration_of o).positionals ≤ count → LineSays o words said
-line_said o words said u v w count is read counted ends enough =
-    let d = declaration_of o in
-    record {
-      front = front d words (map said_view said) v w o.sound (subst (λ (x : UnreadLine). ReadsUpTo d x (map said_view said) v) is read) ends;
-      enough = subst (λ n. least d.positionals ≤ n) counted enough;
-    }
+pub line_said : (d : Declaration) (words : List (List ℕ)) (l : List legal.Said) (u v w : UnreadLine) (count : ℕ) → is_sound d.options ≡ true → u ≡ start d.short_equals words → ReadsUpTo d u l v
+    → count ≡ positional_count l → Next v steps.end w → least d.positionals ≤ count → Says d words l
+line_said d words l u v w count sound is read counted ends enough = record {
+  front = front d words l v w sound (subst (λ (x : UnreadLine). ReadsUpTo d x l v) is read) ends;
+  enough = subst (λ n. least d.positionals ≤ n) counted enough;
+}
 
-pub line_refused : (o : Options) (words : List (List ℕ)) (r : refused.Refused) (u v : UnreadLine) (count : ℕ) → u ≡ start (declaration_of o).short_equals words → r.program.now ≡ (declaration_of o).program
-    → ReadsUpTo (declaration_of o) u (map said_view r.before.items) v → count ≡ positional_count (map said_view r.before.items) → StopsBy (declaration_of o) count v r.mistake → IsRefused o words r
-line_refused o words r u v count is program read counted why =
-    let d = declaration_of o in
-    record {
-      program = program;
-      why = why.why;
-      told = why.told;
-      stops = record {
-        there = v;
-        read = subst (λ (x : UnreadLine). ReadsUpTo d x (map said_view r.before.items) v) is read;
-        stops = subst (λ (n : ℕ). Stops d n v why.why) counted why.stops;
-      };
-    }
+pub line_stopped : (d : Declaration) (words : List (List ℕ)) (l : List legal.Said) (u v : UnreadLine) (count : ℕ) (why : stops.Mistake) → u ≡ start d.short_equals words → ReadsUpTo d u l v
+    → count ≡ positional_count l → Stops d count v why → StopsAt d words l why
+line_stopped d words l u v count why is read counted stops = record {
+  there = v;
+  read = subst (λ (x : UnreadLine). ReadsUpTo d x l v) is read;
+  stops = subst (λ (n : ℕ). Stops d n v why) counted stops;
+}
 
--- ---- what follows
+-- ---- what is said before a mistake
 
-pub answered : (o : Options) (words : List (List ℕ)) (r : Result (Vec Said Global) ReadError) → IfOk r (λ said. LineSays o words said.items) → IfErr r (λ e. IsReadError o words e)
-    → (l : List legal.Said) → Says (declaration_of o) words l → IsAnswered l r
-answered o words (Ok said) ok err l says = (one_front (declaration_of o) words (map said_view said.items) l ok.front says.front, tt)
-answered o words (Err OutOfMemory) ok err l says = (tt, refl)
-answered o words (Err (Refused r)) ok err l says = absurd (nothing_said (declaration_of o) words (map said_view r.before.items) err.why err.stops l says)
+pub before_is : (d : Declaration) (m : Mistake) (why : stops.Mistake) (l : List legal.Said) → IsMistake d m why → before_mistake m l ≡ said_before why l
+before_is d (mistake.UnknownOption name nearest) why l told = ap (λ w. said_before w l) (sym told.0)
+before_is d (mistake.UnexpectedValue option value) why l told = ap (λ w. said_before w l) (sym told)
+before_is d (mistake.MissingValue option placeholder) why l told = ap (λ w. said_before w l) (sym told.1)
+before_is d (mistake.UnexpectedArgument word) why l told = ap (λ w. said_before w l) (sym told)
+before_is d (mistake.MissingArgument placeholder) why l told = ap (λ w. said_before w l) (sym told.1)
 
-pub no_list : (o : Options) (words : List (List ℕ)) (e : ReadError) → IsReadError o words e → (e ≡ OutOfMemory) ⊎ LineSaysNothing o words
-no_list o words OutOfMemory is = inl refl
-no_list o words (Refused r) is = inr (λ l says. nothing_said (declaration_of o) words (map said_view r.before.items) is.why is.stops l says)
+pub before_other : (m : Mistake) (l : List legal.Said) → ((option : _) (value : _) → m ≡ mistake.UnexpectedValue option value → ⊥) → before_mistake m l ≡ l
+before_other (mistake.UnknownOption name nearest) l other = refl
+before_other (mistake.UnexpectedValue option value) l other = absurd (other option value refl)
+before_other (mistake.MissingValue option placeholder) l other = refl
+before_other (mistake.UnexpectedArgument word) l other = refl
+before_other (mistake.MissingArgument placeholder) l other = refl
+
+pub last_dropped : (l : List legal.Said) (s : legal.Said) → all_but_last (l ++ s ∷ []) ≡ l
+last_dropped [] s = refl
+last_dropped (x ∷ []) s = refl
+last_dropped (x ∷ y ∷ l) s = ap (λ m. x ∷ m) (last_dropped (y ∷ l) s)
+
+pub kept_said : {F V M S : Type 0} (options : List (declared.Declared F V M S)) (l : List legal.Said) (xs : List (Said F V M S)) (n : ℕ) → n ≡ length xs - 1 → AreSaid options l xs
+    → AreSaid options (all_but_last l) (take n xs)
+kept_said options [] [] n is are = rw is tt
+kept_said options [] (x ∷ xs) n is are = absurd are
+kept_said options (s ∷ l) [] n is are = absurd are
+kept_said options (s ∷ []) (x ∷ []) n is are = rw is tt
+kept_said options (s ∷ []) (x ∷ y ∷ xs) n is are = absurd are.1
+kept_said options (s ∷ t ∷ l) (x ∷ []) n is are = absurd are.1
+kept_said options (s ∷ t ∷ l) (x ∷ y ∷ xs) n is are =
+    let e : n ≡ suc (length xs) = omega (arith, is) in
+    subst (λ k. AreSaid options (all_but_last (s ∷ t ∷ l)) (take k (x ∷ y ∷ xs))) (sym e)
+    (are.0, kept_said options (t ∷ l) (y ∷ xs) (length xs) (omega arith) are.1)
+
+-- ---- what a line comes to
+
+-- a line that is read so is of the list that its words say
+pub line_of : {F V M S : Type 0} (o : Options F V M S) (words : List (List ℕ)) (line : Line F V M S) → IsLineRead o words line → (l : List legal.Said) → Says (declaration_of o) words l → IsLineOf o l line
+line_of o words (line.Said said) (m, other, none, are) l says =
+    subst (λ (x : List legal.Said). IsLineOf o x (line.Said said)) (one_front (declaration_of o) words m l other.front says.front) (none, are)
+line_of o words (line.Asked asked) read l says =
+    let later = front_later (declaration_of o) words (read.before ++ read.said ∷ []) read.there read.read l says.front in
+    ap (first_asked (declaration_of o).options) (later.1 ∙ append_assoc read.before (read.said ∷ []) later.0)
+    ∙ asked_here (declaration_of o).options read.before later.0 read.said (asked_view asked) read.none_before read.asks
+line_of o words (line.Refused refused) read l says = absurd (nothing_said (declaration_of o) words read.read read.why read.stops l says)
 
 -- ---- a part of a line
 
@@ -84,13 +112,12 @@ at_end d count n u m is (stops.no_value name index option call v w step found du
 at_end d count n u m is (stops.one_too_many word v step limit) = absurd (let e : stops.unexpected_argument word ≡ stops.missing_argument n = is in cc)
 
 -- so the words say what was read, but for that
-pub few_said : (o : Options) (words : List (List ℕ)) (r : refused.Refused) (placeholder : _) → r.mistake ≡ mistake.MissingArgument placeholder → IsRefused o words r
-    → SaysFront (declaration_of o) words (map said_view r.before.items)
-few_said o words r placeholder is refused =
-    let d = declaration_of o in
-    let told = subst (λ (x : Mistake). IsMistake d x refused.why) is refused.told in
-    let ends = at_end d (positional_count (map said_view r.before.items)) told.0 refused.stops.there refused.why told.1 refused.stops.stops in
-    front d words (map said_view r.before.items) refused.stops.there ends.0 o.sound refused.stops.read ends.1
+pub few_said : (d : Declaration) (words : List (List ℕ)) (l : List legal.Said) (m : Mistake) (placeholder : _) (why : stops.Mistake) → is_sound d.options ≡ true → m ≡ mistake.MissingArgument placeholder
+    → IsMistake d m why → StopsAt d words l why → SaysFront d words l
+few_said d words l m placeholder why sound is told stops =
+    let missing = subst (λ (x : Mistake). IsMistake d x why) is told in
+    let ends = at_end d (positional_count l) missing.0 stops.there why missing.1 stops.stops in
+    front d words l stops.there ends.0 sound stops.read ends.1
 
 -- no other mistake is that one
 other_mistake : (d : Declaration) (x : Mistake) (m : stops.Mistake) (count : ℕ) → ((placeholder : _) → x ≡ mistake.MissingArgument placeholder → ⊥) → IsMistake d x m → m ≡ stops.missing_argument count → ⊥
@@ -101,7 +128,6 @@ other_mistake d (mistake.UnexpectedArgument word) m count other told is = let e 
 other_mistake d (mistake.MissingArgument placeholder) m count other told is = other placeholder refl
 
 -- and the words say nothing
-pub nothing_part : (o : Options) (words : List (List ℕ)) (r : refused.Refused) → ((placeholder : _) → r.mistake ≡ mistake.MissingArgument placeholder → ⊥) → IsRefused o words r → (l : List legal.Said)
-    → SaysFront (declaration_of o) words l → ⊥
-nothing_part o words r other refused l says =
-    no_front (declaration_of o) words (map said_view r.before.items) refused.why refused.stops (λ count is. other_mistake (declaration_of o) r.mistake refused.why count other refused.told is) l says
+pub nothing_part : (d : Declaration) (words : List (List ℕ)) (l : List legal.Said) (m : Mistake) (why : stops.Mistake) → ((placeholder : _) → m ≡ mistake.MissingArgument placeholder → ⊥)
+    → IsMistake d m why → StopsAt d words l why → (said : List legal.Said) → SaysFront d words said → ⊥
+nothing_part d words l m why other told stops said says = no_front d words l why stops (λ count is. other_mistake d m why count other told is) said says

@@ -1,14 +1,14 @@
 -- What a program is to do about the words that it was called with. The source is
 -- `docs/behaviour.md`.
-use Rattle.std.specs.Prelude.{◌≡◌, ◌⊎◌, ◌==◌, ℕ, Bool, true, false, List, [], ◌∷◌, ◌++◌, map}
+use Rattle.std.specs.Prelude.{◌≡◌, ◌⊎◌, ◌<◌, ◌^◌, ℕ, List, [], ◌∷◌, ◌++◌}
 use Rattle.std.specs.Prelude.{Option, Some, None, codes}
 use Rattle.std.specs.Prelude.{string_bytes}
-use Rattle.std.specs.List.{flat_map, list_any}
-use Rattle.lexopt_line_spec.specs.Table.{long}
-use Rattle.lexopt_options_spec.specs.Declaration.{Declaration, index_of}
+use Rattle.std.specs.List.{flat_map}
+use Rattle.std.specs.Str.{IsUtf8}
+use Rattle.std.specs.Str.Parse.{IsNumeral, digits_value, without_leading_plus}
+use Rattle.lexopt_options_spec.specs.Asking.{AskFor}
+use Rattle.lexopt_options_spec.specs.Declaration.{Asked, Declaration, for_help, for_version}
 use Rattle.lexopt_options_spec.specs.Help.{IsHelp, line_feed}
-use Rattle.lexopt_options_spec.specs.Legal.{Said, option, several, positional, Says}
-use Rattle.lexopt_options_spec.specs.Stops.{Mistake, StopsAt}
 use Rattle.lexopt_options.specs.declared.answer.Answer.{Answer}
 use Rattle.lexopt_options.specs.declared.answer.Answer.TheVariants as answer
 use Rattle.lexopt_options.specs.declared.complete.Completion.{Completion}
@@ -18,7 +18,6 @@ use Rattle.lexopt_declaration.specs.declared.shell.Shell.{Shell}
 use Rattle.lexopt_options.specs.Completions.{IsCompletion}
 use Rattle.lexopt_options.specs.Declarations.{declaration_of}
 use Rattle.lexopt_options.specs.Lines.{IsRefused, LineSays}
-use Rattle.lexopt_options.specs.Reading.{said_view}
 use Rattle.lexopt_declaration.specs.Scripts.{shell_name, shell_script}
 
 -- ---- what a shell asks for
@@ -38,68 +37,69 @@ pub record IsOrdinary (words : List (List ℕ)) : Type 0 where
   pub no_script : (shell : Shell) → ¬ AsksForScript words shell
 
 -- a word can stand there that is no option, such as the name of a file
-abbrev pub files_line : Option Role → List ℕ
+abbrev pub files_line : {F V M S : Type 0} → Option (Role F V M S) → List ℕ
 files_line None = []
 files_line (Some role) = codes "files\n"
 
 -- a value of an option is typed there after `=`
-abbrev pub value_line : Option ℕ → List ℕ
+abbrev pub value_line : {X : Type 0} → Option X → List ℕ
 value_line None = []
-value_line (Some index) = codes "value\n"
+value_line (Some option) = codes "value\n"
 
 -- a line for each spelling, and these lines
-abbrev pub completion_text : Completion → List ℕ
+abbrev pub completion_text : {F V M S : Type 0} → Completion F V M S → List ℕ
 completion_text c = flat_map (λ s. string_bytes s ++ line_feed ∷ []) c.spellings.items
     ++ files_line c.word ++ value_line c.joined
 
-abbrev pub IsCompletionText : Options → List (List ℕ) → List ℕ → Type 0
+abbrev pub IsCompletionText : {F V M S : Type 0} → Options F V M S → List (List ℕ) → List ℕ → Type 0
 IsCompletionText o words text = (before : List (List ℕ)) × (typed : List ℕ)
-    × (completion : Completion) × AsksToComplete words before typed
+    × (completion : Completion _ _ _ _) × AsksToComplete words before typed
     × IsCompletion o before typed completion × (text ≡ completion_text completion)
 
 -- the script of this shell for the program, and the end of its last line
-abbrev pub script_lines : Options → Shell → List ℕ
+abbrev pub script_lines : {F V M S : Type 0} → Options F V M S → Shell → List ℕ
 script_lines o shell = shell_script shell (declaration_of o).program ++ line_feed ∷ []
 
-abbrev pub IsScriptText : Options → List (List ℕ) → List ℕ → Type 0
+abbrev pub IsScriptText : {F V M S : Type 0} → Options F V M S → List (List ℕ) → List ℕ → Type 0
 IsScriptText o words text =
     (shell : Shell) × AsksForScript words shell × (text ≡ script_lines o shell)
 
-abbrev pub IsShellText : Options → List (List ℕ) → List ℕ → Type 0
+abbrev pub IsShellText : {F V M S : Type 0} → Options F V M S → List (List ℕ) → List ℕ → Type 0
 IsShellText o words text = IsCompletionText o words text ⊎ IsScriptText o words text
 
--- ---- the help
+-- ---- the help and the version
 
--- it is the option of this index
-abbrev pub is_said_of : ℕ → Said → Bool
-is_said_of i (option j value) = j == i
-is_said_of i (several j values) = j == i
-is_said_of i (positional word) = false
+-- the text is the help in this width, or the version and a line feed
+abbrev pub IsAskedText : Declaration → Asked → ℕ → List ℕ → Type 0
+IsAskedText d for_help width text = IsHelp d width text
+IsAskedText d (for_version version) width text = text ≡ version ++ line_feed ∷ []
 
-abbrev pub is_said_among : Option ℕ → List Said → Bool
-is_said_among None l = false
-is_said_among (Some i) l = list_any (is_said_of i) l
+-- the words ask for this text, before any mistake
+abbrev pub AskForText : Declaration → List (List ℕ) → ℕ → List ℕ → Type 0
+AskForText d words width text =
+    (asked : Asked) × AskFor d words asked × IsAskedText d asked width text
 
--- the option with the name `help` is said
-abbrev pub asks_for_help : Declaration → List Said → Bool
-asks_for_help d l = is_said_among (index_of d.options (long (codes "help"))) l
+-- ---- the width of the terminal
 
--- the words say this, or say it up to a mistake
-abbrev pub AreReadAs : Declaration → List (List ℕ) → List Said → Type 0
-AreReadAs d words l = Says d words l ⊎ ((m : Mistake) × StopsAt d words l m)
+-- the bytes are a text, and it is this number in decimal, which fits into 64 bits and is not 0
+pub record IsCount (text : List ℕ) (n : ℕ) : Type 0 where
+  pub is_text : IsUtf8 text
+  pub numeral : IsNumeral 10 (without_leading_plus text)
+  pub value : digits_value 10 (without_leading_plus text) ≡ n
+  pub fits : n < 2 ^ 64
+  pub some : 0 < n
 
--- the help is asked for, before any mistake
-abbrev pub AskForHelp : Options → List (List ℕ) → Type 0
-AskForHelp o words = (l : List Said) × AreReadAs (declaration_of o) words l
-    × (asks_for_help (declaration_of o) l ≡ true)
+-- the width that a text stands for: the number that it is, and 80 if it is none
+pub record IsWidth (text : List ℕ) (width : ℕ) : Type 0 where
+  pub number : (n : ℕ) → IsCount text n → width ≡ n
+  pub other : ((n : ℕ) → ¬ IsCount text n) → width ≡ 80
 
 -- ---- all
 
 -- what is to be done about these words, where the help has this width
-abbrev pub IsAnswer : Options → List (List ℕ) → ℕ → Answer → Type 0
+abbrev pub IsAnswer : {F V M S : Type 0} → Options F V M S → List (List ℕ) → ℕ → Answer F V M S
+    → Type 0
 IsAnswer o words width (answer.Said said) = IsOrdinary words × LineSays o words said.items
-    × (asks_for_help (declaration_of o) (map said_view said.items) ≡ false)
 IsAnswer o words width (answer.Text text) = IsShellText o words (string_bytes text)
-    ⊎ (IsOrdinary words × AskForHelp o words × IsHelp (declaration_of o) width (string_bytes text))
+    ⊎ (IsOrdinary words × AskForText (declaration_of o) words width (string_bytes text))
 IsAnswer o words width (answer.Refused refused) = IsOrdinary words × IsRefused o words refused
-    × (asks_for_help (declaration_of o) (map said_view refused.before.items) ≡ false)

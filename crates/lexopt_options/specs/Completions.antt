@@ -1,16 +1,17 @@
 -- What can stand where a word is typed, as contracts see it.
-use Rattle.std.specs.Prelude.{◌≡◌, ◌⊎◌, ◌↔◌, ◌∷◌, ℕ, Bool, true, false, IsTrue, List, [], filter}
-use Rattle.std.specs.Prelude.{length, map, nat_eq, option_map, string_bytes}
+use Rattle.std.specs.Prelude.{◌≡◌, ◌⊎◌, ◌↔◌, ◌∷◌, ℕ, Bool, true, false, IsTrue, List, [], Option, filter}
+use Rattle.std.specs.Prelude.{length, map, nat_eq, string_bytes}
 use Rattle.std.specs.List.{Contains, starts_with}
 use Rattle.lexopt_options_spec.specs.Declaration.{Declaration}
-use Rattle.lexopt_options_spec.specs.Completion.{Completes, HasRole, IsJoined, IsOpen, spellings}
+use Rattle.lexopt_options_spec.specs.Completion.{Completes, HasRole, IsJoined, IsOpen, Role}
+use Rattle.lexopt_options_spec.specs.Completion.{spellings}
 use Rattle.lexopt_options_spec.specs.Legal as legal
 use Rattle.lexopt_options.specs.declared.complete.Completion.{Completion}
 use Rattle.lexopt_options.specs.declared.options.Options.{Options}
-use Rattle.lexopt_options.specs.declared.said.Said.{Said}
-use Rattle.lexopt_options.specs.declared.said.Said.TheVariants as said
-use Rattle.lexopt_options.specs.Declarations.{declaration_of}
-use Rattle.lexopt_options.specs.Roles.{role_view}
+use Rattle.lexopt_options.specs.declared.indexed.Indexed.{Indexed}
+use Rattle.lexopt_options.specs.declared.indexed.Indexed.TheVariants as indexed
+use Rattle.lexopt_options.specs.Declarations.{declaration_of, options_of}
+use Rattle.lexopt_options.specs.Roles.{IsOptionAt, IsRoleAt}
 
 -- exactly the spellings that can stand where this was typed after these words, in the order of the
 -- declaration
@@ -22,34 +23,38 @@ pub record AreOffered (d : Declaration) (words : List (List ℕ)) (typed : List 
       ⊎ (offered ≡ [])
 
 -- exactly what can stand where this was typed after these words
-pub record IsCompletion (o : Options) (words : List (List ℕ)) (typed : List ℕ)
-    (completion : Completion) : Type 0 where
+pub record IsCompletion {F V M S : Type 0} (o : Options F V M S) (words : List (List ℕ))
+    (typed : List ℕ) (completion : Completion F V M S) : Type 0 where
   pub spellings : AreOffered (declaration_of o) words typed
       (map string_bytes completion.spellings.items)
-  -- what a word would be that is no option and begins so
-  pub word : HasRole (declaration_of o) words typed (option_map role_view completion.word)
+  -- what a word would be that is not an option and begins so
+  pub role : Option Role
+  pub has_role : HasRole (declaration_of o) words typed role
+  pub word : IsRoleAt (options_of o) role completion.word
   -- of which option a value is typed after `=`
-  pub joined : IsJoined (declaration_of o) words typed completion.joined
+  pub index : Option ℕ
+  pub is_joined : IsJoined (declaration_of o) words typed index
+  pub joined : IsOptionAt (options_of o) index completion.joined
 
 -- ---- where an option can stand
 
 -- this tells whether an option can stand after these words
-abbrev pub Opens : Options → List (List ℕ) → Bool → Type 0
-Opens o words b = IsTrue b ↔ ((l : List legal.Said) × IsOpen (declaration_of o) words l)
+abbrev pub Opens : Declaration → List (List ℕ) → Bool → Type 0
+Opens d words b = IsTrue b ↔ ((l : List legal.Said) × IsOpen d words l)
 
 -- it is no option of several values
-abbrev pub is_one : Said → Bool
-is_one (said.Option index value) = true
-is_one (said.Several index values) = false
-is_one (said.Positional word) = true
+abbrev pub is_one : Indexed → Bool
+is_one (indexed.Option index value) = true
+is_one (indexed.Several index values) = false
+is_one (indexed.Positional word) = true
 
 -- something is said, and the last of it is no option of several values
-abbrev pub ends_in_one : List Said → Bool
+abbrev pub ends_in_one : List Indexed → Bool
 ends_in_one [] = false
 ends_in_one (s ∷ []) = is_one s
 ends_in_one (s ∷ t ∷ l) = ends_in_one (t ∷ l)
 
 -- as much is said with `--` as with an empty word, and the last that is said with the empty word is
 -- no option of several values
-abbrev pub TakeAnyWord : List Said → List Said → Type 0
+abbrev pub TakeAnyWord : List Indexed → List Indexed → Type 0
 TakeAnyWord l m = (length l ≡ length m) × (ends_in_one m ≡ true)

@@ -5,9 +5,9 @@ use Rattle.lexopt_declaration.specs.Declarations.{declaration_view}
 use Rattle.lexopt_declaration.specs.declared.declaration.Declared.{Declared}
 use Rattle.lexopt_options.specs.declared.options.Options.{Options}
 
-abbrev pub declaration_of : Options → Declaration
-declaration_of o = declaration_view o.declaration
+abbrev pub declaration_of : {F V M S : Type 0} → Options F V M S → Declaration
+declaration_of o = declaration_view o.declaration.now
 
 -- the options as they were given
-abbrev pub options_of : Options → List Declared
-options_of o = o.declaration.options.now
+abbrev pub options_of : {F V M S : Type 0} → Options F V M S → List (Declared F V M S)
+options_of o = o.declaration.now.options.now

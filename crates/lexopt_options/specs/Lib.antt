@@ -1,5 +1,6 @@
 pub mod Declarations
 pub mod Tables
+pub mod Keys
 pub mod Reading
 pub mod Messages
 pub mod Mistakes
@@ -8,6 +9,6 @@ pub mod Fronts
 pub mod Names
 pub mod Completions
 pub mod Roles
-pub mod Invalid
+pub mod Usage
 pub mod Answers
 pub mod Kinds

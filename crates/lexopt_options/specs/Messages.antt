@@ -1,7 +1,9 @@
 -- What is printed of a line that is refused. The source is `docs/formats.md`.
-use Rattle.std.specs.Prelude.{ℕ, List, ◌++◌, Some, None, codes, encode_utf8, string_bytes}
-use Rattle.lexopt_spec.specs.Text.{no_memory_message, unexpected_argument_message}
+use Rattle.std.specs.Prelude.{ℕ, List, [], ◌++◌, Option, Some, None, codes, encode_utf8, string_bytes}
+use Rattle.lexopt_spec.specs.Text.{unexpected_argument_message}
 use Rattle.lexopt_spec.specs.Text.{unexpected_option_message, unexpected_value_message}
+use Rattle.lexopt_declaration.specs.Texts.{names_text}
+use Rattle.lexopt_declaration.specs.declared.declaration.Names.{Names}
 use Rattle.lexopt_options.specs.declared.mistake.Mistake.{Mistake}
 use Rattle.lexopt_options.specs.declared.mistake.Mistake.TheVariants.{UnknownOption}
 use Rattle.lexopt_options.specs.declared.mistake.Mistake.TheVariants.{UnexpectedValue, MissingValue}
@@ -9,8 +11,6 @@ use Rattle.lexopt_options.specs.declared.mistake.Mistake.TheVariants.{Unexpected
 use Rattle.lexopt_options.specs.declared.mistake.Mistake.TheVariants.{MissingArgument}
 use Rattle.lexopt_options.specs.declared.mistake.OptionName.{OptionName}
 use Rattle.lexopt_options.specs.declared.mistake.OptionName.TheVariants.{Short, Long}
-use Rattle.lexopt_options.specs.declared.refused.ReadError.{ReadError}
-use Rattle.lexopt_options.specs.declared.refused.ReadError.TheVariants.{Refused, OutOfMemory}
 
 -- a name with its dashes
 abbrev pub name_text : OptionName → List ℕ
@@ -27,11 +27,12 @@ message (MissingValue option placeholder) = codes "missing argument "
 message (UnexpectedArgument word) = unexpected_argument_message word
 message (MissingArgument placeholder) = codes "missing argument " ++ placeholder.now
 
--- a program's name and what is wrong, and where its help is
-abbrev pub refusal_text : List ℕ → List ℕ → List ℕ
-refusal_text program what = program ++ (codes ": " ++ (what ++ (codes "\nTry '"
-    ++ (program ++ codes " --help' for more information."))))
+-- where help is, if an option for it is declared
+abbrev pub help_line : List ℕ → Option Names → List ℕ
+help_line program None = []
+help_line program (Some names) = codes "\nTry '"
+    ++ (program ++ (codes " " ++ (names_text names ++ codes "' for more information.")))
 
-abbrev pub error_text : ReadError → List ℕ
-error_text (Refused refused) = refusal_text refused.program.now (message refused.mistake)
-error_text OutOfMemory = no_memory_message
+-- a program's name and what is wrong, and where its help is
+abbrev pub refusal_text : List ℕ → Option Names → List ℕ → List ℕ
+refusal_text program help what = program ++ (codes ": " ++ (what ++ help_line program help))

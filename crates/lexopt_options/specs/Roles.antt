@@ -1,8 +1,40 @@
--- What a word that is no option is, as contracts see it.
+-- What a word that is not an option would be, as contracts see it.
+use Rattle.std.specs.Prelude.{◌≡◌, ◌<◌, ℕ, List, Option, Some, None, slice_get}
+use Rattle.std.specs.Borrow.{Bor}
 use Rattle.lexopt_options_spec.specs.Completion as spec
+use Rattle.lexopt_declaration.specs.declared.declaration.Declared.{Declared}
+use Rattle.lexopt_options.specs.declared.complete.Place.{Place}
+use Rattle.lexopt_options.specs.declared.complete.Place.TheVariants as place
 use Rattle.lexopt_options.specs.declared.complete.Role.{Role}
-use Rattle.lexopt_options.specs.declared.complete.Role.TheVariants.{Value, Argument}
+use Rattle.lexopt_options.specs.declared.complete.Role.TheVariants as role
 
-abbrev pub role_view : Role → spec.Role
-role_view (Value index) = spec.value index
-role_view Argument = spec.argument
+-- it is the role by the option of the index
+abbrev pub IsRole : {F V M S : Type 0} → List (Declared F V M S) → spec.Role → Role F V M S
+    → Type 0
+IsRole options (spec.value i) (role.Value option) = slice_get options i ≡ Some option.now
+IsRole options spec.argument role.Argument = Unit {0}
+IsRole options r other = ⊥
+
+abbrev pub IsRoleAt : {F V M S : Type 0} → List (Declared F V M S) → Option spec.Role
+    → Option (Role F V M S) → Type 0
+IsRoleAt options None None = Unit {0}
+IsRoleAt options (Some r) (Some found) = IsRole options r found
+IsRoleAt options r found = ⊥
+
+-- the option of an index, if there is one
+abbrev pub IsOptionAt : {F V M S : Type 0} → List (Declared F V M S) → Option ℕ
+    → Option (Bor (Declared F V M S)) → Type 0
+IsOptionAt options None None = Unit {0}
+IsOptionAt options (Some i) (Some option) = slice_get options i ≡ Some option.now
+IsOptionAt options i option = ⊥
+
+-- ---- by indices
+
+abbrev pub place_view : Place → spec.Role
+place_view (place.Value index) = spec.value index
+place_view place.Argument = spec.argument
+
+-- there is an option of the index, if it has one: they are so many
+abbrev pub IsDeclared : ℕ → spec.Role → Type 0
+IsDeclared count (spec.value i) = i < count
+IsDeclared count spec.argument = Unit {0}

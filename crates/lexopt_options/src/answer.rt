@@ -2,33 +2,37 @@
 //! it refuses them.
 ghost use Rattle.std.specs.Prelude.{◌≡◌, ◌↔◌, IfOk, IsTrue, string_bytes};
 ghost use Rattle.std.specs.Option.{MatchOption};
-ghost use Rattle.lexopt_options.specs.Answers.{AsksForScript, completion_text, is_said_of};
-ghost use Rattle.lexopt_options.specs.Reading.{said_view};
-ghost use Rattle.std.specs.List.{list_any};
+ghost use Rattle.lexopt_options.specs.Answers.{AsksForScript, IsWidth, completion_text};
 
 use crate::complete::Completion;
 use crate::options::Options;
-use crate::refused::{ReadError, Refused};
-use crate::said::Said;
-use lexopt_declaration::lookup::index_of_long;
+use crate::refused::{Line, Refused};
+use crate::said::{Asked, Said};
+use lexopt_declaration::help::WIDTH;
 use lexopt_declaration::shell::{Script, Shell};
-use lexopt_words::os_string::OsString;
+use lexopt_words::os_string::{OsString, arguments};
 use std::alloc::{AllocError, Global};
+use std::convert::Infallible;
+use std::env::Env;
+use std::str;
 
 /// What a program is to do.
-#[derive(Drop)]
-pub enum Answer<'a> {
-    /// What the line says.
-    Said(Vec<Said>),
-    /// Write this to standard output, and end: the help, or what a shell asked for.
+#[derive(Debug, Drop)]
+pub enum Answer<'a, F, V = Infallible, M = Infallible, S = Infallible> {
+    /// Its work, which the line says.
+    Said(Vec<Said<F, V, M, S>>),
+    /// Write this to standard output, and end: the help, the version, or what a shell asked for.
     Text(String),
-    /// Write this to standard error, and end with the status [`Refused::STATUS`].
-    Refused(Refused<'a>),
+    /// Write this to standard error, and end with the status [`USAGE_ERROR`](crate::USAGE_ERROR).
+    Refused(Refused<'a, F, V, M, S>),
 }
 
 // What is offered, as the scripts for shells read it: a line for each spelling; a line `files` if a
 // word can stand there that is no option; and a line `value` if a value is typed there after `=`.
-fn text_of(alloc: Global, completion: &Completion) -> Result<String, AllocError>
+fn text_of<F, V, M, S>(
+    alloc: Global,
+    completion: &Completion<'_, F, V, M, S>,
+) -> Result<String, AllocError>
     ensures { IfOk result (λ text. string_bytes text ≡ completion_text completion.now) }
 {
     let mut text = String::new(alloc);
@@ -63,41 +67,39 @@ fn asked_shell(words: &[OsString]) -> Option<Shell>
     }
 }
 
-// Whether this is the option of this index.
-fn is_of(said: &Said, option: usize) -> bool
-    ensures { result ≡ is_said_of option (said_view said.now) }
+// The width that a text stands for, if it is a number and not 0.
+fn width_of(text: &[u8]) -> usize
+    ensures { IsWidth text.now result }
 {
-    match said {
-        Said::Option(index, _) | Said::Several(index, _) => *index == option,
-        Said::Positional(_) => false,
+    match str::from_utf8(text) {
+        Ok(text) => match text.parse::<usize>() {
+            Ok(0) | Err(_) => WIDTH,
+            Ok(width) => width,
+        },
+        Err(_) => WIDTH,
     }
 }
 
-// Whether this option is among what is said.
-fn any_of(said: &[Said], option: usize) -> bool
-    ensures { result ≡ list_any (λ s. is_said_of option (said_view s)) said.now }
-{
-    said.iter().any(|said| is_of(said, option))
+// How many bytes a number of columns has at most.
+const NUMBER_ROOM: usize = 20;
+
+// The width of the terminal, if the environment says so.
+fn columns<R: Env>(rt: &R) -> usize {
+    let mut room = [0u8; NUMBER_ROOM];
+    match rt.var("COLUMNS", &mut room) {
+        Ok(count) => width_of(&room[..count]),
+        Err(_) => WIDTH,
+    }
 }
 
-impl<'a> Options<'a> {
+impl<F, V, M, S> Options<'_, F, V, M, S> {
     ghost use Rattle.std.specs.Prelude.{◌≡◌, ℕ, IfOk, List, map, string_bytes};
     ghost use Rattle.std.specs.Option.{MatchOption};
-    ghost use Rattle.lexopt_options.specs.Answers.{AsksToComplete, IsAnswer, IsCompletionText};
-    ghost use Rattle.lexopt_options.specs.Answers.{IsOrdinary, IsShellText, asks_for_help};
+    ghost use Rattle.lexopt_options.specs.Answers.{AsksToComplete, IsAskedText};
+    ghost use Rattle.lexopt_options.specs.Answers.{IsCompletionText, IsOrdinary, IsShellText};
     ghost use Rattle.lexopt_options.specs.Answers.{script_lines};
     ghost use Rattle.lexopt_options.specs.Declarations.{declaration_of};
-    ghost use Rattle.lexopt_options.specs.Reading.{said_view};
-
-    // Whether the option with the name `help` is said.
-    fn asks_for_help(&self, said: &[Said]) -> bool
-        ensures { result ≡ asks_for_help (declaration_of self.now) (map said_view said.now) }
-    {
-        match index_of_long(self.options(), "help") {
-            Some(help) => any_of(said, help),
-            None => false,
-        }
-    }
+    ghost use Rattle.lexopt_options.specs.Keys.{asked_view};
 
     // What can be completed, if these words ask for it.
     fn completion_text(
@@ -142,39 +144,50 @@ impl<'a> Options<'a> {
         }
     }
 
+    // The text that is asked for, and a line feed after the version.
+    fn asked_text(
+        &self,
+        alloc: Global,
+        asked: Asked<'_>,
+        width: usize,
+    ) -> Result<String, AllocError>
+        ensures { IfOk result (λ text.
+            IsAskedText (declaration_of self.now) (asked_view asked.entry) width
+            (string_bytes text)) }
+    {
+        match asked {
+            Asked::Help => self.help(alloc, width),
+            Asked::Version(version) => format!(in alloc; "{version}\n"),
+        }
+    }
+}
+
+impl<'a, F: Copy, V: Copy, M: Copy, S: Copy> Options<'a, F, V, M, S> {
+    ghost use Rattle.std.specs.Prelude.{ℕ, IfOk, List};
+    ghost use Rattle.lexopt_options.specs.Answers.{IsAnswer, IsOrdinary};
+
     // What to do about words that no shell asks by.
     fn line_answer(
         &self,
         alloc: Global,
         words: Vec<OsString>,
         width: usize,
-    ) -> Result<Answer<'a>, AllocError>
+    ) -> Result<Answer<'a, F, V, M, S>, AllocError>
         ensures { IsOrdinary words.items
             → IfOk result (λ answer. IsAnswer self.now words.items width answer) }
     {
-        match self.read(alloc, words) {
-            Ok(said) => {
-                if self.asks_for_help(&said) {
-                    Ok(Answer::Text(self.help(alloc, width)?))
-                } else {
-                    Ok(Answer::Said(said))
-                }
-            }
-            Err(ReadError::Refused(refused)) => {
-                if self.asks_for_help(&refused.before) {
-                    Ok(Answer::Text(self.help(alloc, width)?))
-                } else {
-                    Ok(Answer::Refused(refused))
-                }
-            }
-            Err(ReadError::OutOfMemory) => Err(AllocError),
+        match self.read(alloc, words)? {
+            Line::Said(said) => Ok(Answer::Said(said)),
+            Line::Asked(asked) => Ok(Answer::Text(self.asked_text(alloc, asked, width)?)),
+            Line::Refused(refused) => Ok(Answer::Refused(refused)),
         }
     }
 
     /// What the program is to do about the words that it was called with, without its name.
     ///
-    /// - If the option with the name `help` is said, and no mistake comes before it, the answer is
-    ///   the help for this width.
+    /// - If an option that asks for the help or the version occurs before any mistake, the answer
+    ///   is the help for this width, or the text of the version and a line feed. The first of them
+    ///   counts.
     /// - The words `__script bash` ask for the script by which that shell completes the lines of
     ///   the program; `zsh` and `fish` have one too. That script asks by the hidden first word
     ///   `__complete`, then the words before the one that is typed, and then what was typed of it.
@@ -189,12 +202,32 @@ impl<'a> Options<'a> {
         alloc: Global,
         words: Vec<OsString>,
         width: usize,
-    ) -> Result<Answer<'a>, AllocError>
+    ) -> Result<Answer<'a, F, V, M, S>, AllocError>
         ensures { IfOk result (λ answer. IsAnswer self.now words.items width answer) }
     {
         match self.shell_text(alloc, &words)? {
             Some(text) => Ok(Answer::Text(text)),
             None => self.line_answer(alloc, words, width),
         }
+    }
+
+    /// What the program is to do about the words that it was called with, by [`Options::answer`].
+    ///
+    /// The width of the help is the number in the environment variable `COLUMNS`, if it is one and
+    /// not 0, and [`WIDTH`](crate::WIDTH) otherwise. The first word is taken for the name that the
+    /// program was called by. The clause tells of some words and some width: that they are those of
+    /// the environment no clause can tell.
+    ///
+    /// The only error is that memory ran out.
+    pub fn from_env<R: Env + AllocGlobal>(
+        &self,
+        rt: &R,
+    ) -> Result<Answer<'a, F, V, M, S>, AllocError>
+        ensures { IfOk result (λ answer. (words : List (List ℕ)) × (width : ℕ)
+            × IsAnswer self.now words width answer) }
+    {
+        let alloc = rt.alloc();
+        let words = arguments(rt, alloc)?.into_iter().skip(1).collect(alloc)?;
+        self.answer(alloc, words, columns(rt))
     }
 }

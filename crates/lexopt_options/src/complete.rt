@@ -1,62 +1,72 @@
 //! What can stand where a word is typed, for shells.
 ghost use Rattle.std.specs.Prelude.{◌≡◌, ◌↔◌, ◌∷◌, ◌++◌, ℕ, IfOk, IsTrue, List, MatchOption, []};
-ghost use Rattle.std.specs.Prelude.{option_map};
+ghost use Rattle.std.specs.Prelude.{◌<◌, Some, length, option_map, slice_get};
 ghost use Rattle.lexopt_spec.specs.UnreadLine.{BeginsWith, dash};
+ghost use Rattle.lexopt_options_spec.specs.Declaration.{Declaration};
 ghost use Rattle.lexopt_options_spec.specs.Completion as spec;
 ghost use Rattle.lexopt_options_spec.specs.Completion.{HasRole, IsDashedRole, IsOption};
 ghost use Rattle.lexopt_options_spec.specs.Completion.{IsPlainRole};
 ghost use Rattle.lexopt_options.specs.Completions.{Opens, TakeAnyWord, ends_in_one, is_one};
-ghost use Rattle.lexopt_options.specs.Declarations.{declaration_of};
 ghost use Rattle.lexopt_options.specs.Fronts.{IsPart};
-ghost use Rattle.lexopt_options.specs.Reading.{said_view};
-ghost use Rattle.lexopt_options.specs.declared.options.Options as options;
-ghost use Rattle.lexopt_options.specs.declared.said.Said.{Said};
-ghost use Rattle.lexopt_options.specs.Roles.{role_view};
+ghost use Rattle.lexopt_options.specs.Reading.{indexed_view};
+ghost use Rattle.lexopt_options.specs.declared.indexed.Indexed.{Indexed};
+ghost use Rattle.lexopt_options.specs.Roles.{IsDeclared, IsRole, place_view};
 
+use crate::indexed::Indexed;
 use crate::options::Options;
-use crate::said::Said;
+use lexopt_declaration::declaration::Declared;
 use lexopt_declaration::spellings::spellings_of;
 use lexopt_words::os_string::OsString;
 use lexopt_words::words::copies;
 use std::alloc::{AllocError, Global};
+use std::convert::Infallible;
 
-/// What a word that is no option is.
-#[derive(Debug, Clone, Copy, PartialEq, Eq)]
-pub enum Role {
-    /// A value of the option of this index.
-    Value(usize),
+/// What a word that is not an option would be.
+#[derive(Debug, Clone, Copy)]
+pub enum Role<'a, F, V = Infallible, M = Infallible, S = Infallible> {
+    /// A value of this option.
+    Value(&'a Declared<'a, F, V, M, S>),
     /// A positional argument.
     Argument,
 }
 
 /// What can stand where a word is typed.
 #[derive(Debug, Drop)]
-pub struct Completion {
+pub struct Completion<'a, F, V = Infallible, M = Infallible, S = Infallible> {
     /// The spellings of declared options that can stand there and begin with what was typed. If
     /// that is not UTF-8, there are none.
     pub spellings: Vec<String>,
-    /// What a word that is no option would be there, if anything: as the empty word would be, or as
-    /// the word `--` if a dash was typed first.
-    pub word: Option<Role>,
+    /// What a word that is not an option would be there, if anything: as the empty word would be,
+    /// or as the word `--` if a dash was typed first.
+    pub word: Option<Role<'a, F, V, M, S>>,
     /// The option whose value is typed there after `=`, if what was typed is a long option with `=`
     /// and an option can stand there.
-    pub joined: Option<usize>,
+    pub joined: Option<&'a Declared<'a, F, V, M, S>>,
+}
+
+// What a word that is not an option would be, by the index of the option.
+#[derive(Debug, Clone, Copy)]
+enum Place {
+    // A value of the option of this index.
+    Value(usize),
+    // A positional argument.
+    Argument,
 }
 
 // ---- where an option can stand
 
 // Whether this is no option of several values.
-fn is_one(said: &Said) -> bool
+fn is_one(said: &Indexed) -> bool
     ensures { result ≡ is_one said.now }
 {
     match said {
-        Said::Option(_, _) | Said::Positional(_) => true,
-        Said::Several(_, _) => false,
+        Indexed::Option(_, _) | Indexed::Positional(_) => true,
+        Indexed::Several(_, _) => false,
     }
 }
 
 // Whether something is said, and the last of it is no option of several values.
-fn ends_in_one(said: &[Said]) -> bool
+fn ends_in_one(said: &[Indexed]) -> bool
     ensures { result ≡ ends_in_one said.now }
 {
     match said {
@@ -68,7 +78,7 @@ fn ends_in_one(said: &[Said]) -> bool
 // Whether as much is said with `--` as with an empty word, and the last that is said with the empty
 // word is no option of several values: the next word is the value of an option, or a positional
 // argument after the separator, whatever it looks like.
-fn take_any_word(dashed: &[Said], plain: &[Said]) -> bool
+fn take_any_word(dashed: &[Indexed], plain: &[Indexed]) -> bool
     ensures { IsTrue result ↔ TakeAnyWord dashed.now plain.now }
 {
     dashed.len() == plain.len() && ends_in_one(plain)
@@ -76,10 +86,10 @@ fn take_any_word(dashed: &[Said], plain: &[Said]) -> bool
 
 // Whether an option can stand after words that say this with `--` after them, and this with an
 // empty word.
-fn is_open(dashed: &Option<Vec<Said>>, plain: &Option<Vec<Said>>) -> bool
-    ensures { (o : options.Options) (words : List (List ℕ))
-        → IsPart o (words ++ (dash ∷ dash ∷ []) ∷ []) dashed.now
-        → IsPart o (words ++ [] ∷ []) plain.now → Opens o words result }
+fn is_open(dashed: &Option<Vec<Indexed>>, plain: &Option<Vec<Indexed>>) -> bool
+    ensures { (d : Declaration) (words : List (List ℕ))
+        → IsPart d (words ++ (dash ∷ dash ∷ []) ∷ []) dashed.now
+        → IsPart d (words ++ [] ∷ []) plain.now → Opens d words result }
 {
     match dashed {
         Some(dashed) => match plain {
@@ -93,49 +103,49 @@ fn is_open(dashed: &Option<Vec<Said>>, plain: &Option<Vec<Said>>) -> bool
 // ---- a word that is no option
 
 // What the last word is, by the last of what is said.
-fn role_of(said: &Said) -> Role
-    ensures { role_view result ≡ spec.role_of (said_view said.now) }
+fn place_of(said: &Indexed) -> Place
+    ensures { place_view result ≡ spec.role_of (indexed_view said.now) }
 {
     match said {
-        Said::Option(index, _) | Said::Several(index, _) => Role::Value(*index),
-        Said::Positional(_) => Role::Argument,
+        Indexed::Option(index, _) | Indexed::Several(index, _) => Place::Value(*index),
+        Indexed::Positional(_) => Place::Argument,
     }
 }
 
 // The same, if something is said.
-fn last_role(mut said: Vec<Said>) -> Option<Role>
-    ensures { MatchOption result (said.items ≡ []) (λ role. (before : List Said) × (last : Said)
+fn last_place(mut said: Vec<Indexed>) -> Option<Place>
+    ensures { MatchOption result (said.items ≡ []) (λ place. (before : List Indexed) × (last : Indexed)
         × (said.items ≡ before ++ last ∷ [])
-        × (spec.role_of (said_view last) ≡ role_view role)) }
+        × (spec.role_of (indexed_view last) ≡ place_view place)) }
 {
     match said.pop() {
-        Some(last) => Some(role_of(&last)),
+        Some(last) => Some(place_of(&last)),
         None => None,
     }
 }
 
 // What an empty word would be after words that say this with it.
-fn plain_role(plain: Option<Vec<Said>>) -> Option<Role>
-    ensures { (o : options.Options) (words : List (List ℕ)) → IsPart o (words ++ [] ∷ []) plain
-        → IsPlainRole (declaration_of o) words (option_map role_view result) }
+fn plain_place(plain: Option<Vec<Indexed>>) -> Option<Place>
+    ensures { (d : Declaration) (words : List (List ℕ)) → IsPart d (words ++ [] ∷ []) plain
+        → IsPlainRole d words (option_map place_view result) }
 {
     match plain {
-        Some(said) => last_role(said),
+        Some(said) => last_place(said),
         None => None,
     }
 }
 
 // What `--` would be after words that say this with it, if it is not the separator.
-fn dashed_role(opens: bool, dashed: Option<Vec<Said>>) -> Option<Role>
-    ensures { (o : options.Options) (words : List (List ℕ)) → Opens o words opens
-        → IsPart o (words ++ (dash ∷ dash ∷ []) ∷ []) dashed
-        → IsDashedRole (declaration_of o) words (option_map role_view result) }
+fn dashed_place(opens: bool, dashed: Option<Vec<Indexed>>) -> Option<Place>
+    ensures { (d : Declaration) (words : List (List ℕ)) → Opens d words opens
+        → IsPart d (words ++ (dash ∷ dash ∷ []) ∷ []) dashed
+        → IsDashedRole d words (option_map place_view result) }
 {
     if opens {
         return None;
     }
     match dashed {
-        Some(said) => last_role(said),
+        Some(said) => last_place(said),
         None => None,
     }
 }
@@ -149,20 +159,20 @@ fn begins_with_dash(typed: &OsString) -> bool
 
 // What a word that is no option and begins so would be after words that say this with `--` after
 // them, and this with an empty word.
-fn role_after(
+fn place_after(
     typed: &OsString,
     opens: bool,
-    dashed: Option<Vec<Said>>,
-    plain: Option<Vec<Said>>,
-) -> Option<Role>
-    ensures { (o : options.Options) (words : List (List ℕ)) → Opens o words opens
-        → IsPart o (words ++ (dash ∷ dash ∷ []) ∷ []) dashed → IsPart o (words ++ [] ∷ []) plain
-        → HasRole (declaration_of o) words typed.now (option_map role_view result) }
+    dashed: Option<Vec<Indexed>>,
+    plain: Option<Vec<Indexed>>,
+) -> Option<Place>
+    ensures { (d : Declaration) (words : List (List ℕ)) → Opens d words opens
+        → IsPart d (words ++ (dash ∷ dash ∷ []) ∷ []) dashed → IsPart d (words ++ [] ∷ []) plain
+        → HasRole d words typed.now (option_map place_view result) }
 {
     if begins_with_dash(typed) {
-        dashed_role(opens, dashed)
+        dashed_place(opens, dashed)
     } else {
-        plain_role(plain)
+        plain_place(plain)
     }
 }
 
@@ -188,22 +198,51 @@ fn one_word(alloc: Global, word: &OsString) -> Result<Vec<OsString>, AllocError>
 }
 
 // The option that is said, if that is all that is said.
-fn only_option(said: &[Said]) -> Option<usize>
+fn only_option(said: &[Indexed]) -> Option<usize>
     ensures { MatchOption result
-        ((i : ℕ) (s : Said) → said.now ≡ s ∷ [] → ¬ IsOption i (said_view s))
-        (λ i. (s : Said) × (said.now ≡ s ∷ []) × IsOption i (said_view s)) }
+        ((i : ℕ) (s : Indexed) → said.now ≡ s ∷ [] → ¬ IsOption i (indexed_view s))
+        (λ i. (s : Indexed) × (said.now ≡ s ∷ []) × IsOption i (indexed_view s)) }
 {
     match said {
-        [Said::Option(index, _) | Said::Several(index, _)] => Some(*index),
+        [Indexed::Option(index, _) | Indexed::Several(index, _)] => Some(*index),
         _ => None,
     }
 }
 
-impl Options<'_> {
+// ---- the options of these indices
+
+// The option of this index.
+fn option_at<'a, F, V, M, S>(
+    options: &'a [Declared<'a, F, V, M, S>],
+    index: usize,
+) -> &'a Declared<'a, F, V, M, S>
+    requires { index < length options.now }
+    ensures { slice_get options.now index ≡ Some result.now }
+{
+    &options[index]
+}
+
+// What a word that is not an option would be.
+fn role_of<'a, F, V, M, S>(
+    options: &'a [Declared<'a, F, V, M, S>],
+    place: Place,
+) -> Role<'a, F, V, M, S>
+    requires { IsDeclared (length options.now) (place_view place) }
+    ensures { IsRole options.now (place_view place) result }
+{
+    match place {
+        Place::Value(index) => Role::Value(option_at(options, index)),
+        Place::Argument => Role::Argument,
+    }
+}
+
+impl<'a, F, V, M, S> Options<'a, F, V, M, S> {
     ghost use Rattle.std.specs.Prelude.{◌∷◌, ◌++◌, ℕ, [], IfOk, List, map, string_bytes};
-    ghost use Rattle.lexopt_options_spec.specs.Completion.{IsJoined};
+    ghost use Rattle.std.specs.Prelude.{Option, option_map};
+    ghost use Rattle.lexopt_options_spec.specs.Completion.{HasRole, IsJoined};
     ghost use Rattle.lexopt_options.specs.Completions.{AreOffered, IsCompletion, Opens};
-    ghost use Rattle.lexopt_options.specs.Declarations.{declaration_of};
+    ghost use Rattle.lexopt_options.specs.Declarations.{declaration_of, options_of};
+    ghost use Rattle.lexopt_options.specs.Roles.{IsOptionAt, IsRoleAt, place_view};
     ghost use Rattle.lexopt_options.specs.Fronts.{IsPart};
 
     // What these words say with this one after them, whether or not positional arguments are
@@ -213,8 +252,9 @@ impl Options<'_> {
         alloc: Global,
         words: &[OsString],
         word: &str,
-    ) -> Result<Option<Vec<Said>>, AllocError>
-        ensures { IfOk result (λ found. IsPart self.now (words.now ++ word.now ∷ []) found) }
+    ) -> Result<Option<Vec<Indexed>>, AllocError>
+        ensures { IfOk result (λ found.
+            IsPart (declaration_of self.now) (words.now ++ word.now ∷ []) found) }
     {
         let mut copy = copies(alloc, words)?;
         copy.push(OsString::from_text(alloc, word)?)?;
@@ -228,7 +268,7 @@ impl Options<'_> {
         opens: bool,
         typed: &OsString,
     ) -> Result<Vec<String>, AllocError>
-        ensures { IfOk result (λ spellings. (words : List (List ℕ)) → Opens self.now words opens
+        ensures { IfOk result (λ spellings. (words : List (List ℕ)) → Opens (declaration_of self.now) words opens
             → AreOffered (declaration_of self.now) words typed.now
             (map string_bytes spellings.items)) }
     {
@@ -248,7 +288,7 @@ impl Options<'_> {
         opens: bool,
         typed: &OsString,
     ) -> Result<Option<usize>, AllocError>
-        ensures { IfOk result (λ found. (words : List (List ℕ)) → Opens self.now words opens
+        ensures { IfOk result (λ found. (words : List (List ℕ)) → Opens (declaration_of self.now) words opens
             → IsJoined (declaration_of self.now) words typed.now found) }
     {
         if !opens {
@@ -263,12 +303,47 @@ impl Options<'_> {
         }
     }
 
+    // The option whose value is typed after `=`, if an option can stand there.
+    fn joined(
+        &self,
+        alloc: Global,
+        words: &[OsString],
+        opens: bool,
+        typed: &OsString,
+    ) -> Result<Option<&'a Declared<'a, F, V, M, S>>, AllocError>
+        requires { Opens (declaration_of self.now) words.now opens }
+        ensures { IfOk result (λ found. (i : Option ℕ)
+            × IsJoined (declaration_of self.now) words.now typed.now i
+            × IsOptionAt (options_of self.now) i found) }
+    {
+        match self.joined_option(alloc, opens, typed)? {
+            Some(index) => Ok(Some(option_at(self.options(), index))),
+            None => Ok(None),
+        }
+    }
+
+    // What a word would be, where its place is this.
+    fn role(
+        &self,
+        words: &[OsString],
+        typed: &OsString,
+        place: Option<Place>,
+    ) -> Option<Role<'a, F, V, M, S>>
+        requires { HasRole (declaration_of self.now) words.now typed.now
+            (option_map place_view place) }
+        ensures { IsRoleAt (options_of self.now) (option_map place_view place) result }
+    {
+        match place {
+            Some(place) => Some(role_of(self.options(), place)),
+            None => None,
+        }
+    }
+
     /// What can stand where a word is typed: after these words, the name of the program not among
     /// them, and this much of it was typed.
     ///
     /// Under options `v|verbose`, a flag, and `o|output` of one value, after `-v` and with `--` it
-    /// is `--verbose` and `--output`; after `-o` no option can stand, but a value of the option
-    /// with the index 1.
+    /// is `--verbose` and `--output`; after `-o` no option can stand, but a value of `output`.
     ///
     /// The only error is that memory ran out.
     pub fn complete(
@@ -276,7 +351,7 @@ impl Options<'_> {
         alloc: Global,
         words: &[OsString],
         typed: &OsString,
-    ) -> Result<Completion, AllocError>
+    ) -> Result<Completion<'a, F, V, M, S>, AllocError>
         // What is returned is exactly what can stand there: the spellings of declared options that
         // begin with what was typed, and after which some words make a legal line where that option
         // stands; what a word would be that is no option and begins so; and of which option a value
@@ -289,8 +364,8 @@ impl Options<'_> {
         let opens = is_open(&dashed, &plain);
         Ok(Completion {
             spellings: self.spellings_for(alloc, opens, typed)?,
-            word: role_after(typed, opens, dashed, plain),
-            joined: self.joined_option(alloc, opens, typed)?,
+            word: self.role(words, typed, place_after(typed, opens, dashed, plain)),
+            joined: self.joined(alloc, words, opens, typed)?,
         })
     }
 }

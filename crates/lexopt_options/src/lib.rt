@@ -3,25 +3,27 @@
 
 pub mod answer;
 pub mod complete;
-pub mod invalid;
+mod declare;
+mod indexed;
 pub mod mistake;
 pub mod options;
 mod read;
 pub mod refused;
 pub mod said;
 mod table;
+pub mod usage;
 
 pub use answer::Answer;
 pub use complete::{Completion, Role};
-pub use invalid::InvalidValue;
 pub use mistake::{Mistake, OptionName};
 pub use options::Options;
-pub use refused::{ReadError, Refused};
-pub use said::Said;
+pub use refused::{Line, Refused, USAGE_ERROR};
+pub use said::{Asked, Said};
+pub use usage::{Report, UsageError};
 
 // What a declaration is made of, and the scripts for shells.
 pub use lexopt_declaration::declaration::{
-    Count, DeclarationError, Declared, HELP, Kind, Names, Positional, Reason, VERSION,
+    Arity, Count, Declaration, DeclarationError, Declared, Kind, Names, Positional, Reason,
 };
 pub use lexopt_declaration::help::WIDTH;
 pub use lexopt_declaration::shell::{Script, Shell};

@@ -37,7 +37,7 @@ impl fmt::Display for OptionName {
 }
 
 /// What is wrong with a line.
-#[derive(Drop)]
+#[derive(Debug, Drop)]
 pub enum Mistake<'a> {
     /// An option that is not declared. Nothing after its name was read.
     UnknownOption {
@@ -97,12 +97,14 @@ impl fmt::Display for Mistake<'_> {
     }
 }
 
+impl std::error::Error for Mistake<'_> {}
+
 /// The nearest declared name to one that is not declared.
 ///
 /// The only error is that memory ran out.
-pub(crate) fn hint<'a>(
+pub(crate) fn hint<'a, F, V, M, S>(
     alloc: Global,
-    options: &'a [Declared<'a>],
+    options: &'a [Declared<'a, F, V, M, S>],
     name: &OptionName,
 ) -> Result<Option<&'a str>, AllocError>
     ensures { IfOk result (λ hint. IsHint (map option_view options.now) (name_view name.now)

@@ -4,73 +4,59 @@ ghost use Rattle.lexopt_options_spec.specs.Declaration.{is_sound};
 ghost use Rattle.lexopt_declaration.specs.Models.{option_view};
 
 use lexopt_declaration::declaration::{
-    Declaration, DeclarationError, Declared, Positional, first_fault,
+    Declaration, DeclarationError, Declared, Positional, are_text, first_fault,
 };
 use lexopt_declaration::help;
 use std::alloc::{AllocError, Global};
+use std::convert::Infallible;
 
-/// What a program declares.
-#[derive(Clone, Copy)]
-pub struct Options<'a> {
-    declaration: Declaration<'a>,
-    ghost sound: { is_sound (map option_view declaration.options.now) ≡ true },
+/// What a program declares, where all of its options can be declared together.
+pub struct Options<'a, F, V = Infallible, M = Infallible, S = Infallible> {
+    declaration: &'a Declaration<'a, F, V, M, S>,
+    ghost sound: { is_sound (map option_view declaration.now.options.now) ≡ true },
 }
 
-impl<'a> Options<'a> {
-    ghost use Rattle.std.specs.Prelude.{◌≡◌, IfOk, MatchResult, false, map, string_bytes, true};
-    ghost use Rattle.lexopt_options_spec.specs.Declaration.{IsFirstFault, is_sound};
+impl<'a, F, V, M, S> Options<'a, F, V, M, S> {
+    ghost use Rattle.std.specs.Prelude.{◌≡◌, IfOk, MatchResult, map, string_bytes, true};
+    ghost use Rattle.lexopt_options_spec.specs.Declarable.{can_be_declared};
+    ghost use Rattle.lexopt_options_spec.specs.Declaration.{is_sound};
     ghost use Rattle.lexopt_options_spec.specs.Help.{IsHelp, IsUsage};
-    ghost use Rattle.lexopt_declaration.specs.Models.{option_view, positional_view, reason_view};
+    ghost use Rattle.lexopt_declaration.specs.Models.{option_view, positional_view};
+    ghost use Rattle.lexopt_declaration.specs.Faults.{IsDeclarationError};
+    ghost use Rattle.lexopt_declaration.specs.Declarations.{declaration_view};
     ghost use Rattle.lexopt_options.specs.Declarations.{declaration_of, options_of};
 
-    /// What a program declares: its name, what it does in a line, its options and its positional
-    /// arguments, in the order of the help. `=` in a cluster stands between an option and its
-    /// value.
-    ///
-    /// The error names the first option that cannot be declared after those before it.
-    pub fn new(
-        program: &'a str,
-        about: &'a str,
-        options: &'a [Declared<'a>],
-        positionals: &'a [Positional<'a>],
-    ) -> Result<Options<'a>, DeclarationError>
-        ensures { MatchResult result
-            (λ declared. declaration_of declared ≡ record {
-              program = program.now;
-              about = about.now;
-              options = map option_view options.now;
-              positionals = map positional_view positionals.now;
-              short_equals = true;
-            })
-            (λ e. IsFirstFault (map option_view options.now) e.index (reason_view e.reason)) }
+    /// What a program declares, where the check computes that all of its options can be declared
+    /// together: so it does for a constant or a static, and nothing is left to go wrong when the
+    /// program runs.
+    #[tactic(auto, using(lexopt_options_spec::proofs::Declarable::declarable_sound))]
+    pub fn new(declaration: &'a Declaration<'a, F, V, M, S>) -> Options<'a, F, V, M, S>
+        requires { can_be_declared (map option_view declaration.now.options.now) ≡ true }
+        ensures declaration { declaration_of result ≡ declaration_view declaration.now }
+        ensures options { options_of result ≡ declaration.now.options.now }
     {
-        if let Some(error) = first_fault(options) {
-            return Err(error);
-        }
-        let declaration = Declaration {
-            program,
-            about,
-            options,
-            positionals,
-            short_equals: true,
-        };
-        Ok(Options { declaration })
-    }
-
-    /// The same, with `=` in a cluster as a character like any other: `-o=x` gives `o` the value
-    /// `=x`.
-    pub fn without_short_equals(self) -> Options<'a>
-        ensures { declaration_of result
-            ≡ record (declaration_of self.entry) { short_equals = false } }
-    {
-        let declaration = Declaration {
-            short_equals: false,
-            ..self.declaration
-        };
+        are_text(declaration.options);
         Options { declaration }
     }
 
-    /// Whether `=` in a cluster stands between an option and its value.
+    /// What a program declares, where that is known only when it runs.
+    ///
+    /// The error names the first option that cannot be declared after those before it.
+    pub fn try_new(
+        declaration: &'a Declaration<'a, F, V, M, S>,
+    ) -> Result<Options<'a, F, V, M, S>, DeclarationError<'a>>
+        ensures { MatchResult result
+            (λ options. (declaration_of options ≡ declaration_view declaration.now)
+            × (options_of options ≡ declaration.now.options.now))
+            (IsDeclarationError declaration.now.options.now) }
+    {
+        if let Some(error) = first_fault(declaration.options) {
+            return Err(error);
+        }
+        Ok(Options { declaration })
+    }
+
+    /// Whether `=` in a cluster separates an option from its value.
     pub fn has_short_equals(&self) -> bool
         ensures { result ≡ (declaration_of self.now).short_equals }
     {
@@ -92,7 +78,7 @@ impl<'a> Options<'a> {
     }
 
     /// The options, in order.
-    pub fn options(&self) -> &'a [Declared<'a>]
+    pub fn options(&self) -> &'a [Declared<'a, F, V, M, S>]
         ensures same { result.now ≡ options_of self.now }
         ensures view { map option_view result.now ≡ (declaration_of self.now).options }
         ensures sound { is_sound (map option_view result.now) ≡ true }
@@ -107,9 +93,9 @@ impl<'a> Options<'a> {
         self.declaration.positionals
     }
 
-    /// The usage line: the name of the program, `[OPTION]...` if an option is declared, and what
-    /// stands for each positional argument: `FILE` for one that stands once, `[FILE]` for one that
-    /// may be left out, `[FILE]...` for any number. A line feed is at its end.
+    /// The usage line: the name of the program, `[OPTION]...` if an option is declared that is not
+    /// hidden, and each positional argument by its placeholder: `FILE` for one that is required,
+    /// `[FILE]` for one that may be left out, `[FILE]...` for any number. A line feed is at its end.
     ///
     /// ```text
     /// Usage: example_archive [OPTION]... [FILE]...
@@ -124,27 +110,33 @@ impl<'a> Options<'a> {
         ensures { IfOk result
             (λ text. IsUsage width (declaration_of self.now) (string_bytes text)) }
     {
-        help::usage(alloc, &self.declaration, width)
+        help::usage(alloc, self.declaration, width)
     }
 
-    /// The help: the usage line, what the program does, an empty line, and one entry for each
-    /// option, in the order in which they are declared. Each line ends with a line feed.
+    /// The help: the usage line; what the program does; one entry for each positional argument that
+    /// has a text; one entry for each option that is not hidden; and the paragraphs of the epilogue.
+    /// All are in the order in which they are declared, with an empty line between these parts. Each
+    /// line ends with a line feed.
     ///
     /// ```text
-    /// Usage: example_archive [OPTION]... [FILE]...
-    /// Prints what it has read.
+    /// Usage: example_copy [OPTION]... SOURCE DEST
+    /// Prints what it would copy.
     ///
-    ///   -v, --verbose         tell more
-    ///   -b[SUFFIX], --backup[=SUFFIX]
-    ///                         keep an archive that is there, with this suffix
-    ///       --color[=WHEN]    paint
-    ///   -n NUMBER             a short one alone
+    ///   SOURCE                what to copy
+    ///   DEST                  the name of the copy
+    ///
+    ///   -v, --verbose         tell more; twice, still more
+    ///   -j, --jobs=COUNT      how many files at a time, from 1 to 64; 4 if it is left
+    ///                         out
+    ///       --suffix=SUFFIX   what a backup ends with
+    ///
+    /// A file is never copied onto itself.
     /// ```
     ///
-    /// The help of an option begins at column 24, or at a third of `width` if that is less: on the
-    /// line of its label if two blanks at least are between them, else on the next one. Words are
-    /// put on as few lines as hold them in at most `width` columns; one that is wider is not broken,
-    /// and no label is.
+    /// The text of an entry begins at column 24, or at a third of `width` if that is less: on the
+    /// line of its label if at least two blanks are between them, else on the next one. Words are put
+    /// on as few lines as hold them in at most `width` columns; one that is wider is not broken, and
+    /// no label is.
     ///
     /// A column is a grapheme cluster, what a person sees as one character, and counts once even if
     /// a terminal gives it two cells. [`WIDTH`](crate::WIDTH) is the width if none is known; any
@@ -157,6 +149,14 @@ impl<'a> Options<'a> {
         ensures { IfOk result
             (λ text. IsHelp (declaration_of self.now) width (string_bytes text)) }
     {
-        help::help(alloc, &self.declaration, width)
+        help::help(alloc, self.declaration, width)
     }
 }
+
+impl<F, V, M, S> Clone for Options<'_, F, V, M, S> {
+    fn clone(&self) -> Result<Self, AllocError> {
+        Ok(*self)
+    }
+}
+
+impl<F, V, M, S> Copy for Options<'_, F, V, M, S> {}

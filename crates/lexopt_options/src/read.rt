@@ -1,44 +1,57 @@
 //! Reading a line by a declaration.
 ghost use Rattle.std.specs.Prelude.{◌≡◌, ◌≢◌, ◌↔◌, ◌∷◌, ◌++◌, ℕ, List, [], IfErr, IfOk, OnOk};
-ghost use Rattle.std.specs.Prelude.{IsTrue, Some, map};
+ghost use Rattle.std.specs.Prelude.{IsTrue, None, Some, map};
 ghost use Rattle.lexopt_spec.specs.UnreadLine.{IsLine, UnreadLine};
 ghost use Rattle.lexopt_spec.specs.Steps as steps;
 ghost use Rattle.lexopt_spec.specs.Steps.{Next};
 ghost use Rattle.lexopt_line_spec.specs.Readings.{option_reply, start};
 ghost use Rattle.lexopt_line_spec.specs.Table as table;
 ghost use Rattle.lexopt_options_spec.specs.Declaration.{index_of};
+ghost use Rattle.lexopt_options_spec.specs.Asking as asking;
+ghost use Rattle.lexopt_options_spec.specs.Asking.{asked_by, first_asked};
+ghost use Rattle.lexopt_options_spec.specs.Legal as legal;
 ghost use Rattle.lexopt_options_spec.specs.Legal.{most};
 ghost use Rattle.lexopt_options_spec.specs.Stops as stops;
+ghost use Rattle.lexopt_options_spec.specs.Stops.{ReadsUpTo, StopsAt};
 ghost use Rattle.lexopt_declaration.specs.Models.{option_view};
 ghost use Rattle.lexopt_items.specs.Items.{ValuesEndBy, kind_view};
 ghost use Rattle.lexopt_items.specs.declared.kinds.Kind.{Kind};
-ghost use Rattle.lexopt_options.specs.Declarations.{declaration_of};
+ghost use Rattle.lexopt_items.specs.declared.values.Values.{Values};
+ghost use Rattle.lexopt_declaration.specs.declared.declaration.Declared.{Declared};
+ghost use Rattle.lexopt_options.specs.Declarations.{declaration_of, options_of};
+ghost use Rattle.lexopt_options.specs.Keys.{AreSaid, asked_view};
 ghost use Rattle.lexopt_options.specs.Kinds as kinds;
 ghost use Rattle.lexopt_options.specs.Mistakes.{IsMistake};
 ghost use Rattle.lexopt_options.specs.Names.{name_view};
-ghost use Rattle.lexopt_options.specs.Lines.{IsReadError, LineSays};
-ghost use Rattle.lexopt_options.specs.Reading.{ComesNext, StopsBy, said_view};
+ghost use Rattle.lexopt_options.specs.Lines.{IsLineRead, IsReading, before_mistake};
+ghost use Rattle.lexopt_options.specs.Reading.{AreAll, ComesNext, IsAtMostOne, IsOne, IsRead, IsReadByKey};
+ghost use Rattle.lexopt_options.specs.Reading.{StopsBy, indexed_view};
 
+use crate::indexed::Indexed;
 use crate::mistake::{Mistake, OptionName, hint};
 use crate::options::Options;
-use crate::refused::{ReadError, Refused};
-use crate::said::Said;
+use crate::refused::{Line, Refused};
+use crate::said::{Asked, Said, Told};
 use lexopt_base::parser::{Found, Parser};
 use lexopt_base::refusal::Refusal;
 use lexopt_declaration::declaration as declared;
-use lexopt_declaration::declaration::Declared;
-use lexopt_declaration::lookup::{index_of_long, index_of_short, option_placeholder};
+use lexopt_declaration::declaration::{Declared, Names};
+use lexopt_declaration::lookup::{
+    help_names_of, index_of_long, index_of_short, option_placeholder,
+};
 use lexopt_declaration::positionals::{argument_placeholder, least_of, most_of};
 use lexopt_items::kinds::Kind;
-use lexopt_items::values::read_values;
+use lexopt_items::values::{Values, read_values};
 use lexopt_words::os_string::OsString;
 use std::alloc::{AllocError, Global};
 
 // What comes next in a line.
 #[derive(Drop)]
 enum Outcome<'a> {
-    // Something that the line says.
-    Said(Said),
+    // The option of this index, whose values are not read yet.
+    Option(usize),
+    // A positional argument.
+    Positional(OsString),
     // Its end. No required positional argument is missing.
     End,
     // A mistake, which ends the reading.
@@ -46,23 +59,25 @@ enum Outcome<'a> {
 }
 
 // How many values the option of this index has.
-fn kind_at(options: &[Declared<'_>], index: usize) -> Kind
+fn kind_at<F, V, M, S>(options: &[Declared<'_, F, V, M, S>], index: usize) -> Kind
     ensures { kind_view result ≡ kinds.kind_at (map option_view options.now) index }
 {
     match options.get(index) {
         Some(option) => match option.kind {
-            declared::Kind::Flag => Kind::Flag,
-            declared::Kind::One(_) => Kind::One,
-            declared::Kind::Optional(_) => Kind::Optional,
-            declared::Kind::Several(_) => Kind::Several,
+            declared::Kind::Flag(_) | declared::Kind::Help | declared::Kind::Version(_) => {
+                Kind::Flag
+            }
+            declared::Kind::Value(_, _) => Kind::One,
+            declared::Kind::Maybe(_, _) => Kind::Optional,
+            declared::Kind::Values(_, _) => Kind::Several,
         },
         None => Kind::Flag,
     }
 }
 
 // The mistake that the option of this index, which was just read, has no value.
-fn missing_value<'a>(
-    options: &Options<'a>,
+fn missing_value<'a, F, V, M, S>(
+    options: &Options<'a, F, V, M, S>,
     index: usize,
     refused: Refusal,
 ) -> Result<Mistake<'a>, AllocError>
@@ -89,32 +104,101 @@ fn missing_value<'a>(
 }
 
 // The option of this index, which was just read, with its values, or the mistake that it has none.
-fn read_option<'a>(
+fn read_option<'a, F, V, M, S>(
     alloc: Global,
     parser: &mut Parser,
-    options: &Options<'a>,
+    options: &Options<'a, F, V, M, S>,
     index: usize,
-) -> Result<Outcome<'a>, AllocError>
+) -> Result<Result<Indexed, Mistake<'a>>, AllocError>
     requires { (u : UnreadLine) × (name : table.Name) × Next u (option_reply name) parser.old }
-    ensures { IfOk result (λ outcome. (count : ℕ) (u : UnreadLine) (name : table.Name)
+    ensures { IfOk result (λ read. (count : ℕ) (u : UnreadLine) (name : table.Name)
         → Next u (option_reply name) parser.old
         → index_of (declaration_of options.now).options name ≡ Some index
-        → ComesNext (declaration_of options.now) count u outcome parser.new) }
+        → IsRead (declaration_of options.now) count u read parser.new) }
 {
     let kind = kind_at(options.options(), index);
     match kind {
-        Kind::Flag => Ok(Outcome::Said(Said::Option(index, None))),
+        Kind::Flag => Ok(Ok(Indexed::Option(index, None))),
         Kind::One | Kind::Optional | Kind::Several => match read_values(alloc, parser, kind) {
-            Ok(values) => Ok(Outcome::Said(Said::of_values(index, values))),
-            Err(refused) => Ok(Outcome::Mistake(missing_value(options, index, refused)?)),
+            Ok(values) => Ok(Ok(Indexed::of_values(index, values))),
+            Err(refused) => Ok(Err(missing_value(options, index, refused)?)),
+        },
+    }
+}
+
+// The one value.
+fn one_of(values: Values) -> OsString
+    requires { IsOne values }
+    ensures { values ≡ Values.AtMostOne (Some result) }
+{
+    match values {
+        Values::AtMostOne(Some(word)) => word,
+        Values::AtMostOne(None) | Values::All(_) => unreachable!(),
+    }
+}
+
+// The value, if there is one.
+fn at_most_one_of(values: Values) -> Option<OsString>
+    requires { IsAtMostOne values }
+    ensures { values ≡ Values.AtMostOne result }
+{
+    match values {
+        Values::AtMostOne(word) => word,
+        Values::All(_) => unreachable!(),
+    }
+}
+
+// All values.
+fn all_of(values: Values) -> Vec<OsString>
+    requires { AreAll values }
+    ensures { values ≡ Values.All result }
+{
+    match values {
+        Values::All(words) => words,
+        Values::AtMostOne(_) => unreachable!(),
+    }
+}
+
+// The option of this index, which was just read, by its key, or the mistake that it has no value.
+fn read_told<'a, F: Copy, V: Copy, M: Copy, S: Copy>(
+    alloc: Global,
+    parser: &mut Parser,
+    options: &Options<'a, F, V, M, S>,
+    index: usize,
+) -> Result<Result<Told<'a, F, V, M, S>, Mistake<'a>>, AllocError>
+    requires { (u : UnreadLine) × (name : table.Name) × Next u (option_reply name) parser.old
+        × (index_of (declaration_of options.now).options name ≡ Some index) }
+    ensures { IfOk result (λ read. (count : ℕ) (u : UnreadLine) (name : table.Name)
+        → Next u (option_reply name) parser.old
+        → index_of (declaration_of options.now).options name ≡ Some index
+        → IsReadByKey (declaration_of options.now) (options_of options.now) count u read
+        parser.new) }
+{
+    let declared = options.options();
+    let option = &declared[index];
+    match option.kind {
+        declared::Kind::Flag(key) => Ok(Ok(Told::Said(Said::Flag(key)))),
+        declared::Kind::Help => Ok(Ok(Told::Asked(Asked::Help))),
+        declared::Kind::Version(text) => Ok(Ok(Told::Asked(Asked::Version(text)))),
+        declared::Kind::Value(key, _) => match read_values(alloc, parser, Kind::One) {
+            Ok(values) => Ok(Ok(Told::Said(Said::Value(key, one_of(values))))),
+            Err(refused) => Ok(Err(missing_value(options, index, refused)?)),
+        },
+        declared::Kind::Maybe(key, _) => match read_values(alloc, parser, Kind::Optional) {
+            Ok(values) => Ok(Ok(Told::Said(Said::Maybe(key, at_most_one_of(values))))),
+            Err(refused) => Ok(Err(missing_value(options, index, refused)?)),
+        },
+        declared::Kind::Values(key, _) => match read_values(alloc, parser, Kind::Several) {
+            Ok(values) => Ok(Ok(Told::Said(Said::Values(key, all_of(values))))),
+            Err(refused) => Ok(Err(missing_value(options, index, refused)?)),
         },
     }
 }
 
 // The mistake that an option with this name is not declared.
-fn unknown_option<'a>(
+fn unknown_option<'a, F, V, M, S>(
     alloc: Global,
-    options: &Options<'a>,
+    options: &Options<'a, F, V, M, S>,
     name: OptionName,
 ) -> Result<Mistake<'a>, AllocError>
     ensures { IfOk result (λ mistake. IsMistake (declaration_of options.now) mistake
@@ -135,7 +219,7 @@ fn is_full(limit: Option<usize>, count: usize) -> bool
 }
 
 // The end of a line after `count` positional arguments, or the mistake that one more is required.
-fn finish<'a>(options: &Options<'a>, count: usize) -> Outcome<'a>
+fn finish<'a, F, V, M, S>(options: &Options<'a, F, V, M, S>, count: usize) -> Outcome<'a>
     ensures { (u v : UnreadLine) → Next u steps.end v
         → ComesNext (declaration_of options.now) count u result v }
 {
@@ -148,10 +232,10 @@ fn finish<'a>(options: &Options<'a>, count: usize) -> Outcome<'a>
 }
 
 // What comes next in a line after `count` positional arguments, of which there may be `limit`.
-fn read_next<'a>(
+fn read_next<'a, F, V, M, S>(
     alloc: Global,
     parser: &mut Parser,
-    options: &Options<'a>,
+    options: &Options<'a, F, V, M, S>,
     limit: Option<usize>,
     count: usize,
 ) -> Result<Outcome<'a>, AllocError>
@@ -161,14 +245,14 @@ fn read_next<'a>(
 {
     match parser.advance() {
         Ok(Found::Short(option)) => match index_of_short(options.options(), option) {
-            Some(index) => read_option(alloc, parser, options, index),
+            Some(index) => Ok(Outcome::Option(index)),
             None => {
                 let name = OptionName::Short(option);
                 Ok(Outcome::Mistake(unknown_option(alloc, options, name)?))
             }
         },
         Ok(Found::Long) => match index_of_long(options.options(), parser.long_name()) {
-            Some(index) => read_option(alloc, parser, options, index),
+            Some(index) => Ok(Outcome::Option(index)),
             None => {
                 let name = OptionName::Long(String::from_str(alloc, parser.long_name())?);
                 Ok(Outcome::Mistake(unknown_option(alloc, options, name)?))
@@ -178,7 +262,7 @@ fn read_next<'a>(
             if is_full(limit, count) {
                 Ok(Outcome::Mistake(Mistake::UnexpectedArgument(word)))
             } else {
-                Ok(Outcome::Said(Said::Positional(word)))
+                Ok(Outcome::Positional(word))
             }
         }
         Ok(Found::End) => Ok(finish(options, count)),
@@ -193,108 +277,266 @@ fn read_next<'a>(
 }
 
 // Adds what was said to a list.
-fn add(said: &mut Vec<Said>, item: Said) -> Result<(), AllocError>
-    ensures { OnOk result (map said_view said.new.items
-        ≡ map said_view said.old.items ++ said_view item ∷ []) }
+fn add(said: &mut Vec<Indexed>, item: Indexed) -> Result<(), AllocError>
+    ensures { OnOk result (map indexed_view said.new.items
+        ≡ map indexed_view said.old.items ++ indexed_view item ∷ []) }
 {
     Ok(said.push(item)?)
+}
+
+// What a line says, by the indices of its options.
+#[derive(Drop)]
+pub enum Reading<'a> {
+    // All of it.
+    Whole(Vec<Indexed>),
+    // What it says before a mistake.
+    Stopped(Vec<Indexed>, Mistake<'a>),
 }
 
 // For how many things that a longer line says there is room before their list grows.
 const FIRST_ROOM: usize = 16;
 
-// What a line says, in a list with room for `room` things from the start.
-fn read_line<'a>(
+// Reads a line into a list with room for `room` things from the start.
+fn read_line<'a, F, V, M, S>(
     alloc: Global,
     parser: &mut Parser,
-    options: &Options<'a>,
+    options: &Options<'a, F, V, M, S>,
     room: usize,
-) -> Result<Vec<Said>, ReadError<'a>>
+) -> Result<Reading<'a>, AllocError>
     requires { IsLine parser.old }
-    ensures said { (words : List (List ℕ))
+    ensures { (words : List (List ℕ))
         → parser.old ≡ start (declaration_of options.now).short_equals words
-        → IfOk result (λ said. LineSays options.now words said.items) }
-    ensures refused { (words : List (List ℕ))
-        → parser.old ≡ start (declaration_of options.now).short_equals words
-        → IfErr result (λ error. IsReadError options.now words error) }
+        → IfOk result (λ reading. IsReading (declaration_of options.now) words reading) }
 {
     let limit = most_of(options.positionals());
     let mut said = Vec::with_capacity(alloc, room)?;
     let mut count = 0usize;
     loop {
         match read_next(alloc, parser, options, limit, count)? {
-            Outcome::Said(item) => {
-                let more = item.is_positional();
-                add(&mut said, item)?;
-                if more {
-                    count += 1;
-                }
+            Outcome::Option(index) => match read_option(alloc, parser, options, index)? {
+                Ok(option) => add(&mut said, option)?,
+                Err(mistake) => return Ok(Reading::Stopped(said, mistake)),
+            },
+            Outcome::Positional(word) => {
+                add(&mut said, Indexed::Positional(word))?;
+                count += 1;
             }
-            Outcome::End => return Ok(said),
-            Outcome::Mistake(mistake) => {
-                return Err(ReadError::Refused(Refused {
-                    program: options.program(),
-                    before: said,
-                    mistake,
-                }));
-            }
+            Outcome::End => return Ok(Reading::Whole(said)),
+            Outcome::Mistake(mistake) => return Ok(Reading::Stopped(said, mistake)),
         }
     }
 }
 
-impl<'a> Options<'a> {
-    ghost use Rattle.std.specs.Prelude.{◌≡◌, ◌⊎◌, ℕ, List, IfErr, IfOk};
-    ghost use Rattle.lexopt_options_spec.specs.Legal as legal;
-    ghost use Rattle.lexopt_options_spec.specs.Legal.{Says};
-    ghost use Rattle.lexopt_options.specs.Declarations.{declaration_of};
-    ghost use Rattle.lexopt_options.specs.Lines.{IsAnswered, IsReadError, LineSays};
-    ghost use Rattle.lexopt_options.specs.Lines.{LineSaysNothing};
-    ghost use Rattle.lexopt_options.specs.Fronts.{IsPart};
+// A refused line.
+fn refuse<'a, F, V, M, S>(
+    options: &Options<'a, F, V, M, S>,
+    before: Vec<Said<F, V, M, S>>,
+    mistake: Mistake<'a>,
+) -> Line<'a, F, V, M, S>
+    ensures { (words : List (List ℕ)) (why : stops.Mistake) (l : List legal.Said)
+        → IsMistake (declaration_of options.now) mistake.entry why
+        → StopsAt (declaration_of options.now) words l why
+        → first_asked (declaration_of options.now).options (asking.said_before why l) ≡ None
+        → AreSaid (options_of options.now) (asking.said_before why l) before.items
+        → IsLineRead options.now words result }
+{
+    Line::Refused(Refused {
+        program: options.program(),
+        help: options.help_names(),
+        before,
+        mistake,
+    })
+}
 
-    /// Reads a whole line, without the name of the program.
-    ///
-    /// Under options `v|verbose`, a flag, and `o|output` of one value, and any number of
-    /// positional arguments, the words `-vo=x --output y -- file` say `Option(0, None)`,
-    /// `Option(1, Some(x))`, `Option(1, Some(y))` and `Positional(file)`.
-    ///
-    /// A refusal has the first mistake, and what the line says before it: so a program can
-    /// print its help for `--help` although something after it is wrong.
-    pub fn read(&self, alloc: Global, words: Vec<OsString>) -> Result<Vec<Said>, ReadError<'a>>
-        // The words legally spell the list, by declared options alone, and with as many
-        // positional arguments as are declared.
-        ensures said { IfOk result (λ said. LineSays self.now words.items said.items) }
-
-        // If words say a list, this is it, or memory runs out.
-        ensures answered { (l : List legal.Said) → Says (declaration_of self.now) words.items l
-            → IsAnswered l result }
-
-        // A refusal has the mistake to which the line can be read, and what it says before; it
-        // comes only if the words say nothing.
-        ensures refused { IfErr result (λ error. IsReadError self.now words.items error) }
-        ensures no_list { IfErr result (λ error. (error ≡ ReadError.OutOfMemory)
-            ⊎ LineSaysNothing self.now words.items) }
-    {
-        let room = words.len().min(FIRST_ROOM);
-        let mut parser = Parser::from_vec(words);
-        parser.set_short_equals(self.has_short_equals());
-        read_line(alloc, &mut parser, self, room)
+// What is said before a mistake, where all of this was read before it.
+fn said_before<F: Drop, V: Drop, M: Drop, S: Drop>(
+    mut said: Vec<Said<F, V, M, S>>,
+    mistake: &Mistake<'_>,
+) -> Vec<Said<F, V, M, S>>
+    ensures { (options : List (Declared F V M S)) (l : List legal.Said)
+        → AreSaid options l said.items
+        → AreSaid options (before_mistake mistake.now l) result.items }
+{
+    if let Mistake::UnexpectedValue { .. } = mistake {
+        let count = said.len().saturating_sub(1);
+        said.truncate(count);
     }
+    said
+}
+
+// A line that stops at a mistake, where all of this was read before it.
+fn stop<'a, F: Drop, V: Drop, M: Drop, S: Drop>(
+    options: &Options<'a, F, V, M, S>,
+    said: Vec<Said<F, V, M, S>>,
+    mistake: Mistake<'a>,
+) -> Line<'a, F, V, M, S>
+    ensures { (words : List (List ℕ)) (why : stops.Mistake) (l : List legal.Said)
+        → IsMistake (declaration_of options.now) mistake.entry why
+        → StopsAt (declaration_of options.now) words l why
+        → first_asked (declaration_of options.now).options l ≡ None
+        → AreSaid (options_of options.now) l said.items
+        → IsLineRead options.now words result }
+{
+    let before = said_before(said, &mistake);
+    refuse(options, before, mistake)
+}
+
+// The line that asks for this by the option that was read last, unless a value is joined to it.
+fn ask<'a, F, V, M, S>(
+    parser: &mut Parser,
+    options: &Options<'a, F, V, M, S>,
+    said: Vec<Said<F, V, M, S>>,
+    asked: Asked<'a>,
+) -> Result<Line<'a, F, V, M, S>, AllocError>
+where
+    F: Drop,
+    V: Drop,
+    M: Drop,
+    S: Drop,
+    ensures { (words : List (List ℕ)) (l : List legal.Said) (s : legal.Said)
+        → ReadsUpTo (declaration_of options.now)
+        (start (declaration_of options.now).short_equals words) (l ++ s ∷ []) parser.old
+        → first_asked (declaration_of options.now).options l ≡ None
+        → asked_by (declaration_of options.now).options s ≡ Some (asked_view asked.entry)
+        → AreSaid (options_of options.now) l said.items
+        → IfOk result (λ line. IsLineRead options.now words line) }
+{
+    match parser.advance() {
+        Ok(_) => Ok(Line::Asked(asked)),
+        Err(refused) => match refused {
+            Refusal::UnexpectedValue { option, value } => {
+                Ok(refuse(options, said, Mistake::UnexpectedValue { option, value }))
+            }
+            Refusal::OutOfMemory => Err(AllocError),
+            Refusal::MissingValue(_) => unreachable!(),
+        },
+    }
+}
+
+// Reads a line by the keys of its options into a list with room for `room` things from the start.
+fn read_keys<'a, F: Copy, V: Copy, M: Copy, S: Copy>(
+    alloc: Global,
+    parser: &mut Parser,
+    options: &Options<'a, F, V, M, S>,
+    room: usize,
+) -> Result<Line<'a, F, V, M, S>, AllocError>
+    requires { IsLine parser.old }
+    ensures { (words : List (List ℕ))
+        → parser.old ≡ start (declaration_of options.now).short_equals words
+        → IfOk result (λ line. IsLineRead options.now words line) }
+{
+    let limit = most_of(options.positionals());
+    let mut said = Vec::with_capacity(alloc, room)?;
+    let mut count = 0usize;
+    loop {
+        match read_next(alloc, parser, options, limit, count)? {
+            Outcome::Option(index) => match read_told(alloc, parser, options, index)? {
+                Ok(Told::Said(own)) => said.push(own)?,
+                Ok(Told::Asked(asked)) => return ask(parser, options, said, asked),
+                Err(mistake) => return Ok(stop(options, said, mistake)),
+            },
+            Outcome::Positional(word) => {
+                said.push(Said::Positional(word))?;
+                count += 1;
+            }
+            Outcome::End => return Ok(Line::Said(said)),
+            Outcome::Mistake(mistake) => return Ok(stop(options, said, mistake)),
+        }
+    }
+}
+
+impl<F, V, M, S> Options<'_, F, V, M, S> {
+    ghost use Rattle.std.specs.Prelude.{IfOk};
+    ghost use Rattle.lexopt_options.specs.Declarations.{declaration_of};
+    ghost use Rattle.lexopt_options.specs.Fronts.{IsPart};
 
     // What words say, whether or not positional arguments are missing; nothing if no line begins so.
     pub(crate) fn read_part(
         &self,
         alloc: Global,
         words: Vec<OsString>,
-    ) -> Result<Option<Vec<Said>>, AllocError>
-        ensures { IfOk result (λ found. IsPart self.now words.items found) }
+    ) -> Result<Option<Vec<Indexed>>, AllocError>
+        ensures { IfOk result (λ found. IsPart (declaration_of self.now) words.items found) }
     {
-        match self.read(alloc, words) {
-            Ok(said) => Ok(Some(said)),
-            Err(ReadError::Refused(refused)) => match refused.mistake {
-                Mistake::MissingArgument(_) => Ok(Some(refused.before)),
+        match self.read_indexed(alloc, words)? {
+            Reading::Whole(said) => Ok(Some(said)),
+            Reading::Stopped(said, mistake) => match mistake {
+                Mistake::MissingArgument(_) => Ok(Some(said)),
                 _ => Ok(None),
             },
-            Err(ReadError::OutOfMemory) => Err(AllocError),
         }
+    }
+}
+
+impl<'a, F, V, M, S> Options<'a, F, V, M, S> {
+    ghost use Rattle.std.specs.Prelude.{◌≡◌, IfOk};
+    ghost use Rattle.lexopt_line_spec.specs.Readings.{start};
+    ghost use Rattle.lexopt_declaration.specs.Lookups.{help_names};
+    ghost use Rattle.lexopt_options.specs.Declarations.{declaration_of, options_of};
+    ghost use Rattle.lexopt_options.specs.Lines.{IsReading};
+
+    // A parser of these words, of which none is read.
+    fn parser_of(&self, words: Vec<OsString>) -> Parser
+        ensures { result ≡ start (declaration_of self.now).short_equals words.items }
+    {
+        let mut parser = Parser::from_vec(words);
+        parser.set_short_equals(self.has_short_equals());
+        parser
+    }
+
+    // Reads a whole line.
+    fn read_indexed(&self, alloc: Global, words: Vec<OsString>) -> Result<Reading<'a>, AllocError>
+        ensures { IfOk result (λ reading. IsReading (declaration_of self.now) words.items reading) }
+    {
+        let room = words.len().min(FIRST_ROOM);
+        let mut parser = self.parser_of(words);
+        read_line(alloc, &mut parser, self, room)
+    }
+
+    // The names of the first option that asks for the help.
+    pub(crate) fn help_names(&self) -> Option<Names<'a>>
+        ensures { result ≡ help_names (options_of self.now) }
+    {
+        help_names_of(self.options())
+    }
+}
+
+impl<'a, F: Copy, V: Copy, M: Copy, S: Copy> Options<'a, F, V, M, S> {
+    ghost use Rattle.std.specs.Prelude.{◌≡◌, ℕ, List, IfOk, map};
+    ghost use Rattle.lexopt_options_spec.specs.Legal as legal;
+    ghost use Rattle.lexopt_options_spec.specs.Legal.{Says};
+    ghost use Rattle.lexopt_options.specs.Declarations.{declaration_of};
+    ghost use Rattle.lexopt_options.specs.Lines.{IsLineOf, IsLineRead};
+
+    /// Reads a whole line, without the name of the program.
+    ///
+    /// Under options `v|verbose`, a flag with the key `Verbose`, and `o|output` of one value with
+    /// the key `Output`, and any number of positional arguments, the words
+    /// `-vo=x --output y -- file` say `Flag(Verbose)`, `Value(Output, x)`, `Value(Output, y)` and
+    /// `Positional(file)`.
+    ///
+    /// If an option that asks for the help or the version occurs before any mistake, the line is
+    /// [`Line::Asked`], whatever comes after it. A refusal has the first mistake, and what the line
+    /// says before it.
+    ///
+    /// The only error is that memory ran out.
+    pub fn read(
+        &self,
+        alloc: Global,
+        words: Vec<OsString>,
+    ) -> Result<Line<'a, F, V, M, S>, AllocError>
+        // The list is the one that the words legally spell, by declared options alone, with as many
+        // positional arguments as are declared, and each option by its key; and they ask for
+        // nothing. Or they ask for the help or the version before any mistake. Or their reading
+        // comes to this mistake, before which they say this and ask for nothing.
+        ensures line { IfOk result (λ line. IsLineRead self.now words.items line) }
+
+        // If words say a list, the line is of that list: it is not refused.
+        ensures answered { (l : List legal.Said) → Says (declaration_of self.now) words.items l
+            → IfOk result (λ line. IsLineOf self.now l line) }
+    {
+        let room = words.len().min(FIRST_ROOM);
+        let mut parser = self.parser_of(words);
+        read_keys(alloc, &mut parser, self, room)
     }
 }

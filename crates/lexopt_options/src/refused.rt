@@ -1,86 +1,71 @@
-//! A line that was refused, and what reading a line can come to besides.
+//! What a line comes to, and a line that was refused.
+ghost use Rattle.std.specs.Fmt.{WritesOnOk};
+ghost use Rattle.lexopt_options.specs.Messages.{help_line};
+
 use crate::mistake::Mistake;
-use crate::said::Said;
-use lexopt_words::message::write_no_memory;
-use std::alloc::AllocError;
+use crate::said::{Asked, Said};
+use lexopt_declaration::declaration::Names;
+use std::convert::Infallible;
 use std::fmt;
+use std::fmt::Debug;
+
+/// The status with which a program ends after a line that it refuses.
+pub const USAGE_ERROR: u8 = 2;
 
 /// A line that was refused.
-#[derive(Drop)]
-pub struct Refused<'a> {
+#[derive(Debug, Drop)]
+pub struct Refused<'a, F, V = Infallible, M = Infallible, S = Infallible> {
     /// The name of the program.
     pub program: &'a str,
+    /// The option that asks for the help, if one is declared.
+    pub help: Option<Names<'a>>,
     /// What the line says before the mistake.
-    pub before: Vec<Said>,
+    pub before: Vec<Said<F, V, M, S>>,
     /// What is wrong.
     pub mistake: Mistake<'a>,
 }
 
-impl fmt::Display for Refused<'_> {
+// Writes on a line where help is, if an option for it is declared.
+pub(crate) fn write_help<W: fmt::Write>(
+    program: &str,
+    help: Option<Names<'_>>,
+    f: &mut fmt::Formatter<W>,
+) -> fmt::Result
+    ensures { WritesOnOk W.write_str_gives f.old result (help_line program.now help.entry) f.new }
+{
+    match help {
+        Some(names) => write!(f, "\nTry '{program} {names}' for more information."),
+        None => Ok(()),
+    }
+}
+
+impl<F, V, M, S> fmt::Display for Refused<'_, F, V, M, S> {
     ghost use Rattle.std.specs.Prelude.{Some};
     ghost use Rattle.lexopt_options.specs.Messages.{message, refusal_text};
 
-    ghost output = { λ refused. Some (refusal_text refused.program.now (message refused.mistake)) };
+    ghost output = { λ refused. Some (refusal_text refused.program.now refused.help
+        (message refused.mistake)) };
 
-    /// Writes two lines, as GNU programs do: the name of the program and the mistake, and where
-    /// help is.
+    /// Writes the name of the program and the mistake, as GNU programs do, and on a second line
+    /// where help is, if an option for it is declared.
     fn fmt<W: fmt::Write>(&self, f: &mut fmt::Formatter<W>) -> fmt::Result {
         let program = self.program;
         let mistake = &self.mistake;
-        write!(
-            f,
-            "{program}: {mistake}\nTry '{program} --help' for more information."
-        )
+        write!(f, "{program}: {mistake}")?;
+        write_help(program, self.help, f)
     }
 }
 
-impl Refused<'_> {
-    /// The status that a program ends with after such a line, or after an `InvalidValue`.
-    pub const STATUS: u8 = 2;
-}
+impl<F: Debug + Drop, V: Debug + Drop, M: Debug + Drop, S: Debug + Drop> std::error::Error
+    for Refused<'_, F, V, M, S> {}
 
-/// Why `Options::read` gives no list.
-#[derive(Drop)]
-pub enum ReadError<'a> {
-    /// The line has a mistake.
-    Refused(Refused<'a>),
-    /// Memory ran out. It says nothing about the line.
-    OutOfMemory,
-}
-
-impl fmt::Display for ReadError<'_> {
-    ghost use Rattle.std.specs.Prelude.{Some};
-    ghost use Rattle.lexopt_options.specs.Messages.{error_text};
-
-    ghost output = { λ error. Some (error_text error) };
-
-    /// Writes the two lines of the refusal, or `out of memory`.
-    fn fmt<W: fmt::Write>(&self, f: &mut fmt::Formatter<W>) -> fmt::Result {
-        match self {
-            ReadError::Refused(refused) => write!(f, "{refused}"),
-            ReadError::OutOfMemory => write_no_memory(f),
-        }
-    }
-}
-
-impl From<AllocError> for ReadError<'_> {
-    ghost use Rattle.std.specs.Prelude.{◌≡◌};
-    ghost use Rattle.lexopt_options.specs.declared.refused.ReadError.TheVariants.{OutOfMemory};
-
-    ghost from_gives = { λ _ error. error ≡ OutOfMemory };
-
-    fn from(_error: AllocError) -> Self {
-        ReadError::OutOfMemory
-    }
-}
-
-impl<'a> From<Refused<'a>> for ReadError<'a> {
-    ghost use Rattle.std.specs.Prelude.{◌≡◌};
-    ghost use Rattle.lexopt_options.specs.declared.refused.ReadError.TheVariants as error;
-
-    ghost from_gives = { λ refused e. e ≡ error.Refused refused };
-
-    fn from(refused: Refused<'a>) -> ReadError<'a> {
-        ReadError::Refused(refused)
-    }
+/// What a line comes to.
+#[derive(Debug, Drop)]
+pub enum Line<'a, F, V = Infallible, M = Infallible, S = Infallible> {
+    /// It is legal, and says this.
+    Said(Vec<Said<F, V, M, S>>),
+    /// It asks for the help or the version before any mistake.
+    Asked(Asked<'a>),
+    /// It has a mistake.
+    Refused(Refused<'a, F, V, M, S>),
 }

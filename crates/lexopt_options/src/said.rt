@@ -1,41 +1,38 @@
-//! What a line says, by the options of a declaration.
-ghost use Rattle.std.specs.Prelude.{◌≡◌, ◌↔◌, IsTrue};
-ghost use Rattle.lexopt_options_spec.specs.Legal.{counts};
-ghost use Rattle.lexopt_options.specs.Reading.{said_with, said_view};
-
-use lexopt_items::values::Values;
+//! What a line says, by the keys of a declaration.
 use lexopt_words::os_string::OsString;
+use std::convert::Infallible;
 
-/// What a line says, in order.
+/// What a line says, in order: each option by the program's key for it, whichever of its names was
+/// typed.
 #[derive(Debug, PartialEq, Eq, Drop)]
-pub enum Said {
-    /// The option of this index in the declaration, whichever of its names was typed, with its
-    /// value if it has one.
-    Option(usize, Option<OsString>),
-    /// The option of this index, which has several values, with all of them: one at least.
-    Several(usize, Vec<OsString>),
+pub enum Said<F, V = Infallible, M = Infallible, S = Infallible> {
+    /// A flag.
+    Flag(F),
+    /// An option and its value.
+    Value(V, OsString),
+    /// An option whose value may be left out, and its value if there is one.
+    Maybe(M, Option<OsString>),
+    /// An option of several values, and all of them: one at least.
+    Values(S, Vec<OsString>),
     /// A word that is not an option, or that comes after the separator.
     Positional(OsString),
 }
 
-impl Said {
-    /// Whether it is a positional argument.
-    pub fn is_positional(&self) -> bool
-        ensures { IsTrue result ↔ (counts (said_view self.now) ≡ 1) }
-    {
-        match self {
-            Said::Positional(_) => true,
-            Said::Option(_, _) | Said::Several(_, _) => false,
-        }
-    }
+/// What a line asks for in place of the program's work.
+#[derive(Debug, Clone, Copy, PartialEq, Eq)]
+pub enum Asked<'a> {
+    /// The help.
+    Help,
+    /// The version, which is this text.
+    Version(&'a str),
+}
 
-    // An option with these values.
-    pub(crate) fn of_values(index: usize, values: Values) -> Said
-        ensures { said_view result ≡ said_with index values }
-    {
-        match values {
-            Values::AtMostOne(value) => Said::Option(index, value),
-            Values::All(values) => Said::Several(index, values),
-        }
-    }
+// What one option or word tells: something for the program, or that the help or the version is
+// asked for.
+#[derive(Drop)]
+pub enum Told<'a, F, V, M, S> {
+    // Something for the program.
+    Said(Said<F, V, M, S>),
+    // The help or the version is asked for.
+    Asked(Asked<'a>),
 }

@@ -12,9 +12,9 @@ use lexopt_items::items::Table;
 use std::alloc::{AllocError, Global};
 
 // Adds the names of an option to these.
-fn add_names(
+fn add_names<F, V, M, S>(
     alloc: Global,
-    option: &Declared<'_>,
+    option: &Declared<'_, F, V, M, S>,
     shorts: &mut Vec<char>,
     longs: &mut Vec<String>,
 ) -> Result<(), AllocError>
@@ -31,20 +31,24 @@ fn add_names(
 }
 
 // Adds an option to the table.
-fn add_option(alloc: Global, option: &Declared<'_>, table: &mut Table) -> Result<(), AllocError>
+fn add_option<F, V, M, S>(
+    alloc: Global,
+    option: &Declared<'_, F, V, M, S>,
+    table: &mut Table,
+) -> Result<(), AllocError>
     ensures { OnOk result (AddsOption (option_view option.now) (table_view table.old)
         (table_view table.new)) }
 {
     match option.kind {
-        Kind::Flag => Ok(()),
-        Kind::One(_) => add_names(alloc, option, &mut table.shorts, &mut table.longs),
-        Kind::Optional(_) => add_names(
+        Kind::Flag(_) | Kind::Help | Kind::Version(_) => Ok(()),
+        Kind::Value(_, _) => add_names(alloc, option, &mut table.shorts, &mut table.longs),
+        Kind::Maybe(_, _) => add_names(
             alloc,
             option,
             &mut table.optional_shorts,
             &mut table.optional_longs,
         ),
-        Kind::Several(_) => add_names(
+        Kind::Values(_, _) => add_names(
             alloc,
             option,
             &mut table.several_shorts,
@@ -53,7 +57,7 @@ fn add_option(alloc: Global, option: &Declared<'_>, table: &mut Table) -> Result
     }
 }
 
-impl Options<'_> {
+impl<F, V, M, S> Options<'_, F, V, M, S> {
     /// The table that `read_items` takes: which of the options have values, and how many.
     ///
     /// The only error is that memory ran out.

@@ -17,7 +17,7 @@ use Rattle.lexopt_line_spec.proofs.RunAccounts.{step_line}
 use Rattle.lexopt_line_spec.proofs.WholeLines.{said_shows, shown_said}
 use Rattle.lexopt_options_spec.specs.Declaration.{Declaration, Declared, index_of, is_sound, table}
 use Rattle.lexopt_options_spec.specs.Legal.{Said, said_item, positional, positional_count, least, most, IsWithin, SaysFront, Says}
-use Rattle.lexopt_options_spec.specs.Stops.{Mistake, Stops, not_declared, value_of_flag, no_value, one_too_many, too_few, StopsAt, missing_argument}
+use Rattle.lexopt_options_spec.specs.Stops.{Mistake, ReadsUpTo, Stops, not_declared, value_of_flag, no_value, one_too_many, too_few, StopsAt, missing_argument}
 use Rattle.lexopt_options_spec.proofs.Sound.{whole_names}
 use Rattle.lexopt_options_spec.proofs.Lists.{Later, split, first_none, first_is, same_somes, count_append}
 
@@ -138,3 +138,15 @@ stops_whole d words before mistake other there is (one_too_many word v step limi
 -- nothing is said by words whose reading stops
 pub nothing_said : (d : Declaration) (words : List (List ℕ)) (before : List Said) (mistake : Mistake) → StopsAt d words before mistake → (l : List Said) → Says d words l → ⊥
 nothing_said d words before mistake there l says = stops_whole d words before mistake mistake there refl there.stops l says
+
+-- ---- what a front of a line says
+
+-- what words say begins with what was read of them
+pub front_later : (d : Declaration) (words : List (List ℕ)) (before : List Said) (there : UnreadLine) → ReadsUpTo d (start d.short_equals words) before there → (l : List Said) → SaysFront d words l
+    → (later : List Said) × (l ≡ before ++ later)
+front_later d words before there read l says =
+    let r = some_reading (table d.options) there read.line in
+    let said = shown_said (table d.options) d.short_equals words says.items (read.items ++ r.1) r.0
+    (spelled_shows (table d.options) d.short_equals words says.items says.spelled) (read.read r.0 r.1 r.2) in
+    let rest = split (said_item d.options) read.items r.1 before l read.said (sym (ap (map (said_item d.options)) said.1) ∙ says.said) in
+    (rest.later, rest.all_are)

@@ -2,6 +2,7 @@ pub mod Lists
 pub mod Texts
 pub mod FaultLemmas
 pub mod Sound
+pub mod Declarable
 pub mod Fronts
 pub mod Distance
 pub mod Nearest

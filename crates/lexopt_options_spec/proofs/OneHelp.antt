@@ -6,8 +6,8 @@ use Rattle.std.proofs.lemmas.List.Sums.{sum_by-append}
 use Rattle.std.proofs.Math.Seq.{take-append_seam}
 use Rattle.std.specs.Prelude.{Contains}
 use Rattle.std.specs.List.{AllZip, concat, flat_map, sum_by}
-use Rattle.lexopt_options_spec.specs.Declaration.{Declared, Declaration}
-use Rattle.lexopt_options_spec.specs.Help.{columns, help_column, blanks, Line, line_columns, Fits, AllFit, AreFull, Wraps, below, gap, entry, label, words_of, IsEntry, IsUsage, IsAbout, IsHelp, usage_words, usage_column, about_text, before_entries, line_feed}
+use Rattle.lexopt_options_spec.specs.Declaration.{Declared, Declaration, Positional}
+use Rattle.lexopt_options_spec.specs.Help.{columns, help_column, blanks, Line, line_columns, Fits, AllFit, AreFull, Wraps, below, gap, entry, label, words_of, IsEntry, IsUsage, IsParagraph, IsHelp, usage_words, usage_column, paragraph, described, visible, set_apart, line_feed}
 use Rattle.lexopt_options_spec.proofs.Wrapping.{some_wrapping}
 
 abbrev words_in : List Line → List (List ℕ)
@@ -68,20 +68,6 @@ one_wrapping limit (l ∷ ls) (m ∷ ms) same f g h k =
     let rest : words_in ls ≡ words_in ms = append_cancel_left m (words_in ls) (words_in ms) (ap (λ (x : Line). x ++ words_in ls) (sym e) ∙ same) in
     ap (λ (x : Line). x ∷ ls) e ∙ ap (λ (x : List Line). m ∷ x) (one_wrapping limit ls ms rest f.1 g.1 (full_tail limit l ls h) (full_tail limit m ms k))
 
-one_entry : (width : ℕ) (o : Declared) (s t : List ℕ) → IsEntry width o s → IsEntry width o t → s ≡ t
-one_entry width o s t a b =
-    a.written
-    ∙ ap (entry (help_column width) (label o)) (one_wrapping (width - help_column width) a.lines b.lines (a.wrapped.in_order ∙ sym b.wrapped.in_order) a.wrapped.fit b.wrapped.fit a.wrapped.full b.wrapped.full)
-    ∙ sym b.written
-
-same_entries : (width : ℕ) (os : List Declared) (es fs : List (List ℕ)) → AllZip (IsEntry width) os es → AllZip (IsEntry width) os fs → es ≡ fs
-same_entries width [] [] [] a b = refl
-same_entries width [] [] (f ∷ fs) a b = absurd b
-same_entries width [] (e ∷ es) fs a b = absurd a
-same_entries width (o ∷ os) [] fs a b = absurd a
-same_entries width (o ∷ os) (e ∷ es) [] a b = absurd b
-same_entries width (o ∷ os) (e ∷ es) (f ∷ fs) a b = ap (λ (x : List ℕ). x ∷ es) (one_entry width o e f a.0 b.0) ∙ ap (λ (x : List (List ℕ)). f ∷ x) (same_entries width os es fs a.1 b.1)
-
 same_lines : (limit : ℕ) (words : List (List ℕ)) (ls ms : List Line) → Wraps limit words ls → Wraps limit words ms → ls ≡ ms
 same_lines limit words ls ms a b = one_wrapping limit ls ms (a.in_order ∙ sym b.in_order) a.fit b.fit a.full b.full
 
@@ -89,53 +75,75 @@ pub one_usage : (d : Declaration) (width : ℕ) (s t : List ℕ) → IsUsage wid
 one_usage d width s t a b =
     a.written ∙ ap (λ (l : List Line). codes "Usage: " ++ below usage_column l ++ line_feed ∷ []) (same_lines (width - usage_column) (usage_words d) a.lines b.lines a.wrapped b.wrapped) ∙ sym b.written
 
-one_about : (width : ℕ) (about s t : List ℕ) → IsAbout width about s → IsAbout width about t → s ≡ t
-one_about width about s t a b = a.written ∙ ap about_text (same_lines width (words_of about) a.lines b.lines a.wrapped b.wrapped) ∙ sym b.written
+one_entry : (width : ℕ) (shown help s t : List ℕ) → IsEntry width shown help s → IsEntry width shown help t → s ≡ t
+one_entry width shown help s t a b =
+    a.written ∙ ap (entry (help_column width) shown) (same_lines (width - help_column width) (words_of help) a.lines b.lines a.wrapped b.wrapped) ∙ sym b.written
+
+one_paragraph : (width : ℕ) (content s t : List ℕ) → IsParagraph width content s → IsParagraph width content t → s ≡ t
+one_paragraph width content s t a b = a.written ∙ ap paragraph (same_lines width (words_of content) a.lines b.lines a.wrapped b.wrapped) ∙ sym b.written
+
+-- where each has one text, so have all
+same_texts : {X : Type 0} (Is : X → List ℕ → Type 0) → ((x : X) (s t : List ℕ) → Is x s → Is x t → s ≡ t) → (xs : List X) (ss ts : List (List ℕ)) → AllZip Is xs ss → AllZip Is xs ts → ss ≡ ts
+same_texts Is one [] [] [] a b = refl
+same_texts Is one [] [] (t ∷ ts) a b = absurd b
+same_texts Is one [] (s ∷ ss) ts a b = absurd a
+same_texts Is one (x ∷ xs) [] ts a b = absurd a
+same_texts Is one (x ∷ xs) (s ∷ ss) [] a b = absurd b
+same_texts Is one (x ∷ xs) (s ∷ ss) (t ∷ ts) a b = ap (λ (e : List ℕ). e ∷ ss) (one x s t a.0 b.0) ∙ ap (λ (es : List (List ℕ)). t ∷ es) (same_texts Is one xs ss ts a.1 b.1)
 
 pub one_help : (d : Declaration) (width : ℕ) (s t : List ℕ) → IsHelp d width s → IsHelp d width t → s ≡ t
 one_help d width s t a b =
-    a.written ∙ ap (λ (u : List ℕ). u ++ a.about ++ before_entries d.options ++ concat a.entries) (one_usage d width a.usage b.usage a.usage_first b.usage_first)
-    ∙ ap (λ (x : List ℕ). b.usage ++ x ++ before_entries d.options ++ concat a.entries) (one_about width d.about a.about b.about a.about_next b.about_next)
-    ∙ ap (λ (l : List (List ℕ)). b.usage ++ b.about ++ before_entries d.options ++ concat l) (same_entries width d.options a.entries b.entries a.one_for_each b.one_for_each)
-    ∙ sym b.written
+    let usage = one_usage d width a.usage b.usage a.usage_first b.usage_first in
+    let about = one_paragraph width d.about a.about b.about a.about_next b.about_next in
+    let positionals = same_texts (λ (p : Positional). IsEntry width p.placeholder p.help) (λ p. one_entry width p.placeholder p.help) (described d.positionals) a.positionals b.positionals a.each_positional b.each_positional in
+    let options = same_texts (λ (o : Declared). IsEntry width (label o) o.help) (λ o. one_entry width (label o) o.help) (visible d.options) a.options b.options a.each_option b.each_option in
+    let epilogue = same_texts (IsParagraph width) (one_paragraph width) d.epilogue a.epilogue b.epilogue a.each_paragraph b.each_paragraph in
+    cc (a.written, b.written)
 
 -- ---- a declaration has a help
-
-some_entry : (width : ℕ) (o : Declared) → (text : List ℕ) × IsEntry width o text
-some_entry width o =
-    let w = some_wrapping (width - help_column width) (words_of o.help) in
-    (entry (help_column width) (label o) w.0, record { lines = w.0; wrapped = w.1; written = refl })
-
-some_entries : (width : ℕ) (os : List Declared) → (es : List (List ℕ)) × AllZip (IsEntry width) os es
-some_entries width [] = ([], tt)
-some_entries width (o ∷ os) =
-    let e = some_entry width o in
-    let es = some_entries width os in
-    (e.0 ∷ es.0, (e.1, es.1))
 
 pub some_usage : (d : Declaration) (width : ℕ) → (text : List ℕ) × IsUsage width d text
 some_usage d width =
     let w = some_wrapping (width - usage_column) (usage_words d) in
     (codes "Usage: " ++ below usage_column w.0 ++ line_feed ∷ [], record { lines = w.0; wrapped = w.1; written = refl })
 
-some_about : (width : ℕ) (about : List ℕ) → (text : List ℕ) × IsAbout width about text
-some_about width about =
-    let w = some_wrapping width (words_of about) in
-    (about_text w.0, record { lines = w.0; wrapped = w.1; written = refl })
+some_entry : (width : ℕ) (shown help : List ℕ) → (text : List ℕ) × IsEntry width shown help text
+some_entry width shown help =
+    let w = some_wrapping (width - help_column width) (words_of help) in
+    (entry (help_column width) shown w.0, record { lines = w.0; wrapped = w.1; written = refl })
+
+some_paragraph : (width : ℕ) (content : List ℕ) → (text : List ℕ) × IsParagraph width content text
+some_paragraph width content =
+    let w = some_wrapping width (words_of content) in
+    (paragraph w.0, record { lines = w.0; wrapped = w.1; written = refl })
+
+-- where each has a text, so have all
+some_texts : {X : Type 0} (Is : X → List ℕ → Type 0) → ((x : X) → (text : List ℕ) × Is x text) → (xs : List X) → (texts : List (List ℕ)) × AllZip Is xs texts
+some_texts Is some [] = ([], tt)
+some_texts Is some (x ∷ xs) =
+    let t = some x in
+    let ts = some_texts Is some xs in
+    (t.0 ∷ ts.0, (t.1, ts.1))
 
 pub some_help : (d : Declaration) (width : ℕ) → (text : List ℕ) × IsHelp d width text
 some_help d width =
     let u = some_usage d width in
-    let a = some_about width d.about in
-    let es = some_entries width d.options in (
-      u.0 ++ a.0 ++ before_entries d.options ++ concat es.0,
+    let a = some_paragraph width d.about in
+    let ps = some_texts (λ (p : Positional). IsEntry width p.placeholder p.help) (λ p. some_entry width p.placeholder p.help) (described d.positionals) in
+    let os = some_texts (λ (o : Declared). IsEntry width (label o) o.help) (λ o. some_entry width (label o) o.help) (visible d.options) in
+    let es = some_texts (IsParagraph width) (some_paragraph width) d.epilogue in (
+      u.0 ++ a.0 ++ set_apart (concat ps.0) ++ set_apart (concat os.0) ++ flat_map set_apart es.0,
       record {
         usage = u.0;
         about = a.0;
-        entries = es.0;
+        positionals = ps.0;
+        options = os.0;
+        epilogue = es.0;
         usage_first = u.1;
         about_next = a.1;
-        one_for_each = es.1;
+        each_positional = ps.1;
+        each_option = os.1;
+        each_paragraph = es.1;
         written = refl;
       },
     )
@@ -155,8 +163,8 @@ narrow_by width column wide n within (inr one) = inr one
 narrow : (width column : ℕ) (lines : List Line) (line : Line) → column ≤ width → AllFit (width - column) lines → Contains lines line → (column + line_columns line ≤ width) ⊎ (length line ≡ 1)
 narrow width column lines line within fit there = narrow_by width column (line_columns line) (length line) within (fits_at (width - column) lines line fit there).narrow
 
-pub narrow_entry : (width : ℕ) (o : Declared) (text : List ℕ) (e : IsEntry width o text) (line : Line) → Contains e.lines line → (help_column width + line_columns line ≤ width) ⊎ (length line ≡ 1)
-narrow_entry width o text e line there = narrow width (help_column width) e.lines line (omega arith) e.wrapped.fit there
+pub narrow_entry : (width : ℕ) (shown help text : List ℕ) (e : IsEntry width shown help text) (line : Line) → Contains e.lines line → (help_column width + line_columns line ≤ width) ⊎ (length line ≡ 1)
+narrow_entry width shown help text e line there = narrow width (help_column width) e.lines line (omega arith) e.wrapped.fit there
 
 -- where the width is less than the column, no line has two words
 no_room : (width column : ℕ) (line : Line) → width < column → 0 < length line → (line_columns line ≤ width - column) ⊎ (length line ≡ 1) → length line ≡ 1
@@ -172,8 +180,8 @@ narrow_or_one width column line fits = ⊎_elim
 pub narrow_usage : (width : ℕ) (d : Declaration) (text : List ℕ) (u : IsUsage width d text) (line : Line) → Contains u.lines line → (usage_column + line_columns line ≤ width) ⊎ (length line ≡ 1)
 narrow_usage width d text u line there = narrow_or_one width usage_column line (fits_at (width - usage_column) u.lines line u.wrapped.fit there)
 
-pub narrow_about : (width : ℕ) (about text : List ℕ) (a : IsAbout width about text) (line : Line) → Contains a.lines line → (line_columns line ≤ width) ⊎ (length line ≡ 1)
-narrow_about width about text a line there = (fits_at width a.lines line a.wrapped.fit there).narrow
+pub narrow_paragraph : (width : ℕ) (content text : List ℕ) (p : IsParagraph width content text) (line : Line) → Contains p.lines line → (line_columns line ≤ width) ⊎ (length line ≡ 1)
+narrow_paragraph width content text p line there = (fits_at width p.lines line p.wrapped.fit there).narrow
 
 pub gap_same_line : (column : ℕ) (text : List ℕ) → columns text + 4 ≤ column → (n : ℕ) × (2 ≤ n) × (gap column text ≡ blanks n) × (2 + columns text + n ≡ column)
 gap_same_line column text room =

@@ -1,11 +1,11 @@
 -- Words put on lines one after another.
-use Rattle.std.proofs.Common.{◌≡◌, ◌≤◌, ◌<◌, ℕ, ◌+◌, ◌-◌, true, false, cond, nat_lt, List, [], ◌∷◌, ◌++◌, length, take, refl, sym, ap, subst, ◌∙◌, arith, inl, inr, append-nil, append_assoc, length-append, ltb-true, ltb-false, Bor, map, get_or}
-use Rattle.std.proofs.lemmas.List.{map-append, take_more}
+use Rattle.std.proofs.Common.{◌≡◌, ◌≤◌, ◌<◌, ℕ, ◌+◌, ◌-◌, true, false, cond, nat_lt, List, [], ◌∷◌, ◌++◌, length, take, refl, sym, ap, subst, ◌∙◌, arith, inl, inr, append-nil, append_assoc, length-append, ltb-true, ltb-false, Bool, Bor, map, get_or}
+use Rattle.std.proofs.lemmas.List.{map-append, take_more, flat_map_more}
+use Rattle.std.proofs.lemmas.List.Elements.{filter-append}
 use Rattle.std.proofs.lemmas.List.Sums.{sum_by-append}
 use Rattle.std.proofs.lemmas.Grind.{flat_map-append}
-use Rattle.std.specs.List.{AllZip, concat, flat_map, sum_by}
-use Rattle.lexopt_options_spec.specs.Help.{columns, blank, blanks, line_feed, Line, line_text, line_columns, Fits, AllFit, AreFull, Wraps, below, IsEntry}
-use Rattle.lexopt_options_spec.specs.Declaration.{Declared}
+use Rattle.std.specs.List.{AllZip, filter, flat_map, sum_by}
+use Rattle.lexopt_options_spec.specs.Help.{columns, blank, blanks, line_feed, Line, line_text, line_columns, Fits, AllFit, AreFull, Wraps, below}
 
 -- ---- the columns of a line
 
@@ -191,40 +191,58 @@ pub some_wrapping : (limit : ℕ) (words : List (List ℕ)) → (lines : List Li
 some_wrapping limit [] = ([], record { in_order = refl; fit = tt; full = tt })
 some_wrapping limit (word ∷ words) = all_written limit 0 [] (word ∷ []) words _ _ (first_written limit 0 [] word)
 
--- ---- so many entries are written
+-- ---- texts one after another
 
--- after these bytes stand the entries of these options
-pub record Entered (width : ℕ) (before : List ℕ) (options : List Declared) (text : List ℕ) : Type 0 where
-  pub entries : List (List ℕ)
-  pub one_for_each : AllZip (IsEntry width) options entries
-  pub text_is : text ≡ before ++ concat entries
+-- these bytes, and then a text for each of these, put there in this way
+pub record Listed {X : Type 0} (Is : X → List ℕ → Type 0) (put : List ℕ → List ℕ) (before : List ℕ) (xs : List X) (text : List ℕ) : Type 0 where
+  pub texts : List (List ℕ)
+  pub each : AllZip Is xs texts
+  pub text_is : text ≡ before ++ flat_map put texts
 
-AllZip-more : (width : ℕ) (os : List Declared) (ts : List (List ℕ)) (o : Declared) (t : List ℕ) → AllZip (IsEntry width) os ts → IsEntry width o t → AllZip (IsEntry width) (os ++ o ∷ []) (ts ++ t ∷ [])
-AllZip-more width [] [] o t all is = (is, tt)
-AllZip-more width [] (y ∷ ys) o t all is = absurd all
-AllZip-more width (x ∷ xs) [] o t all is = absurd all
-AllZip-more width (x ∷ xs) (y ∷ ys) o t all is = (all.0, AllZip-more width xs ys o t all.1 is)
+AllZip-more : {X : Type 0} (Is : X → List ℕ → Type 0) (xs : List X) (ts : List (List ℕ)) (x : X) (t : List ℕ) → AllZip Is xs ts → Is x t → AllZip Is (xs ++ x ∷ []) (ts ++ t ∷ [])
+AllZip-more Is [] [] x t all is = (is, tt)
+AllZip-more Is [] (y ∷ ys) x t all is = absurd all
+AllZip-more Is (z ∷ zs) [] x t all is = absurd all
+AllZip-more Is (z ∷ zs) (y ∷ ys) x t all is = (all.0, AllZip-more Is zs ys x t all.1 is)
 
-concat-more : (ts : List (List ℕ)) (t : List ℕ) → concat (ts ++ t ∷ []) ≡ concat ts ++ t
-concat-more [] t = append-nil t
-concat-more (x ∷ xs) t = ap (λ l. x ++ l) (concat-more xs t) ∙ sym (append_assoc x (concat xs) t)
+pub none_listed : {X : Type 0} (Is : X → List ℕ → Type 0) (put : List ℕ → List ℕ) (before : List ℕ) → Listed Is put before [] before
+none_listed Is put before = record { texts = []; each = tt; text_is = sym (append-nil before) }
 
-pub none_entered : (width : ℕ) (before : List ℕ) → Entered width before [] before
-none_entered width before = record { entries = []; one_for_each = tt; text_is = sym (append-nil before) }
-
-pub one_entered : (width : ℕ) (before : List ℕ) (options : List Declared) (text : List ℕ) (o : Declared) (t : List ℕ) → Entered width before options text → IsEntry width o t
-    → Entered width before (options ++ o ∷ []) (text ++ t)
-one_entered width before options text o t e is = record {
-  entries = e.entries ++ t ∷ [];
-  one_for_each = AllZip-more width options e.entries o t e.one_for_each is;
-  text_is = ap (λ l. l ++ t) e.text_is ∙ append_assoc before (concat e.entries) t ∙ ap (λ l. before ++ l) (sym (concat-more e.entries t));
+pub one_listed : {X : Type 0} (Is : X → List ℕ → Type 0) (put : List ℕ → List ℕ) (before : List ℕ) (xs : List X) (text : List ℕ) (x : X) (t : List ℕ) → Listed Is put before xs text → Is x t
+    → Listed Is put before (xs ++ x ∷ []) (text ++ put t)
+one_listed Is put before xs text x t l is = record {
+  texts = l.texts ++ t ∷ [];
+  each = AllZip-more Is xs l.texts x t l.each is;
+  text_is = ap (λ bs. bs ++ put t) l.text_is ∙ flat_map_more put before l.texts t;
 }
 
--- after one entry more
-pub entered_next : {O : Type 0} (view : O → Declared) (width : ℕ) (before : List ℕ) (options : List O) (i : ℕ) (d : O) (text t more : List ℕ) → i < length options
-    → Entered width before (map view (take i options)) text → IsEntry width (view (get_or options i d)) more → t ≡ text ++ more → Entered width before (map view (take (i + 1) options)) t
-entered_next {O} view width before options i d text t more within e is same =
-    subst (λ (l : List O). Entered width before (map view l) t) (sym (take_more options i d within))
-    (subst (λ (l : List Declared). Entered width before l t) (sym (map-append view (take i options) (get_or options i d ∷ [])))
-    (subst (λ (l : List ℕ). Entered width before (map view (take i options) ++ view (get_or options i d) ∷ []) l) (sym same)
-    (one_entered width before (map view (take i options)) text (view (get_or options i d)) more e is)))
+module _ {O X : Type 0} (view : O → X) (Is : X → List ℕ → Type 0) (put : List ℕ → List ℕ) (before : List ℕ) (all : List O) (i : ℕ) (d : O) (text : List ℕ) (within : i < length all) where
+  viewed_more : map view (take (i + 1) all) ≡ map view (take i all) ++ view (get_or all i d) ∷ []
+  viewed_more = ap (map view) (take_more all i d within) ∙ map-append view (take i all) (get_or all i d ∷ [])
+
+  filtered_more : (test : X → Bool) (b : Bool) → test (view (get_or all i d)) ≡ b
+      → filter test (map view (take (i + 1) all)) ≡ filter test (map view (take i all)) ++ cond b (view (get_or all i d) ∷ []) []
+  filtered_more test b is =
+      ap (filter test) viewed_more ∙ filter-append test (map view (take i all)) (view (get_or all i d) ∷ [])
+      ∙ ap (λ (c : Bool). filter test (map view (take i all)) ++ cond c (view (get_or all i d) ∷ []) []) is
+
+  -- after one more
+  pub listed_next : (t more : List ℕ) → Listed Is put before (map view (take i all)) text → Is (view (get_or all i d)) more → t ≡ text ++ put more
+      → Listed Is put before (map view (take (i + 1) all)) t
+  listed_next t more l is same =
+      subst (λ (xs : List X). Listed Is put before xs t) (sym viewed_more)
+      (subst (λ (bs : List ℕ). Listed Is put before (map view (take i all) ++ view (get_or all i d) ∷ []) bs) (sym same) (one_listed Is put before (map view (take i all)) text (view (get_or all i d)) more l is))
+
+  -- after one more that passes the test
+  pub listed_kept : (test : X → Bool) (t more : List ℕ) → test (view (get_or all i d)) ≡ true → Listed Is put before (filter test (map view (take i all))) text → Is (view (get_or all i d)) more → t ≡ text ++ put more
+      → Listed Is put before (filter test (map view (take (i + 1) all))) t
+  listed_kept test t more passes l is same =
+      subst (λ (xs : List X). Listed Is put before xs t) (sym (filtered_more test true passes))
+      (subst (λ (bs : List ℕ). Listed Is put before (filter test (map view (take i all)) ++ view (get_or all i d) ∷ []) bs) (sym same)
+      (one_listed Is put before (filter test (map view (take i all))) text (view (get_or all i d)) more l is))
+
+  -- after one more that does not
+  pub listed_left_out : (test : X → Bool) → test (view (get_or all i d)) ≡ false → Listed Is put before (filter test (map view (take i all))) text
+      → Listed Is put before (filter test (map view (take (i + 1) all))) text
+  listed_left_out test fails l =
+      subst (λ (xs : List X). Listed Is put before xs text) (sym (filtered_more test false fails ∙ append-nil (filter test (map view (take i all))))) l

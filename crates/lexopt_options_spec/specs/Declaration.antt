@@ -9,6 +9,12 @@ use Rattle.lexopt_spec.specs.Pieces.{replacement, lossy_characters}
 use Rattle.lexopt_spec.specs.UnreadLine.{dash, equals}
 use Rattle.lexopt_line_spec.specs.Table.{Name, short, long, Kind, flag, one, optional, several, Table}
 
+-- what an option asks for in place of the program's work
+pub data Asked : Type 0 where
+  for_help : Asked
+  -- for this text
+  for_version : List ℕ → Asked
+
 -- an option: with one name at least
 pub record Declared : Type 0 where
   pub short_name : Option ℕ
@@ -16,8 +22,12 @@ pub record Declared : Type 0 where
   pub kind : Kind
   -- what stands for its value in messages and in the help: empty if it is a flag
   pub placeholder : List ℕ
-  -- what the help says of it
+  -- what the help tells of it
   pub help : List ℕ
+  -- what it asks for, unless it is an option of the program's own
+  pub asks : Option Asked
+  -- the help leaves it out
+  pub hidden : Bool
 
 -- how often a positional argument may stand
 pub data Count : Type 0 where
@@ -28,6 +38,8 @@ pub data Count : Type 0 where
 pub record Positional : Type 0 where
   pub placeholder : List ℕ
   pub count : Count
+  -- what the help tells of it: it has no entry if this has no word
+  pub help : List ℕ
 
 pub record Declaration : Type 0 where
   -- the program's name
@@ -36,6 +48,8 @@ pub record Declaration : Type 0 where
   pub about : List ℕ
   pub options : List Declared
   pub positionals : List Positional
+  -- paragraphs at the end of the help
+  pub epilogue : List (List ℕ)
   -- in a cluster, `=` stands between an option and its value
   pub short_equals : Bool
 

@@ -1,4 +1,4 @@
--- The help of declared options: lines of words, its labels, and its usage line.
+-- The help of declared options: lines of words, labels, entries, the usage line, and the whole.
 -- The source is `docs/behaviour.md`, after the GNU Coding Standards and what `ls --help` prints.
 -- Texts are their UTF-8. Columns are counted from 0.
 use Rattle.std.specs.Prelude.{◌≡◌, ◌≤◌, ◌<◌, ◌⊎◌, ℕ, ◌+◌, ◌-◌, ◌/◌, min, nat_le, ◌==◌, not}
@@ -21,7 +21,7 @@ use Rattle.lexopt_options_spec.specs.Declaration.{at_most_once, any_number, is_e
 unfoldable pub columns : List ℕ → ℕ
 columns text = length (grapheme_spans text)
 
--- the column where the help of an option begins: 24, or a third of the width if that is less
+-- the column where the help of an entry begins: 24, or a third of the width if that is less
 abbrev pub help_column : ℕ → ℕ
 help_column width = min 24 (width / 3)
 
@@ -196,7 +196,7 @@ pub record Wraps (limit : ℕ) (words : List (List ℕ)) (lines : List Line) : T
 abbrev pub below : ℕ → List Line → List ℕ
 below column lines = join_by line_text (line_feed ∷ blanks column) lines
 
--- ---- the entry of an option
+-- ---- an entry
 
 -- what stands between a label and its help, which begins at this column: on the same line, if the
 -- label and the two blanks before it end two columns before that; else on the next one
@@ -214,13 +214,17 @@ beside column text (line ∷ lines) = gap column text ++ below column (line ∷ 
 abbrev pub entry : ℕ → List ℕ → List Line → List ℕ
 entry column text lines = codes "  " ++ text ++ beside column text lines ++ line_feed ∷ []
 
--- the text is the entry of this option
-pub record IsEntry (width : ℕ) (o : Declared) (text : List ℕ) : Type 0 where
+-- the text is the entry of this label, with this help
+pub record IsEntry (width : ℕ) (label help text : List ℕ) : Type 0 where
   pub lines : List Line
-  pub wrapped : Wraps (width - help_column width) (words_of o.help) lines
-  pub written : text ≡ entry (help_column width) (label o) lines
+  pub wrapped : Wraps (width - help_column width) (words_of help) lines
+  pub written : text ≡ entry (help_column width) label lines
 
 -- ---- the usage line
+
+-- the options that are not hidden
+abbrev pub visible : List Declared → List Declared
+visible options = filter (λ o. not o.hidden) options
 
 -- a mark for the options, if there are any
 abbrev pub options_mark : List Declared → List (List ℕ)
@@ -237,7 +241,7 @@ positional_mark p = counted p.count p.placeholder
 
 -- the name of the program, and what it can be called with
 abbrev pub usage_words : Declaration → List (List ℕ)
-usage_words d = d.program ∷ options_mark d.options ++ map positional_mark d.positionals
+usage_words d = d.program ∷ options_mark (visible d.options) ++ map positional_mark d.positionals
 
 -- the column where they begin
 abbrev pub usage_column : ℕ
@@ -249,33 +253,43 @@ pub record IsUsage (width : ℕ) (d : Declaration) (text : List ℕ) : Type 0 wh
   pub wrapped : Wraps (width - usage_column) (usage_words d) lines
   pub written : text ≡ codes "Usage: " ++ below usage_column lines ++ line_feed ∷ []
 
--- ---- what the program does
+-- ---- a paragraph
 
 -- the lines, if there are any
-abbrev pub about_text : List Line → List ℕ
-about_text [] = []
-about_text (line ∷ lines) = below 0 (line ∷ lines) ++ line_feed ∷ []
+abbrev pub paragraph : List Line → List ℕ
+paragraph [] = []
+paragraph (line ∷ lines) = below 0 (line ∷ lines) ++ line_feed ∷ []
 
--- the text says this on lines
-pub record IsAbout (width : ℕ) (about text : List ℕ) : Type 0 where
+-- the text has the words of this content on lines
+pub record IsParagraph (width : ℕ) (content text : List ℕ) : Type 0 where
   pub lines : List Line
-  pub wrapped : Wraps width (words_of about) lines
-  pub written : text ≡ about_text lines
+  pub wrapped : Wraps width (words_of content) lines
+  pub written : text ≡ paragraph lines
 
 -- ---- the whole text
 
--- an empty line before the entries, if there are any
-abbrev pub before_entries : List Declared → List ℕ
-before_entries [] = []
-before_entries (o ∷ os) = line_feed ∷ []
+-- the positionals whose help has a word
+abbrev pub described : List Positional → List Positional
+described positionals = filter (λ p. not (length (words_of p.help) == 0)) positionals
 
--- the text is the help: the usage line, what the program does, and one entry for each option, in
--- order
+-- a part of the help, after an empty line: nothing, if the part is empty
+abbrev pub set_apart : List ℕ → List ℕ
+set_apart [] = []
+set_apart (b ∷ bs) = line_feed ∷ b ∷ bs
+
+-- the text is the help: the usage line, what the program does, one entry for each positional that
+-- is described and for each option that is visible, and the paragraphs of the epilogue, in order
 pub record IsHelp (d : Declaration) (width : ℕ) (text : List ℕ) : Type 0 where
   pub usage : List ℕ
   pub about : List ℕ
-  pub entries : List (List ℕ)
+  pub positionals : List (List ℕ)
+  pub options : List (List ℕ)
+  pub epilogue : List (List ℕ)
   pub usage_first : IsUsage width d usage
-  pub about_next : IsAbout width d.about about
-  pub one_for_each : AllZip (IsEntry width) d.options entries
-  pub written : text ≡ usage ++ about ++ before_entries d.options ++ concat entries
+  pub about_next : IsParagraph width d.about about
+  pub each_positional :
+      AllZip (λ p. IsEntry width p.placeholder p.help) (described d.positionals) positionals
+  pub each_option : AllZip (λ o. IsEntry width (label o) o.help) (visible d.options) options
+  pub each_paragraph : AllZip (IsParagraph width) d.epilogue epilogue
+  pub written : text ≡ usage ++ about ++ set_apart (concat positionals)
+      ++ set_apart (concat options) ++ flat_map set_apart epilogue

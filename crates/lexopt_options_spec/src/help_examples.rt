@@ -1,9 +1,10 @@
 //! Worked examples of the help, computed by the definitions.
-ghost use Rattle.std.specs.Prelude.{◌≡◌, ◌∷◌, ◌++◌, [], None, Some, codes, true};
+ghost use Rattle.std.specs.Prelude.{◌≡◌, ◌∷◌, ◌++◌, [], None, Some, codes, false, true};
 ghost use Rattle.lexopt_line_spec.specs.Table.{flag, one, optional, several};
 ghost use Rattle.lexopt_options_spec.specs.Declaration.{any_number, at_most_once, once};
-ghost use Rattle.lexopt_options_spec.specs.Help.{about_text, below, columns, help_column, label_of};
-ghost use Rattle.lexopt_options_spec.specs.Help.{line_feed, usage_words, words_of};
+ghost use Rattle.lexopt_options_spec.specs.Help.{below, columns, described, help_column, label_of};
+ghost use Rattle.lexopt_options_spec.specs.Help.{line_feed, paragraph, set_apart, usage_words};
+ghost use Rattle.lexopt_options_spec.specs.Help.{words_of};
 
 /// The labels of options with one name and with both.
 pub fn labels_look_so()
@@ -37,15 +38,17 @@ pub fn words_stand_in_columns()
     ensures narrow { help_column 40 ≡ 13 }
 {}
 
-/// The words of the usage line of a program with no options, and of one with an option.
+/// The words of the usage line of a program with no options, of one with an option, and of one whose
+/// only option is hidden.
 pub fn usage_lines_have_these_words()
     ensures positionals { usage_words (record {
       program = codes "pack";
       about = codes "Packs.";
       options = [];
-      positionals = record { placeholder = codes "MODE"; count = once }
-          ∷ record { placeholder = codes "TARGET"; count = at_most_once }
-          ∷ record { placeholder = codes "FILE"; count = any_number } ∷ [];
+      positionals = record { placeholder = codes "MODE"; count = once; help = [] }
+          ∷ record { placeholder = codes "TARGET"; count = at_most_once; help = [] }
+          ∷ record { placeholder = codes "FILE"; count = any_number; help = [] } ∷ [];
+      epilogue = [];
       short_equals = true;
     }) ≡ codes "pack" ∷ codes "MODE" ∷ codes "[TARGET]" ∷ codes "[FILE]..." ∷ [] }
     ensures options { usage_words (record {
@@ -57,17 +60,50 @@ pub fn usage_lines_have_these_words()
         kind = flag;
         placeholder = [];
         help = [];
+        asks = None;
+        hidden = false;
       } ∷ [];
       positionals = [];
+      epilogue = [];
       short_equals = true;
     }) ≡ codes "pack" ∷ codes "[OPTION]..." ∷ [] }
+    ensures hidden_option { usage_words (record {
+      program = codes "pack";
+      about = [];
+      options = record {
+        short_name = Some 0x76;
+        long_name = None;
+        kind = flag;
+        placeholder = [];
+        help = [];
+        asks = None;
+        hidden = true;
+      } ∷ [];
+      positionals = [];
+      epilogue = [];
+      short_equals = true;
+    }) ≡ codes "pack" ∷ [] }
 {}
 
-/// What a program does stands on lines of its own, if it is said.
-pub fn abouts_are_laid_out()
-    ensures none { about_text [] ≡ [] }
-    ensures lines { about_text ((codes "Packs" ∷ codes "all" ∷ []) ∷ (codes "files." ∷ []) ∷ [])
+/// A positional is described if there is a word in its help.
+pub fn positionals_are_described()
+    ensures one_of_two { described (record { placeholder = codes "MODE"; count = once; help = codes " " }
+        ∷ record { placeholder = codes "FILE"; count = any_number; help = codes "to pack" } ∷ [])
+        ≡ record { placeholder = codes "FILE"; count = any_number; help = codes "to pack" } ∷ [] }
+{}
+
+/// A paragraph is on lines of its own, if it has words.
+pub fn paragraphs_are_laid_out()
+    ensures none { paragraph [] ≡ [] }
+    ensures lines { paragraph ((codes "Packs" ∷ codes "all" ∷ []) ∷ (codes "files." ∷ []) ∷ [])
         ≡ codes "Packs all" ++ line_feed ∷ codes "files." ++ line_feed ∷ [] }
+{}
+
+/// A part of the help is after an empty line, and an empty part is nothing.
+pub fn parts_are_set_apart()
+    ensures none { set_apart [] ≡ [] }
+    ensures some { set_apart (codes "Packs." ++ line_feed ∷ [])
+        ≡ line_feed ∷ codes "Packs." ++ line_feed ∷ [] }
 {}
 
 /// A cluster of several characters takes one column: `e` and an acute accent, in three bytes.

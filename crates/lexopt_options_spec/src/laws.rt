@@ -3,11 +3,23 @@ ghost use Rattle.std.specs.Prelude.{◌≡◌, ◌≤◌, ◌<◌, ◌⊎◌, �
 ghost use Rattle.std.specs.Prelude.{ℕ, codes, length, true};
 ghost use Rattle.lexopt_line_spec.specs.Table.{Item, long, short};
 ghost use Rattle.lexopt_line_spec.specs.Spelling.{Spells};
+ghost use Rattle.lexopt_options_spec.specs.Completion.{AreText};
+ghost use Rattle.lexopt_options_spec.specs.Declarable.{can_be_declared};
 ghost use Rattle.lexopt_options_spec.specs.Declaration.{Declaration, Declared, is_sound, table};
-ghost use Rattle.lexopt_options_spec.specs.Help.{HasTextNames, IsAbout, IsEntry, IsHelp, IsUsage};
-ghost use Rattle.lexopt_options_spec.specs.Help.{LabelForm, Line, ShowsName, blanks, columns, gap};
-ghost use Rattle.lexopt_options_spec.specs.Help.{help_column, label, line_columns, line_feed};
+ghost use Rattle.lexopt_options_spec.specs.Help.{HasTextNames, IsEntry, IsHelp, IsParagraph};
+ghost use Rattle.lexopt_options_spec.specs.Help.{IsUsage, LabelForm, Line, ShowsName, blanks};
+ghost use Rattle.lexopt_options_spec.specs.Help.{columns, gap, help_column, label, line_columns};
+ghost use Rattle.lexopt_options_spec.specs.Help.{line_feed};
 ghost use Rattle.lexopt_options_spec.specs.Help.{usage_column};
+
+/// The test that a check computes holds of the options that can be declared together, and of no
+/// others, if their names are text, as each `char` and `&str` is.
+pub fn declarable_options_are_sound()
+    ensures sound { (options : List Declared) → AreText options → can_be_declared options ≡ true
+        → is_sound options ≡ true }
+    ensures no_other { (options : List Declared) → AreText options → is_sound options ≡ true
+        → can_be_declared options ≡ true }
+{}
 
 /// What the help shows can be typed. Among options that can be declared together, each form that
 /// the label of one shows, with the placeholder for the value, is legal, whether `=` is a mark in
@@ -52,17 +64,17 @@ pub fn each_declaration_has_one_help()
 {}
 
 /// Words on a line end within the width, unless they are one word. Those of the usage line begin at
-/// its column, those of what the program does at column 0, and those of the help of an option at its
-/// column: beside the label, after two blanks at least, or below it. So it is if no line feed is among
-/// the words.
+/// its column, those of a paragraph (what the program does, or a part of the epilogue) at column 0,
+/// and those of the help of an option or a positional at its column: beside the label, after two
+/// blanks at least, or below it. So it is if no line feed is among the words.
 pub fn lines_are_in_columns()
     ensures usage { (width : ℕ) (d : Declaration) (text : List ℕ) (u : IsUsage width d text)
         (line : Line) → Contains u.lines line
         → (usage_column + line_columns line ≤ width) ⊎ (length line ≡ 1) }
-    ensures about { (width : ℕ) (about text : List ℕ) (a : IsAbout width about text)
-        (line : Line) → Contains a.lines line
+    ensures paragraph { (width : ℕ) (content text : List ℕ) (p : IsParagraph width content text)
+        (line : Line) → Contains p.lines line
         → (line_columns line ≤ width) ⊎ (length line ≡ 1) }
-    ensures entry { (width : ℕ) (o : Declared) (text : List ℕ) (e : IsEntry width o text)
+    ensures entry { (width : ℕ) (shown help text : List ℕ) (e : IsEntry width shown help text)
         (line : Line) → Contains e.lines line
         → (help_column width + line_columns line ≤ width) ⊎ (length line ≡ 1) }
     ensures beside { (column : ℕ) (text : List ℕ) → columns text + 4 ≤ column → (n : ℕ) × (2 ≤ n)

@@ -1,2 +1,5 @@
 mod Words
 mod Pairs
+pub mod Tool
+pub mod Keyed
+pub mod Completed

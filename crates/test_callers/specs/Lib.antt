@@ -1,1 +1,4 @@
 pub mod Callers
+pub mod Tool
+pub mod Keyed
+pub mod Printed

@@ -2,5 +2,8 @@
 #![tactic(auto)]
 
 pub mod callers;
+pub mod declared;
+pub mod declared_keys;
+pub mod declared_texts;
 pub mod line_callers;
 pub mod text_callers;

@@ -1,6 +1,7 @@
 //! Declared options: what is read, printed, refused and offered, by rows that are written by hand.
 mod answers;
 mod archive;
+mod asked;
 mod completions;
 mod declarations;
 mod offers;

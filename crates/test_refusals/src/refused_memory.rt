@@ -7,7 +7,7 @@ use lexopt::os_string::arguments;
 use lexopt::replay::{Call, Reply, RunError, read_items, replay, run};
 use lexopt::spell::{Reason, SpellError, spell};
 use lexopt::{Arg, Error, OsStr, OsString, Parser, ValueExt};
-use lexopt_options::{Answer, Count, Declared, HELP, Kind, Names, Options};
+use lexopt_options::{Answer, Declaration, Names, Options, declare};
 use std::alloc::{AllocError, Global};
 use std::str::FromStr;
 use std::test::Fail;
@@ -818,28 +818,30 @@ fn items_at_fault(rt: HostRuntime) -> Result<(), Fail> {
     )
 }
 
-// The options of a program: a flag, one with a value, and the help.
-const DECLARED: [Declared<'static>; 3] = [
-    Declared {
-        names: Names::Both('v', "verbose"),
-        kind: Kind::Flag,
-        help: "tell more",
-    },
-    Declared {
-        names: Names::Both('o', "output"),
-        kind: Kind::One("FILE"),
-        help: "write to this file",
-    },
-    HELP,
-];
+#[derive(Debug, Clone, Copy)]
+enum Flag {
+    Verbose,
+}
 
-const FILES: [lexopt_options::Positional<'static>; 1] = [lexopt_options::Positional {
-    placeholder: "FILE",
-    count: Count::AnyNumber,
-}];
+#[derive(Debug, Clone, Copy)]
+enum Value {
+    Output,
+}
+
+// A flag, an option with a value, and the help.
+static PACK: Declaration<'static, Flag, Value> = declare! {
+    program: "pack",
+    about: "Packs.",
+    options: [
+        flag(Flag::Verbose, Names::Both('v', "verbose"), "tell more"),
+        value(Value::Output, Names::Both('o', "output"), "FILE", "write to this file"),
+        help(Names::Both('h', "help")),
+    ],
+    positionals: [any_number("FILE")],
+};
 
 // Adds what is answered.
-fn write_answer(answer: &Answer<'_>, text: &mut String) -> Result<(), AllocError> {
+fn write_answer(answer: &Answer<'_, Flag, Value>, text: &mut String) -> Result<(), AllocError> {
     match answer {
         Answer::Said(said) => write!(text, "{said:?}"),
         Answer::Text(given) => text.push_str(given),
@@ -848,7 +850,11 @@ fn write_answer(answer: &Answer<'_>, text: &mut String) -> Result<(), AllocError
 }
 
 // Whether the answer is this text.
-fn is_answer(alloc: Global, answer: &Answer<'_>, wanted: &str) -> Result<bool, AllocError> {
+fn is_answer(
+    alloc: Global,
+    answer: &Answer<'_, Flag, Value>,
+    wanted: &str,
+) -> Result<bool, AllocError> {
     let mut text = String::with_capacity(alloc, 300)?;
     write_answer(answer, &mut text)?;
     Ok(text.as_str() == wanted)
@@ -856,9 +862,7 @@ fn is_answer(alloc: Global, answer: &Answer<'_>, wanted: &str) -> Result<bool, A
 
 // What a program with declared options is to do about these words, or that it was refused memory.
 fn answers_so(alloc: Global, lines: &[u8], wanted: &str) -> Result<(), Fail> {
-    let Ok(options) = Options::new("pack", "Packs.", &DECLARED, &FILES) else {
-        return Err(Fail::new("the options cannot be declared"));
-    };
+    let options = Options::new(&PACK);
     let Ok(words) = split_words(alloc, lines) else {
         return told(true, "the list");
     };
@@ -876,7 +880,7 @@ fn declared_line(rt: HostRuntime) -> Result<(), Fail> {
     answers_so(
         rt.alloc(),
         b"-vo=x\n--output\ny\n--\n-f",
-        "[Option(0, None), Option(1, Some(\"x\")), Option(1, Some(\"y\")), Positional(\"-f\")]",
+        "[Flag(Verbose), Value(Output, \"x\"), Value(Output, \"y\"), Positional(\"-f\")]",
     )
 }
 

@@ -1,11 +1,13 @@
 //! What a program is to do about its words.
-use crate::options::archive::{archive, archive_of_files, debug_of, words_of};
-use lexopt_options::{Answer, Declared, HELP, Names, Options, Positional};
+use crate::options::archive::{
+    ArchiveOption, ArchiveOptions, Flag, archive, archive_of_files, debug_of, words_of,
+};
+use lexopt_options::{Answer, Declared, Names, Options, Positional};
 use std::alloc::{AllocError, Global};
 
-// What a program is to do about a line.
+/// What a program is to do about a line.
 #[derive(Clone, Copy, PartialEq, Eq)]
-enum Do {
+pub enum Do {
     Work,
     Print,
     Refuse,
@@ -34,7 +36,7 @@ Packs files.
 // Lines, what is to be done, and what is said or printed.
 static LINES: [(&[u8], Do, &str); 16] = [
     (b"", Work, "[]"),
-    (b"-v a", Work, "[Option(0, None), Positional(\"a\")]"),
+    (b"-v a", Work, "[Flag(Verbose), Positional(\"a\")]"),
     (b"-h", Print, HELP_AT_40),
     // What stands after it does not matter.
     (b"a --help --bogus", Print, HELP_AT_40),
@@ -44,7 +46,7 @@ static LINES: [(&[u8], Do, &str); 16] = [
         "archive: invalid option '--bogus'\nTry 'archive --help' for more information.",
     ),
     // It is a value here, and an argument.
-    (b"-o --help", Work, "[Option(1, Some(\"--help\"))]"),
+    (b"-o --help", Work, "[Value(Output, \"--help\")]"),
     (b"-- --help", Work, "[Positional(\"--help\")]"),
     (b"__complete --verb", Print, "--verbose\n"),
     (b"__complete -o ", Print, "files\n"),
@@ -55,7 +57,7 @@ static LINES: [(&[u8], Do, &str); 16] = [
     (
         b"-v __complete a",
         Work,
-        "[Option(0, None), Positional(\"__complete\"), Positional(\"a\")]",
+        "[Flag(Verbose), Positional(\"__complete\"), Positional(\"a\")]",
     ),
     (b"__complete --output=x", Print, "value\n"),
     (b"__complete --verbose=x", Print, ""),
@@ -79,7 +81,7 @@ static SCRIPTS: [(&[u8], &str); 3] = [
 // What is to be done about a line, and what is said or printed.
 fn answer_to(
     alloc: Global,
-    options: &Options<'_>,
+    options: &ArchiveOptions<'_>,
     line: &[u8],
 ) -> Result<(Do, String), AllocError> {
     match options.answer(alloc, words_of(alloc, line)?, 40)? {
@@ -92,7 +94,7 @@ fn answer_to(
 // Whether a line is answered so.
 fn is_answered(
     alloc: Global,
-    options: &Options<'_>,
+    options: &ArchiveOptions<'_>,
     line: &[u8],
     wanted: Do,
     text: &str,
@@ -104,7 +106,7 @@ fn is_answered(
 // Whether a line asks for a script that begins so.
 fn is_script(
     alloc: Global,
-    options: &Options<'_>,
+    options: &ArchiveOptions<'_>,
     line: &[u8],
     front: &str,
 ) -> Result<bool, AllocError> {
@@ -112,17 +114,14 @@ fn is_script(
     Ok(done == Print && text.as_str().starts_with(front) && text.as_str().ends_with('\n'))
 }
 
-// The row of these that is not as it says, or none. With no options the first one is not.
-fn first_wrong(
+/// The row of these that is not as it says, or none.
+pub fn first_wrong(
     alloc: Global,
-    options: Option<Options<'_>>,
+    options: &ArchiveOptions<'_>,
     rows: &[(&[u8], Do, &'static str)],
 ) -> Result<Option<usize>, AllocError> {
-    let Some(options) = options else {
-        return Ok(Some(0));
-    };
     for (row, (line, wanted, text)) in rows.iter().enumerate() {
-        if !is_answered(alloc, &options, line, *wanted, text)? {
+        if !is_answered(alloc, options, line, *wanted, text)? {
             return Ok(Some(row));
         }
     }
@@ -132,21 +131,18 @@ fn first_wrong(
 #[test]
 fn lines(rt: HostRuntime) {
     assert_eq!(rt;
-        first_wrong(rt.alloc(), archive_of_files(), &LINES).expect(&rt, "success"),
+        first_wrong(rt.alloc(), &archive_of_files(), &LINES).expect(&rt, "success"),
         None
     );
 }
 
-// The script that does not begin as its row says, or none. With no options the first one does not.
+// The script that does not begin as its row says, or none.
 fn first_wrong_script(
     alloc: Global,
-    options: Option<Options<'_>>,
+    options: &ArchiveOptions<'_>,
 ) -> Result<Option<usize>, AllocError> {
-    let Some(options) = options else {
-        return Ok(Some(0));
-    };
     for (row, (line, front)) in SCRIPTS.iter().enumerate() {
-        if !is_script(alloc, &options, line, front)? {
+        if !is_script(alloc, options, line, front)? {
             return Ok(Some(row));
         }
     }
@@ -156,7 +152,7 @@ fn first_wrong_script(
 #[test]
 fn scripts(rt: HostRuntime) {
     assert_eq!(rt;
-        first_wrong_script(rt.alloc(), archive_of_files()).expect(&rt, "success"),
+        first_wrong_script(rt.alloc(), &archive_of_files()).expect(&rt, "success"),
         None
     );
 }
@@ -164,14 +160,14 @@ fn scripts(rt: HostRuntime) {
 // Whether `-h` is answered so under these options and arguments.
 fn is_answered_by(
     alloc: Global,
-    declared: &[Declared<'_>],
+    declared: &[ArchiveOption<'_>],
     positionals: &[Positional<'_>],
     wanted: Do,
     text: &str,
 ) -> Result<bool, AllocError> {
-    match archive(declared, positionals) {
-        Some(options) => is_answered(alloc, &options, b"-h", wanted, text),
-        None => Ok(false),
+    match Options::try_new(&archive(declared, positionals)) {
+        Ok(options) => is_answered(alloc, &options, b"-h", wanted, text),
+        Err(_) => Ok(false),
     }
 }
 
@@ -182,15 +178,16 @@ Packs files.
              print this help and exit
 ";
 
-// The help is printed although an argument is missing. It is no help if no option has that name.
+// The help is printed although an argument is missing. A flag with its name is no request for it.
 #[test]
 fn help(rt: HostRuntime) {
-    let source = [Positional::once("SOURCE")];
+    let help = [Declared::help(Names::Both('h', "help"))];
+    let source = [Positional::once("SOURCE", "")];
     assert!(rt;
-        is_answered_by(rt.alloc(), &[HELP], &source, Print, HELP_OF_SOURCE).expect(&rt, "success")
+        is_answered_by(rt.alloc(), &help, &source, Print, HELP_OF_SOURCE).expect(&rt, "success")
     );
-    let other = [Declared::flag(Names::Short('h'), "")];
+    let other = [Declared::flag(Flag::Verbose, Names::Short('h'), "")];
     assert!(rt;
-        is_answered_by(rt.alloc(), &other, &[], Work, "[Option(0, None)]").expect(&rt, "success")
+        is_answered_by(rt.alloc(), &other, &[], Work, "[Flag(Verbose)]").expect(&rt, "success")
     );
 }

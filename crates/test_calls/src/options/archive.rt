@@ -1,51 +1,64 @@
 //! The declaration that the tests share, and lines of words.
 use lexopt_options::{
-    Count, Declared, HELP, Kind, Names, Options, OsString, Positional, ReadError, Said,
+    Declaration, Declared, Kind, Line, Names, Options, OsString, Positional, Refused, Said, declare,
 };
 use std::alloc::{AllocError, Global};
 
-/// The options, one of each kind and that of the help.
-pub static OPTIONS: [Declared<'static>; 5] = [
-    Declared {
-        names: Names::Both('v', "verbose"),
-        kind: Kind::Flag,
-        help: "tell more",
-    },
-    Declared {
-        names: Names::Both('o', "output"),
-        kind: Kind::One("FILE"),
-        help: "write to this file",
-    },
-    Declared {
-        names: Names::Both('b', "backup"),
-        kind: Kind::Optional("SUFFIX"),
-        help: "keep an archive that is there, with this suffix",
-    },
-    Declared {
-        names: Names::Both('x', "exclude"),
-        kind: Kind::Several("PATTERN"),
-        help: "leave out the files whose names match one of these patterns of a shell",
-    },
-    HELP,
-];
+#[derive(Debug, Clone, Copy, PartialEq, Eq)]
+pub enum Flag {
+    Verbose,
+}
 
-/// Any number of files.
-pub static FILES: [Positional<'static>; 1] = [Positional {
-    placeholder: "FILE",
-    count: Count::AnyNumber,
-}];
+#[derive(Debug, Clone, Copy, PartialEq, Eq)]
+pub enum Value {
+    Output,
+}
 
-/// One argument that has to stand, and one that may be left out.
-pub static SOURCE_AND_TARGET: [Positional<'static>; 2] = [
-    Positional {
-        placeholder: "SOURCE",
-        count: Count::Once,
-    },
-    Positional {
-        placeholder: "TARGET",
-        count: Count::AtMostOnce,
-    },
-];
+#[derive(Debug, Clone, Copy, PartialEq, Eq)]
+pub enum Maybe {
+    Backup,
+}
+
+#[derive(Debug, Clone, Copy, PartialEq, Eq)]
+pub enum Values {
+    Exclude,
+}
+
+pub type ArchiveOption<'a> = Declared<'a, Flag, Value, Maybe, Values>;
+
+pub type ArchiveKind<'a> = Kind<'a, Flag, Value, Maybe, Values>;
+
+pub type Archive<'a> = Declaration<'a, Flag, Value, Maybe, Values>;
+
+pub type ArchiveOptions<'a> = Options<'a, Flag, Value, Maybe, Values>;
+
+pub type ArchiveLine<'a> = Line<'a, Flag, Value, Maybe, Values>;
+
+pub type ArchiveSaid = Said<Flag, Value, Maybe, Values>;
+
+/// The program with one option of each kind, that of the help, and any number of files.
+pub static ARCHIVE: Archive<'static> = declare! {
+    program: "archive",
+    about: "Packs files.",
+    options: [
+        flag(Flag::Verbose, Names::Both('v', "verbose"), "tell more"),
+        value(Value::Output, Names::Both('o', "output"), "FILE", "write to this file"),
+        maybe(
+            Maybe::Backup,
+            Names::Both('b', "backup"),
+            "SUFFIX",
+            "keep an archive that is there, with this suffix",
+        ),
+        values(
+            Values::Exclude,
+            Names::Both('x', "exclude"),
+            "PATTERN",
+            "leave out the files whose names match one of these patterns of a shell",
+        ),
+        help(Names::Both('h', "help")),
+    ],
+    positionals: [any_number("FILE")],
+};
 
 /// These words, between blanks. Two blanks have an empty word between them.
 pub fn words_of(alloc: Global, line: &[u8]) -> Result<Vec<OsString>, AllocError> {
@@ -58,17 +71,24 @@ pub fn words_of(alloc: Global, line: &[u8]) -> Result<Vec<OsString>, AllocError>
     Ok(words)
 }
 
-/// A program with these options and arguments, if they can be declared.
+/// A program with these options and arguments.
 pub fn archive<'a>(
-    options: &'a [Declared<'a>],
+    options: &'a [ArchiveOption<'a>],
     positionals: &'a [Positional<'a>],
-) -> Option<Options<'a>> {
-    Options::new("archive", "Packs files.", options, positionals).ok()
+) -> Archive<'a> {
+    Declaration {
+        program: "archive",
+        about: "Packs files.",
+        options,
+        positionals,
+        epilogue: &[],
+        short_equals: true,
+    }
 }
 
 /// The program with one option of each kind and any number of files.
-pub fn archive_of_files() -> Option<Options<'static>> {
-    archive(&OPTIONS, &FILES)
+pub fn archive_of_files() -> ArchiveOptions<'static> {
+    Options::new(&ARCHIVE)
 }
 
 /// Whether a text is a mistake, and where help is.
@@ -79,30 +99,29 @@ pub fn tells(text: &str, mistake: &str) -> bool {
 }
 
 /// What is said, as `Debug` writes it.
-pub fn debug_of(alloc: Global, said: &[Said]) -> Result<String, AllocError> {
+pub fn debug_of(alloc: Global, said: &[ArchiveSaid]) -> Result<String, AllocError> {
     format!(in alloc; "{said:?}")
 }
 
-/// What words say, as `Debug` writes it. If they have a mistake, its message follows.
+/// What words say or ask for, as `Debug` writes it. If they have a mistake, its message follows.
 pub fn text_of_words(
     alloc: Global,
-    options: &Options<'_>,
+    options: &ArchiveOptions<'_>,
     words: Vec<OsString>,
 ) -> Result<String, AllocError> {
-    match options.read(alloc, words) {
-        Ok(said) => debug_of(alloc, &said),
-        Err(error) => text_of_error(alloc, &error),
+    match options.read(alloc, words)? {
+        Line::Said(said) => debug_of(alloc, &said),
+        Line::Asked(asked) => format!(in alloc; "{asked:?}"),
+        Line::Refused(refused) => text_of_refused(alloc, &refused),
     }
 }
 
-// What is said before the mistake, and then what the error prints.
-fn text_of_error(alloc: Global, error: &ReadError<'_>) -> Result<String, AllocError> {
-    match error {
-        ReadError::Refused(refused) => {
-            let mut text = debug_of(alloc, &refused.before)?;
-            text.push_str(error.to_string(alloc)?.as_str())?;
-            Ok(text)
-        }
-        ReadError::OutOfMemory => Err(AllocError),
-    }
+// What is said before the mistake, and then what is printed of it.
+fn text_of_refused(
+    alloc: Global,
+    refused: &Refused<'_, Flag, Value, Maybe, Values>,
+) -> Result<String, AllocError> {
+    let mut text = debug_of(alloc, &refused.before)?;
+    text.push_str(refused.to_string(alloc)?.as_str())?;
+    Ok(text)
 }

@@ -1,14 +1,26 @@
 //! What can stand where a word is typed.
-use crate::options::archive::{OPTIONS, archive, archive_of_files, words_of};
+use crate::options::archive::{
+    ARCHIVE, ArchiveOptions, Flag, Maybe, Value, Values, archive, archive_of_files, words_of,
+};
 use lexopt_options::{Options, OsString, Role};
 use std::alloc::{AllocError, Global};
+
+// What a word that is not an option would be.
+#[derive(Clone, Copy)]
+enum Word {
+    // A value of the option with this name.
+    ValueOf(&'static str),
+    Argument,
+}
+
+use Word::{Argument, ValueOf};
 
 // What was typed after which words, and what can stand there.
 struct Row {
     words: &'static [u8],
     typed: &'static [u8],
     spellings: &'static str,
-    word: Option<Role>,
+    word: Option<Word>,
 }
 
 const ALL: &str = "-v --verbose -o --output -b --backup -x --exclude -h --help";
@@ -18,7 +30,7 @@ static ROWS: [Row; 20] = [
         words: b"",
         typed: b"",
         spellings: ALL,
-        word: Some(Role::Argument),
+        word: Some(Argument),
     },
     Row {
         words: b"",
@@ -54,7 +66,7 @@ static ROWS: [Row; 20] = [
         words: b"-o",
         typed: b"",
         spellings: "",
-        word: Some(Role::Value(1)),
+        word: Some(ValueOf("output")),
     },
     Row {
         words: b"-o --",
@@ -67,19 +79,19 @@ static ROWS: [Row; 20] = [
         words: b"-o",
         typed: b"-",
         spellings: "",
-        word: Some(Role::Value(1)),
+        word: Some(ValueOf("output")),
     },
     Row {
         words: b"-o",
         typed: b"--v",
         spellings: "",
-        word: Some(Role::Value(1)),
+        word: Some(ValueOf("output")),
     },
     Row {
         words: b"-v --",
         typed: b"-",
         spellings: "",
-        word: Some(Role::Argument),
+        word: Some(Argument),
     },
     Row {
         words: b"-x",
@@ -91,7 +103,7 @@ static ROWS: [Row; 20] = [
         words: b"a --",
         typed: b"",
         spellings: "",
-        word: Some(Role::Argument),
+        word: Some(Argument),
     },
     Row {
         words: b"-b",
@@ -103,13 +115,13 @@ static ROWS: [Row; 20] = [
         words: b"-x",
         typed: b"",
         spellings: "",
-        word: Some(Role::Value(3)),
+        word: Some(ValueOf("exclude")),
     },
     Row {
         words: b"-x a",
         typed: b"",
         spellings: ALL,
-        word: Some(Role::Value(3)),
+        word: Some(ValueOf("exclude")),
     },
     Row {
         words: b"-x a",
@@ -149,18 +161,30 @@ fn are_spellings(alloc: Global, spellings: &[String], wanted: &str) -> Result<bo
     Ok(text.as_str() == wanted)
 }
 
+// Whether a word would be this.
+fn is_word(found: Option<Role<'_, Flag, Value, Maybe, Values>>, wanted: Option<Word>) -> bool {
+    match (found, wanted) {
+        (Some(Role::Value(option)), Some(ValueOf(name))) => option.names.long() == Some(name),
+        (Some(Role::Argument), Some(Argument)) | (None, None) => true,
+        _ => false,
+    }
+}
+
 // Whether a row is as it says.
-fn is_offered(alloc: Global, options: &Options<'_>, row: &Row) -> Result<bool, AllocError> {
+fn is_offered(alloc: Global, options: &ArchiveOptions<'_>, row: &Row) -> Result<bool, AllocError> {
     let words = words_of(alloc, row.words)?;
     let typed = OsString::from_bytes(alloc, row.typed)?;
     let completion = options.complete(alloc, &words, &typed)?;
-    Ok(completion.word == row.word && are_spellings(alloc, &completion.spellings, row.spellings)?)
+    Ok(
+        is_word(completion.word, row.word)
+            && are_spellings(alloc, &completion.spellings, row.spellings)?,
+    )
 }
 
 // The row of these that is not as it says, or none. With no options the first one is not.
 fn first_wrong(
     alloc: Global,
-    options: Option<Options<'_>>,
+    options: Option<ArchiveOptions<'_>>,
     rows: &[Row],
 ) -> Result<Option<usize>, AllocError> {
     let Some(options) = options else {
@@ -177,7 +201,7 @@ fn first_wrong(
 #[test]
 fn rows(rt: HostRuntime) {
     assert_eq!(rt;
-        first_wrong(rt.alloc(), archive_of_files(), &ROWS).expect(&rt, "success"),
+        first_wrong(rt.alloc(), Some(archive_of_files()), &ROWS).expect(&rt, "success"),
         None
     );
 }
@@ -188,7 +212,7 @@ static DAMAGED_ROWS: [Row; 2] = [
         words: b"",
         typed: b"\xFF",
         spellings: "",
-        word: Some(Role::Argument),
+        word: Some(Argument),
     },
     Row {
         words: b"",
@@ -201,7 +225,7 @@ static DAMAGED_ROWS: [Row; 2] = [
 #[test]
 fn damage(rt: HostRuntime) {
     assert_eq!(rt;
-        first_wrong(rt.alloc(), archive_of_files(), &DAMAGED_ROWS).expect(&rt, "success"),
+        first_wrong(rt.alloc(), Some(archive_of_files()), &DAMAGED_ROWS).expect(&rt, "success"),
         None
     );
 }
@@ -230,7 +254,7 @@ static ROWS_WITHOUT_ARGUMENTS: [Row; 7] = [
         words: b"-x a",
         typed: b"",
         spellings: ALL,
-        word: Some(Role::Value(3)),
+        word: Some(ValueOf("exclude")),
     },
     Row {
         words: b"--exclude=a",
@@ -254,7 +278,8 @@ static ROWS_WITHOUT_ARGUMENTS: [Row; 7] = [
 
 #[test]
 fn no_arguments(rt: HostRuntime) {
-    let options = archive(&OPTIONS, &[]);
+    let declaration = archive(ARCHIVE.options, &[]);
+    let options = Options::try_new(&declaration).ok();
     assert_eq!(rt;
         first_wrong(rt.alloc(), options, &ROWS_WITHOUT_ARGUMENTS).expect(&rt, "success"),
         None

@@ -1,68 +1,72 @@
 //! Which options can be declared, and the table of those that can.
-use crate::options::archive::archive_of_files;
-use lexopt_options::{DeclarationError, Declared, HELP, Kind, Names, Options, Reason};
+use crate::options::archive::{ArchiveKind, Flag, Maybe, Value, Values, archive, archive_of_files};
+use lexopt_options::{DeclarationError, Declared, Kind, Names, Options, Reason};
 use std::alloc::{AllocError, Global};
 
-// What is wrong with an option that is declared after the help.
-fn fault_of(names: Names<'_>, kind: Kind<'_>) -> Option<DeclarationError> {
+// Whether an option that is declared after the help is refused for this reason, or is not refused
+// if there is none.
+fn is_refused_for(names: Names<'_>, kind: ArchiveKind<'_>, reason: Option<Reason>) -> bool {
     let option = Declared {
         names,
         kind,
         help: "",
+        hidden: false,
     };
-    Options::new("archive", "", &[HELP, option], &[]).err()
-}
-
-// Whether the option is refused for this reason, or is not refused if there is none.
-fn is_refused_for(names: Names<'_>, kind: Kind<'_>, reason: Option<Reason>) -> bool {
+    let options = [Declared::help(Names::Both('h', "help")), option];
+    let declaration = archive(&options, &[]);
     let wanted = match reason {
-        Some(reason) => Some(DeclarationError { index: 1, reason }),
+        Some(reason) => Some(DeclarationError {
+            option: names,
+            reason,
+        }),
         None => None,
     };
-    fault_of(names, kind) == wanted
+    Options::try_new(&declaration).err() == wanted
 }
 
-static FAULTS: [(Names<'static>, Kind<'static>, Option<Reason>); 16] = [
-    (Names::Short('-'), Kind::Flag, Some(Reason::DashName)),
-    (Names::Both('-', "dash"), Kind::Flag, Some(Reason::DashName)),
-    (Names::Long(""), Kind::Flag, Some(Reason::EmptyName)),
-    (Names::Both('e', ""), Kind::Flag, Some(Reason::EmptyName)),
-    (Names::Long("a=b"), Kind::Flag, Some(Reason::EqualsInName)),
+const VERBOSE: ArchiveKind<'static> = Kind::Flag(Flag::Verbose);
+
+static FAULTS: [(Names<'static>, ArchiveKind<'static>, Option<Reason>); 16] = [
+    (Names::Short('-'), VERBOSE, Some(Reason::DashName)),
+    (Names::Both('-', "dash"), VERBOSE, Some(Reason::DashName)),
+    (Names::Long(""), VERBOSE, Some(Reason::EmptyName)),
+    (Names::Both('e', ""), VERBOSE, Some(Reason::EmptyName)),
+    (Names::Long("a=b"), VERBOSE, Some(Reason::EqualsInName)),
     (
         Names::Short('\u{FFFD}'),
-        Kind::Flag,
+        VERBOSE,
         Some(Reason::ReplacementInName),
     ),
     (
         Names::Long("a\u{FFFD}"),
-        Kind::Flag,
+        VERBOSE,
         Some(Reason::ReplacementInName),
     ),
     (
         Names::Short('o'),
-        Kind::One(""),
+        Kind::Value(Value::Output, ""),
         Some(Reason::BadPlaceholder),
     ),
     (
         Names::Short('o'),
-        Kind::Optional("-N"),
+        Kind::Maybe(Maybe::Backup, "-N"),
         Some(Reason::BadPlaceholder),
     ),
     (
         Names::Short('o'),
-        Kind::Several("=N"),
+        Kind::Values(Values::Exclude, "=N"),
         Some(Reason::BadPlaceholder),
     ),
-    (Names::Short('h'), Kind::Flag, Some(Reason::SameName)),
-    (Names::Long("help"), Kind::Flag, Some(Reason::SameName)),
-    (Names::Both('h', "host"), Kind::Flag, Some(Reason::SameName)),
-    (Names::Short('='), Kind::One("N=M"), None),
-    (Names::Long("-"), Kind::Flag, None),
-    (Names::Both('H', "helps"), Kind::Flag, None),
+    (Names::Short('h'), VERBOSE, Some(Reason::SameName)),
+    (Names::Long("help"), VERBOSE, Some(Reason::SameName)),
+    (Names::Both('h', "host"), VERBOSE, Some(Reason::SameName)),
+    (Names::Short('='), Kind::Value(Value::Output, "N=M"), None),
+    (Names::Long("-"), VERBOSE, None),
+    (Names::Both('H', "helps"), VERBOSE, None),
 ];
 
 // The row of these that is not as it says, or none.
-fn first_wrong(rows: &[(Names<'static>, Kind<'static>, Option<Reason>)]) -> Option<usize> {
+fn first_wrong(rows: &[(Names<'static>, ArchiveKind<'static>, Option<Reason>)]) -> Option<usize> {
     rows.iter().position(|(names, kind, reason)| !is_refused_for(*names, *kind, *reason))
 }
 
@@ -80,10 +84,7 @@ fn are(shorts: &[char], longs: &[String], short: char, long: &str) -> bool {
 
 // Whether the table has each option that takes values where it belongs.
 fn has_each_kind(alloc: Global) -> Result<bool, AllocError> {
-    let Some(options) = archive_of_files() else {
-        return Ok(false);
-    };
-    let table = options.table(alloc)?;
+    let table = archive_of_files().table(alloc)?;
     Ok(
         are(&table.shorts, &table.longs, 'o', "output")
             && are(&table.optional_shorts, &table.optional_longs, 'b', "backup")
@@ -94,4 +95,17 @@ fn has_each_kind(alloc: Global) -> Result<bool, AllocError> {
 #[test]
 fn tables(rt: HostRuntime) {
     assert!(rt; has_each_kind(rt.alloc()).expect(&rt, "success"));
+}
+
+#[test]
+fn error_text(rt: HostRuntime) {
+    let error = DeclarationError {
+        option: Names::Both('h', "host"),
+        reason: Reason::SameName,
+    };
+    let text = error.to_string(rt.alloc()).expect(&rt, "memory");
+    assert_eq!(rt;
+        text.as_str(),
+        "option '--host': an option before it has one of its names"
+    );
 }

@@ -1,25 +1,27 @@
 //! Completion beside reading: a spelling is offered after some words exactly if the words, it and
 //! what may come after it can be read as what the words say, and then its option.
-use crate::options::archive::archive_of_files;
-use lexopt_options::{Options, OsString, ReadError, Said};
-use std::alloc::{AllocError, Global};
+use crate::options::archive::{
+    ArchiveKind, ArchiveLine, ArchiveOptions, ArchiveSaid, Flag, Maybe, Value, Values,
+    archive_of_files,
+};
+use lexopt_options::{Asked, Kind, Line, OsString, Said};
 use std::process::Abort;
 use test_helpers::parsers::words_from;
 
 static WORDS: [&[u8]; 8] = [b"-v", b"-o", b"--output=", b"--", b"a", b"-x", b"", b"-bz"];
 
-// Each spelling, with the index of its option.
-static SPELLINGS: [(&str, usize); 10] = [
-    ("-v", 0),
-    ("--verbose", 0),
-    ("-o", 1),
-    ("--output", 1),
-    ("-b", 2),
-    ("--backup", 2),
-    ("-x", 3),
-    ("--exclude", 3),
-    ("-h", 4),
-    ("--help", 4),
+// Each spelling, with what its option is.
+static SPELLINGS: [(&str, ArchiveKind<'static>); 10] = [
+    ("-v", Kind::Flag(Flag::Verbose)),
+    ("--verbose", Kind::Flag(Flag::Verbose)),
+    ("-o", Kind::Value(Value::Output, "FILE")),
+    ("--output", Kind::Value(Value::Output, "FILE")),
+    ("-b", Kind::Maybe(Maybe::Backup, "SUFFIX")),
+    ("--backup", Kind::Maybe(Maybe::Backup, "SUFFIX")),
+    ("-x", Kind::Values(Values::Exclude, "PATTERN")),
+    ("--exclude", Kind::Values(Values::Exclude, "PATTERN")),
+    ("-h", Kind::Help),
+    ("--help", Kind::Help),
 ];
 
 // These words, and then those.
@@ -32,75 +34,73 @@ fn line_of(rt: &(impl Abort + AllocGlobal), front: &[&[u8]], back: &[&[u8]]) -> 
     words
 }
 
-// What a line says, if it says something.
-fn said_by(
-    alloc: Global,
-    options: &Options<'_>,
-    words: Vec<OsString>,
-) -> Result<Option<Vec<Said>>, AllocError> {
-    match options.read(alloc, words) {
-        Ok(said) => Ok(Some(said)),
-        Err(ReadError::Refused(_)) => Ok(None),
-        Err(ReadError::OutOfMemory) => Err(AllocError),
-    }
-}
-
-// What these words, and then those, say, if they say something.
-fn said_by_both(
+// What these words, and then those, come to.
+fn line_by_both(
     rt: &(impl Abort + AllocGlobal),
-    options: &Options<'_>,
+    options: &ArchiveOptions<'static>,
     front: &[&[u8]],
     back: &[&[u8]],
-) -> Option<Vec<Said>> {
-    said_by(rt.alloc(), options, line_of(rt, front, back)).expect(rt, "memory")
+) -> ArchiveLine<'static> {
+    options
+        .read(rt.alloc(), line_of(rt, front, back))
+        .expect(rt, "memory")
 }
 
-// Whether this is the option of this index.
-fn is_option(said: Option<&Said>, index: usize) -> bool {
-    match said {
-        Some(Said::Option(found, _) | Said::Several(found, _)) => *found == index,
-        Some(Said::Positional(_)) | None => false,
+// Whether an option of this kind is said.
+fn is_option(said: Option<&ArchiveSaid>, kind: &ArchiveKind<'_>) -> bool {
+    match (said, kind) {
+        (Some(Said::Flag(found)), Kind::Flag(key)) => found == key,
+        (Some(Said::Value(found, _)), Kind::Value(key, _)) => found == key,
+        (Some(Said::Maybe(found, _)), Kind::Maybe(key, _)) => found == key,
+        (Some(Said::Values(found, _)), Kind::Values(key, _)) => found == key,
+        _ => false,
     }
 }
 
-// Whether more is said than before: that, and then this option.
-fn goes_on(before: &[Said], said: &Option<Vec<Said>>, index: usize) -> bool {
-    match said {
-        Some(said) => said.starts_with(before) && is_option(said.get(before.len()), index),
-        None => false,
+// Whether more is said than before: that, and then an option of this kind. These words do not ask
+// for the help before that.
+fn goes_on(before: &[ArchiveSaid], line: &ArchiveLine<'_>, kind: &ArchiveKind<'_>) -> bool {
+    match line {
+        Line::Said(said) => said.starts_with(before) && is_option(said.get(before.len()), kind),
+        Line::Asked(asked) => *asked == Asked::Help && matches!(kind, Kind::Help),
+        Line::Refused(_) => false,
     }
 }
 
 // Whether a spelling can occur after these words, alone or with a value after it.
 fn can_occur(
     rt: &(impl Abort + AllocGlobal),
-    options: &Options<'_>,
+    options: &ArchiveOptions<'static>,
     words: &[&[u8]],
     spelling: &str,
-    index: usize,
+    kind: &ArchiveKind<'_>,
 ) -> bool {
-    let Some(before) = said_by_both(rt, options, words, &[]) else {
+    let Line::Said(before) = line_by_both(rt, options, words, &[]) else {
         return false;
     };
     let spelling = spelling.as_bytes();
-    let alone = said_by_both(rt, options, words, &[spelling]);
-    let with_value = said_by_both(rt, options, words, &[spelling, b"a"]);
-    goes_on(&before, &alone, index) || goes_on(&before, &with_value, index)
+    let alone = line_by_both(rt, options, words, &[spelling]);
+    let with_value = line_by_both(rt, options, words, &[spelling, b"a"]);
+    goes_on(&before, &alone, kind) || goes_on(&before, &with_value, kind)
 }
 
 // Whether exactly the spellings that can occur after these words are offered there.
-fn agrees(rt: &(impl Abort + AllocGlobal), options: &Options<'_>, words: &[&[u8]]) -> bool {
+fn agrees(
+    rt: &(impl Abort + AllocGlobal),
+    options: &ArchiveOptions<'static>,
+    words: &[&[u8]],
+) -> bool {
     let line = line_of(rt, words, &[]);
     let typed = OsString::new(rt.alloc());
     let completion = options
         .complete(rt.alloc(), &line, &typed)
         .expect(rt, "memory");
-    for (spelling, index) in SPELLINGS {
+    for (spelling, kind) in SPELLINGS {
         let is_offered = completion
             .spellings
             .iter()
             .any(|text| text.as_str() == spelling);
-        if is_offered != can_occur(rt, options, words, spelling, index) {
+        if is_offered != can_occur(rt, options, words, spelling, &kind) {
             return false;
         }
     }
@@ -108,7 +108,11 @@ fn agrees(rt: &(impl Abort + AllocGlobal), options: &Options<'_>, words: &[&[u8]
 }
 
 // Whether they agree after this word, and after it and each other.
-fn agrees_after(rt: &(impl Abort + AllocGlobal), options: &Options<'_>, first: &[u8]) -> bool {
+fn agrees_after(
+    rt: &(impl Abort + AllocGlobal),
+    options: &ArchiveOptions<'static>,
+    first: &[u8],
+) -> bool {
     for second in WORDS {
         if !agrees(rt, options, &[first, second]) {
             return false;
@@ -119,9 +123,7 @@ fn agrees_after(rt: &(impl Abort + AllocGlobal), options: &Options<'_>, first: &
 
 // Whether they agree after no word, and after one or two of these.
 fn all_agree(rt: &(impl Abort + AllocGlobal)) -> bool {
-    let Some(options) = archive_of_files() else {
-        return false;
-    };
+    let options = archive_of_files();
     for first in WORDS {
         if !agrees_after(rt, &options, first) {
             return false;

@@ -1,15 +1,17 @@
 //! What is printed of lines that are refused, and what they say before.
 use crate::options::archive::{
-    FILES, OPTIONS, SOURCE_AND_TARGET, archive, tells, text_of_words, words_of,
+    ARCHIVE, Archive, ArchiveKind, ArchiveOptions, Maybe, Value, Values, archive, archive_of_files,
+    tells, text_of_words, words_of,
 };
-use lexopt_options::{Declared, Error, Names, Options, OsString, ReadError, Refused, ValueExt};
+use lexopt_options::{
+    Error, Kind, Names, Options, OsString, Positional, USAGE_ERROR, UsageError, ValueExt, declare,
+};
 use std::alloc::{AllocError, Global};
-use std::process::Abort;
 
 // Whether a line is refused with this mistake, and says this before.
 fn is_refused(
     alloc: Global,
-    options: &Options<'_>,
+    options: &ArchiveOptions<'_>,
     line: &[u8],
     before: &str,
     mistake: &str,
@@ -21,7 +23,7 @@ fn is_refused(
     }
 }
 
-static MISTAKES: [(&[u8], &str, &str); 11] = [
+static MISTAKES: [(&[u8], &str, &str); 13] = [
     (
         b"--verbsoe",
         "[]",
@@ -34,20 +36,31 @@ static MISTAKES: [(&[u8], &str, &str); 11] = [
     ),
     (b"--colour=always", "[]", "invalid option '--colour'"),
     (
-        b"--help --bogus",
-        "[Option(4, None)]",
+        b"-v --bogus --help",
+        "[Flag(Verbose)]",
         "invalid option '--bogus'",
     ),
-    (b"-vqo", "[Option(0, None)]", "invalid option '-q'"),
-    // An option with a value that it does not take is said before its mistake.
+    (b"-vqo", "[Flag(Verbose)]", "invalid option '-q'"),
+    // An option with a value that it does not take is not said before its mistake.
     (
-        b"-h --verbose=x -o",
-        "[Option(4, None), Option(0, None)]",
+        b"-v --verbose=x -o",
+        "[Flag(Verbose)]",
         "unexpected argument for option '--verbose': \"x\"",
+    ),
+    // A request for the help that has a value is none.
+    (
+        b"a --help=1",
+        "[Positional(\"a\")]",
+        "unexpected argument for option '--help': \"1\"",
+    ),
+    (
+        b"-h=1 --help",
+        "[]",
+        "unexpected argument for option '-h': \"1\"",
     ),
     (
         b"a -v -o",
-        "[Positional(\"a\"), Option(0, None)]",
+        "[Positional(\"a\"), Flag(Verbose)]",
         "missing argument FILE for option '-o'",
     ),
     (
@@ -61,13 +74,13 @@ static MISTAKES: [(&[u8], &str, &str); 11] = [
         "unexpected argument \"c\"",
     ),
     (b"", "[]", "missing argument SOURCE"),
-    (b"-v --", "[Option(0, None)]", "missing argument SOURCE"),
+    (b"-v --", "[Flag(Verbose)]", "missing argument SOURCE"),
 ];
 
 // The row of these that is not as it says, or none. With no options the first one is not.
 fn first_wrong(
     alloc: Global,
-    options: Option<Options<'_>>,
+    options: Option<ArchiveOptions<'_>>,
     rows: &[(&[u8], &'static str, &'static str)],
 ) -> Result<Option<usize>, AllocError> {
     let Some(options) = options else {
@@ -83,7 +96,12 @@ fn first_wrong(
 
 #[test]
 fn mistakes(rt: HostRuntime) {
-    let options = archive(&OPTIONS, &SOURCE_AND_TARGET);
+    let positionals = [
+        Positional::once("SOURCE", ""),
+        Positional::at_most_once("TARGET", ""),
+    ];
+    let declaration = archive(ARCHIVE.options, &positionals);
+    let options = Options::try_new(&declaration).ok();
     assert_eq!(rt;
         first_wrong(rt.alloc(), options, &MISTAKES).expect(&rt, "success"),
         None
@@ -92,64 +110,94 @@ fn mistakes(rt: HostRuntime) {
 
 #[test]
 fn status(rt: HostRuntime) {
-    assert_eq!(rt; Refused::STATUS, 2);
+    assert_eq!(rt; USAGE_ERROR, 2);
 }
 
-// The error of a word that is not a number.
-fn error_of(rt: &(impl Abort + AllocGlobal), word: &[u8]) -> Option<Error> {
-    let word = OsString::from_bytes(rt.alloc(), word).expect(rt, "memory");
-    word.parse::<u32>().err()
+// What is printed of a mistake that the program found, and the status after it.
+fn reported(
+    alloc: Global,
+    options: &ArchiveOptions<'static>,
+    error: UsageError<'static>,
+) -> Result<(String, u8), AllocError> {
+    let report = options.report(error);
+    Ok((report.to_string(alloc)?, report.status()))
 }
 
-// Whether a value of this option that cannot be converted, or of a positional, is refused with this
-// mistake.
-fn tells_invalid(
-    rt: &(impl Abort + AllocGlobal),
-    declared: &[Declared<'_>],
-    index: Option<usize>,
-    error: Error,
+// Whether a mistake that the program found is printed so.
+fn is_reported(
+    alloc: Global,
+    options: &ArchiveOptions<'static>,
+    error: UsageError<'static>,
     mistake: &str,
-) -> bool {
-    match archive(declared, &FILES) {
-        Some(options) => {
-            let invalid = options.invalid(index, error);
-            let printed = invalid.to_string(rt.alloc()).expect(rt, "memory");
-            tells(printed.as_str(), mistake)
-        }
-        None => false,
+) -> Result<bool, AllocError> {
+    let (text, status) = reported(alloc, options, error)?;
+    Ok(tells(text.as_str(), mistake) && status == USAGE_ERROR)
+}
+
+// The error of a word that is not a number: a value of the option with this key, or a positional.
+fn error_of(
+    options: &ArchiveOptions<'static>,
+    key: Option<ArchiveKind<'static>>,
+    word: &OsString,
+) -> Option<UsageError<'static>> {
+    match key {
+        Some(Kind::Value(key, _)) => options.parse_value::<u32>(key, word).err(),
+        Some(Kind::Maybe(key, _)) => options.parse_maybe::<u32>(key, word).err(),
+        Some(Kind::Values(key, _)) => options.parse_values::<u32>(key, word).err(),
+        Some(_) => None,
+        None => match word.parse::<u32>() {
+            Ok(_) => None,
+            Err(error) => Some(UsageError::from(error)),
+        },
     }
 }
 
-// Whether a word that is not a number is refused with this mistake, for this option.
+// Whether a value that is not a number is refused with this mistake.
 fn is_invalid(
-    rt: &(impl Abort + AllocGlobal),
-    declared: &[Declared<'_>],
-    index: Option<usize>,
+    alloc: Global,
+    options: &ArchiveOptions<'static>,
+    key: Option<ArchiveKind<'static>>,
     word: &[u8],
     mistake: &str,
-) -> bool {
-    match error_of(rt, word) {
-        Some(error) => tells_invalid(rt, declared, index, error, mistake),
-        None => false,
+) -> Result<bool, AllocError> {
+    let word = OsString::from_bytes(alloc, word)?;
+    match error_of(options, key, &word) {
+        Some(error) => is_reported(alloc, options, error, mistake),
+        None => Ok(false),
     }
 }
 
-// An option with no long name, and a value that is wrong in another way.
+// An option with no long name.
+static JOBS: Archive<'static> = declare! {
+    program: "archive",
+    options: [
+        value(Value::Output, Names::Short('k'), "NUMBER", ""),
+        help(Names::Both('h', "help")),
+    ],
+};
+
+// It, and mistakes of other kinds.
 #[test]
-fn other_invalid_values(rt: HostRuntime) {
-    let jobs = [Declared::one(Names::Short('k'), "NUMBER", "")];
+fn other_mistakes(rt: HostRuntime) {
+    let options = Options::new(&JOBS);
+    let key = Some(Kind::Value(Value::Output, "NUMBER"));
     let mistake = "invalid value \"x\" for '-k': invalid digit found in string";
-    assert!(rt; is_invalid(&rt, &jobs, Some(0), b"x", mistake));
-    let error = Error::from("no such key");
+    assert!(rt; is_invalid(rt.alloc(), &options, key, b"x", mistake).expect(&rt, "memory"));
+    let error = UsageError::Invalid {
+        option: Some(Names::Short('k')),
+        error: Error::from("no such key"),
+    };
     let mistake = "invalid value for '-k': no such key";
-    assert!(rt; tells_invalid(&rt, &jobs, Some(0), error, mistake));
+    assert!(rt; is_reported(rt.alloc(), &options, error, mistake).expect(&rt, "memory"));
+    let error = UsageError::from("no such key");
+    assert!(rt; is_reported(rt.alloc(), &options, error, "no such key").expect(&rt, "memory"));
 }
 
 #[test]
 fn invalid_values(rt: HostRuntime) {
-    for (index, word, mistake) in [
+    for (key, word, mistake) in [
         (
-            Some(1),
+            Some(Kind::Value(Value::Output, "FILE")),
             b"x".as_slice(),
             "invalid value \"x\" for '--output': invalid digit found in string",
         ),
@@ -159,25 +207,28 @@ fn invalid_values(rt: HostRuntime) {
             "invalid value \"\": cannot parse integer from empty string",
         ),
         (
-            Some(2),
+            Some(Kind::Maybe(Maybe::Backup, "SUFFIX")),
             b"7\xFF",
             "invalid value \"7\\xFF\" for '--backup': not UTF-8",
         ),
+        (
+            Some(Kind::Values(Values::Exclude, "PATTERN")),
+            b"x",
+            "invalid value \"x\" for '--exclude': invalid digit found in string",
+        ),
     ] {
         assert!(rt;
-            is_invalid(&rt, &OPTIONS, index, word, mistake),
+            is_invalid(rt.alloc(), &archive_of_files(), key, word, mistake).expect(&rt, "memory"),
             "{mistake}"
         );
     }
 }
 
-// Refused memory has no line, and as the error of a value it has two.
+// Refused memory is no mistake in the line.
 #[test]
 fn no_memory(rt: HostRuntime) {
-    let printed = ReadError::OutOfMemory
-        .to_string(rt.alloc())
-        .expect(&rt, "success");
-    assert_eq!(rt; printed.as_str(), "out of memory");
-    let error = Error::OutOfMemory;
-    assert!(rt; tells_invalid(&rt, &OPTIONS, Some(1), error, "out of memory"));
+    let error = UsageError::from(Error::OutOfMemory);
+    let (text, status) = reported(rt.alloc(), &archive_of_files(), error).expect(&rt, "memory");
+    assert_eq!(rt; text.as_str(), "archive: out of memory");
+    assert_eq!(rt; status, 1);
 }

@@ -1,6 +1,6 @@
 //! The help and the usage line.
-use crate::options::archive::{FILES, OPTIONS, SOURCE_AND_TARGET, archive};
-use lexopt_options::{Declared, Names, Positional, VERSION, WIDTH};
+use crate::options::archive::{ARCHIVE, ArchiveOption, Flag, Maybe, Value, Values, archive};
+use lexopt_options::{Declared, Names, Options, Positional, WIDTH};
 use std::alloc::{AllocError, Global};
 
 const HELP_AT_80: &str = "Usage: archive [OPTION]... [FILE]...
@@ -67,25 +67,31 @@ exit
 // Whether the help of these options and arguments is this, at this width.
 fn is_help(
     alloc: Global,
-    declared: &[Declared<'_>],
+    declared: &[ArchiveOption<'_>],
     positionals: &[Positional<'_>],
     width: usize,
     wanted: &str,
 ) -> Result<bool, AllocError> {
-    match archive(declared, positionals) {
-        Some(options) => Ok(options.help(alloc, width)?.as_str() == wanted),
-        None => Ok(false),
+    match Options::try_new(&archive(declared, positionals)) {
+        Ok(options) => Ok(options.help(alloc, width)?.as_str() == wanted),
+        Err(_) => Ok(false),
     }
 }
 
 #[test]
 fn help(rt: HostRuntime) {
-    assert!(rt; is_help(rt.alloc(), &OPTIONS, &FILES, 80, HELP_AT_80).expect(&rt, "success"));
-    assert!(rt; is_help(rt.alloc(), &OPTIONS, &FILES, 0, HELP_AT_0).expect(&rt, "success"));
+    let options = ARCHIVE.options;
+    let files = ARCHIVE.positionals;
+    assert!(rt; is_help(rt.alloc(), options, files, 80, HELP_AT_80).expect(&rt, "success"));
+    assert!(rt; is_help(rt.alloc(), options, files, 0, HELP_AT_0).expect(&rt, "success"));
 }
 
 // Whether the help of these options, with no arguments, is this, at the usual width.
-fn is_help_of(alloc: Global, declared: &[Declared<'_>], wanted: &str) -> Result<bool, AllocError> {
+fn is_help_of(
+    alloc: Global,
+    declared: &[ArchiveOption<'_>],
+    wanted: &str,
+) -> Result<bool, AllocError> {
     is_help(alloc, declared, &[], WIDTH, wanted)
 }
 
@@ -104,7 +110,7 @@ const LONG: &str =
 
 // Whether it stands on a line of its own, unbroken, with its help below.
 fn is_on_one_line(alloc: Global) -> Result<bool, AllocError> {
-    let declared = [Declared::flag(Names::Long(LONG), "say it")];
+    let declared = [Declared::flag(Flag::Verbose, Names::Long(LONG), "say it")];
     let wanted = format!(in alloc;
         "Usage: archive [OPTION]...\nPacks files.\n\n      --{LONG}\n                        say it\n"
     )?;
@@ -137,17 +143,17 @@ Packs files.
 
 fn are_labels(alloc: Global) -> Result<bool, AllocError> {
     let declared = [
-        Declared::one(Names::Short('n'), "NUMBER", "as many"),
-        Declared::one(Names::Long("tone"), "NAME", " as  loud "),
-        Declared::optional(Names::Short('c'), "WHEN", ""),
-        Declared::optional(Names::Long("color"), "WHEN", "in color"),
-        Declared::several(Names::Short('w'), "PART", "with these"),
-        Declared::several(Names::Long("with"), "PART", "with those"),
-        Declared::flag(Names::Short('q'), "be quiet"),
-        VERSION,
-        Declared::flag(Names::Long("caf\u{65}\u{301}"), "strong"),
-        Declared::flag(Names::Long("twenty-columns"), "just room"),
-        Declared::flag(Names::Long("twenty-1-columns"), "no room"),
+        Declared::value(Value::Output, Names::Short('n'), "NUMBER", "as many"),
+        Declared::value(Value::Output, Names::Long("tone"), "NAME", " as  loud "),
+        Declared::maybe(Maybe::Backup, Names::Short('c'), "WHEN", ""),
+        Declared::maybe(Maybe::Backup, Names::Long("color"), "WHEN", "in color"),
+        Declared::values(Values::Exclude, Names::Short('w'), "PART", "with these"),
+        Declared::values(Values::Exclude, Names::Long("with"), "PART", "with those"),
+        Declared::flag(Flag::Verbose, Names::Short('q'), "be quiet"),
+        Declared::version(Names::Long("version"), "archive 1.0"),
+        Declared::flag(Flag::Verbose, Names::Long("caf\u{65}\u{301}"), "strong"),
+        Declared::flag(Flag::Verbose, Names::Long("twenty-columns"), "just room"),
+        Declared::flag(Flag::Verbose, Names::Long("twenty-1-columns"), "no room"),
     ];
     is_help_of(alloc, &declared, LABELS)
 }
@@ -160,13 +166,17 @@ fn labels(rt: HostRuntime) {
 // Whether the usage line of these options is this, at this width.
 fn is_usage(
     alloc: Global,
-    declared: &[Declared<'_>],
+    declared: &[ArchiveOption<'_>],
     width: usize,
     wanted: &str,
 ) -> Result<bool, AllocError> {
-    match archive(declared, &SOURCE_AND_TARGET) {
-        Some(options) => Ok(options.usage(alloc, width)?.as_str() == wanted),
-        None => Ok(false),
+    let positionals = [
+        Positional::once("SOURCE", ""),
+        Positional::at_most_once("TARGET", ""),
+    ];
+    match Options::try_new(&archive(declared, &positionals)) {
+        Ok(options) => Ok(options.usage(alloc, width)?.as_str() == wanted),
+        Err(_) => Ok(false),
     }
 }
 
@@ -175,12 +185,12 @@ fn are_usages(alloc: Global) -> Result<bool, AllocError> {
     Ok(
         is_usage(
             alloc,
-            &OPTIONS,
+            ARCHIVE.options,
             42,
             "Usage: archive [OPTION]... SOURCE [TARGET]\n",
         )? && is_usage(
             alloc,
-            &OPTIONS,
+            ARCHIVE.options,
             41,
             "Usage: archive [OPTION]... SOURCE\n       [TARGET]\n",
         )? && is_usage(alloc, &[], 80, "Usage: archive SOURCE [TARGET]\n")?,

@@ -5,4 +5,4 @@ use Rattle.lexopt_declaration.specs.Models.{option_view}
 use Rattle.lexopt_declaration.proofs.declaration.first_fault.Given as goal
 
 abbrev pub invariant-loop-index : goal.invariant-loop-index
-invariant-loop-index l = list_all is_none (take l.index (faults [] (map option_view l.options))) ≡ true
+invariant-loop-index g l = list_all is_none (take l.index (faults [] (map option_view l.options))) ≡ true

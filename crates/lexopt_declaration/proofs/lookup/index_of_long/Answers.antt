@@ -5,4 +5,4 @@ use Rattle.lexopt_declaration.proofs.Positions.{position_map}
 use Rattle.lexopt_declaration.proofs.lookup.index_of_long.Goals as goal
 
 pub returns : goal.returns
-returns c = c.place_of_long.ensures ∙ position_map (has_name (table.long c.args.name.now)) c.args.options.now
+returns g c = c.place_of_long.ensures ∙ position_map (has_name (table.long c.args.name.now)) c.args.options.now

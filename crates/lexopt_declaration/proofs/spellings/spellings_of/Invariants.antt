@@ -6,7 +6,7 @@ use Rattle.lexopt_declaration.specs.Models.{option_view}
 use Rattle.lexopt_declaration.proofs.spellings.spellings_of.Given as goal
 
 abbrev pub invariant-loop-option : goal.invariant-loop-option
-invariant-loop-option l = record {
+invariant-loop-option g l = record {
   text : AreText (map option_view (take l.option-index l.options));
   spellings : map string_bytes l.spellings.items ≡ filter (λ s. starts_with nat_eq s l.typed) (spec.spellings (map option_view (take l.option-index l.options)));
 }

@@ -1,19 +1,19 @@
 use Rattle.std.proofs.Common.{List, ℕ, [], ◌∷◌, ◌++◌, true, codes, refl, lit≤, lit<}
 use Rattle.bstr.proofs.Computing.{computing}
-use Rattle.lexopt_options_spec.specs.Help.{columns, IsAbout, IsEntry, IsUsage}
-use Rattle.lexopt_laws.specs.Sample.{verbose, output, backup, exclude, asks_for_help, sample, sample_options, files, mode, target}
+use Rattle.lexopt_options_spec.specs.Help.{columns, label, IsParagraph, IsEntry, IsUsage}
+use Rattle.lexopt_laws.specs.Sample.{verbose, output, backup, exclude, asks_for_help, sample, sample_options, files, described_files, mode, target}
 use Rattle.lexopt_laws.proofs.WorkedLines.{fits}
 use Rattle.lexopt_laws.proofs.option_examples.helps_are_written.Goals as goal
 
-verbose_entry : IsEntry 80 verbose (codes "  -v, --verbose         tell more\n")
+verbose_entry : IsEntry 80 (label verbose) verbose.help (codes "  -v, --verbose         tell more\n")
 unfolding columns computing
 verbose_entry = record { lines = (codes "tell" ∷ codes "more" ∷ []) ∷ []; wrapped = record { in_order = refl; fit = (fits (lit< tt) (lit≤ tt), tt); full = tt }; written = refl }
 
-output_entry : IsEntry 80 output (codes "  -o, --output=FILE     the archive\n")
+output_entry : IsEntry 80 (label output) output.help (codes "  -o, --output=FILE     the archive\n")
 unfolding columns computing
 output_entry = record { lines = (codes "the" ∷ codes "archive" ∷ []) ∷ []; wrapped = record { in_order = refl; fit = (fits (lit< tt) (lit≤ tt), tt); full = tt }; written = refl }
 
-backup_entry : IsEntry 80 backup (codes "  -b[SUFFIX], --backup[=SUFFIX]\n                        keep an archive that is there, with this suffix\n")
+backup_entry : IsEntry 80 (label backup) backup.help (codes "  -b[SUFFIX], --backup[=SUFFIX]\n                        keep an archive that is there, with this suffix\n")
 unfolding columns computing
 backup_entry = record {
   lines = (codes "keep" ∷ codes "an" ∷ codes "archive" ∷ codes "that" ∷ codes "is" ∷ codes "there," ∷ codes "with" ∷ codes "this" ∷ codes "suffix" ∷ []) ∷ [];
@@ -21,7 +21,7 @@ backup_entry = record {
   written = refl;
 }
 
-exclude_entry : IsEntry 80 exclude (codes "  -x, --exclude=PATTERN...\n                        leave these out: all words up to the next option\n")
+exclude_entry : IsEntry 80 (label exclude) exclude.help (codes "  -x, --exclude=PATTERN...\n                        leave these out: all words up to the next option\n")
 unfolding columns computing
 exclude_entry = record {
   lines = (codes "leave" ∷ codes "these" ∷ codes "out:" ∷ codes "all" ∷ codes "words" ∷ codes "up" ∷ codes "to" ∷ codes "the" ∷ codes "next" ∷ codes "option" ∷ []) ∷ [];
@@ -29,7 +29,7 @@ exclude_entry = record {
   written = refl;
 }
 
-help_entry : IsEntry 80 asks_for_help (codes "  -h, --help            print this help and exit\n")
+help_entry : IsEntry 80 (label asks_for_help) asks_for_help.help (codes "  -h, --help            print this help and exit\n")
 unfolding columns computing
 help_entry = record {
   lines = (codes "print" ∷ codes "this" ∷ codes "help" ∷ codes "and" ∷ codes "exit" ∷ []) ∷ [];
@@ -57,7 +57,43 @@ usage_of_positionals = record {
   written = refl;
 }
 
-some_about : IsAbout 80 (codes "Prints what it has read.") (codes "Prints what it has read.\n")
+usage_of_every_part : IsUsage 80 (record (sample (mode ∷ described_files ∷ []) true) { options = record output { hidden = true } ∷ verbose ∷ []; epilogue = codes "Each file is read once." ∷ codes " " ∷ codes "No file is changed." ∷ [] })
+    (codes "Usage: example_archive [OPTION]... MODE [FILE]...\n")
+unfolding columns computing
+usage_of_every_part = record {
+  lines = (codes "example_archive" ∷ codes "[OPTION]..." ∷ codes "MODE" ∷ codes "[FILE]..." ∷ []) ∷ [];
+  wrapped = record { in_order = refl; fit = (fits (lit< tt) (lit≤ tt), tt); full = tt };
+  written = refl;
+}
+
+usage_without_options : IsUsage 80 (record (sample [] true) { options = record output { hidden = true } ∷ []; about = [] }) (codes "Usage: example_archive\n")
+unfolding columns computing
+usage_without_options = record { lines = (codes "example_archive" ∷ []) ∷ []; wrapped = record { in_order = refl; fit = (fits (lit< tt) (lit≤ tt), tt); full = tt }; written = refl }
+
+files_entry : IsEntry 80 (codes "FILE") (codes "a file to read") (codes "  FILE                  a file to read\n")
+unfolding columns computing
+files_entry = record { lines = (codes "a" ∷ codes "file" ∷ codes "to" ∷ codes "read" ∷ []) ∷ []; wrapped = record { in_order = refl; fit = (fits (lit< tt) (lit≤ tt), tt); full = tt }; written = refl }
+
+first_paragraph : IsParagraph 80 (codes "Each file is read once.") (codes "Each file is read once.\n")
+unfolding columns computing
+first_paragraph = record {
+  lines = (codes "Each" ∷ codes "file" ∷ codes "is" ∷ codes "read" ∷ codes "once." ∷ []) ∷ [];
+  wrapped = record { in_order = refl; fit = (fits (lit< tt) (lit≤ tt), tt); full = tt };
+  written = refl;
+}
+
+no_paragraph : IsParagraph 80 (codes " ") []
+no_paragraph = record { lines = []; wrapped = record { in_order = refl; fit = tt; full = tt }; written = refl }
+
+last_paragraph : IsParagraph 80 (codes "No file is changed.") (codes "No file is changed.\n")
+unfolding columns computing
+last_paragraph = record {
+  lines = (codes "No" ∷ codes "file" ∷ codes "is" ∷ codes "changed." ∷ []) ∷ [];
+  wrapped = record { in_order = refl; fit = (fits (lit< tt) (lit≤ tt), tt); full = tt };
+  written = refl;
+}
+
+some_about : IsParagraph 80 (codes "Prints what it has read.") (codes "Prints what it has read.\n")
 unfolding columns computing
 some_about = record {
   lines = (codes "Prints" ∷ codes "what" ∷ codes "it" ∷ codes "has" ∷ codes "read." ∷ []) ∷ [];
@@ -65,20 +101,24 @@ some_about = record {
   written = refl;
 }
 
-no_about : IsAbout 80 [] []
+no_about : IsParagraph 80 [] []
 no_about = record { lines = []; wrapped = record { in_order = refl; fit = tt; full = tt }; written = refl }
 
 pub returns-clause-sample : goal.returns-clause-sample
 returns-clause-sample c = record {
   usage = codes "Usage: example_archive [OPTION]... [FILE]...\n";
   about = codes "Prints what it has read.\n";
-  entries = codes "  -v, --verbose         tell more\n" ∷ codes "  -o, --output=FILE     the archive\n"
+  positionals = [];
+  options = codes "  -v, --verbose         tell more\n" ∷ codes "  -o, --output=FILE     the archive\n"
       ∷ codes "  -b[SUFFIX], --backup[=SUFFIX]\n                        keep an archive that is there, with this suffix\n"
       ∷ codes "  -x, --exclude=PATTERN...\n                        leave these out: all words up to the next option\n"
       ∷ codes "  -h, --help            print this help and exit\n" ∷ [];
+  epilogue = [];
   usage_first = sample_usage;
   about_next = some_about;
-  one_for_each = (verbose_entry, (output_entry, (backup_entry, (exclude_entry, (help_entry, tt)))));
+  each_positional = tt;
+  each_option = (verbose_entry, (output_entry, (backup_entry, (exclude_entry, (help_entry, tt)))));
+  each_paragraph = tt;
   written = refl;
 }
 
@@ -86,10 +126,14 @@ pub returns-clause-nothing : goal.returns-clause-nothing
 returns-clause-nothing c = record {
   usage = codes "Usage: example_archive\n";
   about = [];
-  entries = [];
+  positionals = [];
+  options = [];
+  epilogue = [];
   usage_first = usage_alone [];
   about_next = no_about;
-  one_for_each = tt;
+  each_positional = tt;
+  each_option = tt;
+  each_paragraph = tt;
   written = refl;
 }
 
@@ -97,10 +141,14 @@ pub returns-clause-about_alone : goal.returns-clause-about_alone
 returns-clause-about_alone c = record {
   usage = codes "Usage: example_archive\n";
   about = codes "Prints what it has read.\n";
-  entries = [];
+  positionals = [];
+  options = [];
+  epilogue = [];
   usage_first = usage_alone (codes "Prints what it has read.");
   about_next = some_about;
-  one_for_each = tt;
+  each_positional = tt;
+  each_option = tt;
+  each_paragraph = tt;
   written = refl;
 }
 
@@ -108,9 +156,43 @@ pub returns-clause-positionals : goal.returns-clause-positionals
 returns-clause-positionals c = record {
   usage = codes "Usage: example_archive MODE [TARGET] [FILE]...\n";
   about = [];
-  entries = [];
+  positionals = [];
+  options = [];
+  epilogue = [];
   usage_first = usage_of_positionals;
   about_next = no_about;
-  one_for_each = tt;
+  each_positional = tt;
+  each_option = tt;
+  each_paragraph = tt;
+  written = refl;
+}
+
+pub returns-clause-every_part : goal.returns-clause-every_part
+returns-clause-every_part c = record {
+  usage = codes "Usage: example_archive [OPTION]... MODE [FILE]...\n";
+  about = codes "Prints what it has read.\n";
+  positionals = codes "  FILE                  a file to read\n" ∷ [];
+  options = codes "  -v, --verbose         tell more\n" ∷ [];
+  epilogue = codes "Each file is read once.\n" ∷ [] ∷ codes "No file is changed.\n" ∷ [];
+  usage_first = usage_of_every_part;
+  about_next = some_about;
+  each_positional = (files_entry, tt);
+  each_option = (verbose_entry, tt);
+  each_paragraph = (first_paragraph, (no_paragraph, (last_paragraph, tt)));
+  written = refl;
+}
+
+pub returns-clause-hidden_option : goal.returns-clause-hidden_option
+returns-clause-hidden_option c = record {
+  usage = codes "Usage: example_archive\n";
+  about = [];
+  positionals = [];
+  options = [];
+  epilogue = [];
+  usage_first = usage_without_options;
+  about_next = no_about;
+  each_positional = tt;
+  each_option = tt;
+  each_paragraph = tt;
   written = refl;
 }

@@ -3,4 +3,4 @@ use Rattle.std.proofs.lemmas.Grind.{common_steps}
 use Rattle.lexopt_options.proofs.answer.text_of.Goals as goal
 
 pub returns : goal.returns
-returns c = grind (arith, common_steps)
+returns g c = grind (arith, common_steps)

@@ -4,4 +4,4 @@ use Rattle.lexopt_options_spec.specs.Help.{line_feed}
 use Rattle.lexopt_options.proofs.answer.text_of.Given as goal
 
 abbrev pub invariant-loop-spelling : goal.invariant-loop-spelling
-invariant-loop-spelling l = string_bytes l.text ≡ flat_map (λ s. string_bytes s ++ line_feed ∷ []) (take l.spelling-index l.spelling-items)
+invariant-loop-spelling g l = string_bytes l.text ≡ flat_map (λ s. string_bytes s ++ line_feed ∷ []) (take l.spelling-index l.spelling-items)

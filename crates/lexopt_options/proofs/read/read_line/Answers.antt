@@ -1,47 +1,71 @@
-use Rattle.std.proofs.Common.{◌≡◌, ◌++◌, ◌∷◌, [], List, map, arith, add-zero, ap, sym, subst, ◌∙◌}
-use Rattle.std.proofs.lemmas.Bool.{false≢true}
+use Rattle.std.proofs.Common.{◌≡◌, ◌++◌, ◌∷◌, [], List, add-zero, ap, arith, map, refl, subst, sym, ◌∙◌}
 use Rattle.std.proofs.lemmas.List.{length-map}
 use Rattle.lexopt_options_spec.specs.Legal as legal
 use Rattle.lexopt_options_spec.specs.Legal.{positional_count}
 use Rattle.lexopt_options_spec.specs.Stops.{ReadsUpTo}
+use Rattle.lexopt_options.specs.declared.indexed.Indexed.TheVariants as indexed
 use Rattle.lexopt_options.specs.Declarations.{declaration_of}
-use Rattle.lexopt_options.specs.Reading.{said_view}
-use Rattle.lexopt_options.proofs.ReadNext.{count_more, count_small, counts_none, one_more}
-use Rattle.lexopt_options.proofs.WholeLines.{line_said}
+use Rattle.lexopt_options.specs.Reading.{indexed_view}
+use Rattle.lexopt_options.proofs.ReadNext.{count_more, count_small, one_more}
+use Rattle.lexopt_options.proofs.WholeLines.{line_said, line_stopped}
 use Rattle.lexopt_options.proofs.read.read_line.Goals as goal
 
 pub overflow_add-count : goal.overflow_add-count
-overflow_add-count c =
-    let small = count_small (map said_view c.loop-said.said.items) in
-    omega (arith, small, length-map c.loop-said.said.items said_view, c.loop-said.said.small, c.loop-said.invariant.counted)
+overflow_add-count g c =
+    let small = count_small (map indexed_view c.loop-said.said.items) in
+    omega (arith, small, length-map c.loop-said.said.items indexed_view, c.loop-said.said.small, c.loop-said.invariant.counted)
 
-pub loop-said-preserved-then-more : goal.loop-said-preserved-then-more
-loop-said-preserved-then-more c =
+pub loop-said-smaller-in-Continue-branch-6 : goal.loop-said-smaller-in-Continue-branch-6
+loop-said-smaller-in-Continue-branch-6 g c =
+    let next = rw c.in-Option.is at c.in_ok-index.ensures in
+    let read = rw c.in-Ok.is at c.in_ok-option-in-Option.ensures c.loop-said.count c.loop-said.parser next.0 next.1 next.2 in
+    read.0.reads.1
+
+pub loop-said-preserved-in-Continue-branch-6 : goal.loop-said-preserved-in-Continue-branch-6
+loop-said-preserved-in-Continue-branch-6 g c =
     let d = declaration_of c.args.options.now in
-    let l = map said_view c.loop-said.said.items in
-    let reads = rw c.in-Said.is at c.in_ok-item.ensures in
-    let added : map said_view c.add.new.said.items ≡ l ++ said_view c.in-Said.item ∷ [] = c.in_ok-add-in-Said.ensures in
+    let l = map indexed_view c.loop-said.said.items in
+    let s = indexed_view c.in-Ok.option in
+    let next = rw c.in-Option.is at c.in_ok-index.ensures in
+    let read = rw c.in-Ok.is at c.in_ok-option-in-Option.ensures c.loop-said.count c.loop-said.parser next.0 next.1 next.2 in
+    let added : map indexed_view c.add.new.said.items ≡ l ++ s ∷ [] = c.in_ok-add-in-Ok.ensures in
     record {
-      read = subst (λ (m : List legal.Said). ReadsUpTo d c.args.parser.now m c.read_next.new.parser) (sym added)
-          (one_more d c.args.parser.now c.loop-said.parser c.read_next.new.parser l c.loop-said.count (said_view c.in-Said.item) c.loop-said.invariant.read c.loop-said.invariant.counted reads);
-      counted = count_more l c.loop-said.count 1 (said_view c.in-Said.item) c.loop-said.invariant.counted (c.is_positional-more.ensures.0 c.if-more.true)
-          ∙ ap positional_count (sym added);
+      read = subst (λ (m : List legal.Said). ReadsUpTo d c.args.parser.now m c.read_option.new.parser) (sym added)
+          (one_more d c.args.parser.now c.loop-said.parser c.read_option.new.parser l c.loop-said.count s c.loop-said.invariant.read c.loop-said.invariant.counted read.0);
+      counted = sym (add-zero c.loop-said.count) ∙ count_more l c.loop-said.count 0 s c.loop-said.invariant.counted read.1 ∙ ap positional_count (sym added);
     }
 
 pub loop-said-preserved : goal.loop-said-preserved
-loop-said-preserved c =
+loop-said-preserved g c =
     let d = declaration_of c.args.options.now in
-    let l = map said_view c.loop-said.said.items in
-    let reads = rw c.in-Said.is at c.in_ok-item.ensures in
-    let added : map said_view c.add.new.said.items ≡ l ++ said_view c.in-Said.item ∷ [] = c.in_ok-add-in-Said.ensures in
+    let l = map indexed_view c.loop-said.said.items in
+    let s = legal.positional c.in-Positional.word in
+    let reads = rw c.in-Positional.is at c.in_ok-index.ensures in
+    let added : map indexed_view c.add-in-Positional.new.said.items ≡ l ++ s ∷ [] = c.in_ok-add-in-Positional.ensures in
     record {
       read = subst (λ (m : List legal.Said). ReadsUpTo d c.args.parser.now m c.read_next.new.parser) (sym added)
-          (one_more d c.args.parser.now c.loop-said.parser c.read_next.new.parser l c.loop-said.count (said_view c.in-Said.item) c.loop-said.invariant.read c.loop-said.invariant.counted reads);
-      counted = sym (add-zero c.loop-said.count) ∙ count_more l c.loop-said.count 0 (said_view c.in-Said.item) c.loop-said.invariant.counted (counts_none (said_view c.in-Said.item) (λ one. false≢true (sym c.if-more.false ∙ c.is_positional-more.ensures.1 one)))
-          ∙ ap positional_count (sym added);
+          (one_more d c.args.parser.now c.loop-said.parser c.read_next.new.parser l c.loop-said.count s c.loop-said.invariant.read c.loop-said.invariant.counted reads);
+      counted = count_more l c.loop-said.count 1 s c.loop-said.invariant.counted refl ∙ ap positional_count (sym added);
     }
 
-pub returns-in-End-clause-said : goal.returns-in-End-clause-said
-returns-in-End-clause-said c = λ words is.
-    let ends = rw c.in-End.is at c.in_ok-item.ensures in
-    line_said c.args.options.now words c.loop-said.said.items c.args.parser.now c.loop-said.parser c.read_next.new.parser c.loop-said.count is c.loop-said.invariant.read c.loop-said.invariant.counted ends.0 ends.1
+pub returns-in-Err : goal.returns-in-Err
+returns-in-Err g c = λ words is.
+    let next = rw c.in-Option.is at c.in_ok-index.ensures in
+    let stops = rw c.in-Err.is at c.in_ok-option-in-Option.ensures c.loop-said.count c.loop-said.parser next.0 next.1 next.2 in (
+      stops.why,
+      stops.told,
+      line_stopped (declaration_of c.args.options.now) words (map indexed_view c.loop-said.said.items) c.args.parser.now c.loop-said.parser c.loop-said.count stops.why is c.loop-said.invariant.read c.loop-said.invariant.counted stops.stops,
+    )
+
+pub returns-in-End : goal.returns-in-End
+returns-in-End g c = λ words is.
+    let ends = rw c.in-End.is at c.in_ok-index.ensures in
+    line_said (declaration_of c.args.options.now) words (map indexed_view c.loop-said.said.items) c.args.parser.now c.loop-said.parser c.read_next.new.parser c.loop-said.count c.args.options.now.sound is c.loop-said.invariant.read c.loop-said.invariant.counted ends.0 ends.1
+
+pub returns-in-Mistake : goal.returns-in-Mistake
+returns-in-Mistake g c = λ words is.
+    let stops = rw c.in-Mistake.is at c.in_ok-index.ensures in (
+      stops.why,
+      stops.told,
+      line_stopped (declaration_of c.args.options.now) words (map indexed_view c.loop-said.said.items) c.args.parser.now c.loop-said.parser c.loop-said.count stops.why is c.loop-said.invariant.read c.loop-said.invariant.counted stops.stops,
+    )

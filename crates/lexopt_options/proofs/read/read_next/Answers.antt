@@ -1,6 +1,5 @@
 use Rattle.std.proofs.Common.{◌≡◌, ◌∙◌, Ok, Err, List, ℕ, string_bytes, refl, subst, sym, ap}
 use Rattle.std.proofs.lemmas.Bool.{false≢true}
-use Rattle.std.proofs.lemmas.Result.{IfOk-weaker}
 use Rattle.lexopt_line_spec.specs.Table.{long, short}
 use Rattle.lexopt_options_spec.specs.Declaration.{index_of}
 use Rattle.lexopt_options_spec.specs.Stops as stops
@@ -12,33 +11,19 @@ use Rattle.lexopt_options.specs.Declarations.{declaration_of}
 use Rattle.lexopt_options.proofs.ReadNext.{answered, never_missing, one_name, positional_said}
 use Rattle.lexopt_options.proofs.read.read_next.Goals as goal
 
-pub read_option-requires : goal.read_option-requires
-read_option-requires c =
-    let is : c.advance.result ≡ Ok (found.Short c.in-Ok-Short.option) = cc in
-    (c.args.parser.now, short c.in-Ok-Short.option, answered _ _ _ _ c.advance.ensures is)
-
-pub read_option-requires-in-Some-index_of_long : goal.read_option-requires-in-Some-index_of_long
-read_option-requires-in-Some-index_of_long c =
-    let is : c.advance.result ≡ Ok found.Long = cc in
-    (c.args.parser.now, long c.long_name.result.now, named _ _ c.long_name.result.now (answered _ _ _ _ c.advance.ensures is) c.long_name.ensures)
-
 pub returns-in-Some : goal.returns-in-Some
-returns-in-Some c =
+returns-in-Some g c =
     let is : c.advance.result ≡ Ok (found.Short c.in-Ok-Short.option) = cc in
-    IfOk-weaker c.read_option.result _ _
-    (λ outcome comes. comes c.args.count c.args.parser.now (short c.in-Ok-Short.option) (answered _ _ _ _ c.advance.ensures is)
-    (sym (ap (λ os. index_of os (short c.in-Ok-Short.option)) c.options.ensures.view) ∙ sym c.index_of_short.ensures ∙ c.in-Some.is)) c.read_option.ensures
+    (short c.in-Ok-Short.option, answered _ _ _ _ c.advance.ensures is, sym (ap (λ os. index_of os (short c.in-Ok-Short.option)) c.options.ensures.view) ∙ sym c.index_of_short.ensures ∙ c.in-Some.is)
 
 pub returns-in-Some-index_of_long : goal.returns-in-Some-index_of_long
-returns-in-Some-index_of_long c =
+returns-in-Some-index_of_long g c =
     let is : c.advance.result ≡ Ok found.Long = cc in
     let step = named _ _ c.long_name.result.now (answered _ _ _ _ c.advance.ensures is) c.long_name.ensures in
-    IfOk-weaker c.read_option-in-Some-index_of_long.result _ _
-    (λ outcome comes. comes c.args.count c.args.parser.now (long c.long_name.result.now) step
-    (sym (ap (λ os. index_of os (long c.long_name.result.now)) c.options-in-Ok-Long.ensures.view) ∙ sym c.index_of_long.ensures ∙ c.in-Some-index_of_long.is)) c.read_option-in-Some-index_of_long.ensures
+    (long c.long_name.result.now, step, sym (ap (λ os. index_of os (long c.long_name.result.now)) c.options-in-Ok-Long.ensures.view) ∙ sym c.index_of_long.ensures ∙ c.in-Some-index_of_long.is)
 
 pub returns-in_ok-unknown_option-in-None : goal.returns-in_ok-unknown_option-in-None
-returns-in_ok-unknown_option-in-None c =
+returns-in_ok-unknown_option-in-None g c =
     let is : c.advance.result ≡ Ok (found.Short c.in-Ok-Short.option) = cc in
     record {
       why = stops.unknown_option (short c.in-Ok-Short.option);
@@ -48,7 +33,7 @@ returns-in_ok-unknown_option-in-None c =
     }
 
 pub returns-in_ok-unknown_option-in-None-index_of_long : goal.returns-in_ok-unknown_option-in-None-index_of_long
-returns-in_ok-unknown_option-in-None-index_of_long c =
+returns-in_ok-unknown_option-in-None-index_of_long g c =
     let is : c.advance.result ≡ Ok found.Long = cc in
     let step = named _ _ c.long_name.result.now (answered _ _ _ _ c.advance.ensures is) c.long_name.ensures in
     let name = c.in_ok-from_str-in-None-index_of_long.field-0 in
@@ -62,7 +47,7 @@ returns-in_ok-unknown_option-in-None-index_of_long c =
     }
 
 pub returns-then-is_full : goal.returns-then-is_full
-returns-then-is_full c =
+returns-then-is_full g c =
     let is : c.advance.result ≡ Ok (found.Value c.in-Ok-Value.word) = cc in
     record {
       why = stops.unexpected_argument c.in-Ok-Value.word;
@@ -71,18 +56,18 @@ returns-then-is_full c =
     }
 
 pub returns-else-is_full : goal.returns-else-is_full
-returns-else-is_full c =
+returns-else-is_full g c =
     let is : c.advance.result ≡ Ok (found.Value c.in-Ok-Value.word) = cc in
     positional_said (declaration_of c.args.options.now) c.args.count c.args.parser.now c.advance.new.self c.in-Ok-Value.word
     (λ full. false≢true (sym c.if-is_full.false ∙ c.is_full.ensures.1 (c.requires.limit ∙ full))) (answered _ _ _ _ c.advance.ensures is)
 
 pub returns-in-Ok-End : goal.returns-in-Ok-End
-returns-in-Ok-End c =
+returns-in-Ok-End g c =
     let is : c.advance.result ≡ Ok found.End = cc in
     c.finish.ensures c.args.parser.now c.advance.new.self (answered _ _ _ _ c.advance.ensures is)
 
 pub returns-in-UnexpectedValue : goal.returns-in-UnexpectedValue
-returns-in-UnexpectedValue c =
+returns-in-UnexpectedValue g c =
     let is : c.advance.result ≡ Err (refused.UnexpectedValue c.in-UnexpectedValue.option c.in-UnexpectedValue.value) = cc in
     record {
       why = stops.unexpected_value (string_bytes c.in-UnexpectedValue.option) c.in-UnexpectedValue.value;
@@ -91,6 +76,6 @@ returns-in-UnexpectedValue c =
     }
 
 pub unreachable-requires : goal.unreachable-requires
-unreachable-requires c =
+unreachable-requires g c =
     let is : c.advance.result ≡ Err (refused.MissingValue c.in-MissingValue.field-0) = cc in
     never_missing c.args.parser.now c.advance.new.self c.in-MissingValue.field-0 (answered _ _ _ _ c.advance.ensures is)

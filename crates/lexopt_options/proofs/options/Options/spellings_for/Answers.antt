@@ -7,11 +7,11 @@ use Rattle.lexopt_options.proofs.Completing.{none_stands, offered_all}
 use Rattle.lexopt_options.proofs.options.Options.spellings_for.Goals as goal
 
 pub returns-then-not-opens : goal.returns-then-not-opens
-returns-then-not-opens c = λ words opens.
+returns-then-not-opens g c = λ words opens.
     subst (λ (l : List (String Global)). AreOffered (declaration_of c.args.self.now) words c.args.typed.now (map string_bytes l)) (sym c.new.ensures.items)
-    (none_stands c.args.self.now words c.args.typed.now (subst (Opens c.args.self.now words) c.if-not-opens.true opens))
+    (none_stands (declaration_of c.args.self.now) words c.args.typed.now (subst (Opens (declaration_of c.args.self.now) words) c.if-not-opens.true opens))
 
 pub returns-in-Some : goal.returns-in-Some
-returns-in-Some c =
-    offered_all c.args.self.now c.args.typed.now c.spellings_of.result _ c.as_bytes.result.now c.args.opens (c.to_str.ensures.exactly_on_utf8.0 (subst IsSome (sym c.in-Some.is) refl)) c.if-not-opens.false
+returns-in-Some g c =
+    offered_all (declaration_of c.args.self.now) c.args.typed.now c.spellings_of.result _ c.as_bytes.result.now c.args.opens c.args.self.now.sound (c.to_str.ensures.exactly_on_utf8.0 (subst IsSome (sym c.in-Some.is) refl)) c.if-not-opens.false
     c.options.ensures.view c.as_bytes.ensures c.spellings_of.ensures.text c.spellings_of.ensures.spellings

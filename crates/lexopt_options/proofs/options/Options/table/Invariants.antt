@@ -5,4 +5,4 @@ use Rattle.lexopt_declaration.specs.Models.{option_view}
 use Rattle.lexopt_options.proofs.options.Options.table.Given as goal
 
 abbrev pub invariant-loop-option : goal.invariant-loop-option
-invariant-loop-option l = table_view l.table ≡ spec.table (map option_view (take l.option-index l.option-items))
+invariant-loop-option g l = table_view l.table ≡ spec.table (map option_view (take l.option-index l.option-items))

@@ -1,0 +1,13 @@
+use Rattle.std.proofs.Common.{ap, filter, map, nat_eq, ◌++◌, ◌∙◌}
+use Rattle.lexopt_options_spec.specs.Completion.{names_of, spelling}
+use Rattle.std.specs.List.{starts_with}
+use Rattle.lexopt_declaration.specs.Models.{option_view}
+use Rattle.lexopt_declaration.proofs.Spelled.{spelled_more, text_more}
+use Rattle.lexopt_declaration.proofs.spellings.spellings_of.Goals as goal
+
+pub loop-option-preserved : goal.loop-option-preserved
+loop-option-preserved g c = record {
+  text = text_more c.args.options.now c.loop-option.option-index c.option-item.result c.loop-option-test.true c.option-item.is c.loop-option.invariant.text c.in_ok-add_spellings.ensures.text;
+  spellings = spelled_more (λ s. starts_with nat_eq s c.args.typed.now) c.args.options.now c.loop-option.option-index c.option-item.result _ c.loop-option-test.true c.option-item.is
+      (c.in_ok-add_spellings.ensures.added ∙ ap (λ l. l ++ filter (λ s. starts_with nat_eq s c.args.typed.now) (map spelling (names_of (option_view c.option-item.result)))) c.loop-option.invariant.spellings);
+}

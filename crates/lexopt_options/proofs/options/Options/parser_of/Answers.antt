@@ -1,0 +1,10 @@
+use Rattle.std.proofs.Common.{Bool, ap, ◌∙◌}
+use Rattle.lexopt_spec.specs.UnreadLine.{UnreadLine}
+use Rattle.lexopt_options.specs.Declarations.{declaration_of}
+use Rattle.lexopt_options.proofs.options.Options.parser_of.Goals as goal
+
+pub returns : goal.returns
+returns g c =
+    let d = declaration_of c.args.self.now in
+    c.set_short_equals.ensures ∙ ap (λ (on : Bool). record c.from_vec-parser.result { short_equals = on }) c.has_short_equals.ensures
+    ∙ ap (λ (u : UnreadLine). record u { short_equals = d.short_equals }) c.from_vec-parser.ensures

@@ -1,0 +1,13 @@
+use Rattle.lexopt_options.proofs.read.refuse.Goals as goal
+
+pub returns : goal.returns
+returns g c = λ words why l told stops none are. record {
+  program = c.program.ensures;
+  help = c.help_names.ensures;
+  why = why;
+  told = told;
+  read = l;
+  stops = stops;
+  own = none;
+  before = are;
+}

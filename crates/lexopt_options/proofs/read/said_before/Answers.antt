@@ -1,0 +1,17 @@
+use Rattle.std.proofs.Common.{◌-◌, List, ap, subst, sym, ◌∙◌}
+use Rattle.lexopt_options_spec.specs.Asking.{all_but_last}
+use Rattle.lexopt_options_spec.specs.Legal as legal
+use Rattle.lexopt_options.specs.Keys.{AreSaid}
+use Rattle.lexopt_options.specs.Lines.{before_mistake}
+use Rattle.lexopt_options.proofs.WholeLines.{before_other, kept_said}
+use Rattle.lexopt_options.proofs.read.said_before.Goals as goal
+
+pub returns-in-UnexpectedValue : goal.returns-in-UnexpectedValue
+returns-in-UnexpectedValue g c = λ options l are.
+    subst (λ m. AreSaid options (before_mistake m l) c.truncate.new.self.items) (sym c.in-UnexpectedValue.is)
+    (subst (λ xs. AreSaid options (all_but_last l) xs) (sym c.truncate.ensures.items)
+    (kept_said options l c.args.said.items c.saturating_sub-count.result (c.saturating_sub-count.ensures ∙ ap (λ k. k - 1) (c.len.ensures ∙ c.args.said.ok.0)) are))
+
+pub returns-in_default : goal.returns-in_default
+returns-in_default g c = λ options l are.
+    subst (λ (m : List legal.Said). AreSaid options m c.args.said.items) (sym (before_other c.args.mistake.now l c.in_default.not-UnexpectedValue)) are

@@ -1,0 +1,382 @@
+//! Mistakes that a program finds itself in what a line says, and what is printed about them.
+ghost use Rattle.std.specs.Prelude.{◌≡◌, position};
+ghost use Rattle.std.specs.Fmt.{WritesOnOk};
+ghost use Rattle.lexopt_options.specs.Usage as usage;
+ghost use Rattle.lexopt_options.specs.Usage.{for_option, invalid_message, named, value_message};
+ghost use Rattle.lexopt_options.specs.Usage.{what_message, why_message};
+
+use crate::options::Options;
+use crate::refused::{USAGE_ERROR, write_help};
+use lexopt_declaration::declaration::{Declared, Kind, Names};
+use lexopt_declaration::lookup::names_of;
+use lexopt_words::error::Error;
+use lexopt_words::message::write_no_memory;
+use lexopt_words::os_string::{OsString, Quoted};
+use lexopt_words::value_ext::ValueExt;
+use std::alloc::{AllocError, AllocFailed};
+use std::fmt;
+use std::str::FromStr;
+
+/// A mistake that a program finds itself in what a line says: the error of the functions that turn
+/// it into a value of the program's own. By `?` it takes an error of [`Options::parse_value`] and
+/// its like, of `ValueExt::parse`, of `push`, `collect` and `format!`, a text that was made by
+/// `format!`, and a text of the program's source: `Err("SOURCE and DEST are one file")?`.
+///
+/// It writes what is wrong. [`Options::report`] writes the name of the program before it, and where
+/// help is after it.
+#[derive(Debug, Drop)]
+pub enum UsageError<'a> {
+    /// A value could not be converted.
+    Invalid {
+        /// The option, unless it is a value of a positional argument.
+        option: Option<Names<'a>>,
+        /// Why it could not be converted.
+        error: Error,
+    },
+    /// This is wrong.
+    Text(&'a str),
+    /// The same, in a text that was made.
+    Formatted(String),
+    /// Memory ran out.
+    OutOfMemory,
+}
+
+impl fmt::Display for UsageError<'_> {
+    ghost use Rattle.std.specs.Prelude.{Some};
+    ghost use Rattle.lexopt_options.specs.Usage.{usage_message};
+
+    ghost output = { λ error. Some (usage_message error) };
+
+    fn fmt<W: fmt::Write>(&self, f: &mut fmt::Formatter<W>) -> fmt::Result {
+        match self {
+            UsageError::Invalid { option, error } => write_message(*option, error, f),
+            UsageError::Text(text) => f.write_str(text),
+            UsageError::Formatted(text) => f.write_str(text),
+            UsageError::OutOfMemory => write_no_memory(f),
+        }
+    }
+}
+
+impl std::error::Error for UsageError<'_> {}
+
+impl From<AllocError> for UsageError<'_> {
+    ghost use Rattle.std.specs.Prelude.{◌≡◌};
+    ghost use Rattle.lexopt_options.specs.declared.usage.UsageError.TheVariants.{OutOfMemory};
+
+    ghost from_gives = { λ _ error. error ≡ OutOfMemory };
+
+    fn from(_error: AllocError) -> Self {
+        UsageError::OutOfMemory
+    }
+}
+
+impl<T: Drop> From<AllocFailed<T>> for UsageError<'_> {
+    ghost use Rattle.std.specs.Prelude.{◌≡◌};
+    ghost use Rattle.lexopt_options.specs.declared.usage.UsageError.TheVariants.{OutOfMemory};
+
+    ghost from_gives = { λ _ error. error ≡ OutOfMemory };
+
+    fn from(_error: AllocFailed<T>) -> Self {
+        UsageError::OutOfMemory
+    }
+}
+
+impl From<Error> for UsageError<'_> {
+    ghost use Rattle.std.specs.Prelude.{◌≡◌, None};
+    ghost use Rattle.lexopt_options.specs.Usage.{invalid};
+
+    ghost from_gives = { λ error usage. usage ≡ invalid None error };
+
+    /// A value that is not of an option.
+    fn from(error: Error) -> Self {
+        invalid(None, error)
+    }
+}
+
+impl From<String> for UsageError<'_> {
+    ghost use Rattle.std.specs.Prelude.{◌≡◌};
+    ghost use Rattle.lexopt_options.specs.declared.usage.UsageError.TheVariants.{Formatted};
+
+    ghost from_gives = { λ text error. error ≡ Formatted text };
+
+    fn from(text: String) -> Self {
+        UsageError::Formatted(text)
+    }
+}
+
+impl<'a> From<&'a str> for UsageError<'a> {
+    ghost use Rattle.std.specs.Prelude.{◌≡◌};
+    ghost use Rattle.lexopt_options.specs.declared.usage.UsageError.TheVariants.{Text};
+
+    ghost from_gives = { λ text error. error ≡ Text text };
+
+    fn from(text: &'a str) -> Self {
+        UsageError::Text(text)
+    }
+}
+
+/// What is printed of a mistake that the program found.
+#[derive(Debug, Drop)]
+pub struct Report<'a> {
+    /// The name of the program.
+    pub program: &'a str,
+    /// The option that asks for the help, if one is declared.
+    pub help: Option<Names<'a>>,
+    /// The mistake.
+    pub error: UsageError<'a>,
+}
+
+impl Report<'_> {
+    ghost use Rattle.std.specs.Prelude.{◌≡◌};
+    ghost use Rattle.lexopt_options.specs.Usage.{report_status};
+
+    /// The status with which the program ends after it: 1 after [`UsageError::OutOfMemory`], and
+    /// [`USAGE_ERROR`](crate::USAGE_ERROR) after any other.
+    pub fn status(&self) -> u8
+        ensures { result ≡ report_status self.now.error }
+    {
+        match self.error {
+            UsageError::OutOfMemory => 1,
+            _ => USAGE_ERROR,
+        }
+    }
+}
+
+impl fmt::Display for Report<'_> {
+    ghost use Rattle.std.specs.Prelude.{Some};
+    ghost use Rattle.lexopt_options.specs.Usage.{report_text};
+
+    ghost output = { λ report. Some (report_text report) };
+
+    /// Writes the name of the program and the mistake, and on a second line where help is, if an
+    /// option for it is declared and the mistake is not [`UsageError::OutOfMemory`].
+    fn fmt<W: fmt::Write>(&self, f: &mut fmt::Formatter<W>) -> fmt::Result {
+        let program = self.program;
+        let error = &self.error;
+        write!(f, "{program}: {error}")?;
+        match error {
+            UsageError::OutOfMemory => Ok(()),
+            _ => write_help(program, self.help, f),
+        }
+    }
+}
+
+// A value that could not be converted, or that memory ran out.
+fn invalid<'a>(option: Option<Names<'a>>, error: Error) -> UsageError<'a>
+    ensures { result ≡ usage.invalid option.entry error }
+{
+    match error {
+        Error::OutOfMemory => UsageError::OutOfMemory,
+        error => UsageError::Invalid { option, error },
+    }
+}
+
+// What was converted, or the error that names the option.
+fn name_error<'a, T>(
+    option: Option<Names<'a>>,
+    converted: Result<T, Error>,
+) -> Result<T, UsageError<'a>>
+    ensures { result ≡ named option.entry converted }
+{
+    match converted {
+        Ok(value) => Ok(value),
+        Err(error) => Err(invalid(option, error)),
+    }
+}
+
+// Writes that a value is invalid, and shows it if the error has it.
+fn write_what<W: fmt::Write>(error: &Error, f: &mut fmt::Formatter<W>) -> fmt::Result
+    ensures { WritesOnOk W.write_str_gives f.old result (what_message error.now) f.new }
+{
+    match error {
+        Error::ParsingFailed { value, .. } => write_value(value.as_bytes(), f),
+        Error::NonUnicodeValue(value) => write_value(value.as_bytes(), f),
+        _ => f.write_str("invalid value"),
+    }
+}
+
+// Writes that this value is invalid.
+fn write_value<W: fmt::Write>(value: &[u8], f: &mut fmt::Formatter<W>) -> fmt::Result
+    ensures { WritesOnOk W.write_str_gives f.old result (value_message value.now) f.new }
+{
+    let value = Quoted::new(value);
+    write!(f, "invalid value {value}")
+}
+
+// Writes for which option a value is, if there is one.
+fn write_option<W: fmt::Write>(option: Option<Names<'_>>, f: &mut fmt::Formatter<W>) -> fmt::Result
+    ensures { WritesOnOk W.write_str_gives f.old result (for_option option.entry) f.new }
+{
+    match option {
+        Some(names) => write!(f, " for '{names}'"),
+        None => Ok(()),
+    }
+}
+
+// Writes why a value is invalid.
+fn write_why<W: fmt::Write>(error: &Error, f: &mut fmt::Formatter<W>) -> fmt::Result
+    ensures { WritesOnOk W.write_str_gives f.old result (why_message error.now) f.new }
+{
+    match error {
+        Error::ParsingFailed { error, .. } => write!(f, ": {error}"),
+        Error::NonUnicodeValue(_) => f.write_str(": not UTF-8"),
+        other => write!(f, ": {other}"),
+    }
+}
+
+// Writes that a value is invalid, for this option if there is one, and why; or that memory ran out.
+fn write_message<W: fmt::Write>(
+    option: Option<Names<'_>>,
+    error: &Error,
+    f: &mut fmt::Formatter<W>,
+) -> fmt::Result
+    ensures { WritesOnOk W.write_str_gives f.old result (invalid_message option.entry error.now)
+        f.new }
+{
+    if matches!(error, Error::OutOfMemory) {
+        return write_no_memory(f);
+    }
+    write_what(error, f)?;
+    write_option(option, f)?;
+    write_why(error, f)
+}
+
+// ---- the option of a key
+
+// Whether this is the kind with this key.
+fn is_value<F, V: PartialEq, M, S>(kind: &Kind<'_, F, V, M, S>, key: &V) -> bool
+    ensures { result ≡ usage.is_value V.eq key.now kind.now }
+{
+    match kind {
+        Kind::Value(own, _) => own == key,
+        _ => false,
+    }
+}
+
+// Whether this is the kind with this key.
+fn is_maybe<F, V, M: PartialEq, S>(kind: &Kind<'_, F, V, M, S>, key: &M) -> bool
+    ensures { result ≡ usage.is_maybe M.eq key.now kind.now }
+{
+    match kind {
+        Kind::Maybe(own, _) => own == key,
+        _ => false,
+    }
+}
+
+// Whether this is the kind with this key.
+fn is_values<F, V, M, S: PartialEq>(kind: &Kind<'_, F, V, M, S>, key: &S) -> bool
+    ensures { result ≡ usage.is_values S.eq key.now kind.now }
+{
+    match kind {
+        Kind::Values(own, _) => own == key,
+        _ => false,
+    }
+}
+
+// The place of the first option with this key.
+fn place_of_value<F, V: PartialEq, M, S>(
+    options: &[Declared<'_, F, V, M, S>],
+    key: &V,
+) -> Option<usize>
+    ensures { result ≡ position (λ o. usage.is_value V.eq key.now o.kind) options.now }
+{
+    options
+        .iter()
+        .position(|option| is_value(&option.kind, key))
+}
+
+// The place of the first option with this key.
+fn place_of_maybe<F, V, M: PartialEq, S>(
+    options: &[Declared<'_, F, V, M, S>],
+    key: &M,
+) -> Option<usize>
+    ensures { result ≡ position (λ o. usage.is_maybe M.eq key.now o.kind) options.now }
+{
+    options
+        .iter()
+        .position(|option| is_maybe(&option.kind, key))
+}
+
+// The place of the first option with this key.
+fn place_of_values<F, V, M, S: PartialEq>(
+    options: &[Declared<'_, F, V, M, S>],
+    key: &S,
+) -> Option<usize>
+    ensures { result ≡ position (λ o. usage.is_values S.eq key.now o.kind) options.now }
+{
+    options
+        .iter()
+        .position(|option| is_values(&option.kind, key))
+}
+
+impl<'a, F, V: Copy + PartialEq, M, S> Options<'a, F, V, M, S> {
+    ghost use Rattle.lexopt_options.specs.Declarations.{options_of};
+    ghost use Rattle.lexopt_options.specs.Usage.{ConvertsFor, value_names};
+
+    /// What the text of a value stands for, by its type's `FromStr`: a value of the option with
+    /// this key. The error names the first option with it.
+    pub fn parse_value<T: FromStr>(&self, key: V, word: &OsString) -> Result<T, UsageError<'a>>
+    where
+        T::Err: Into<anyhow::Error>,
+        ensures { ConvertsFor (value_names V.eq key (options_of self.now)) T.from_str_gives
+            T.Err.converts word.now result }
+    {
+        let options = self.options();
+        let option = names_of(options, place_of_value(options, &key));
+        name_error(option, word.parse())
+    }
+}
+
+impl<'a, F, V, M: Copy + PartialEq, S> Options<'a, F, V, M, S> {
+    ghost use Rattle.lexopt_options.specs.Declarations.{options_of};
+    ghost use Rattle.lexopt_options.specs.Usage.{ConvertsFor, maybe_names};
+
+    /// The same of an option whose value may be left out.
+    pub fn parse_maybe<T: FromStr>(&self, key: M, word: &OsString) -> Result<T, UsageError<'a>>
+    where
+        T::Err: Into<anyhow::Error>,
+        ensures { ConvertsFor (maybe_names M.eq key (options_of self.now)) T.from_str_gives
+            T.Err.converts word.now result }
+    {
+        let options = self.options();
+        let option = names_of(options, place_of_maybe(options, &key));
+        name_error(option, word.parse())
+    }
+}
+
+impl<'a, F, V, M, S: Copy + PartialEq> Options<'a, F, V, M, S> {
+    ghost use Rattle.lexopt_options.specs.Declarations.{options_of};
+    ghost use Rattle.lexopt_options.specs.Usage.{ConvertsFor, values_names};
+
+    /// The same of one of an option's several values.
+    pub fn parse_values<T: FromStr>(&self, key: S, word: &OsString) -> Result<T, UsageError<'a>>
+    where
+        T::Err: Into<anyhow::Error>,
+        ensures { ConvertsFor (values_names S.eq key (options_of self.now)) T.from_str_gives
+            T.Err.converts word.now result }
+    {
+        let options = self.options();
+        let option = names_of(options, place_of_values(options, &key));
+        name_error(option, word.parse())
+    }
+}
+
+impl<'a, F, V, M, S> Options<'a, F, V, M, S> {
+    ghost use Rattle.std.specs.Prelude.{◌≡◌};
+    ghost use Rattle.lexopt_declaration.specs.Lookups.{help_names};
+    ghost use Rattle.lexopt_options.specs.Declarations.{declaration_of, options_of};
+
+    /// What to print of a mistake that the program found, before it ends with the status
+    /// [`USAGE_ERROR`](crate::USAGE_ERROR).
+    pub fn report(&self, error: UsageError<'a>) -> Report<'a>
+        ensures program { result.program.now ≡ (declaration_of self.now).program }
+        ensures help { result.help ≡ help_names (options_of self.now) }
+        ensures error { result.error ≡ error.entry }
+    {
+        Report {
+            program: self.program(),
+            help: self.help_names(),
+            error,
+        }
+    }
+}

@@ -1,0 +1,41 @@
+-- Which options can be declared, as a test that a check computes on the options of a program.
+use Rattle.std.specs.Prelude.{ℕ, Bool, true, false, nat_eq, ◌==◌, ◌||◌, ◌&&◌, not, List, [], ◌∷◌}
+use Rattle.std.specs.Prelude.{Option, Some, None}
+use Rattle.std.specs.List.{list_any, starts_with}
+use Rattle.lexopt_spec.specs.Pieces.{replacement}
+use Rattle.lexopt_spec.specs.UnreadLine.{dash, equals}
+use Rattle.lexopt_line_spec.specs.Table.{Kind, flag}
+use Rattle.lexopt_options_spec.specs.Declaration.{Declared, has, is_empty, is_placeholder}
+use Rattle.lexopt_options_spec.specs.Declaration.{shares_name}
+
+-- the bytes of U+FFFD are among these
+abbrev pub has_replacement : List ℕ → Bool
+has_replacement [] = false
+has_replacement (b ∷ bs) =
+    starts_with nat_eq (b ∷ bs) (0xEF ∷ 0xBF ∷ 0xBD ∷ []) || has_replacement bs
+
+-- a character that is there can be a name
+abbrev pub is_good_short : Option ℕ → Bool
+is_good_short None = true
+is_good_short (Some c) = not (c == dash) && not (c == replacement)
+
+-- and a name that is there
+abbrev pub is_good_long : Option (List ℕ) → Bool
+is_good_long None = true
+is_good_long (Some name) = not (is_empty name) && not (has equals name) && not (has_replacement name)
+
+-- this can stand for the value of an option, if it has one
+abbrev pub is_good_placeholder : Kind → List ℕ → Bool
+is_good_placeholder flag placeholder = true
+is_good_placeholder k placeholder = is_placeholder placeholder
+
+-- the option can be declared where no other is
+abbrev pub is_good : Declared → Bool
+is_good o = is_good_short o.short_name && is_good_long o.long_name
+    && is_good_placeholder o.kind o.placeholder
+
+-- each of these options can be declared, and no two have a name in common
+abbrev pub can_be_declared : List Declared → Bool
+can_be_declared [] = true
+can_be_declared (o ∷ os) =
+    is_good o && not (list_any (λ later. shares_name later o) os) && can_be_declared os

@@ -1,0 +1,108 @@
+-- What the clauses of `complete` and `answer` mean for the tool.
+use Rattle.std.proofs.Common.{◌≡◌, ℕ, List, [], ◌∷◌, ◌++◌, Some, None, subst, ap, ◌∙◌, refl, map, Option, string_bytes, codes, inl, inr}
+use Rattle.std.specs.Prelude.{String}
+use Rattle.std.specs.Global.{Global}
+use Rattle.std.specs.Borrow.{Bor}
+use Rattle.std.specs.List.{flat_map}
+use Rattle.lexopt_options_spec.specs.Declaration.{Declaration, for_help, for_version}
+use Rattle.lexopt_options_spec.specs.Completion as completion
+use Rattle.lexopt_options_spec.specs.Completion.{Completes, HasRole, IsJoined, spellings}
+use Rattle.lexopt_declaration.specs.Scripts.{bash_script, fish_script, zsh_script}
+use Rattle.lexopt_declaration.specs.declared.declaration.Declared.{Declared}
+use Rattle.lexopt_declaration.specs.declared.shell.Shell.TheVariants.{Bash, Zsh, Fish}
+use Rattle.lexopt_options.specs.declared.answer.Answer.{Answer}
+use Rattle.lexopt_options.specs.declared.answer.Answer.TheVariants as answer
+use Rattle.lexopt_options.specs.declared.complete.Completion.{Completion}
+use Rattle.lexopt_options.specs.declared.complete.Role.{Role}
+use Rattle.lexopt_options.specs.declared.complete.Role.TheVariants as role
+use Rattle.lexopt_options.specs.declared.options.Options.{Options}
+use Rattle.lexopt_options.specs.Answers.{AskForText, IsAnswer, IsCompletionText, IsOrdinary, IsScriptText, files_line, value_line}
+use Rattle.lexopt_options.specs.Completions.{AreOffered, IsCompletion}
+use Rattle.lexopt_options.specs.Declarations.{declaration_of, options_of}
+use Rattle.lexopt_options.specs.Roles.{IsOptionAt, IsRoleAt}
+use Rattle.test_callers.specs.declared.declared.Flag.{Flag}
+use Rattle.test_callers.specs.declared.declared.Value.{Value}
+use Rattle.test_callers.specs.declared.declared.Maybe.{Maybe}
+use Rattle.test_callers.specs.declared.declared.Values.{Values}
+use Rattle.test_callers.specs.Tool.{AreBoth, AreInOrder, IsAskedFor, IsOffer, IsSameRole, IsScript, NoShellAsks, ToolAnswer, line_if, tool}
+use Rattle.test_callers.proofs.Tool.{refused_as, says}
+
+pub same_role : (options : List (Declared Flag Value Maybe Values)) (r : Option completion.Role) (found : Option (Role Flag Value Maybe Values)) → IsRoleAt options r found → IsSameRole r found
+same_role options None None is = is
+same_role options None (Some r) is = is
+same_role options (Some (completion.value i)) None is = is
+same_role options (Some completion.argument) None is = is
+same_role options (Some (completion.value i)) (Some (role.Value option)) is = tt
+same_role options (Some (completion.value i)) (Some role.Argument) is = is
+same_role options (Some completion.argument) (Some role.Argument) is = is
+same_role options (Some completion.argument) (Some (role.Value option)) is = is
+
+pub both : (options : List (Declared Flag Value Maybe Values)) (i : Option ℕ) (found : Option (Bor (Declared Flag Value Maybe Values))) → IsOptionAt options i found → AreBoth i found
+both options None None is = is
+both options None (Some o) is = is
+both options (Some i) None is = is
+both options (Some i) (Some o) is = tt
+
+pub in_order : (words : List (List ℕ)) (typed : List ℕ) (offered : List (List ℕ)) → AreOffered tool words typed offered → AreInOrder typed offered
+in_order words typed offered are = are.in_order
+
+-- ---- the text of a completion
+
+spelled : (items : List (String Global)) → flat_map (λ s. string_bytes s ++ 10 ∷ []) items ≡ flat_map (λ (s : List ℕ). s ++ 10 ∷ []) (map string_bytes items)
+spelled [] = refl
+spelled (s ∷ ss) = ap (λ rest. (string_bytes s ++ 10 ∷ []) ++ rest) (spelled ss)
+
+files : (options : List (Declared Flag Value Maybe Values)) (r : Option completion.Role) (found : Option (Role Flag Value Maybe Values)) → IsRoleAt options r found → files_line found ≡ line_if r (codes "files\n")
+files options None None is = refl
+files options None (Some r) is = absurd is
+files options (Some (completion.value i)) None is = absurd is
+files options (Some completion.argument) None is = absurd is
+files options (Some r) (Some found) is = refl
+
+value : (options : List (Declared Flag Value Maybe Values)) (i : Option ℕ) (found : Option (Bor (Declared Flag Value Maybe Values))) → IsOptionAt options i found → value_line found ≡ line_if i (codes "value\n")
+value options None None is = refl
+value options None (Some o) is = absurd is
+value options (Some i) None is = absurd is
+value options (Some i) (Some o) is = refl
+
+offer : (o : Options Flag Value Maybe Values) (words : List (List ℕ)) (text : List ℕ) → declaration_of o ≡ tool → IsCompletionText o words text → IsOffer words text
+offer o words text view is =
+    let c : Completion Flag Value Maybe Values = is.2 in
+    let done : IsCompletion o is.0 is.1 c = is.4 in
+    let offered : AreOffered tool is.0 is.1 (map string_bytes c.spellings.items) = subst (λ (d : Declaration). AreOffered d is.0 is.1 (map string_bytes c.spellings.items)) view done.spellings in
+    record {
+      before = is.0;
+      typed = is.1;
+      asked = is.3;
+      offered = map string_bytes c.spellings.items;
+      sound = offered.sound;
+      complete = offered.complete;
+      role = done.role;
+      word = subst (λ (d : Declaration). HasRole d is.0 is.1 done.role) view done.has_role;
+      index = done.index;
+      joined = subst (λ (d : Declaration). IsJoined d is.0 is.1 done.index) view done.is_joined;
+      written = is.5 ∙ ap (λ x. x ++ files_line c.word ++ value_line c.joined) (spelled c.spellings.items)
+          ∙ ap (λ x. flat_map (λ (s : List ℕ). s ++ 10 ∷ []) (map string_bytes c.spellings.items) ++ x ++ value_line c.joined) (files (options_of o) done.role c.word done.word)
+          ∙ ap (λ x. flat_map (λ (s : List ℕ). s ++ 10 ∷ []) (map string_bytes c.spellings.items) ++ line_if done.role (codes "files\n") ++ x) (value (options_of o) done.index c.joined done.joined);
+    }
+
+script : (o : Options Flag Value Maybe Values) (words : List (List ℕ)) (text : List ℕ) → declaration_of o ≡ tool → IsScriptText o words text → IsScript words text
+script o words text view (Bash, asks, is) = inl (asks, subst (λ (d : Declaration). text ≡ bash_script d.program ++ 10 ∷ []) view is)
+script o words text view (Zsh, asks, is) = inr (inl (asks, subst (λ (d : Declaration). text ≡ zsh_script d.program ++ 10 ∷ []) view is))
+script o words text view (Fish, asks, is) = inr (inr (asks, subst (λ (d : Declaration). text ≡ fish_script d.program ++ 10 ∷ []) view is))
+
+ordinary : (words : List (List ℕ)) → IsOrdinary words → NoShellAsks words
+ordinary words is = (is.no_completion, is.no_script Bash, is.no_script Zsh, is.no_script Fish)
+
+asked_for : (words : List (List ℕ)) (width : ℕ) (text : List ℕ) → AskForText tool words width text → IsAskedFor words width text
+asked_for words width text (for_help, asks, is) = inl (asks, is)
+asked_for words width text (for_version version, asks, is) = inr (version, asks, is)
+
+pub answered : (o : Options Flag Value Maybe Values) (words : List (List ℕ)) (width : ℕ) (a : Answer Flag Value Maybe Values) → declaration_of o ≡ tool → IsAnswer o words width a
+    → ToolAnswer words width a
+answered o words width (answer.Said own) view is = (ordinary words is.0, says o words own.items view is.1)
+answered o words width (answer.Text text) view (inl (inl is)) = inl (offer o words (string_bytes text) view is)
+answered o words width (answer.Text text) view (inl (inr is)) = inr (inl (script o words (string_bytes text) view is))
+answered o words width (answer.Text text) view (inr is) =
+    inr (inr (ordinary words is.0, asked_for words width (string_bytes text) (subst (λ (d : Declaration). AskForText d words width (string_bytes text)) view is.1)))
+answered o words width (answer.Refused refused) view is = (ordinary words is.0, refused_as o words refused view is.1)

@@ -1,0 +1,140 @@
+-- What is printed of declared options, and which of two cannot be declared, in plain data.
+use Rattle.std.specs.Prelude.{ℕ, List, [], ◌∷◌, ◌++◌, Option, Some, None, codes, encode_utf8, false}
+use Rattle.std.specs.Prelude.{string_bytes}
+use Rattle.anyhow.specs.Error.{error_message}
+use Rattle.lexopt_spec.specs.Text.{quoted}
+use Rattle.lexopt_words.specs.Message as words
+use Rattle.lexopt_words.specs.declared.error.Error.{Error}
+use Rattle.lexopt_words.specs.declared.error.Error.TheVariants as error
+use Rattle.lexopt_line_spec.specs.Table.{flag, one}
+use Rattle.lexopt_options_spec.specs.Declaration as spec
+use Rattle.lexopt_options_spec.specs.Declaration.{IsFirstFault}
+use Rattle.lexopt_declaration.specs.declared.declaration.DeclarationError.{DeclarationError}
+use Rattle.lexopt_declaration.specs.declared.declaration.Names.{Names}
+use Rattle.lexopt_declaration.specs.declared.declaration.Names.TheVariants.{Short, Long, Both}
+use Rattle.lexopt_declaration.specs.declared.declaration.Reason.{Reason}
+use Rattle.lexopt_declaration.specs.declared.declaration.Reason.TheVariants as reason
+use Rattle.lexopt_options.specs.declared.mistake.Mistake.{Mistake}
+use Rattle.lexopt_options.specs.declared.mistake.Mistake.TheVariants as mistake
+use Rattle.lexopt_options.specs.declared.mistake.OptionName.{OptionName}
+use Rattle.lexopt_options.specs.declared.mistake.OptionName.TheVariants as typed
+use Rattle.lexopt_options.specs.declared.refused.Refused.{Refused}
+use Rattle.lexopt_options.specs.declared.usage.Report.{Report}
+use Rattle.lexopt_options.specs.declared.usage.UsageError.{UsageError}
+use Rattle.lexopt_options.specs.declared.usage.UsageError.TheVariants as usage
+
+-- ---- names, and an option that cannot be declared
+
+abbrev pub names_line : Names → List ℕ
+names_line (Short c) = codes "-" ++ encode_utf8 c
+names_line (Long name) = codes "--" ++ name.now
+names_line (Both c name) = codes "--" ++ name.now
+
+abbrev pub reason_line : Reason → List ℕ
+reason_line reason.DashName = codes "its character is '-'"
+reason_line reason.EmptyName = codes "its name is empty"
+reason_line reason.EqualsInName = codes "its name has '=' in it"
+reason_line reason.ReplacementInName = codes "its name has U+FFFD in it"
+reason_line reason.BadPlaceholder = codes "its placeholder is empty or begins with '-' or '='"
+reason_line reason.SameName = codes "an option before it has one of its names"
+
+abbrev pub declaration_line : DeclarationError → List ℕ
+declaration_line error = codes "option '"
+    ++ (names_line error.option ++ (codes "': " ++ reason_line error.reason))
+
+-- ---- a line that is refused
+
+abbrev pub typed_name : OptionName → List ℕ
+typed_name (typed.Short c) = codes "-" ++ encode_utf8 c
+typed_name (typed.Long name) = codes "--" ++ string_bytes name
+
+abbrev pub mistake_line : Mistake → List ℕ
+mistake_line (mistake.UnknownOption name None) =
+    codes "invalid option '" ++ (typed_name name ++ codes "'")
+mistake_line (mistake.UnknownOption name (Some nearest)) =
+    (codes "invalid option '" ++ (typed_name name ++ codes "'"))
+    ++ (codes "; did you mean '--" ++ (nearest.now ++ codes "'?"))
+mistake_line (mistake.UnexpectedValue option value) = codes "unexpected argument for option '"
+    ++ (string_bytes option ++ (codes "': " ++ quoted value))
+mistake_line (mistake.MissingValue option placeholder) = codes "missing argument "
+    ++ (placeholder.now ++ (codes " for option '" ++ (string_bytes option ++ codes "'")))
+mistake_line (mistake.UnexpectedArgument word) = codes "unexpected argument " ++ quoted word
+mistake_line (mistake.MissingArgument placeholder) = codes "missing argument " ++ placeholder.now
+
+-- where the help is
+abbrev pub try_line : List ℕ → Option Names → List ℕ
+try_line program None = []
+try_line program (Some names) = codes "\nTry '"
+    ++ (program ++ (codes " " ++ (names_line names ++ codes "' for more information.")))
+
+abbrev pub refused_line : {F V M S : Type 0} → Refused F V M S → List ℕ
+refused_line r = r.program.now
+    ++ (codes ": " ++ (mistake_line r.mistake ++ try_line r.program.now r.help))
+
+-- ---- a mistake that the program finds
+
+abbrev pub of_option : Option Names → List ℕ
+of_option None = []
+of_option (Some names) = codes " for '" ++ (names_line names ++ codes "'")
+
+abbrev pub value_line : Option Names → Error → List ℕ
+value_line names (error.ParsingFailed value cause) =
+    (codes "invalid value " ++ quoted (string_bytes value))
+    ++ (of_option names ++ (codes ": " ++ error_message cause))
+value_line names (error.NonUnicodeValue value) =
+    (codes "invalid value " ++ quoted value) ++ (of_option names ++ codes ": not UTF-8")
+value_line names error.OutOfMemory = codes "out of memory"
+value_line names other =
+    codes "invalid value" ++ (of_option names ++ (codes ": " ++ words.message other))
+
+abbrev pub usage_line : UsageError → List ℕ
+usage_line (usage.Invalid names error) = value_line names error
+usage_line (usage.Text text) = text.now
+usage_line (usage.Formatted text) = string_bytes text
+usage_line usage.OutOfMemory = codes "out of memory"
+
+-- unless memory ran out
+abbrev pub try_after : List ℕ → Option Names → UsageError → List ℕ
+try_after program help (usage.Invalid names error) = try_line program help
+try_after program help (usage.Text text) = try_line program help
+try_after program help (usage.Formatted text) = try_line program help
+try_after program help usage.OutOfMemory = []
+
+abbrev pub report_line : Report → List ℕ
+report_line r = r.program.now
+    ++ (codes ": " ++ (usage_line r.error ++ try_after r.program.now r.help r.error))
+
+-- ---- two options that cannot be declared
+
+abbrev pub two_options : ℕ → List ℕ → List ℕ → List spec.Declared
+two_options character name placeholder = record {
+  short_name = Some character;
+  long_name = Some name;
+  kind = flag;
+  placeholder = [];
+  help = [];
+  asks = None;
+  hidden = false;
+}
+    ∷ record {
+      short_name = Some 118;
+      long_name = Some (codes "verbose");
+      kind = one;
+      placeholder = placeholder;
+      help = [];
+      asks = None;
+      hidden = false;
+    }
+    ∷ []
+
+abbrev pub reason_of : Reason → spec.Reason
+reason_of reason.DashName = spec.dash_name
+reason_of reason.EmptyName = spec.empty_name
+reason_of reason.EqualsInName = spec.equals_in_name
+reason_of reason.ReplacementInName = spec.replacement_in_name
+reason_of reason.BadPlaceholder = spec.bad_placeholder
+reason_of reason.SameName = spec.same_name
+
+abbrev pub IsFaultOf : ℕ → List ℕ → List ℕ → Reason → Type 0
+IsFaultOf character name placeholder reason = (index : ℕ)
+    × IsFirstFault (two_options character name placeholder) index (reason_of reason)

@@ -1,0 +1,210 @@
+-- The tool that `declared.rt` declares, by the grammar and by plain data.
+use Rattle.std.specs.Prelude.{◌≡◌, ℕ, List, [], ◌∷◌, Option, Some, None, codes, true, false}
+use Rattle.std.specs.Prelude.{◌⊎◌, ◌++◌, Contains, filter, nat_eq, option_map, string_bytes}
+use Rattle.std.specs.List.{AllZip, flat_map, starts_with}
+use Rattle.lexopt_declaration.specs.Scripts.{bash_script, fish_script, zsh_script}
+use Rattle.lexopt_line_spec.specs.Table.{Kind, flag, one, optional, several, short, long}
+use Rattle.lexopt_options_spec.specs.Declaration.{Declaration, Declared, once}
+use Rattle.lexopt_options_spec.specs.Declaration.{at_most_once, any_number, for_help, for_version}
+use Rattle.lexopt_options_spec.specs.Asking.{AskFor, first_asked, said_before}
+use Rattle.lexopt_options_spec.specs.Completion as completion
+use Rattle.lexopt_options_spec.specs.Completion.{Completes, HasRole, IsJoined, spellings}
+use Rattle.lexopt_options_spec.specs.Help.{IsHelp}
+use Rattle.lexopt_options_spec.specs.Legal as legal
+use Rattle.lexopt_options_spec.specs.Legal.{Says}
+use Rattle.lexopt_options_spec.specs.Nearest.{IsHint}
+use Rattle.lexopt_options_spec.specs.Stops as stops
+use Rattle.lexopt_options_spec.specs.Stops.{StopsAt, placeholder_at, required_placeholder}
+use Rattle.lexopt_options.specs.declared.answer.Answer.{Answer}
+use Rattle.lexopt_options.specs.declared.answer.Answer.TheVariants as answer
+use Rattle.lexopt_options.specs.declared.complete.Role.{Role}
+use Rattle.lexopt_options.specs.declared.complete.Role.TheVariants as role
+use Rattle.lexopt_options.specs.declared.mistake.Mistake.{Mistake}
+use Rattle.lexopt_options.specs.declared.mistake.Mistake.TheVariants as mistake
+use Rattle.lexopt_options.specs.declared.mistake.OptionName.TheVariants as name
+use Rattle.lexopt_options.specs.declared.refused.Line.{Line}
+use Rattle.lexopt_options.specs.declared.refused.Line.TheVariants as line
+use Rattle.lexopt_options.specs.declared.refused.Refused.{Refused}
+use Rattle.lexopt_options.specs.declared.said.Asked.{Asked}
+use Rattle.lexopt_options.specs.declared.said.Asked.TheVariants as asked
+use Rattle.lexopt_options.specs.declared.said.Said.{Said}
+use Rattle.lexopt_options.specs.declared.said.Said.TheVariants as said
+use Rattle.test_callers.specs.declared.declared.Flag.{Flag}
+use Rattle.test_callers.specs.declared.declared.Value.{Value}
+use Rattle.test_callers.specs.declared.declared.Maybe.{Maybe}
+use Rattle.test_callers.specs.declared.declared.Values.{Values}
+
+-- an option with no value of its own
+abbrev pub plain : Option ℕ → Option (List ℕ) → Kind → List ℕ → List ℕ → Declared
+plain c name kind placeholder help = record {
+  short_name = c;
+  long_name = name;
+  kind = kind;
+  placeholder = placeholder;
+  help = help;
+  asks = None;
+  hidden = false;
+}
+
+abbrev pub tool_options : List Declared
+tool_options = plain (Some 118) (Some (codes "verbose")) flag [] (codes "tell more")
+    ∷ record (plain (Some 102) None flag [] (codes "by force")) { hidden = true }
+    ∷ plain (Some 111) (Some (codes "output")) one (codes "FILE") (codes "write there")
+    ∷ plain None (Some (codes "color")) optional (codes "WHEN") (codes "paint")
+    ∷ plain (Some 120) None several (codes "GLOB") (codes "leave out")
+    ∷ record (plain (Some 104) (Some (codes "help")) flag [] (codes "help")) {
+      asks = Some for_help;
+    }
+    ∷ record (plain None (Some (codes "version")) flag [] (codes "version")) {
+      asks = Some (for_version (codes "tool 1"));
+    }
+    ∷ []
+
+abbrev pub tool : Declaration
+tool = record {
+  program = codes "tool";
+  about = codes "Works.";
+  options = tool_options;
+  positionals = record { placeholder = codes "FROM"; count = once; help = codes "one" }
+      ∷ record { placeholder = codes "TO"; count = at_most_once; help = codes "two" }
+      ∷ record { placeholder = codes "MORE"; count = any_number; help = [] } ∷ [];
+  epilogue = codes "End." ∷ [];
+  short_equals = true;
+}
+
+-- ---- what a line means
+
+-- An option with a key is the option of some index, with the same values; a positional is the word.
+-- Which key each index has is in `Keyed`.
+abbrev pub IsTold : legal.Said → Said Flag Value Maybe Values → Type 0
+IsTold s (said.Flag key) = (i : ℕ) × (s ≡ legal.option i None)
+IsTold s (said.Value key word) = (i : ℕ) × (s ≡ legal.option i (Some word))
+IsTold s (said.Maybe key value) = (i : ℕ) × (s ≡ legal.option i value)
+IsTold s (said.Values key values) = (i : ℕ) × (s ≡ legal.several i values.items)
+IsTold s (said.Positional word) = s ≡ legal.positional word
+
+abbrev pub AreTold : List legal.Said → List (Said Flag Value Maybe Values) → Type 0
+AreTold l own = AllZip IsTold l own
+
+-- the words legally spell a list that asks for nothing, and this is the list by the keys
+abbrev pub ToolSays : List (List ℕ) → List (Said Flag Value Maybe Values) → Type 0
+ToolSays words own = (l : List legal.Said) × Says tool words l
+    × (first_asked tool_options l ≡ None) × AreTold l own
+
+-- they ask for this before any mistake
+abbrev pub ToolAsked : List (List ℕ) → Asked → Type 0
+ToolAsked words asked.Help = AskFor tool words for_help
+ToolAsked words (asked.Version text) = AskFor tool words (for_version text.now)
+
+-- their reading ends at this mistake; before it they ask for nothing, and this is the list
+abbrev pub Stopped : List (List ℕ) → List (Said Flag Value Maybe Values) → stops.Mistake → Type 0
+Stopped words before why = (read : List legal.Said) × StopsAt tool words read why
+    × (first_asked tool_options (said_before why read) ≡ None)
+    × AreTold (said_before why read) before
+
+abbrev pub StoppedBy : List (List ℕ) → List (Said Flag Value Maybe Values) → Mistake → Type 0
+StoppedBy words before (mistake.UnknownOption (name.Short c) nearest) =
+    Stopped words before (stops.unknown_option (short c))
+    × IsHint tool_options (short c) (option_map (λ text. text.now) nearest)
+StoppedBy words before (mistake.UnknownOption (name.Long own) nearest) =
+    Stopped words before (stops.unknown_option (long (string_bytes own)))
+    × IsHint tool_options (long (string_bytes own)) (option_map (λ text. text.now) nearest)
+StoppedBy words before (mistake.UnexpectedValue option value) =
+    Stopped words before (stops.unexpected_value (string_bytes option) value)
+StoppedBy words before (mistake.MissingValue option placeholder) = (index : ℕ)
+    × Stopped words before (stops.missing_value index (string_bytes option))
+    × (placeholder.now ≡ placeholder_at tool_options index)
+StoppedBy words before (mistake.UnexpectedArgument word) =
+    Stopped words before (stops.unexpected_argument word)
+StoppedBy words before (mistake.MissingArgument placeholder) = (count : ℕ)
+    × Stopped words before (stops.missing_argument count)
+    × (placeholder.now ≡ required_placeholder tool.positionals count)
+
+abbrev pub ToolRefused : List (List ℕ) → Refused Flag Value Maybe Values → Type 0
+ToolRefused words r = (r.program.now ≡ codes "tool")
+    × StoppedBy words r.before.items r.mistake
+
+abbrev pub ToolLine : List (List ℕ) → Line Flag Value Maybe Values → Type 0
+ToolLine words (line.Said own) = ToolSays words own.items
+ToolLine words (line.Asked asked) = ToolAsked words asked
+ToolLine words (line.Refused refused) = ToolRefused words refused
+
+-- the line is this list by the keys, or what the list asks for first
+abbrev pub LineTells : List legal.Said → Line Flag Value Maybe Values → Type 0
+LineTells l (line.Said own) = (first_asked tool_options l ≡ None) × AreTold l own.items
+LineTells l (line.Asked asked.Help) = first_asked tool_options l ≡ Some for_help
+LineTells l (line.Asked (asked.Version text)) =
+    first_asked tool_options l ≡ Some (for_version text.now)
+LineTells l (line.Refused refused) = ⊥
+
+-- ---- what can be typed
+
+-- the spellings of the options that begin so, in the order of the tool, or none
+abbrev pub AreInOrder : List ℕ → List (List ℕ) → Type 0
+AreInOrder typed offered =
+    (offered ≡ filter (λ s. starts_with nat_eq s typed) (spellings tool_options)) ⊎ (offered ≡ [])
+
+-- both are something, or neither is
+abbrev pub AreBoth : {X Y : Type 0} → Option X → Option Y → Type 0
+AreBoth None None = Unit {0}
+AreBoth (Some x) (Some y) = Unit {0}
+AreBoth x y = ⊥
+
+-- a value, a positional or nothing
+abbrev pub IsSameRole : Option completion.Role → Option (Role Flag Value Maybe Values) → Type 0
+IsSameRole None None = Unit {0}
+IsSameRole (Some (completion.value i)) (Some (role.Value option)) = Unit {0}
+IsSameRole (Some completion.argument) (Some role.Argument) = Unit {0}
+IsSameRole r found = ⊥
+
+-- ---- what the tool is to do
+
+-- no shell asks by these words
+abbrev pub NoShellAsks : List (List ℕ) → Type 0
+NoShellAsks words = ((before : List (List ℕ)) (typed : List ℕ)
+    → ¬ (words ≡ codes "__complete" ∷ (before ++ typed ∷ [])))
+    × ¬ (words ≡ codes "__script" ∷ codes "bash" ∷ [])
+    × ¬ (words ≡ codes "__script" ∷ codes "zsh" ∷ [])
+    × ¬ (words ≡ codes "__script" ∷ codes "fish" ∷ [])
+
+-- this line, if there is something, and otherwise none
+abbrev pub line_if : {X : Type 0} → Option X → List ℕ → List ℕ
+line_if None line = []
+line_if (Some x) line = line
+
+-- The words ask what can be typed. The text has a line for each spelling, a line `files` if a word
+-- is possible that is no option, and a line `value` if a value is typed after `=`.
+pub record IsOffer (words : List (List ℕ)) (text : List ℕ) : Type 0 where
+  pub before : List (List ℕ)
+  pub typed : List ℕ
+  pub asked : words ≡ codes "__complete" ∷ (before ++ typed ∷ [])
+  pub offered : List (List ℕ)
+  pub sound : (s : List ℕ) → Contains offered s → Completes tool before typed s
+  pub complete : (s : List ℕ) → Completes tool before typed s → Contains offered s
+  pub role : Option completion.Role
+  pub word : HasRole tool before typed role
+  pub index : Option ℕ
+  pub joined : IsJoined tool before typed index
+  pub written : text ≡ flat_map (λ s. s ++ 10 ∷ []) offered ++ line_if role (codes "files\n")
+      ++ line_if index (codes "value\n")
+
+-- they ask for the script of this shell
+abbrev pub IsScript : List (List ℕ) → List ℕ → Type 0
+IsScript words text = ((words ≡ codes "__script" ∷ codes "bash" ∷ [])
+    × (text ≡ bash_script (codes "tool") ++ 10 ∷ []))
+    ⊎ ((words ≡ codes "__script" ∷ codes "zsh" ∷ [])
+    × (text ≡ zsh_script (codes "tool") ++ 10 ∷ []))
+    ⊎ ((words ≡ codes "__script" ∷ codes "fish" ∷ [])
+    × (text ≡ fish_script (codes "tool") ++ 10 ∷ []))
+
+-- they ask for the help, or for the version
+abbrev pub IsAskedFor : List (List ℕ) → ℕ → List ℕ → Type 0
+IsAskedFor words width text = (AskFor tool words for_help × IsHelp tool width text)
+    ⊎ ((version : List ℕ) × AskFor tool words (for_version version) × (text ≡ version ++ 10 ∷ []))
+
+abbrev pub ToolAnswer : List (List ℕ) → ℕ → Answer Flag Value Maybe Values → Type 0
+ToolAnswer words width (answer.Said own) = NoShellAsks words × ToolSays words own.items
+ToolAnswer words width (answer.Text text) = IsOffer words (string_bytes text)
+    ⊎ IsScript words (string_bytes text)
+    ⊎ (NoShellAsks words × IsAskedFor words width (string_bytes text))
+ToolAnswer words width (answer.Refused refused) = NoShellAsks words × ToolRefused words refused

@@ -1,0 +1,178 @@
+//! Callers of declared options, with clauses of their own about one tool. The clauses of the public
+//! functions cite definitions over the types of Rust; these restate them by the grammar and by plain
+//! data, so that no such definition can become weaker unnoticed.
+ghost use Rattle.std.specs.Prelude.{◌≡◌, ℕ, Contains, IfOk, List, Option, map, string_bytes};
+ghost use Rattle.lexopt_options_spec.specs.Completion as completion;
+ghost use Rattle.lexopt_options_spec.specs.Completion.{Completes, HasRole, IsJoined};
+ghost use Rattle.lexopt_options_spec.specs.Declaration as spec;
+ghost use Rattle.lexopt_options_spec.specs.Help.{IsHelp, IsUsage};
+ghost use Rattle.lexopt_options_spec.specs.Legal as legal;
+ghost use Rattle.lexopt_options_spec.specs.Legal.{Says};
+ghost use Rattle.lexopt_items.specs.Items.{table_view};
+ghost use Rattle.test_callers.specs.Tool.{AreBoth, AreInOrder, IsSameRole, LineTells};
+ghost use Rattle.test_callers.specs.Tool.{ToolAnswer, ToolLine, tool, tool_options};
+
+use lexopt_items::items::Table;
+use lexopt_options::{
+    Answer, Completion, Count, Declaration, Declared, Kind, Line, Names, Options, OsString,
+    Positional,
+};
+use std::alloc::{AllocError, Global};
+
+/// The flags of the tool.
+#[derive(Clone, Copy)]
+pub enum Flag {
+    /// `-v`, `--verbose`.
+    Verbose,
+    /// `-f`.
+    Force,
+}
+
+/// Its options with a value.
+#[derive(Clone, Copy)]
+pub enum Value {
+    /// `-o`, `--output`.
+    Output,
+}
+
+/// Its options whose value may be left out.
+#[derive(Clone, Copy)]
+pub enum Maybe {
+    /// `--color`.
+    Color,
+}
+
+/// Its options with several values.
+#[derive(Clone, Copy)]
+pub enum Values {
+    /// `-x`.
+    Exclude,
+}
+
+// What the tool declares.
+static TOOL: Declaration<'static, Flag, Value, Maybe, Values> = Declaration {
+    program: "tool",
+    about: "Works.",
+    options: &[
+        Declared {
+            names: Names::Both('v', "verbose"),
+            kind: Kind::Flag(Flag::Verbose),
+            help: "tell more",
+            hidden: false,
+        },
+        Declared {
+            names: Names::Short('f'),
+            kind: Kind::Flag(Flag::Force),
+            help: "by force",
+            hidden: true,
+        },
+        Declared {
+            names: Names::Both('o', "output"),
+            kind: Kind::Value(Value::Output, "FILE"),
+            help: "write there",
+            hidden: false,
+        },
+        Declared {
+            names: Names::Long("color"),
+            kind: Kind::Maybe(Maybe::Color, "WHEN"),
+            help: "paint",
+            hidden: false,
+        },
+        Declared {
+            names: Names::Short('x'),
+            kind: Kind::Values(Values::Exclude, "GLOB"),
+            help: "leave out",
+            hidden: false,
+        },
+        Declared {
+            names: Names::Both('h', "help"),
+            kind: Kind::Help,
+            help: "help",
+            hidden: false,
+        },
+        Declared {
+            names: Names::Long("version"),
+            kind: Kind::Version("tool 1"),
+            help: "version",
+            hidden: false,
+        },
+    ],
+    positionals: &[
+        Positional {
+            placeholder: "FROM",
+            count: Count::Once,
+            help: "one",
+        },
+        Positional {
+            placeholder: "TO",
+            count: Count::AtMostOnce,
+            help: "two",
+        },
+        Positional {
+            placeholder: "MORE",
+            count: Count::AnyNumber,
+            help: "",
+        },
+    ],
+    epilogue: &["End."],
+    short_equals: true,
+};
+
+/// Reads a line of the tool.
+pub fn read_line(
+    alloc: Global,
+    words: Vec<OsString>,
+) -> Result<Line<'static, Flag, Value, Maybe, Values>, AllocError>
+    ensures line { IfOk result (λ line. ToolLine words.items line) }
+    ensures answered { (l : List legal.Said) → Says tool words.items l
+        → IfOk result (λ line. LineTells l line) }
+{
+    Options::new(&TOOL).read(alloc, words)
+}
+
+/// What can be typed after these words of a line of the tool.
+pub fn complete(
+    alloc: Global,
+    words: &[OsString],
+    typed: &OsString,
+) -> Result<Completion<'static, Flag, Value, Maybe, Values>, AllocError>
+    ensures sound { IfOk result (λ c. (s : List ℕ)
+        → Contains (map string_bytes c.spellings.items) s → Completes tool words.now typed.now s) }
+    ensures complete { IfOk result (λ c. (s : List ℕ)
+        → Completes tool words.now typed.now s → Contains (map string_bytes c.spellings.items) s) }
+    ensures in_order { IfOk result (λ c.
+        AreInOrder typed.now (map string_bytes c.spellings.items)) }
+    ensures word { IfOk result (λ c. (role : Option completion.Role)
+        × HasRole tool words.now typed.now role × IsSameRole role c.word) }
+    ensures joined { IfOk result (λ c. (index : Option ℕ)
+        × IsJoined tool words.now typed.now index × AreBoth index c.joined) }
+{
+    Options::new(&TOOL).complete(alloc, words, typed)
+}
+
+/// What the tool is to do about these words.
+pub fn answer(
+    alloc: Global,
+    words: Vec<OsString>,
+    width: usize,
+) -> Result<Answer<'static, Flag, Value, Maybe, Values>, AllocError>
+    ensures { IfOk result (λ answer. ToolAnswer words.items width answer) }
+{
+    Options::new(&TOOL).answer(alloc, words, width)
+}
+
+/// The usage line of the tool, and its help.
+pub fn usage_and_help(alloc: Global, width: usize) -> Result<(String, String), AllocError>
+    ensures usage { IfOk result (λ texts. IsUsage width tool (string_bytes texts.0)) }
+    ensures help { IfOk result (λ texts. IsHelp tool width (string_bytes texts.1)) }
+{
+    let options = Options::new(&TOOL);
+    Ok((options.usage(alloc, width)?, options.help(alloc, width)?))
+}
+
+/// The options of the tool that have values, as `read_items` takes them.
+pub fn table(alloc: Global) -> Result<Table, AllocError>
+    ensures { IfOk result (λ made. table_view made ≡ spec.table tool_options) }
+{
+    Options::new(&TOOL).table(alloc)
+}
