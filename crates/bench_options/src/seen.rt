@@ -43,7 +43,7 @@ impl Seen {
         self.copies = self.copies.wrapping_add(words.len() as u64);
     }
 
-    /// What a line says.
+    /// What is read from a line.
     pub fn line(&mut self, line: &[Said<Flag, Value, Maybe, Values>]) {
         for said in line {
             match said {

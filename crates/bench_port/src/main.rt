@@ -235,8 +235,8 @@ fn options(alloc: Global) -> Result<Table, AllocError> {
     })
 }
 
-// Spells the items, and copies the words that spell them, if the work wants it. It is no part of
-// what `items` costs.
+// Spells the items, and copies the words that spell them, if the work wants it. It is not part
+// of what `items` costs.
 #[cold]
 fn spell_items(
     alloc: Global,

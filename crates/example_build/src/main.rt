@@ -2,7 +2,7 @@
 //! `example_build [-v].. [--color|--no-color] COMMAND [ARGUMENT]..`. The commands are
 //! `build [-j N|--jobs=N] [-f NAME|--feature=NAME].. [TARGET]..` and `touch [--by=SECONDS] FILE..`.
 //!
-//! It prints what it would do. If no option says how many jobs there are, the variable `BUILD_JOBS`
+//! It prints what it would do. If no option gives the number of jobs, the variable `BUILD_JOBS`
 //! of the environment does. A word may be of any bytes.
 //!
 //! The exit status is 0, or 2 where the command line, or memory to read it, was refused, or 1 where
@@ -75,7 +75,7 @@ fn jobs_of(text: &str) -> anyhow::Result<u32> {
     }
 }
 
-// The number of jobs if no option says it.
+// The number of jobs if no option gives it.
 fn default_jobs(rt: &(impl Env + AllocGlobal)) -> Result<u32, Error> {
     let text = match env::var(rt, "BUILD_JOBS") {
         Ok(text) => text,

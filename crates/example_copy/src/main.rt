@@ -1,4 +1,4 @@
-//! What is said, as a struct of the program's own: `example_copy OPTION.. SOURCE DEST`.
+//! What is read, as a struct of the program's own: `example_copy OPTION.. SOURCE DEST`.
 //!
 //! It copies nothing: it prints what it would do. The exit status is 0, or 2 if the command line
 //! was refused, or 1 if memory ran out or a line could not be printed; then standard error says
@@ -70,7 +70,7 @@ fn jobs(
     Ok(jobs)
 }
 
-// What a line says, as settings. Of `--jobs` and `--suffix` the last counts.
+// What is read from a line, as settings. Of `--jobs` and `--suffix` the last counts.
 fn settings_of(
     alloc: Global,
     options: &Copying<'static>,

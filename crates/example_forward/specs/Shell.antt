@@ -18,7 +18,7 @@ line_feed = 0x0A
 abbrev pub nul : ℕ
 nul = 0x00
 
--- a byte that has no other meaning to a shell, wherever it stands in an argument of a command
+-- a byte that has no other meaning to a shell, wherever it occurs in an argument of a command
 abbrev pub is_plain : ℕ → Bool
 is_plain b = is_ascii_alphanumeric b || list_any (λ mark. mark == b) (codes "%+,-./:=@_")
 
@@ -43,7 +43,7 @@ pub record IsReadAs (bytes word : List ℕ) : Type 0 where
 
 -- ---- how a word is written here
 
--- a byte between single quotes; a quote stands after a backslash, outside of them
+-- a byte between single quotes; a quote comes after a backslash, outside of them
 abbrev pub in_quotes : ℕ → List ℕ
 in_quotes b = if b == quote then codes "'\\''" else b ∷ []
 

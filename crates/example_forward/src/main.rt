@@ -2,7 +2,7 @@
 //! options `-v|--verbose`, `-j|--jobs=N`, `--color[=WHEN]` and `-x|--exclude PATTERN..`.
 //!
 //! It prints the words that another program is to be called with, each quoted for a POSIX shell.
-//! They say what its own line said, but for `--color`, which says `always`: what the other program
+//! They mean what its own line meant, but for `--color`, which is `always`: what the other program
 //! writes goes to a pipe. A word may be of any bytes but 00, which no argument of a program holds.
 //!
 //! The exit status is 0, or 2 where the command line, or memory to read it, was refused, or 1 where
@@ -79,7 +79,7 @@ fn is_help(item: &Item) -> bool {
     }
 }
 
-// What the line for the other program is to say; `None` if help is asked for.
+// What the line for the other program is to mean; `None` if help is asked for.
 fn forwarded_items(
     rt: &(impl Env + AllocGlobal),
     table: &Table,
@@ -97,7 +97,7 @@ fn forwarded_items(
     Ok(Some(items))
 }
 
-// The words that say these items, quoted, on a line.
+// The words that spell these items, quoted, on a line.
 fn quoted_line(alloc: Global, items: &[Item], table: &Table) -> Result<Vec<u8>> {
     let mut line = Vec::new(alloc);
     for word in spell(alloc, items, true, table)? {

@@ -1,5 +1,5 @@
 //! Greets a thing: `example_hello [-n|--number=NUM] [--shout] THING`. The thing is a text; a word
-//! that is no UTF-8 is refused with a message that shows it.
+//! that is not UTF-8 is refused with a message that shows it.
 //!
 //! The exit status is 0, or 2 where the command line, or memory to read it, was refused, or 1 where
 //! a line could not be made or printed; then standard error says why.

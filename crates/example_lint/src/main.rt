@@ -41,8 +41,8 @@ fn read_argument(alloc: Global, parser: &mut Parser) -> Result<Found, Error> {
         Some(Value(_file)) => {}
         Some(Long(name)) => {
             let error = Long(name).unexpected(alloc);
-            // A value that is joined to an unknown long option is no error of its own. What stands
-            // after a short one may be more options, and is read on.
+            // A value that is joined to an unknown long option is not an error of its own. What
+            // comes after a short one may be more options, and is read on.
             let _value = parser.optional_value();
             return Err(error);
         }
@@ -52,7 +52,7 @@ fn read_argument(alloc: Global, parser: &mut Parser) -> Result<Found, Error> {
     Ok(Found::Argument)
 }
 
-// Prints each error of the line, and says how many there are.
+// Prints each error of the line, and returns how many there are.
 fn print_errors(rt: &(impl Print + AllocGlobal), parser: &mut Parser) -> io::Result<u32> {
     let mut errors = 0u32;
     for _ in 0..u64::MAX {

@@ -1,5 +1,5 @@
 //! Lists of calls, whole lines and scripts: `replay` makes calls on a parser, `read_items` reads a
-//! whole line by a table, and `run` reads a script, does what it says, and writes a line for each
+//! whole line by a table, and `run` reads a script, carries it out, and writes a line for each
 //! reply and for each whole line.
 
 pub use lexopt_calls::replay::replay;

@@ -1,4 +1,4 @@
--- A parser whose last value is said ends so.
+-- A parser whose last value is described ends as described.
 use Rattle.std.proofs.Common.{◌≡◌, None, Some, refl, sym, subst}
 use Rattle.std.specs.Prelude.{Result, Option, ⊤}
 use Rattle.std.specs.Borrow.{MutBor}

@@ -52,7 +52,7 @@ pub gives_step : (S T : UnreadLine → Reply → UnreadLine → Type 0) (s u : U
 gives_step S T s u f None v h = absurd h
 gives_step S T s u f (Some reply) v h = inl (f reply v h)
 
--- a word that is no option is a positional also before the separator
+-- a word that is not an option is a positional also before the separator
 pub positional_read : (u : UnreadLine) (word : List ℕ) (others : List (List ℕ)) (r : Reply) (v : UnreadLine) → u.words ≡ word ∷ others → IsPlain false word
     → ReadsPositional u r v → ReadsWord u r v
 positional_read u word others r v some plain (no_word_left none reply after) = let e = sym some ∙ none in cc
@@ -71,7 +71,7 @@ refuses_raw Taken u v OutOfMemory h =
     let step = refuses_pending found.0.0 option.0 found.0.1 found.1 option.1 refl refl in
     inr (record { reply_is = refl; after_is = h.0; in_place_of = (unexpected option.0 found.0.0, record u { tail = no_tail }, step, tt) })
 
--- the error says the refusal
+-- the reply of the error is that of the refusal
 pub error_said : (refusal : Refusal) (e : Error) → IsErrorOf refusal e → error_reply e ≡ Some (refusal_reply refusal)
 error_said (MissingValue None) e is = ap error_reply is
 error_said (MissingValue (Some option)) e is = ap error_reply is
@@ -87,7 +87,7 @@ none_left Step u OutOfMemory step is =
     refused Step u (missing (Some option.0)) u (subst (λ (o : Option (List ℕ)). Step u (missing o) u) option.1 step) tt
 none_left Step u (UnexpectedValue option value) step is = absurd is
 
--- the error that a refusal is made into is answered for it
+-- the error that a refusal is made into is returned for it
 pub said_as_error : (Called : UnreadLine → Reply → UnreadLine → Type 0) (u v : UnreadLine) (refusal : Refusal) (e : Error) → IsErrorOf refusal e → Called u (refusal_reply refusal) v
     → RepliesWith Called u (error_reply e) v
 said_as_error Called u v refusal e is gives = subst (λ (r : Option Reply). RepliesWith Called u r v) (sym (error_said refusal e is)) gives

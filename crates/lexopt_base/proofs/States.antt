@@ -21,7 +21,7 @@ use Rattle.lexopt_base.specs.declared.parser.Parser.TheInside.{Inside}
 
 -- ---- kept words
 
--- after the cursor stands the word that it passes next
+-- after the cursor is the word that it passes next
 pub passed : (words : List (List ℕ)) (count : ℕ) → drop count words ≢ [] → drop count words ≡ word_before (count + 1) words ∷ drop (count + 1) words
 passed words count some = ⊎_elim
     (λ (within : count < length words). rw add-one (drop-cons words count [] within))
@@ -56,7 +56,7 @@ no_rest word position below is =
     let some : 0 < length (drop position word) = omega (arith, length-drop position word) in
     let e = sym (rest_of-some (drop position word) some) ∙ is in cc
 
--- a state with no tail has none whatever word stands before the cursor
+-- a state with no tail has none whatever word comes before the cursor
 pub placed_anywhere : (word other : List ℕ) (state : State) → IsPlaced word state → tail_of word state ≡ no_tail → IsPlaced other state
 placed_anywhere word other Ready placed is = tt
 placed_anywhere word other (PendingValue position) placed is = cc
@@ -121,7 +121,7 @@ last_is word value k count within is size =
     let left : length value ≡ length word - k = ap length is ∙ length-drop k word in
     ap (λ n. drop n word) (omega (within, left, size, arith)) ∙ sym is
 
--- there are so many bytes to take
+-- there are `count` bytes to take
 pub within_word : (p : Inside) (u : UnreadLine) (count : ℕ) → line_of p ≡ u → IsPlaced p.words.current p.state → HasPending u count
     → (p.words.current ≢ []) × (count ≤ length p.words.current)
 within_word p u count seen placed has =
@@ -161,7 +161,7 @@ short_read_on word at size c shows takes below = record {
   placed = below;
 }
 
--- a piece is read, and nothing stands after it
+-- a piece is read, and nothing comes after it
 pub short_read_out : (word : List ℕ) (at size c : ℕ) → c ≡ shown (decoded (drop at word)).char → size ≡ (decoded (drop at word)).size → length word ≤ at + size
     → IsShortRead word at c Ready
 short_read_out word at size c shows takes out = record {

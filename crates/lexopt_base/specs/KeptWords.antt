@@ -20,7 +20,7 @@ kept_of w = record {
   left = drop w.count w.words.items;
 }
 
--- the cursor stands among the words
+-- the cursor is among the words
 abbrev pub IsWithin : Inside → Type 0
 IsWithin w = w.count ≤ vec_len w.words
 

@@ -47,7 +47,7 @@ IsPlaced word (PendingValue position) = (0 < position) × (position ≤ length w
 IsPlaced word (Shorts position) = position < length word
 IsPlaced word FinishedOpts = Unit {0}
 
--- a tail stands only with a last option
+-- there is a tail only with a last option
 abbrev pub HasOption : LastOption → State → Type 0
 HasOption Nothing Ready = Unit {0}
 HasOption Nothing (PendingValue position) = ⊥

@@ -18,7 +18,7 @@ use std::mem;
 pub struct KeptWords {
     alloc: Global,
     words: Vec<OsString>,
-    // How many words stand before the cursor.
+    // How many words come before the cursor.
     count: usize,
 }
 

@@ -34,7 +34,7 @@ use std::io::ErrorKind;
 use std::marker::Model;
 
 // What is left of the word just before the cursor. A position is a number of bytes of that word.
-// The states with nothing left come first, so that one comparison tells them.
+// The states with nothing left come first, so that one comparison recognizes them.
 #[derive(Clone, Copy)]
 enum State {
     // Nothing.
@@ -200,7 +200,7 @@ impl Parser {
         self.bin_name.as_deref()
     }
 
-    /// Sets whether `=` stands between a short option and its value, as it does at the start. It
+    /// Sets whether `=` separates a short option from its value, as it does at the start. It
     /// counts from the next call on, even within a cluster.
     ///
     /// With it off, the word `-a=b` gives `Short('a')`, `Short('=')` and `Short('b')`.
@@ -419,7 +419,7 @@ impl Parser {
         ensures { (reply : Reply) → advance_reply self.now.last found ≡ Some reply
             → next_reply result ≡ Some reply }
     {
-        // Each answer is returned at once. If they met at the end of the function, LLVM would not
+        // Each result is returned at once. If they met at the end of the function, LLVM would not
         // follow each of them into the caller's `match`.
         match found {
             Ok(Found::Short(option)) => return Ok(Some(Arg::Short(option))),
@@ -480,7 +480,7 @@ impl Parser {
     {
         match self.state {
             State::Ready | State::FinishedOpts => self.words.take_next(),
-            // No view of words is made then, but its type does not say so.
+            // No view of words is made then, but its type does not show that.
             State::PendingValue(_) | State::Shorts(_) => self.words.take_after(),
         }
     }
@@ -514,10 +514,10 @@ impl Parser {
     // Refuses the pending value, which has `count` bytes. It is then consumed.
     //
     // It is inlined, and `spelling` is not: an `Error` stores its cause inline, which is zeroed for
-    // each answer of `next` unless LLVM sees that nothing of it is used. It does if the value goes
+    // each result of `next` unless LLVM sees that nothing of it is used. It does if the value goes
     // into the error in the caller's own function, and the text comes out of a call that hands it
-    // over by its parts. If this function is a call, or `spelling` is inlined, each answer costs
-    // some 70 instructions more; `bench/run --check` tells.
+    // over by its parts. If this function is a call, or `spelling` is inlined, each result costs
+    // some 70 instructions more; `bench/run --check` shows it.
     #[inline(always)]
     fn refuse(&mut self, count: usize) -> Refusal
         requires value { HasPending self.old count }
@@ -568,7 +568,8 @@ impl Parser {
         }
     }
 
-    // How the last option is spelled, with its dashes. It stands apart for the sake of `refuse`.
+    // How the last option is spelled, with its dashes. It is a function of its own for the sake of
+    // `refuse`.
     #[cold]
     #[inline(never)]
     fn spelling(&self) -> Result<Option<String>, AllocError>

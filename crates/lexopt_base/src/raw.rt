@@ -16,8 +16,8 @@ impl Parser {
     ghost use Rattle.lexopt_spec.specs.UnreadLine.{pending};
     ghost use Rattle.lexopt_base.specs.Views.{LendsWords, LineIfBusy, LineIfRawArgsFail};
 
-    /// The words that are left, unread. The separator is a word like any other here, and ends no
-    /// options.
+    /// The words that are left, unread. The separator is a word like any other here, and does not
+    /// end the options.
     ///
     /// After `-a` of `-a -b --` it gives `-b` and `--`.
     ///
@@ -75,7 +75,7 @@ impl RawArgs<'_> {
         Some(word.as_os_str())
     }
 
-    /// Asks `func` once about the next word, if there is one, and takes that word if the answer is
+    /// Asks `func` once about the next word, if there is one, and takes that word if `func` returns
     /// true.
     ///
     /// `next_if(|word| word.as_bytes().starts_with(b"-"))` takes the next word if it begins with a

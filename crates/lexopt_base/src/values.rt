@@ -31,7 +31,7 @@ impl Parser {
 
     /// Several values for the last option, of which there is one at least: what is left of its
     /// word, and then the next words up to the first that looks like an option. A value that is
-    /// joined by `=` stands alone.
+    /// joined by `=` is the only one.
     ///
     /// At `-a b c -d` it gives `b` and `c`, at `-ab c` too, and at `-a=b c` it gives `b`. After the
     /// separator every word is a value. Nothing is taken before it is asked for: with `-a b c`, a

@@ -1,4 +1,4 @@
--- What is no keyword.
+-- What is not a keyword.
 use Rattle.std.proofs.Common.{◌≡◌, ◌≢◌, ℕ, ◌==◌, true, false, List, Option, Some, None, IsUtf8, codes, refl, sym, subst}
 use Rattle.std.specs.Cmp.Lexicographic.{pointwise, same_text}
 use Rattle.std.specs.Str.{chars, is_utf8}
@@ -19,7 +19,7 @@ takes_no_text keyword text no_w no_values no_raw no_try no_t no_topt no_tmany =
 not_this : {bytes : List ℕ} → (IsUtf8 bytes → ⊥) → (text : List ℕ) → is_utf8 text ≡ true → bytes ≢ text
 not_this damaged text utf8 same = damaged (subst IsUtf8 (sym same) (IsUtf8-from_is_utf8 text utf8))
 
--- what is no UTF-8 is no keyword
+-- what is not UTF-8 is not a keyword
 pub damaged_keyword : (keyword : List ℕ) (text : Option (List ℕ)) → (IsUtf8 keyword → ⊥) → bad ≡ meaning_by_keyword keyword text
 unfolding is_utf8 chars encode
 damaged_keyword keyword None damaged =

@@ -10,7 +10,7 @@ use Rattle.lexopt_calls.specs.Script.{newline, lines_of}
 abbrev pub numbered_lines : List ℕ → List (ℕ × List ℕ)
 numbered_lines script = enumerate_from 0 (slice_split (λ b. b == newline) script)
 
--- line is the line that stands after n others, and that is its index
+-- line is the line that comes after n others, and that is its index
 pub record IsLineAt (script : List ℕ) (n index : ℕ) (line : List ℕ) : Type 0 where
   pub within : n < length (lines_of script)
   pub is : line ≡ get_or (lines_of script) n line

@@ -22,7 +22,7 @@ none_of false b c n other = refl
 some_of : (a b c : Bool) (n : ℕ) → a ≡ true → b ≡ true → c ≡ true → (if a && (b && c) then Some n else None) ≡ Some n
 some_of a b c n is_a is_b is_c = rw (is_a, is_b, is_c) refl
 
--- what is no UTF-8 is no number
+-- what is not UTF-8 is not a number
 pub no_text : (bs : List ℕ) → (IsUtf8 bs → ⊥) → number bs ≡ None
 no_text bs other =
     none_of (nat_le 1 (length bs)) (nat_le (length bs) 9) (all_ascii_digits bs) (digits_value 10 bs)
@@ -49,7 +49,7 @@ parsed bs (Err e) short same parses =
 pub number_read : {E : Type 0} (bs : List ℕ) (r : Result ℕ E) → length bs ≤ 9 → starts_with ◌==◌ bs (43 ∷ []) ≡ false → ParsesUnsigned 64 10 bs r → result_ok r ≡ number bs
 number_read bs r short other parses = parsed bs r short (without_leading_plus_none bs (no_plus bs other)) parses
 
--- ---- what an answer is, known by its variant
+-- ---- what a result is, known by its variant
 
 pub is_value : {T E : Type 0} (P : T → Type 0) (Q : E → Type 0) (r : Result T E) (x : T) → MatchResult r P Q → result_ok r ≡ Some x → P x
 is_value P Q (Ok y) x met is = let same : y ≡ x = cc in subst P same met

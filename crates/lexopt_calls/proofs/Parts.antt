@@ -9,7 +9,7 @@ use Rattle.lexopt_line_spec.proofs.Parts.{part_cut}
 use Rattle.lexopt_calls.specs.declared.reply.Call.{Call}
 use Rattle.lexopt_calls.specs.Replies.{call_view}
 
--- a list is what stands before a place, what stands there, and the others
+-- a list is what is before a place, what is at it, and the others
 at_place : (calls : List Call) (i : ℕ) (other : Call) → i < length calls
     → calls ≡ take i calls ++ get_or calls i other ∷ drop (i + 1) calls
 at_place calls i other some =

@@ -22,7 +22,7 @@ use Rattle.lexopt_items.specs.Items.{FailsWith, item_view, table_view}
 use Rattle.lexopt_calls.specs.declared.script.Script.{Script}
 use Rattle.lexopt_calls.specs.Performed.{answer_text, replies_text, MakesCalls}
 
--- ---- the answer of a whole line
+-- ---- the result of a whole line
 
 -- an error is written as its reply
 error_texts : (e : Error) → MatchOption (error_reply e) (Unit {0}) (λ r. (codes "error: " ++ message e ≡ reply_text r) × (r ≢ end))

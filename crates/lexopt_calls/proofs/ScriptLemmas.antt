@@ -41,7 +41,7 @@ length-lines_of bs =
 
 -- ---- the first lines of a script
 
--- a command that reads the words stands among these
+-- a command that reads the words is among these
 abbrev pub called : List Command → Bool
 called [] = false
 called (c ∷ cs) = reads_words c || called cs

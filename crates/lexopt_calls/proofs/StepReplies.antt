@@ -1,4 +1,4 @@
--- What a step that gives a reply answers.
+-- What a step that gives a reply returns.
 use Rattle.std.proofs.Common.{◌≡◌, Option, Some, None, IsSome, Result, Ok, Err, IfOk, IfErr, OnErr, refl, sym, subst, ◌∙◌}
 use Rattle.std.specs.declared.alloc.AllocError.{AllocError}
 use Rattle.lexopt_spec.specs.UnreadLine.{UnreadLine}
@@ -23,7 +23,7 @@ pub refusal_given : (Answers : UnreadLine → Reply → UnreadLine → Type 0) (
     → RepliesWith Answers u reply after → reply ≡ Some r → Answers u r after
 refusal_given Answers u reply r after h is = subst (λ (o : Option Reply). RepliesWith Answers u o after) is h
 
--- what is said of an error that was found
+-- what holds of an error that was found
 pub err_told : {X Y : Type 0} (r : Result X Y) (e : Y) (P : Y → Type 0) → r ≡ Err e → OnErr r (IfErr r P) → P e
 err_told r e P is told = subst (λ q. OnErr q (IfErr q P)) is told
 
@@ -33,12 +33,12 @@ pub copied : (copy : Result replies.Reply AllocError) (reply : Option Reply) (r 
 copied (Ok x) reply r is same = let e : Some (reply_view x) ≡ Some r = sym same ∙ is in cc
 copied (Err e) reply r is same = tt
 
--- so many items were asked for, and so the whole call was made
+-- this many items were asked for, and so the whole call was made
 pub all_told : {X E : Type 0} (answer : Result X E) (P Q : Type 0) (R : X → Type 0) → (P → Q) → IfOk answer (λ x. P × R x) → IfOk answer (λ x. Q × R x)
 all_told (Ok x) P Q R more told = (more told.0, told.1)
 all_told (Err e) P Q R more told = tt
 
--- what holds of any answer holds of the one that came
+-- what holds of any result holds of the one that came
 pub told_also : {X E : Type 0} (answer : Result X E) (Q : Type 0) (R : X → Type 0) → Q → IfOk answer R → IfOk answer (λ x. Q × R x)
 told_also (Ok x) Q R holds told = (holds, told)
 told_also (Err e) Q R holds told = tt

@@ -1,5 +1,5 @@
--- What `replay` tells of a list of calls: the relations of the grammar, over calls and replies of
--- Rust.
+-- What `replay` ensures for a list of calls: the relations of the grammar, over calls and replies
+-- of Rust.
 use Rattle.std.specs.Prelude.{◌≡◌, ◌+◌, ◌++◌, ◌≤◌, List, map}
 use Rattle.std.specs.List.{flat_map}
 use Rattle.lexopt_spec.specs.Account.{Segment, bytes_of, flat, bytes_handed_out, shown_of}

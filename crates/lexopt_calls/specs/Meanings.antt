@@ -54,7 +54,7 @@ meaning_view (meanings.Call call) = script.command (script.call (call_view call)
 meaning_view meanings.Items = script.command script.whole_line
 meaning_view meanings.Bad = script.bad
 
--- what a line says was added
+-- what a line means was added
 abbrev pub Adds : script.Meaning → Script → Script → Type 0
 Adds m old new = (new.words.items ≡ old.words.items ++ option_to_list (script.word_of m))
     × (table_view new.table

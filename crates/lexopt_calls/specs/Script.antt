@@ -34,7 +34,7 @@ backslash = 0x5C
 
 -- ---- a line
 
--- what stands before, between and after the newlines. After the last newline an empty line is no
+-- what is before, between and after the newlines. After the last newline an empty line is not a
 -- line of the script, and here it does no harm, since an empty line means nothing
 abbrev pub lines_of : List ℕ → List (List ℕ)
 lines_of script = slice_split (λ b. b == newline) script
@@ -51,7 +51,7 @@ hexadecimal c =
     else (if nat_le 0x61 c && nat_le c 0x66 then Some (c - 0x57)
     else None))
 
--- the byte of two digits stands at the front
+-- the byte of two digits is at the front
 abbrev pub byte_in_front : Option ℕ → Option ℕ → Option (List ℕ) → Option (List ℕ)
 byte_in_front None low bytes = None
 byte_in_front (Some high) None bytes = None
@@ -59,7 +59,7 @@ byte_in_front (Some high) (Some low) bytes = in_front (16 * high + low) bytes
 
 abbrev mutual
   -- the bytes of a text: `\\` is a backslash, `\n` a newline, `\xHH` a byte, and each byte that is
-  -- no backslash stands for itself
+  -- not a backslash stands for itself
   pub unescaped : List ℕ → Option (List ℕ)
   unescaped [] = Some []
   unescaped (b ∷ bs) = if b == backslash then after_backslash bs else in_front b (unescaped bs)
@@ -89,7 +89,7 @@ pub record Entry : Type 0 where
   pub kind : Kind
   pub name : Name
 
--- what a line of a script says
+-- what a line of a script means
 pub data Meaning : Type 0 where
   nothing : Meaning
   word : List ℕ → Meaning
@@ -185,7 +185,7 @@ abbrev pub reads_line : Call → Bool
 reads_line (set_short_equals on) = false
 reads_line c = true
 
--- the words are read: words and options stand before such a command
+-- the words are read: words and options come before such a command
 abbrev pub reads_words : Command → Bool
 reads_words (call c) = reads_line c
 reads_words whole_line = true
@@ -197,7 +197,7 @@ is_reading (entry e) = false
 is_reading (command c) = reads_words c
 is_reading bad = false
 
--- a word or an option may not stand after a command that reads the words
+-- a word or an option may not come after a command that reads the words
 abbrev pub is_bad : Bool → Meaning → Bool
 is_bad called nothing = false
 is_bad called (word bytes) = called
@@ -294,7 +294,7 @@ pub data WholeLineText (t : Table) (on : Bool) (words : List (List ℕ)) (text :
   memory_refused : text ≡ reply_text no_memory → WholeLineText t on words text
 
 -- a line for each command, in order: that of the reply to a call, or that of the whole line under
--- the setting as it stands then
+-- the setting as it is then
 abbrev pub Written : Table → List (List ℕ) → Bool → List Command → List Reply → List ℕ → Type 0
 Written t words on [] [] text = text ≡ []
 Written t words on [] (reply ∷ replies) text = ⊥

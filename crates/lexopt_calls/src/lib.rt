@@ -1,5 +1,5 @@
 //! Lists of calls on a parser, and scripts: `replay` makes the calls of a list, and `run` reads a
-//! script, does what it says, and writes what comes of it. The crate `lexopt` re-exports its public
+//! script, carries it out, and writes what comes of it. The crate `lexopt` re-exports its public
 //! items.
 #![tactic(auto)]
 

@@ -119,7 +119,7 @@ fn call_raw_if(parser: &mut Parser, wanted: &OsString) -> Reply
     }
 }
 
-// Takes the next word of a view if `is_wanted` says that it is this one.
+// Takes the next word of a view if `is_wanted` finds that it is this one.
 fn take_if<F: FnOnce(OsStr<'_>) -> bool + Drop>(
     view: &mut RawArgs<'_>,
     wanted: &OsString,
@@ -134,7 +134,7 @@ fn take_if<F: FnOnce(OsStr<'_>) -> bool + Drop>(
     view.next_if(is_wanted)
 }
 
-// So many words of a view of words, or fewer if it ends before.
+// `count` words of a view of words, or fewer if it ends before.
 fn take_words(
     alloc: Global,
     view: &mut RawArgs<'_>,
@@ -179,9 +179,9 @@ fn reply_to(alloc: Global, parser: &mut Parser, call: &Call) -> Result<Reply, Al
 
 /// Makes these calls on a parser, in order, and gives a reply for each.
 ///
-/// On the words `-a=b --n=x` the calls `Next`, `Value`, `Next`, `Next` are answered `Short('a')`,
-/// `Taken` of `b`, `LongName` of `n`, and `Unexpected` of `--n` and `x`. An error of the parser is
-/// a reply like any other, `NoMemory` among them, and the calls after it are made.
+/// On the words `-a=b --n=x` the calls `Next`, `Value`, `Next`, `Next` get the replies
+/// `Short('a')`, `Taken` of `b`, `LongName` of `n`, and `Unexpected` of `--n` and `x`. An error of
+/// the parser is a reply like any other, `NoMemory` among them, and the calls after it are made.
 ///
 /// The only error is `OutOfMemory`, if memory runs out for the list of the replies or for what is
 /// copied into it. Some prefix of the calls was made then, and perhaps the next one, of whose items

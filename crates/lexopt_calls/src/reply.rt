@@ -1,4 +1,4 @@
-//! Calls on a command line, and what they answer.
+//! Calls on a command line, and what they return.
 
 use lexopt_items::text::{write_list, write_long, write_positional, write_short, write_word};
 use lexopt_words::message::{write_missing_value, write_no_memory, write_unexpected_value};
@@ -24,16 +24,16 @@ pub enum Call {
     TryRaw(usize),
     /// `raw_args` and then `next_if`: asks for the next word if it is this one.
     RawIf(OsString),
-    /// `set_short_equals`: sets whether `=` stands between a short option and its value.
+    /// `set_short_equals`: sets whether `=` separates a short option from its value.
     Switch(bool),
 }
 
-/// What a call answered.
+/// What a call returned.
 #[derive(Debug, PartialEq, Eq, Drop)]
 pub enum Reply {
     /// `next` read a short option.
     Short(char),
-    /// `next` read a long option, whose name stands here without its dashes.
+    /// `next` read a long option, whose name is here without its dashes.
     LongName(String),
     /// `next` read a positional argument.
     Positional(OsString),

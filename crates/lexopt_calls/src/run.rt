@@ -1,4 +1,4 @@
-//! Runs scripts: `run` reads a script, does what it says, and writes a line for each reply and each
+//! Runs scripts: `run` reads a script, carries it out, and writes a line for each reply and each
 //! whole line.
 ghost use Rattle.std.specs.Prelude.{◌≡◌, ◌⊎◌, ◌+◌, ◌++◌, ◌≤◌, ◌<◌, ℕ, List, [], None, Some, Err, IfOk};
 ghost use Rattle.std.specs.Prelude.{IfErr, OnOk, fold, length, map, codes, string_bytes};
@@ -112,7 +112,7 @@ fn make_calls(
     Ok(short_equals_after(on, calls))
 }
 
-// Does what a script says on a parser of its words, and writes a line for each command.
+// Carries out a script on a parser of its words, and writes a line for each command.
 fn perform(
     alloc: Global,
     script: &Script,
@@ -132,7 +132,7 @@ fn perform(
     Ok(())
 }
 
-// Does what a script says, and returns what to write for it.
+// Carries out a script, and returns what to write for it.
 fn perform_all(alloc: Global, script: &Script) -> Result<String, RunError>
     ensures ok { IfOk result (λ text. IsWritten script.now (string_bytes text)) }
     ensures err { IfErr result (λ e. e ≡ RunError.NoMemory) }
@@ -154,7 +154,7 @@ fn output(alloc: Global, script: &[u8]) -> Result<String, RunError>
     perform_all(alloc, &script)
 }
 
-/// Reads a whole script, does what it says, and then writes a line for each reply of the parser and
+/// Reads a whole script, carries it out, and then writes a line for each reply of the parser and
 /// each whole line.
 ///
 /// The words `--out=x`, `file` and the calls `next`, `value`, `next` write `Long "out"`, `"x"` and

@@ -126,7 +126,7 @@ impl Script {
         }
     }
 
-    // Adds what a line says.
+    // Adds what a line means.
     fn add(&mut self, alloc: Global, meaning: Meaning) -> Result<(), AllocError>
         ensures { OnOk result (Adds (meaning_view meaning) self.old self.new) }
     {
@@ -148,7 +148,7 @@ impl Script {
     }
 }
 
-// What a line of a script says.
+// What a line of a script means.
 #[derive(Drop)]
 enum Meaning {
     Nothing,
@@ -175,7 +175,7 @@ enum Name {
 }
 
 impl Meaning {
-    // Whether the line is bad. `is_read` says whether the words were read before it.
+    // Whether the line is bad. `is_read` tells whether the words were read before it.
     fn is_bad(&self, is_read: bool) -> bool
         ensures { result ≡ is_bad is_read (meaning_view self.now) }
     {
@@ -186,7 +186,7 @@ impl Meaning {
         }
     }
 
-    // Whether the words are read by what the line says.
+    // Whether what the line means reads the words.
     fn reads_words(&self) -> bool
         ensures { result ≡ is_reading (meaning_view self.now) }
     {
@@ -228,7 +228,7 @@ fn meaning_of(alloc: Global, line: &[u8]) -> Result<Meaning, AllocError>
     }
 }
 
-// What stands before the first space of a line, and what stands after it, if it has one.
+// What is before the first space of a line, and what is after it, if it has one.
 fn cut_at_space(line: &[u8]) -> (&[u8], Option<&[u8]>)
     ensures { (result.0.now ≡ keyword_of line.now)
         × (text_view result.1 ≡ text_of line.now) }

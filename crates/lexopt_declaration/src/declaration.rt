@@ -309,7 +309,7 @@ pub enum Count {
 /// A positional argument.
 #[derive(Debug, Clone, Copy)]
 pub struct Positional<'a> {
-    /// What stands for it in messages and in the help.
+    /// Its placeholder in messages and in the help.
     pub placeholder: &'a str,
     /// How often it may occur.
     pub count: Count,
@@ -374,8 +374,8 @@ pub enum Reason {
     EqualsInName,
     /// Its character or its name has U+FFFD in it, which shows damage in what was typed.
     ReplacementInName,
-    /// What stands for its value is empty, or begins with `-` or `=`: a form that the help shows
-    /// could be illegal with it, or say another value.
+    /// The placeholder of its value is empty, or begins with `-` or `=`: a form that the help shows
+    /// could be illegal with it, or mean another value.
     BadPlaceholder,
     /// An option before it has one of its names.
     SameName,
@@ -438,7 +438,7 @@ pub struct Declaration<'a, F, V = Infallible, M = Infallible, S = Infallible> {
     pub positionals: &'a [Positional<'a>],
     /// Paragraphs at the end of the help.
     pub epilogue: &'a [&'a str],
-    /// Whether `=` in a cluster stands between an option and its value.
+    /// Whether `=` in a cluster separates an option from its value.
     pub short_equals: bool,
 }
 

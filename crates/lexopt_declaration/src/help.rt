@@ -14,7 +14,7 @@ use bstr::ByteSlice;
 use std::alloc::{AllocError, Global};
 use std::fmt::Write;
 
-/// How many columns a terminal has that does not say how wide it is: the width for the help where
+/// How many columns a terminal of unknown width is taken to have: the width for the help where
 /// none is known.
 pub const WIDTH: usize = 80;
 
@@ -29,7 +29,7 @@ fn columns(text: &str) -> usize
     text.as_bytes().graphemes().count()
 }
 
-// Blanks, so many.
+// `count` blanks.
 fn push_blanks(out: &mut String, count: usize) -> Result<(), AllocError>
     ensures { IfOk result (λ _. string_bytes out.new ≡ string_bytes out.old ++ spec.blanks count) }
 {
@@ -39,7 +39,7 @@ fn push_blanks(out: &mut String, count: usize) -> Result<(), AllocError>
     Ok(())
 }
 
-// What stands after a character, if there is no long name.
+// What comes after a character, if there is no long name.
 fn push_after_short(out: &mut String, arity: Arity<'_>) -> Result<(), AllocError>
     ensures { IfOk result (λ _. string_bytes out.new ≡ string_bytes out.old
         ++ spec.after_short (arity_kind arity.entry) (arity_placeholder arity.entry)) }
@@ -52,7 +52,7 @@ fn push_after_short(out: &mut String, arity: Arity<'_>) -> Result<(), AllocError
     }
 }
 
-// What stands after a character, if a long name follows.
+// What comes after a character, if a long name follows.
 fn push_before_long(out: &mut String, arity: Arity<'_>) -> Result<(), AllocError>
     ensures { IfOk result (λ _. string_bytes out.new ≡ string_bytes out.old
         ++ spec.before_long (arity_kind arity.entry) (arity_placeholder arity.entry)) }
@@ -63,7 +63,7 @@ fn push_before_long(out: &mut String, arity: Arity<'_>) -> Result<(), AllocError
     }
 }
 
-// What stands after a long name.
+// What comes after a long name.
 fn push_after_long(out: &mut String, arity: Arity<'_>) -> Result<(), AllocError>
     ensures { IfOk result (λ _. string_bytes out.new ≡ string_bytes out.old
         ++ spec.after_long (arity_kind arity.entry) (arity_placeholder arity.entry)) }
@@ -127,7 +127,7 @@ fn push_break(out: &mut String, column: usize) -> Result<(), AllocError>
 }
 
 // A word: after a blank, if `room` columns hold both; else on a line of its own, which has `limit`
-// columns after so many blanks. Gives how many columns are left on the line.
+// columns after `column` blanks. Returns how many columns are left on the line.
 fn push_word(
     out: &mut String,
     word: &str,
@@ -152,7 +152,7 @@ fn push_word(
     Ok(limit.saturating_sub(needed))
 }
 
-// Words on lines of at most `limit` columns, each line but the first after so many blanks.
+// Words on lines of at most `limit` columns, each line but the first after `column` blanks.
 fn push_lines(
     out: &mut String,
     first: &str,
@@ -189,7 +189,7 @@ fn push_whole_lines(
     out.push('\n')
 }
 
-// What stands between a label and its help.
+// What comes between a label and its help.
 fn push_gap(out: &mut String, label: &str, column: usize) -> Result<(), AllocError>
     ensures { IfOk result (λ _. string_bytes out.new
         ≡ string_bytes out.old ++ spec.gap column label.now) }
@@ -202,7 +202,7 @@ fn push_gap(out: &mut String, label: &str, column: usize) -> Result<(), AllocErr
     }
 }
 
-// What stands after a label: its help, if it has one.
+// What comes after a label: its help, if it has one.
 fn push_beside(
     out: &mut String,
     label: &str,
@@ -301,7 +301,7 @@ fn positional_entries(
     Ok(text)
 }
 
-// A paragraph, on lines of at most so many columns.
+// A paragraph, on lines of at most `width` columns.
 fn push_paragraph(
     out: &mut String,
     alloc: Global,
@@ -456,7 +456,7 @@ fn push_usage<F, V, M, S>(
     push_usage_lines(out, declaration.program, words.as_slice(), width)
 }
 
-/// The usage line, on lines of at most so many columns, with the line feed at its end.
+/// The usage line, on lines of at most `width` columns, with the line feed at its end.
 pub fn usage<F, V, M, S>(
     alloc: Global,
     declaration: &Declaration<'_, F, V, M, S>,
@@ -490,7 +490,7 @@ fn push_help<F, V, M, S>(
     push_epilogue(out, alloc, declaration.epilogue, width)
 }
 
-/// The help, for lines of so many columns.
+/// The help, for lines of `width` columns.
 pub fn help<F, V, M, S>(
     alloc: Global,
     declaration: &Declaration<'_, F, V, M, S>,

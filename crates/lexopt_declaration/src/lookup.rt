@@ -1,4 +1,4 @@
-//! Which option has a name, and what is said of the option of an index.
+//! Which option has a name, and what is declared of the option of an index.
 ghost use Rattle.std.specs.Prelude.{◌≡◌, map, option_map, position};
 ghost use Rattle.lexopt_line_spec.specs.Table as table;
 ghost use Rattle.lexopt_options_spec.specs.Declaration.{index_of};
@@ -96,7 +96,7 @@ pub fn long_name_of<'a, F, V, M, S>(
     }
 }
 
-/// What stands for the value of the option of this index: nothing if there is none.
+/// The placeholder of the value of the option of this index: empty if there is none.
 pub fn option_placeholder<'a, F, V, M, S>(
     options: &'a [Declared<'a, F, V, M, S>],
     index: usize,

@@ -1,4 +1,4 @@
-//! How many positional arguments may stand.
+//! How many positional arguments there may be.
 ghost use Rattle.std.specs.Prelude.{◌≡◌, filter, length, map};
 ghost use Rattle.std.specs.List.{list_any};
 ghost use Rattle.lexopt_options_spec.specs.Legal as legal;
@@ -8,7 +8,7 @@ ghost use Rattle.lexopt_declaration.specs.Models.{count_view, positional_view};
 
 use crate::declaration::{Count, Positional};
 
-// Whether a positional argument may stand any number of times.
+// Whether a positional argument may occur any number of times.
 fn is_any_number(positional: &Positional<'_>) -> bool
     ensures { result ≡ legal.is_any_number (count_view positional.now.count) }
 {
@@ -18,7 +18,7 @@ fn is_any_number(positional: &Positional<'_>) -> bool
     }
 }
 
-// Whether a positional argument has to stand.
+// Whether a positional argument is required.
 fn is_required(positional: &Positional<'_>) -> bool
     ensures { result ≡ legal.is_once (count_view positional.now.count) }
 {
@@ -28,7 +28,7 @@ fn is_required(positional: &Positional<'_>) -> bool
     }
 }
 
-// Whether one of these may stand any number of times.
+// Whether one of these may occur any number of times.
 fn is_unlimited(positionals: &[Positional<'_>]) -> bool
     ensures { result
         ≡ list_any (λ p. legal.is_any_number (count_view p.count)) positionals.now }
@@ -38,7 +38,7 @@ fn is_unlimited(positionals: &[Positional<'_>]) -> bool
         .any(|positional| is_any_number(positional))
 }
 
-/// How many positional arguments may stand at most, if there is a limit.
+/// How many positional arguments there may be at most, if there is a limit.
 pub fn most_of(positionals: &[Positional<'_>]) -> Option<usize>
     ensures { result ≡ most (map positional_view positionals.now) }
 {
@@ -49,7 +49,7 @@ pub fn most_of(positionals: &[Positional<'_>]) -> Option<usize>
     }
 }
 
-// How many of these have to stand.
+// How many of these are required.
 fn required_count(positionals: &[Positional<'_>]) -> usize
     ensures { result
         ≡ length (filter (λ p. legal.is_once (count_view p.count)) positionals.now) }
@@ -60,14 +60,14 @@ fn required_count(positionals: &[Positional<'_>]) -> usize
         .count()
 }
 
-/// How many positional arguments have to stand.
+/// How many positional arguments are required.
 pub fn least_of(positionals: &[Positional<'_>]) -> usize
     ensures { result ≡ least (map positional_view positionals.now) }
 {
     required_count(positionals)
 }
 
-/// What stands for this one, counted from 0, of the positional arguments that have to stand.
+/// The placeholder of this one, counted from 0, of the positional arguments that are required.
 pub fn argument_placeholder<'a>(positionals: &'a [Positional<'a>], n: usize) -> &'a str
     ensures { result.now ≡ required_placeholder (map positional_view positionals.now) n }
 {

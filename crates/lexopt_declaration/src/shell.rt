@@ -31,23 +31,23 @@ impl Shell {
     }
 }
 
-/// A script by which a shell completes the lines of a program, as `Display` writes it. No end of
-/// line stands after its last line.
+/// A script by which a shell completes the lines of a program, as `Display` writes it. Its last
+/// line has no line feed.
 ///
 /// A shell that has read it calls the program with the hidden first word `__complete`, the words
-/// before the one that is typed, and what is typed of that one. `Options::answer` has the answer
-/// to that. The script offers each line that begins with a dash; for a line `files` the names of
+/// before the one that is typed, and what is typed of that one. `Options::answer` replies to
+/// that. The script offers each line that begins with a dash; for a line `files` the names of
 /// files; and for a line `value` the names of files after the `=` of the word.
 #[derive(Clone, Copy, PartialEq, Eq, Debug)]
 pub struct Script<'a> {
     /// The shell that reads the script.
     pub shell: Shell,
-    /// The name that the program is called by. It stands in the script unquoted, and in names of
+    /// The name that the program is called by. It is in the script unquoted, and in names of
     /// functions: let it have ASCII letters, digits, `-`, `_`, `.` and `+` alone.
     pub program: &'a str,
 }
 
-// What stands in each script after the name of its function.
+// What comes in each script after the name of its function.
 const BASH_BODY: &str = r#"() {
     local program=${1//[\"\'\\]/} line=$COMP_LINE words=() last=$2 piece
     local start='' answer

@@ -156,7 +156,7 @@ err_alone (Err y) P Q h = tt
 pub handed_on : {X Y : Type 0} (r : Result X Y) (e : Y) (Q : Y → Type 0) → IsErrAnd r (λ y. y ≡ e) → Q e → IfErr r Q
 handed_on r e Q is h = err_says r (λ y. y ≡ e) Q is (λ y same. subst Q (sym same) h)
 
--- what is said of an error that was found
+-- what holds of an error that was found
 pub err_told : {X Y : Type 0} (r : Result X Y) (e : Y) (P : Y → Type 0) → r ≡ Err e → OnErr r (IfErr r P) → P e
 err_told r e P is told = subst (λ q. OnErr q (IfErr q P)) is told
 

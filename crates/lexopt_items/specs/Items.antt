@@ -62,7 +62,7 @@ ReadsValues Several u (All values) v = (n : ℕ) × (length values.items < n)
     × Step (calls.values n) u (items values.items) v
 ReadsValues k u values v = ⊥
 
--- memory runs out, or the call for the values of an option of this kind fails so
+-- memory runs out, or the call for the values of an option of this kind fails with this refusal
 abbrev pub ValuesEndBy : Kind → UnreadLine → Refusal → Type 0
 ValuesEndBy k u refused =
     (refused ≡ OutOfMemory) ⊎ ((call : calls.Call) × (v : UnreadLine)
@@ -79,7 +79,7 @@ ReadsInto t u before true v after = (item : spec.Item) × (after ≡ before ++ i
     × ReadsItem t u item v
 ReadsInto t u before false v after = (after ≡ before) × Next u end v
 
--- out of memory, or a reading of the line ends so
+-- out of memory, or a reading of the line ends with this refusal
 abbrev pub EndsBy : spec.Table → UnreadLine → Refusal → Type 0
 EndsBy t u refusal = (refusal ≡ OutOfMemory)
     ⊎ ((l : List spec.Item) × IsReading t u (refusal_reply refusal) l)

@@ -1,5 +1,5 @@
--- What `read_items` tells of a whole line: the relations of the grammar, over a table and items of
--- Rust.
+-- What `read_items` ensures for a whole line: the relations of the grammar, over a table and items
+-- of Rust.
 use Rattle.std.specs.Prelude.{◌≡◌, ℕ, Bool, List, map, Result, Vec, IfOk, IfErr}
 use Rattle.std.specs.Global.{Global}
 use Rattle.lexopt_spec.specs.Steps.{end}
@@ -30,7 +30,7 @@ abbrev pub LineSpells : Table → Bool → List (List ℕ) → List Item → Typ
 LineSpells table short_equals words items =
     Spells (table_view table) short_equals words (map item_view items)
 
--- a reading of the words comes to the end of the line, and says these items
+-- a reading of the words comes to the end of the line, and gives these items
 abbrev pub LineReads : Table → Bool → List (List ℕ) → List Item → Type 0
 LineReads table short_equals words items =
     IsReading (table_view table) (start short_equals words) end (map item_view items)
@@ -53,7 +53,7 @@ abbrev pub ShowsNothing : Table → Bool → List (List ℕ) → Type 0
 ShowsNothing table short_equals words =
     (l : List spec.Item) → ShowsList table short_equals words l → ⊥
 
--- this list is answered, or `OutOfMemory`
+-- this list is returned, or `OutOfMemory`
 abbrev pub IsAnswered : List spec.Item → Result (Vec Item Global) Error → Type 0
 IsAnswered l answer =
     IfOk answer (λ items. map item_view items.items ≡ l) × IfErr answer (λ e. e ≡ OutOfMemory)

@@ -27,7 +27,7 @@ use std::fmt;
 /// The options that have values, by how many they have; any other option has none. Names are
 /// without their dashes.
 ///
-/// Membership alone counts: a name that is listed twice, or that holds an `=` and so can be no
+/// Membership alone counts: a name that is listed twice, or that holds an `=` and so cannot be an
 /// option's, does no harm. If lists of several kinds hold an option, the kind that comes first here
 /// counts.
 ///
@@ -44,10 +44,10 @@ pub struct Table {
     pub shorts: Vec<char>,
     /// Options with a name and one value, always: `out` for `--out`.
     pub longs: Vec<String>,
-    /// Options of one character with a value that may be left out: it stands in their word, never
+    /// Options of one character with a value that may be left out: it is in their word, never
     /// in the next.
     pub optional_shorts: Vec<char>,
-    /// Options with a name and a value that may be left out: it stands after `=`.
+    /// Options with a name and a value that may be left out: it comes after `=`.
     pub optional_longs: Vec<String>,
     /// Options of one character with several values, one at least: a value joined by `=` alone,
     /// or all up to the next word that looks like an option.
@@ -56,18 +56,18 @@ pub struct Table {
     pub several_longs: Vec<String>,
 }
 
-/// What a line says, in order.
+/// What a line means, in order.
 #[derive(Debug, PartialEq, Eq, Drop)]
 pub enum Item {
     /// An option of one character, with its value if it has one.
     Short(char, Option<OsString>),
-    /// An option with a name, which stands here without its dashes, with its value if it has one.
+    /// An option with a name, here without its dashes, with its value if it has one.
     Long(String, Option<OsString>),
     /// An option of one character that has several values, with all of them: one at least.
     ShortMany(char, Vec<OsString>),
     /// An option with a name that has several values, with all of them: one at least.
     LongMany(String, Vec<OsString>),
-    /// A word that is no option, or that stands after the separator.
+    /// A word that is not an option, or that comes after the separator.
     Positional(OsString),
 }
 
@@ -155,8 +155,8 @@ fn add(items: &mut Vec<Item>, item: Item) -> Result<bool, Refusal>
     Ok(true)
 }
 
-// Reads the next item of a line into a list, and says whether the line goes on. Each arm adds its
-// own item: if one `push` stood after all arms, a positional would cost 14 instructions more.
+// Reads the next item of a line into a list, and returns whether the line goes on. Each arm adds
+// its own item: if one `push` came after all arms, a positional would cost 14 instructions more.
 #[inline(always)]
 fn read_item(
     alloc: Global,
@@ -237,8 +237,8 @@ fn error_of(refusal: Refusal) -> Result<Vec<Item>, Error>
 /// Under a table with `o` and `out` of one value, `color` of a value that may be left out, and `d`
 /// of several, the words `-vo=x --out y --color=z -d 1 2 -- file` give `Short('v', None)`,
 /// `Short('o', Some(x))`, `Long("out", Some(y))`, `Long("color", Some(z))`,
-/// `ShortMany('d', [1, 2])` and `Positional(file)`. `short_equals` says whether `=` in a cluster
-/// stands between an option and its value. The forms are those that lexopt documents;
+/// `ShortMany('d', [1, 2])` and `Positional(file)`. `short_equals` tells whether `=` in a cluster
+/// separates an option from its value. The forms are those that lexopt documents;
 /// `docs/behaviour.md` has them all. A damaged piece of an option's name is read, and looked up, as
 /// U+FFFD.
 ///
@@ -251,21 +251,21 @@ pub fn read_items(
     short_equals: bool,
     table: &Table,
 ) -> Result<Vec<Item>, Error>
-    // A reading of the line says the items, or ends with the error.
+    // A reading of the line gives the items, or ends with the error.
     ensures reading { IfOk result (λ items.
         LineReads table.now short_equals words.items items.items) }
     ensures refused { IfErr result (λ e. LineFails table.now short_equals words.items e) }
 
-    // The words show what is answered, and spell it if no option has U+FFFD in its name.
+    // The words show what is returned, and spell it if no option has U+FFFD in its name.
     ensures shown { IfOk result (λ items.
         LineShows table.now short_equals words.items items.items) }
     ensures spelled { IfOk result (λ items. NamesAreWhole items.items
         → LineSpells table.now short_equals words.items items.items) }
 
-    // Some words legally spell what is answered, even if these words do not.
+    // Some words legally spell what is returned, even if these words do not.
     ensures spellable { IfOk result (λ items. IsSpellable table.now short_equals items.items) }
 
-    // Words show at most one list. What they show, and so what they spell, is answered, or memory
+    // Words show at most one list. What they show, and so what they spell, is returned, or memory
     // runs out.
     ensures one_list { (l m : List spec.Item) → ShowsList table.now short_equals words.items l
         → ShowsList table.now short_equals words.items m → l ≡ m }

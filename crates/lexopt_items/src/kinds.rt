@@ -37,7 +37,7 @@ pub fn kind_of_short(table: &Table, option: char) -> Kind
     }
 }
 
-/// How many values a long option has. Its name stands without its dashes.
+/// How many values a long option has. Its name is without its dashes.
 #[inline(always)]
 pub fn kind_of_long(table: &Table, name: &str) -> Kind
     ensures { kind_view result ≡ kind (table_view table.now) (spec.long name.now) }

@@ -42,8 +42,8 @@ impl Values {
     }
 }
 
-// All values of the last option, which has several. It stands apart, so that what is inlined for
-// other options stays short.
+// All values of the last option, which has several. It is a function of its own, so that what is
+// inlined for other options stays short.
 #[inline(never)]
 fn read_several(alloc: Global, parser: &mut Parser) -> Result<Vec<OsString>, Refusal>
     ensures ok { IfOk result (λ values.

@@ -1,4 +1,4 @@
--- A view has exactly one answer, if it is asked for an item.
+-- A view has exactly one result, if it is asked for an item.
 use Rattle.std.proofs.Common.{◌≡◌, ℕ, Bool, true, false, List, [], ◌∷◌, Option, Some, None, refl, sym, ap, subst, ◌∙◌, true≢false}
 use Rattle.lexopt_spec.specs.UnreadLine.{no_tail, UnreadLine, pending, IsPlain, is_plain, IsNormalIn}
 use Rattle.lexopt_spec.specs.Views.{Stage, going_on, at_end, after_pending, ValueItem, gives_pending, gives_word, stops, stopped, WordItem}
@@ -7,7 +7,7 @@ use Rattle.lexopt_spec.proofs.PlainFronts.{plain_holds, plain_passes}
 abbrev SomeValue : Stage → UnreadLine → Type 0
 SomeValue stage u = (item : Option (List ℕ)) × (v : UnreadLine) × (now : Stage) × ValueItem stage u item v now
 
--- ---- some answer
+-- ---- some result
 
 not_plain : (ended : Bool) (w : List ℕ) → is_plain ended w ≡ false → ¬ IsPlain ended w
 not_plain ended w is plain = true≢false (sym (plain_passes ended w plain) ∙ is)

@@ -19,7 +19,8 @@ use Rattle.lexopt_options_spec.proofs.Fronts.{item_of, undeclared}
 
 -- ---- what is left where a reading stops
 
--- with so many positionals before it, the line that is left is read to this reply, and says these items, so that this is the mistake
+-- with `count` positionals before it, the line that is left is read to this reply, and gives these
+-- items, so that this is the mistake
 data Left (d : Declaration) (count : ℕ) (m : Mistake) (final : Reply) (items : List Item) : Type 0 where
   undeclared_first : (name : Name) (item : Item) (rest : List Item) → m ≡ unknown_option name → items ≡ item ∷ rest → IsOf name item → index_of d.options name ≡ None → Left d count m final items
   flag_value : (option value : List ℕ) → m ≡ unexpected_value option value → final ≡ steps.unexpected option value → items ≡ [] → Left d count m final items
@@ -102,7 +103,7 @@ nothing_more : (xs ys : List Item) → xs ++ ys ≡ [] → ys ≡ []
 nothing_more [] ys is = is
 nothing_more (x ∷ xs) ys is = absurd (let e : x ∷ (xs ++ ys) ≡ [] = is in cc)
 
--- what is left and says nothing was not stopped by a missing value
+-- what is left and gives nothing was not stopped by a missing value
 no_missing : (d : Declaration) (count : ℕ) (m : Mistake) (final : Reply) (items : List Item) (option : List ℕ) → final ≡ steps.missing (Some option) → items ≡ [] → Left d count m final items → ⊥
 no_missing d count m final items option is none (undeclared_first name item rest m_is are of undeclared) = let e : [] ≡ item ∷ rest = sym none ∙ are in cc
 no_missing d count m final items option is none (flag_value o value m_is final_is are) = let e : steps.missing (Some option) ≡ steps.unexpected o value = sym is ∙ final_is in cc

@@ -1,4 +1,5 @@
--- Under a table with no options of optional or several values, words spell what the rules for such tables say.
+-- Under a table with no options of optional or several values, words spell what they spell by the
+-- rules for such tables.
 use Rattle.std.proofs.Common.{◌≡◌, ℕ, Bool, true, false, List, [], refl, sym, ap, subst, ◌∙◌, cond}
 use Rattle.lexopt_line_spec.specs.Table.{Name, short, long, Item, Kind, flag, one, optional, several, kind, one_value, holds_in}
 use Rattle.lexopt_line_spec.specs.Spelling as large

@@ -64,7 +64,7 @@ raw_if_never word u v none step =
 pub values_never : (n : ℕ) (u v : UnreadLine) → available u ≢ [] → Step (values n) u no_memory v → ⊥
 values_never n u v some step = never (ValuesStep n) u (λ r w s. values_needs_none n u r w some s) v step
 
--- ---- with memory enough, no call says that there is none
+-- ---- with memory enough, no call reports that there is none
 
 -- the reply is not `no_memory`
 abbrev IsOtherReply : Reply → Type 0

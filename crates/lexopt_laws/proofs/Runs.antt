@@ -1,4 +1,4 @@
--- Lists of calls have one answer, as long as memory is enough.
+-- Lists of calls have one result, as long as memory is enough.
 use Rattle.std.proofs.Common.{◌≡◌, ◌≢◌, zero, suc, List, [], ◌∷◌, refl, sym, ap, subst, ◌∙◌, inl, inr, arith}
 use Rattle.std.specs.List.{IsAmong}
 use Rattle.lexopt_spec.specs.UnreadLine.{UnreadLine, IsLine}

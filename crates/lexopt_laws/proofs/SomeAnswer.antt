@@ -25,9 +25,9 @@ use Rattle.lexopt_options_spec.specs.Stops.{Mistake, unknown_option, unexpected_
 use Rattle.lexopt_options_spec.proofs.Fronts.{front_said}
 use Rattle.lexopt_options_spec.proofs.Lists.{count_append, joined}
 
--- ---- what is said by one item
+-- ---- what is read as one item
 
--- an option, and what the call for its values answers
+-- an option, and what the call for its values returns
 goes_on : (t : Table) (name : Name) (k : Kind) → kind t name ≡ k → GoesOn t (option_reply name) k
 goes_on t (short c) k is = sym is
 goes_on t (long name) k is = sym is
@@ -86,9 +86,9 @@ same_within : (n : ℕ) (limit : Option ℕ) → IsWithin n limit → IsWithin (
 same_within n None within = tt
 same_within n (Some m) within = omega arith
 
--- ---- one answer
+-- ---- one result
 
--- what the line is found to do: to say something to its end, or to stop
+-- what the line is found to do: to mean something to its end, or to stop
 data Found (d : Declaration) (u : UnreadLine) : Type 0 where
   to_the_end : (l : List Said) (v w : UnreadLine) → ReadsUpTo d u l v → Next v steps.end w → least d.positionals ≤ positional_count l → Found d u
   stopped : (l : List Said) (m : Mistake) (v : UnreadLine) → ReadsUpTo d u l v → Stops d (positional_count l) v m → Found d u
@@ -97,7 +97,7 @@ data Found (d : Declaration) (u : UnreadLine) : Type 0 where
 abbrev Later : Declaration → UnreadLine → ℕ → Type 0
 Later d u n = (l : List Said) (v : UnreadLine) → ReadsUpTo d u l v → bound v < n → Found d u
 
--- an option that is declared, and what the call for its values answers
+-- an option that is declared, and what the call for its values returns
 due_found : (d : Declaration) (u v w x : UnreadLine) (l : List Said) (n : ℕ) (name : Name) (index : ℕ) (k : Kind) (call : Call) (r : Reply) → ReadsUpTo d u l v → Next v (option_reply name) w
     → index_of d.options name ≡ Some index → kind (table d.options) name ≡ k → IsDue k call → IsFull call r → IsValueReply r → Step call w r x → bound x < n → Later d u n → Found d u
 due_found d u v w x l n name index k call (steps.taken word) read step found k_is due full is takes less later =
@@ -153,7 +153,7 @@ option_found : (d : Declaration) (u v w : UnreadLine) (l : List Said) (n : ℕ) 
 option_found d u v w l n name None read step found less later = stopped l (unknown_option name) v read (not_declared name w step found)
 option_found d u v w l n name (Some index) read step found less later = declared_found d u v w l n name index (kind (table d.options) name) read step found refl less later
 
--- a positional, where one more may stand or not
+-- a positional, where one more is allowed or not
 room : (n m : ℕ) (same : Bool) → (m == n) ≡ same → n ≤ m → (m ≡ n) ⊎ (n + 1 ≤ m)
 room n m true is le = inl (eqb-true m n is)
 room n m false is le = inr (let other : m ≢ n = λ e. false≢true (sym is ∙ eq-eqb m n e) in omega arith)
@@ -223,7 +223,7 @@ answer_of d words sound (to_the_end l v w read ends enough) =
     )
 answer_of d words sound (stopped l m v read stops) = inr (l, m, record { there = v; read = read; stops = stops })
 
--- words say something, or their reading stops
+-- words mean something, or their reading stops
 pub some_answer : (d : Declaration) (words : List (List ℕ)) → is_sound d.options ≡ true → ((l : List Said) × Says d words l) ⊎ ((l : List Said) × (m : Mistake) × StopsAt d words l m)
 some_answer d words sound =
     let first = start d.short_equals words in

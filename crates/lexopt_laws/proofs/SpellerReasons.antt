@@ -1,4 +1,5 @@
--- What a reason says of an item at fault: it is of the item, which is spelled nowhere, or of its place.
+-- What a reason means for an item at fault: it is about the item, which is spelled nowhere, or
+-- about its place.
 use Rattle.std.proofs.Common.{◌≡◌, ◌≢◌, ℕ, suc, ◌==◌, ◌&&◌, not, Bool, true, false, List, [], ◌∷◌, ◌++◌, take, drop, Option, Some, None, refl, sym, ap, subst, ◌∙◌, true≢false}
 use Rattle.std.proofs.lemmas.Bool.{ne_eqb}
 use Rattle.std.specs.Prelude.{Result, Ok, Err, if◌then◌else◌}
@@ -22,7 +23,7 @@ use Rattle.lexopt_line_spec.proofs.SpellerFaults.{Failing, no_both, same_added, 
 abbrev Unformed : Result Form Reason → Reason → Type 0
 Unformed answer r = answer ≡ Err r
 
--- where there is no form, the reason is of the item
+-- where there is no form, the reason is about the item
 abbrev OfItem : Result Form Reason → Type 0
 OfItem form = (r : Reason) → form ≡ Err r → is_of_the_place r ≡ false
 
@@ -262,7 +263,7 @@ goes_on : (t : Table) (short_equals : Bool) (it : Item) (place : Place) (r : Rea
 goes_on t short_equals it place r of (of_item is none) = absurd (true≢false (sym of ∙ is))
 goes_on t short_equals it place r of (of_place is separator in_cluster_is) = in_cluster_is
 
--- a flag of one character, which is no dash, begins a cluster
+-- a flag of one character, which is not a dash, begins a cluster
 flag_added : (short_equals : Bool) (c : ℕ) (s d : Bool) (k : Kind) → s ≡ true → d ≡ false → k ≡ flag
     → (a : Added) × (short_added s d open_line c (short_form short_equals k None) ≡ Ok a) × (a.place ≡ in_cluster)
 flag_added short_equals c true false flag s_is d_is k_is = (_, refl, refl)

@@ -95,7 +95,7 @@ name_of (option name value) = Some name
 name_of (many name values) = Some name
 name_of (positional w) = None
 
--- nothing stands after the option in its word
+-- nothing comes after the option in its word
 abbrev is_bare : After → Bool
 is_bare nothing = true
 is_bare (attached v) = false
@@ -219,7 +219,7 @@ cluster_some t short_equals words left bytes items (flag_first c character other
 cluster_some t short_equals words left bytes items (last_option c character others after item letter last completes) =
     subst (λ (l : List ℕ). l ++ others ≢ []) (sym letter.1) (some_bytes c others letter.0)
 
--- the last option of a cluster, after which more bytes stand, is no flag
+-- the last option of a cluster, after which more bytes come, is not a flag
 flag_alone : (t : Table) (short_equals : Bool) (c : ℕ) (bytes : List ℕ) (after : After) (words left : List (List ℕ)) (item : Item) → kind t (short c) ≡ flag → bytes ≢ []
     → IsAfterLast short_equals bytes after → ¬ Completes (kind t (short c)) (short c) after words item left
 flag_alone t short_equals c bytes after words left item k some last completes =
@@ -270,7 +270,7 @@ cluster_same t words left rest bytes bytes_off front front_off items items_off
 
 -- ---- long options
 
--- nothing stands after a long option where the text has no `=`
+-- nothing comes after a long option where the text has no `=`
 bare_long : (text bytes : List ℕ) (after : After) → ¬ Contains bytes equals → IsLong text bytes after → is_bare after ≡ not (has_equals text)
 bare_long text bytes after none (name_alone some is b) = ap is_bare b ∙ sym (ap (λ l. not (has_equals l)) is ∙ ap not (none_passes bytes none))
 bare_long text bytes after none (name_and_value v is b) =

@@ -1,4 +1,4 @@
--- What can stand after short lines.
+-- What can come after short lines.
 use Rattle.std.proofs.Common.{◌≡◌, ℕ, ◌==◌, ◌||◌, Bool, true, false, List, [], ◌∷◌, ◌++◌, length, map, Option, Some, None, codes, refl, sym, ap, subst, ◌∙◌, true≢false, lit≤, lit<}
 use Rattle.std.specs.Prelude.{Contains}
 use Rattle.std.specs.Char.{IsScalar}
@@ -120,6 +120,6 @@ not_listed s xs is (i, within, same) =
     let P : List ℕ → Type 0 = λ w. pointwise ◌==◌ w s ≡ true in
     true≢false (sym (list_any_at (λ w. pointwise ◌==◌ w s) xs i s within (subst P (sym same) (pointwise_refl s))) ∙ is)
 
--- no other spelling can stand
+-- no other spelling can come next
 pub not_offered : (d : Declaration) (words : List (List ℕ)) (s : List ℕ) → list_any (λ w. pointwise ◌==◌ w s) (spellings d.options) ≡ false → CanStand d words s → ⊥
 not_offered d words s none stands = not_listed s (spellings d.options) none (stands_offered d words s stands)

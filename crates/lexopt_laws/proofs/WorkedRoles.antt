@@ -20,7 +20,7 @@ use Rattle.lexopt_laws.proofs.WorkedSays.{front_of}
 use Rattle.lexopt_laws.proofs.WorkedOpen.{open_of}
 use Rattle.lexopt_laws.proofs.WorkedStops.{at_first, after_flag}
 
--- ---- the last of what is said
+-- ---- the last of what is read
 
 no_last : (l : List Said) (s : Said) → [] ≡ l ++ s ∷ [] → ⊥
 no_last [] s is = let e : [] ≡ s ∷ [] = is in cc
@@ -34,7 +34,7 @@ same_last (x ∷ l) (y ∷ m) s t is = let e : x ∷ (l ++ s ∷ []) ≡ y ∷ (
 
 -- ---- roles
 
--- the words with the empty word say this, so it is what this makes it, and nothing else
+-- the words with the empty word mean this, so the role is that of its last part, and no other
 pub plain_is : (d : Declaration) (words : List (List ℕ)) (before : List Said) (s : Said) → SaysFront d (words ++ [] ∷ []) (before ++ s ∷ []) → (r : Role) → IsPlainRole d words (Some r) → role_of s ≡ r
 plain_is d words before s says r (others, t, other, is) =
     ap role_of (same_last before others s t (one_front d (words ++ [] ∷ []) (before ++ s ∷ []) (others ++ t ∷ []) says other)) ∙ is
@@ -44,7 +44,7 @@ pub dashed_is : (d : Declaration) (words : List (List ℕ)) (before : List Said)
 dashed_is d words before s says r (others, t, other, unsaid, is) =
     ap role_of (same_last before others s t (one_front d (words ++ (dash ∷ dash ∷ []) ∷ []) (before ++ s ∷ []) (others ++ t ∷ []) says other)) ∙ is
 
--- a separator says nothing more
+-- a separator means nothing more
 pub open_dashed : (d : Declaration) (words : List (List ℕ)) (l : List Said) → IsOpen d words l → IsDashedRole d words None
 open_dashed d words l is before s says = subst (SaysFront d words) (one_front d (words ++ (dash ∷ dash ∷ []) ∷ []) l (before ++ s ∷ []) is.with_separator says) is.front
 
@@ -97,7 +97,7 @@ more_empty positionals within = front_of (spec.many (short 0x78) (codes "a" ∷ 
 pub separator_empty : SaysFront (sample (files ∷ []) true) (codes "--" ∷ [] ∷ []) (positional [] ∷ [])
 separator_empty = front_of (spec.positional [] ∷ []) (separator ([] ∷ [])) refl tt
 
--- `-z`, and whatever stands after it
+-- `-z`, and whatever comes after it
 pub no_unknown : (more : List (List ℕ)) (l : List Said) → SaysFront (sample (files ∷ []) true) (codes "-z" ∷ more) l → ⊥
 unfolding kind computing
 no_unknown more l says =

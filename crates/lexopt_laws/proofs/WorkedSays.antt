@@ -1,4 +1,4 @@
--- What short lines say.
+-- What short lines mean.
 use Rattle.std.proofs.Common.{◌≡◌, ◌≤◌, ℕ, true, false, List, [], ◌∷◌, map, Some, None, codes, refl, lit≤}
 use Rattle.lexopt_line_spec.specs.Table as spec
 use Rattle.lexopt_line_spec.specs.Table.{Item, kind}

@@ -1,5 +1,5 @@
--- How words spell what a line says where an option has no value or one: the rules of `Spelling`,
--- over smaller tables. A law says that they are the same rules where the lists of the other kinds
+-- How words spell what a line means where an option has no value or one: the rules of `Spelling`,
+-- over smaller tables. A law states that they are the same rules where the lists of the other kinds
 -- are empty. The source is `docs/behaviour.md`.
 use Rattle.std.specs.Prelude.{◌≡◌, ℕ, Bool, false, List, [], ◌∷◌, ◌++◌, map, Contains, None}
 use Rattle.std.specs.Prelude.{if◌then◌else◌}
@@ -33,7 +33,7 @@ widened t = one_value t.shorts t.longs
 -- these bytes of a cluster, with the words after it, spell the items, and the words are left
 pub data OneValueCluster (letters : Letters) (t : OneValueTable) (short_equals : Bool)
     (words left : List (List ℕ)) : List ℕ → List Item → Type 0 where
-  -- a flag, and more characters, the first of which is no `=` that is a mark
+  -- a flag, and more characters, the first of which is not an `=` that is a mark
   flag_first : (c : ℕ) (character others : List ℕ) (items : List Item)
       → letters.character c character others → value_kind t (short c) ≡ bare
       → ¬ BeginsWithMark short_equals others

@@ -51,7 +51,7 @@ exclude = record {
 abbrev pub sample_options : List Declared
 sample_options = verbose ∷ output ∷ backup ∷ exclude ∷ []
 
--- positionals: one that has to stand, one that may be left out, and any number
+-- positionals: one that has to be there, one that may be left out, and any number
 abbrev pub mode : Positional
 mode = record { placeholder = codes "MODE"; count = once; help = [] }
 

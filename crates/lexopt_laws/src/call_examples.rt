@@ -1,4 +1,4 @@
-//! Worked examples of calls: what they answer, what becomes of each byte, and what is left where
+//! Worked examples of calls: what they return, what becomes of each byte, and what is left where
 //! they are cut short.
 ghost use Rattle.std.specs.Prelude.{◌≡◌, [], ◌∷◌, Bool, List, true, false, Some, None};
 ghost use Rattle.std.specs.Prelude.{codes};
@@ -102,7 +102,8 @@ fn items_come_one_by_one()
         (fresh []) }
 {}
 
-// On the words `a b`, and on none: the next word is taken exactly if the answer about it is `true`.
+// On the words `a b`, and on none: the next word is taken exactly if the condition returns `true`
+// for it.
 fn words_are_taken_on_a_condition()
     ensures taken { TakesIf (λ word answer. answer ≡ true) (fresh (codes "a" ∷ codes "b" ∷ []))
         (Some (codes "a")) (fresh (codes "b" ∷ [])) }

@@ -50,7 +50,7 @@ pub fn pieces_are_in_a_row(bytes: &[u8])
         → pieces bytes.now ≡ first_piece bytes.now ∷ pieces (after_first_piece bytes.now) }
 {}
 
-/// With enough memory, each call has exactly one answer: some reply with a line after it, and no
+/// With enough memory, each call has exactly one result: some reply with a line after it, and no
 /// other. The rules forget no line and leave no choice.
 pub fn each_call_has_one_answer()
     ensures some_answer { (call : Call) (u : UnreadLine) → IsLine u → (r : Reply) × (v : UnreadLine)
@@ -133,9 +133,9 @@ pub fn plain_words_are_the_longest_front()
         → IsPlainFront ended words front after → plain_front ended words ≡ front }
 {}
 
-/// A view that is asked for an item has exactly one answer. Items that are asked one by one are
-/// what the call answers that asks for so many; if fewer came, all came; what comes is the first of
-/// what is left; and once none came, none comes and nothing changes.
+/// A view that is asked for an item has exactly one result. Items that are asked one by one are
+/// what the call returns that asks for that many; if fewer came, all came; what comes is the first
+/// of what is left; and once none came, none comes and nothing changes.
 pub fn items_make_the_call()
     ensures some_value { (stage : Stage) (u : UnreadLine) → (item : Option (List ℕ))
         × (v : UnreadLine) × (now : Stage) × ValueItem stage u item v now }
@@ -230,9 +230,9 @@ pub fn calls_cut_short_are_a_part()
         × (u.words ≡ gone ++ v.words) }
 {}
 
-/// What a run answers is bounded by the words. So `next` comes to the end, whatever is called
-/// between: of more calls of it than the bound, not counting those that run out of memory, one is
-/// answered so.
+/// What a run returns is bounded by the words. So `next` comes to the end, whatever is called
+/// between: of more calls of it than the bound, not counting those that run out of memory, one
+/// returns the end.
 pub fn replies_are_bounded()
     ensures bounded { (u v : UnreadLine) (calls : List Call) (replies : List Reply)
         → Run u calls replies v
@@ -243,7 +243,7 @@ pub fn replies_are_bounded()
 {}
 
 /// A cluster with no `=` between an option and its value, read to its end by one call of `next` for
-/// each of its pieces: each is answered with its lossy character, and memory never runs out.
+/// each of its pieces: each call returns its piece's lossy character, and memory never runs out.
 pub fn clusters_are_read_by_pieces()
     ensures run { (u v : UnreadLine) (b : ℕ) (bs : List ℕ) (words : List (List ℕ))
         (replies : List Reply)
@@ -255,9 +255,9 @@ pub fn clusters_are_read_by_pieces()
     ensures as_many { (bytes : List ℕ) → length (lossy_characters bytes) ≡ length (pieces bytes) }
 {}
 
-/// A whole line read by a table. A reading that comes to the end says what the words show. If words
-/// show something, there is a reading that says it, and every reading comes to the end and says it:
-/// so none ends in an error.
+/// A whole line read by a table. A reading that comes to the end gives what the words show. If
+/// words show something, there is a reading that gives it, and every reading comes to the end and
+/// gives it: so none ends in an error.
 pub fn readings_say_what_words_show()
     ensures said { (t : Table) (short_equals : Bool) (words : List (List ℕ)) (l : List Item)
         → IsReading t (start short_equals words) end l → Shows t short_equals words l }
@@ -270,7 +270,7 @@ pub fn readings_say_what_words_show()
 {}
 
 /// Under every table each line that a parser can be has a reading, to the end or to an error, and
-/// every other reading of it ends so and says the same.
+/// every other reading of it ends the same way and gives the same.
 pub fn each_line_has_one_reading()
     ensures some_reading { (t : Table) (u : UnreadLine) → IsLine u
         → (final : Reply) × (l : List Item) × IsReading t u final l }
@@ -292,8 +292,8 @@ pub fn whole_names_are_spelled()
         → Shows t short_equals words l → HaveWholeNames l → Spells t short_equals words l }
 {}
 
-/// Under a table with no options of optional or several values, the rules for such tables alone say
-/// the same.
+/// Under a table with no options of optional or several values, the rules for such tables alone
+/// mean the same.
 pub fn one_value_tables_agree()
     ensures spelled { (t : OneValueTable) (short_equals : Bool) (words : List (List ℕ))
         (l : List Item)
@@ -305,7 +305,7 @@ pub fn one_value_tables_agree()
         × (Shows (widened t) short_equals words l → OneValueShows t short_equals words l) }
 {}
 
-/// Each list of items has exactly one answer: words, or an item at fault and a reason.
+/// Each list of items has exactly one result: words, or an item at fault and a reason.
 pub fn items_have_one_answer()
     ensures some { (t : Table) (short_equals : Bool) (l : List Item)
         → ((words : List (List ℕ)) × SpelledAs t short_equals l words)
@@ -318,7 +318,7 @@ pub fn items_have_one_answer()
         (f : Fault) → SpelledAs t short_equals l words → HasFault t short_equals l f → ⊥ }
 {}
 
-/// What the tables compute, as in the worked examples, is this answer.
+/// What the tables compute, as in the worked examples, is this result.
 pub fn tables_compute_the_answer()
     ensures words { (t : Table) (short_equals : Bool) (l : List Item) (words : List (List ℕ))
         → (SpelledAs t short_equals l words → spelled t short_equals l ≡ Ok words)
@@ -346,14 +346,14 @@ pub fn items_are_spelled_or_one_is_at_fault()
         → IsAtFault t short_equals l i → Spells t short_equals words l → ⊥ }
 {}
 
-/// If the same words spell the items under either setting, the answer is the same under either.
+/// If the same words spell the items under either setting, the result is the same under either.
 pub fn both_settings_have_one_form()
     ensures { (t : Table) (words : List (List ℕ)) (l : List Item) → Spells t true words l
         → Spells t false words l
         → (others : List (List ℕ)) × SpelledAs t true l others × SpelledAs t false l others }
 {}
 
-/// What the reason says about an item at fault: it is about the item, and then no line has that
+/// What the reason means for an item at fault: it is about the item, and then no line has that
 /// item; or about its place, and then a line of two can be spelled, any flag of one character but
 /// `-` and right after it that item. If the reason is the separator, no option at all can be
 /// spelled in its place.

@@ -205,7 +205,7 @@ fn one_value_rules_spell_the_same()
         OneValueShows t true ((0x2D ∷ 0xFF ∷ []) ∷ []) (option (short 0xFFFD) None ∷ []) }
 {}
 
-// Readings, with their last reply and the items that were said before it.
+// Readings, with their last reply and the items that were read before it.
 fn lines_are_read()
     ensures to_the_end { IsReading (one_value (codes "o") [])
         (start false (codes "-o=" ∷ codes "f" ∷ [])) end

@@ -1,6 +1,6 @@
-//! Worked examples of declared options: what the definitions say of short lines and small
-//! declarations, and what they deny. Most are about the options of `Sample`: v|verbose is a flag,
-//! o|output has one value, b|backup has one or none, and x|exclude has several.
+//! Worked examples of declared options: what the definitions mean for short lines and small
+//! declarations, and what they rule out. Most are about the options of `Sample`: v|verbose is a
+//! flag, o|output has one value, b|backup has one or none, and x|exclude has several.
 ghost use Rattle.std.specs.Prelude.{◌≡◌, ◌++◌, [], ◌∷◌, ℕ, List, Option, Some, None, true, false};
 ghost use Rattle.std.specs.Prelude.{codes};
 ghost use Rattle.lexopt_line_spec.specs.Table as spec;
@@ -147,7 +147,7 @@ fn items_are_said_by_index()
         (many (short 0x7A) (codes "a" ∷ [])) ≡ None }
 {}
 
-// How many positionals stand in a list, and how many may.
+// How many positionals are in a list, and how many may be.
 fn positionals_are_counted()
     ensures count { positional_count (option 0 None ∷ positional (codes "a")
         ∷ several 3 (codes "b" ∷ codes "c" ∷ []) ∷ positional [] ∷ []) ≡ 2 }
@@ -158,7 +158,7 @@ fn positionals_are_counted()
     ensures nothing_declared { most [] ≡ Some 0 }
 {}
 
-// What stands for the value of an option, and for a positional that cannot be left out.
+// The placeholder of the value of an option, and of a positional that cannot be left out.
 fn placeholders_stand_for_values()
     ensures option { placeholder_at sample_options 3 ≡ codes "PATTERN" }
     ensures no_option { placeholder_at sample_options 4 ≡ [] }
@@ -168,7 +168,7 @@ fn placeholders_stand_for_values()
     ensures no_positional { required_placeholder (target ∷ mode ∷ []) 1 ≡ [] }
 {}
 
-// What lines say.
+// What lines mean.
 fn lines_say_these_lists()
     ensures every_item { Says (sample (files ∷ []) true)
         (codes "-vo=x" ∷ codes "--output" ∷ codes "y" ∷ codes "--" ∷ codes "file" ∷ [])
@@ -188,7 +188,7 @@ fn lines_say_these_lists()
     ensures front { SaysFront (sample (mode ∷ []) true) (codes "-v" ∷ []) (option 0 None ∷ []) }
 {}
 
-// What they do not say.
+// What they do not mean.
 fn lines_do_not_say_these()
     ensures not_declared { (l : List Said) → SaysFront (sample (files ∷ []) true)
         (codes "-z" ∷ []) l → ⊥ }
@@ -295,7 +295,7 @@ fn names_are_hinted_at()
         ≡ None }
 {}
 
-// The spellings of options, and which option is said.
+// The spellings of options, and which option is meant.
 #[tactic(auto, unfolding(lexopt_line_spec::proofs::Computing::computing))]
 fn spellings_are_listed()
     ensures character { spelling (short 0x76) ≡ codes "-v" }
@@ -313,7 +313,7 @@ fn spellings_are_listed()
     ensures no_positional { IsOption 1 (positional (codes "a")) → ⊥ }
 {}
 
-// Names that are text. U+D800 is no character, and FF no UTF-8.
+// Names that are text. U+D800 is not a character, and FF is not UTF-8.
 fn names_are_text()
     ensures character { IsText (short 0xE9) }
     ensures no_character { IsText (short 0xD800) → ⊥ }
@@ -323,7 +323,7 @@ fn names_are_text()
     ensures not_the_second { AreText (verbose ∷ named (0xFF ∷ []) ∷ []) → ⊥ }
 {}
 
-// Which words are open to an option after them, and which options can stand there.
+// Which words are open to an option after them, and which options can come next.
 fn options_can_stand()
     ensures at_the_start { IsOpen (sample [] true) [] [] }
     ensures after_a_flag { IsOpen (sample [] true) (codes "-v" ∷ []) (option 0 None ∷ []) }
@@ -341,7 +341,7 @@ fn options_can_stand()
         (codes "--verbose") }
 {}
 
-// Which are not, and which options cannot stand.
+// Which are not, and which options cannot come next.
 fn options_cannot_stand()
     ensures not_declared { CanStand (sample [] true) [] (codes "-z") → ⊥ }
     ensures cluster { CanStand (sample [] true) [] (codes "-vo") → ⊥ }
@@ -371,7 +371,7 @@ fn what_is_typed_is_completed()
         → Completes d words (0x2D ∷ 0xC3 ∷ []) (0x2D ∷ 0xC3 ∷ 0xA9 ∷ []) → ⊥ }
 {}
 
-// What a word is by what it says, and which words are a long option with `=`.
+// What a word is by what is read from it, and which words are a long option with `=`.
 fn roles_are_by_the_last_of_what_is_said()
     ensures of_an_option { role_of (option 1 (Some (codes "x"))) ≡ value 1 }
     ensures of_several { role_of (several 3 (codes "a" ∷ [])) ≡ value 3 }
@@ -397,7 +397,7 @@ fn values_are_joined()
     ensures without_equals { IsJoined (sample [] true) [] (codes "--backup") None }
 {}
 
-// What is no such value, or not of that option.
+// What is not such a value, or is not of that option.
 fn values_are_not_joined()
     ensures not_none { IsJoined (sample [] true) [] (codes "--output=fi") None → ⊥ }
     ensures not_another { IsJoined (sample [] true) [] (codes "--output=fi") (Some 2) → ⊥ }
@@ -407,7 +407,7 @@ fn values_are_not_joined()
     ensures without_equals { IsJoined (sample [] true) [] (codes "--backup") (Some 2) → ⊥ }
 {}
 
-// What a word that is no option would be.
+// What a word that is not an option would be.
 fn plain_words_have_roles()
     ensures after_a_flag { IsPlainRole (sample (files ∷ []) true) (codes "-v" ∷ [])
         (Some argument) }

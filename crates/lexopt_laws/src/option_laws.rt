@@ -4,7 +4,7 @@ ghost use Rattle.lexopt_options_spec.specs.Declaration.{Declaration, is_sound};
 ghost use Rattle.lexopt_options_spec.specs.Legal.{Said, Says};
 ghost use Rattle.lexopt_options_spec.specs.Stops.{Mistake, StopsAt};
 
-/// Under a declaration words say exactly one list, or their reading stops at exactly one mistake,
+/// Under a declaration words mean exactly one list, or their reading stops at exactly one mistake,
 /// and never both. That one of the two holds needs options that can be declared together. The rest
 /// holds of any options.
 pub fn each_line_says_something_or_stops()

@@ -11,7 +11,7 @@ use Rattle.lexopt_line_spec.specs.Spelling.{damaged, After, nothing, attached, C
 use Rattle.lexopt_line_spec.proofs.Letters.{IsRead, letter_read, read_letter}
 use Rattle.lexopt_line_spec.proofs.Unread.{ClusterShows, PartsShow, after_of, GoesOnShowing, NextShows}
 
--- ---- what stands after the last character
+-- ---- what comes after the last character
 
 whole : (short_equals : Bool) (b : ℕ) (bs : List ℕ) → ¬ BeginsWithMark short_equals (b ∷ bs) → pending_in short_equals (rest (b ∷ bs)) ≡ Some (b ∷ bs, false)
 whole false b bs no_mark = refl

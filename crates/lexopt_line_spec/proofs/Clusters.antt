@@ -10,7 +10,7 @@ use Rattle.lexopt_spec.specs.Runs.{Call, next, Step, Run}
 use Rattle.lexopt_line_spec.proofs.Exact.{contains_more, contains_first, next_same}
 use Rattle.lexopt_spec.proofs.PieceSteps.{pieces-step}
 
--- no `=` stands between an option and its value in these bytes
+-- no `=` separates an option from its value in these bytes
 abbrev pub IsFree : Bool → List ℕ → Type 0
 IsFree short_equals bytes = (short_equals ≡ false) ⊎ ¬ Contains bytes equals
 
@@ -37,7 +37,7 @@ free_first : (short_equals : Bool) (b : ℕ) (bs : List ℕ) → IsFree short_eq
 free_first short_equals b bs (inl off) h = true≢false (sym h.0 ∙ off)
 free_first short_equals b bs (inr none) h = none (subst (λ (x : ℕ). Contains (x ∷ bs) equals) (sym h.1) (contains_first bs))
 
--- where the answer takes no memory, there is no other
+-- where the result takes no memory, there is no other
 next_answers : (u : UnreadLine) (r s : Reply) (v w : UnreadLine) → NextStep u s w → (TakesMemory s → ⊥) → Step next u r v → (r ≡ s) × (v ≡ w)
 next_answers u r s v w known small (inl step) = next_same u r s v w step known
 next_answers u r s v w known small (inr refused) =

@@ -8,7 +8,7 @@ use Rattle.lexopt_spec.specs.Runs.{values}
 use Rattle.lexopt_line_spec.specs.Readings.{IsFull}
 use Rattle.lexopt_spec.proofs.PlainFronts.{front_cut, left_after_front}
 
--- `values` with enough items asked of it answers so
+-- `values` with enough items asked of it returns this
 pub data FullStep (u : UnreadLine) (reply : Reply) (after : UnreadLine) : Type 0 where
   joined_one : (value : List ℕ) → pending u ≡ Some (value, true) → reply ≡ items (value ∷ []) → after ≡ record u { tail = no_tail } → FullStep u reply after
   attached_first : (value : List ℕ) (front left : List (List ℕ)) → pending u ≡ Some (value, false) → IsPlainFront u.ended u.words front left
@@ -57,7 +57,7 @@ full_step n u v r full (some_values some r_is v_is) =
     let all = all_came n (available u) (subst (IsFull (values n)) r_is full) in
     some_given u v r (pending u) (plain_front u.ended u.words) cut.0 refl cut.1 some (r_is ∙ ap items all) (v_is ∙ ap (λ l. without (pending u) (length l) u) all)
 
--- a call that asks for enough, and what it answers
+-- a call that asks for enough, and what it returns
 pub record FullAnswer (u : UnreadLine) : Type 0 where
   pub asked : ℕ
   pub reply : Reply

@@ -1,4 +1,4 @@
--- What a line shows, and what it shows once `next` has answered.
+-- What a line shows, and what it shows once `next` has returned.
 use Rattle.std.proofs.Common.{◌≡◌, ◌≢◌, ◌↔◌, ℕ, Bool, true, false, List, [], ◌∷◌, ◌++◌, map, Option, None, refl, sym, ap, subst, ◌∙◌, arith, inr, ⊎_elim}
 use Rattle.std.proofs.lemmas.Bool.{cases_eq}
 use Rattle.std.specs.List.{Contains}
@@ -190,9 +190,9 @@ parts_built t (rest (b ∷ bs)) words false last bin true stands = ⊎_elim
     (λ (other : b ≢ equals). goes_on_built t b bs words last bin true (λ mark. other mark.1))
     (cases_eq b equals)
 
--- ---- each answer
+-- ---- each result
 
--- what a line shows is what `next` says of it
+-- what a line shows is what it shows by the reply of `next`
 pub next_law : (t : Table) (u v : UnreadLine) (r : Reply) (items : List Item) → IsLine u → NextStep u r v → ShowsFrom t u items ↔ NextShows t r v items
 next_law t u v r items line step = (
   λ shows.

@@ -1,4 +1,4 @@
--- Each line that a parser can be has a reading, and every other reading of it says the same.
+-- Each line that a parser can be has a reading, and every other reading of it gives the same.
 use Rattle.std.proofs.Common.{◌≡◌, ◌≢◌, ◌<◌, ◌≤◌, ℕ, zero, suc, List, [], ◌∷◌, length, take, refl, sym, ap, subst, ◌∙◌, arith, inl, inr}
 use Rattle.std.proofs.lemmas.List.{take_all, length-take}
 use Rattle.lexopt_spec.specs.UnreadLine.{UnreadLine, IsLine, pending}

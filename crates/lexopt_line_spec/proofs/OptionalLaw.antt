@@ -1,4 +1,5 @@
--- What a line shows after an option that may have a value, and what it shows once `optional_value` has answered.
+-- What a line shows after an option that may have a value, and what it shows once `optional_value`
+-- has returned.
 use Rattle.std.proofs.Common.{◌≡◌, ◌↔◌, ℕ, Bool, true, false, List, [], ◌∷◌, Option, Some, None, refl, sym, ap, subst, ◌∙◌}
 use Rattle.lexopt_spec.specs.UnreadLine.{Tail, no_tail, joined, rest, LastOption, UnreadLine, pending, pending_in, IsLine, TailStands}
 use Rattle.lexopt_spec.specs.Steps.{Reply, OptionalStep, optional_pending, optional_none}

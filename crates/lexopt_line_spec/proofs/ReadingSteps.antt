@@ -39,7 +39,7 @@ says_flag t u v name k step = λ final m reading. record {
       ∙ sym (option_items name reading.replies);
 }
 
--- an option, and what the call for its values answers
+-- an option, and what the call for its values returns
 says_due : (t : Table) (u v w : UnreadLine) (name : Name) (k : Kind) (call : Call) (reply : Reply) (item : Item) → kind t name ≡ k → IsDue k call → IsFull call reply
     → GoesOn t reply flag → ((replies : List Reply) → items_said (option_reply name ∷ reply ∷ replies) ≡ item ∷ items_said replies)
     → Next u (option_reply name) v → Step call v reply w → SaysUpTo t u (item ∷ []) w

@@ -18,7 +18,7 @@ abbrev pub DueShows : Table → Kind → Name → UnreadLine → List Item → T
 DueShows t flag name u l = ShowsFrom t u l
 DueShows t k name u l = ShowsAfter t name u l
 
--- what the replies say, after an option of this kind and name
+-- what the replies mean, after an option of this kind and name
 abbrev pub said : Kind → Name → List Reply → List Item
 said flag name replies = items_said replies
 said k name replies = item_after name replies ∷ items_said replies
@@ -104,7 +104,8 @@ step_shown t k k2 name u v (steps.long n) replies known line step goes is shows 
 step_shown t k k2 name u v (steps.positional word) replies known line step goes is shows = absurd (reply_after_option k u v _ (λ same. cc) step)
 step_shown t k k2 name u v reply replies known line step goes is shows = absurd goes
 
--- where the line shows these items, the line after the step shows others: if they are what the later replies say, so are these
+-- where the line shows these items, the line after the step shows others: if they are what the
+-- later replies mean, so are these
 pub record ShownThen (t : Table) (k : Kind) (name : Name) (v : UnreadLine) (replies : List Reply) (l all : List Item) : Type 0 where
   pub others : List Item
   pub shows : DueShows t k name v others
@@ -153,7 +154,7 @@ step_then t k k2 name u v (steps.long n) replies l known line step goes is shows
 step_then t k k2 name u v (steps.positional word) replies l known line step goes is shows = absurd (reply_after_option k u v _ (λ same. cc) step)
 step_then t k k2 name u v reply replies l known line step goes is shows = absurd goes
 
--- ---- a reading that comes to the end says what the line shows
+-- ---- a reading that comes to the end gives what the line shows
 
 end_shown : (t : Table) (k : Kind) (name : Name) (u v : UnreadLine) → IsLine u → StepAfterOption k u steps.end v → DueShows t k name u (said k name (steps.end ∷ []))
 end_shown t flag name u v line step = (next_law t u v steps.end [] line step).1 refl

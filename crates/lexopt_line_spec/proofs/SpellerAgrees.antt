@@ -1,4 +1,5 @@
--- What the tables of the speller answer is what the relations say, and nothing else is: so each list of items has one answer.
+-- What the tables of the speller give is what the relations describe, and nothing else is: so each
+-- list of items has one result.
 use Rattle.std.proofs.Common.{◌≡◌, ◌≢◌, ◌⊎◌, ℕ, suc, ◌==◌, ◌||◌, ◌&&◌, not, Bool, true, false, List, [], ◌∷◌, ◌++◌, encode_utf8, refl, sym, ap, subst, ◌∙◌, arith, inl, inr, true≢false}
 use Rattle.std.proofs.lemmas.Bool.{eqb-true, eq-eqb, ne_eqb}
 use Rattle.std.proofs.lemmas.List.Folds.{list_any_at}
@@ -25,7 +26,7 @@ use Rattle.lexopt_line_spec.proofs.SpellerRows.{plain_off, off_plain, test_fails
 
 -- ---- one item, from the tables
 
--- what a table answers of an item at a place
+-- what a table gives for an item at a place
 abbrev IsAdded : Table → Bool → List Item → Place → Item → Bool → List ℕ → List (List ℕ) → Place → Type 0
 IsAdded t short_equals later place item false word words next = Adds t short_equals later place item word words next
 IsAdded t short_equals later place item true word words next = GoesOn t short_equals later place item word words next
@@ -282,7 +283,7 @@ by_name t short_equals joins due place name (positional w) of = absurd of
 not_dash : (c : ℕ) → c ≢ dash → (c == dash) ≡ false
 not_dash c other = ne_eqb c dash other
 
--- the answer of a table where the item has this form, or none
+-- the result of a table where the item has this form, or none
 short_by : (t : Table) (short_equals : Bool) (later : List Item) (place : Place) (c : ℕ) (item : Item) (form : Result Form Reason) → IsScalar c → IsOf (short c) item
     → form_of short_equals (separator_comes_too_early later) (kind t (short c)) item ≡ form
     → adds t short_equals (separator_comes_too_early later) (separator_is_due later) place item ≡ short_added true (c == dash) place c form
@@ -532,7 +533,7 @@ is_fault t short_equals items f is = by (spelled_from t short_equals items open_
     by (Err g) from is_err =
         let same : g ≡ f = (let e : FaultIs (Err g) f = is_err in cc) in subst (HasFault t short_equals items) same from
 
--- ---- one answer
+-- ---- one result
 
 pub some_answer : (t : Table) (short_equals : Bool) (items : List Item)
     → ((words : List (List ℕ)) × SpelledAs t short_equals items words) ⊎ ((f : Fault) × HasFault t short_equals items f)

@@ -1,4 +1,4 @@
--- What an answer of the speller holds.
+-- What a result of the speller holds.
 use Rattle.std.proofs.Common.{◌≡◌}
 use Rattle.std.proofs.lemmas.Result.{IfOk-at_ok}
 use Rattle.std.specs.Prelude.{Result, Ok, Err}
@@ -17,6 +17,6 @@ Adding answer a = answer ≡ Ok a
 abbrev pub Going : Result Rest Fault → Rest → Type 0
 Going answer r = answer ≡ Ok r
 
--- an answer that is an error is nothing else
+-- a result that is an error is nothing else
 pub none_is : {X T E : Type 0} (e : E) (x : T) → Err e ≡ Ok x → X
 none_is e x is = absurd (IfOk-at_ok (λ _. ⊥) is tt)

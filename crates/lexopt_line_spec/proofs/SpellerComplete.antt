@@ -67,7 +67,7 @@ words_short short_equals name item left v (w ∷ ws) is plain calm =
     (ap (λ x. short_many_form x several (v ∷ w ∷ ws)) (and_right short_equals false refl) ∙ ap (λ x. short_words_form (is_plain false v) x v (w ∷ ws)) (all_pass (w ∷ ws) plain) ∙ f.1)
     (inr (inr (f.2, calm)))
 
--- what may stand after a character
+-- what may come after a character
 abbrev Fits : Bool → After → Type 0
 Fits short_equals nothing = Unit {0}
 Fits short_equals (attached v) = v ≢ []
@@ -124,7 +124,7 @@ many_long bytes item left v [] is some plain calm = of_many_long (v ∷ []) _ is
 many_long bytes item left v (w ∷ ws) is some plain calm =
     of_many_long (v ∷ w ∷ ws) _ is (ap (λ x. words_form x (v ∷ w ∷ ws)) (all_pass (v ∷ w ∷ ws) plain)) (record { named = name_some bytes some; follows = inr (inr (refl, calm)) })
 
--- after a name stands nothing, where the name has bytes, or a joined value
+-- after a name comes nothing, where the name has bytes, or a joined value
 abbrev FitsLong : List ℕ → After → Type 0
 FitsLong bytes nothing = bytes ≢ []
 FitsLong bytes (attached v) = ⊥
@@ -252,7 +252,7 @@ group_can t short_equals words front left items place (spelling.long_option text
 
 -- ---- a whole line
 
--- a plain word may stand by itself after these
+-- a plain word may be by itself after these
 data IsRow : Place → Type 0 where
   at_open : IsRow open_line
   at_cluster : IsRow in_cluster

@@ -38,7 +38,7 @@ nil_some b bs is = let e : b ∷ bs ≡ [] = is in cc
 off_mark : (bytes : List ℕ) → ¬ BeginsWithMark false bytes
 off_mark bytes mark = true≢false (sym mark.0)
 
--- a word that is no plain one does not begin with `=`, and has bytes
+-- a word that is not plain does not begin with `=`, and has bytes
 dashed_after : (short_equals : Bool) (v : List ℕ) → BeginsWith dash v → IsAfterLast short_equals v (attached v)
 dashed_after short_equals [] begins = absurd begins
 dashed_after short_equals (b ∷ bs) begins = a_value (nil_some b bs) (λ mark. let e : equals ≡ dash = sym mark.1 ∙ begins in absurd (omega arith)) refl

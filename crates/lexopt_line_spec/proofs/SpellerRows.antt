@@ -1,4 +1,5 @@
--- What the tables of the speller answer of an option's values, and of the items after it, is what the relations say.
+-- What the tables of the speller give for an option's values, and for the items after it, is what
+-- the relations describe.
 use Rattle.std.proofs.Common.{◌≡◌, ◌≢◌, ℕ, ◌==◌, ◌&&◌, not, Bool, true, false, map, List, [], ◌∷◌, length, Option, Some, None, refl, sym, ap, ◌∙◌, arith, true≢false, cond}
 use Rattle.std.proofs.lemmas.Bool.{eq-eqb, eqb-true, ne_eqb, and_parts, and_from}
 use Rattle.std.specs.Prelude.{Result, Ok, Err}
@@ -13,7 +14,7 @@ use Rattle.lexopt_spec.proofs.PlainFronts.{plain_holds, plain_passes}
 use Rattle.lexopt_line_spec.proofs.SpellerTests.{all_plain, all_pass}
 use Rattle.lexopt_line_spec.proofs.SpellerPlaces.{all_positional}
 
--- ---- tests, and what they stand for
+-- ---- tests, and what they mean
 
 pub test_fails : {P : Type 0} (b : Bool) → (b ≡ true → P) → ¬ P → b ≡ false
 test_fails true holds none = absurd (none (holds refl))
@@ -74,7 +75,7 @@ due_passes items need =
 
 -- ---- the form of an option's values
 
--- what a table answers of a form
+-- what a table gives for a form
 abbrev pub IsForm : Bool → List Item → Kind → Name → Item → Result Form Reason → Type 0
 IsForm short_equals later k name item (Ok f) = HasForm short_equals later k name item f.after f.words f.place
 IsForm short_equals later k name item (Err r) = HasNoForm short_equals k name item r
@@ -173,7 +174,7 @@ long_many_row short_equals later name several (v ∷ w ∷ vs) =
 
 -- ---- and nothing else has a form, or none
 
--- what the tables answer of an option, as this item
+-- what the tables give for an option, as this item
 abbrev pub form_of : Bool → Bool → Kind → Item → Result Form Reason
 form_of short_equals joins k (option (short c) value) = short_form short_equals k value
 form_of short_equals joins k (many (short c) values) = short_many_form (short_equals && joins) k values

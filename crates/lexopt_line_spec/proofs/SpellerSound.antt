@@ -1,4 +1,4 @@
--- What the speller answers spells the items.
+-- What the speller returns spells the items.
 use Rattle.std.proofs.Common.{◌≡◌, ◌≢◌, ◌⊎◌, ℕ, ◌==◌, ◌&&◌, not, Bool, true, false, List, [], ◌∷◌, ◌++◌, map, None, encode_utf8, refl, sym, ap, subst, ◌∙◌, arith, inl, inr, ⊎_elim, true≢false, append-nil, append_assoc}
 use Rattle.std.proofs.lemmas.Bool.{eq-eqb, eqb-true, and_parts}
 use Rattle.std.proofs.lemmas.Result.{IfOk-at_ok}
@@ -19,7 +19,7 @@ use Rattle.lexopt_line_spec.proofs.SpellerAnswers.{Adding, Going, none_is}
 use Rattle.lexopt_line_spec.proofs.SpellerTests.{has_equals, no_equals, dash_first, dash_begins, some_bytes}
 use Rattle.lexopt_line_spec.proofs.SpellerForms.{HoldsShort, HoldsLong, short_holds, long_holds, short_many_holds, long_many_holds, NotAttached}
 
--- ---- what is said of the words, by the place that they follow
+-- ---- what holds of the words, by the place that they follow
 
 -- the bytes, with the words after them, end a cluster and the line
 pub record Clustered (t : Table) (short_equals : Bool) (bytes : List ℕ) (words : List (List ℕ)) (items : List Item) : Type 0 where
@@ -52,7 +52,7 @@ not_plain bytes some (inr (inr other)) = other refl
 abbrev glue : Added → Rest → Rest
 glue a r = put_in_front a.goes_on (a.word ++ r.first) (a.words ++ r.words)
 
--- what follows an option that is no flag of a cluster
+-- what follows an option that is not a flag of a cluster
 closed_after : (t : Table) (short_equals : Bool) (place : Place) (r : Rest) (items : List Item) → (place ≡ open_line) ⊎ (place ≡ after_values) → Right t short_equals place r items
     → Closed t short_equals r items × (place ≡ after_values → ¬ IsNormalIn false r.words)
 closed_after t short_equals place r items (inl is) right =
@@ -204,7 +204,7 @@ long_word t short_equals name item f r items text none some holds right =
       not_plain (dash ∷ ((name ++ after) ++ r.first)) (λ nil. let e : dash ∷ ((name ++ after) ++ r.first) ≡ [] = nil in cc),
     )
 
--- the word, wherever it stands before the separator
+-- the word, wherever it is before the separator
 abbrev Anywhere : Table → Bool → Item → Added → Type 0
 Anywhere t short_equals item a = (r : Rest) (items : List Item) → Right t short_equals a.place r items → Closed t short_equals (glue a r) (item ∷ items) × ¬ IsNormalIn false ((glue a r).words)
 

@@ -1,4 +1,4 @@
--- The tests of the speller say what they are named after.
+-- The tests of the speller test what they are named after.
 use Rattle.std.proofs.Common.{◌≡◌, ◌≢◌, ℕ, zero, suc, ◌<◌, ◌≤◌, ◌==◌, ◌||◌, not, Bool, true, false, map, List, [], ◌∷◌, ◌++◌, length, Some, None, encode_utf8, encode_utf8_all, refl, sym, ap, subst, ◌∙◌, arith, inl, inr, true≢false}
 use Rattle.std.proofs.lemmas.Bool.{eq-eqb, eqb-true, ne_eqb, or_parts}
 use Rattle.std.proofs.lemmas.Str.{encode_ascii, encode_same}
@@ -21,7 +21,7 @@ use Rattle.lexopt_spec.proofs.PlainFronts.{plain_holds, plain_passes}
 
 -- ---- plain words
 
--- a word that is no plain one begins with a dash
+-- a word that is not plain begins with a dash
 pub dashed : (w : List ℕ) → is_plain false w ≡ false → BeginsWith dash w
 dashed [] is = absurd (true≢false is)
 dashed (b ∷ []) is = absurd (true≢false is)
@@ -75,7 +75,7 @@ some_bytes c after scalar none =
 
 -- ---- what stands for a character, or for a name
 
--- it is a character, and no dash unless the bytes begin with one
+-- it is a character, and not a dash unless the bytes begin with one
 pub letter_dash : (c : ℕ) (bytes after : List ℕ) → damaged.character c bytes after → c ≡ dash → BeginsWith dash (bytes ++ after)
 letter_dash c bytes after (inl is) same = subst (λ (l : List ℕ). BeginsWith dash (l ++ after)) (sym is.1) (dash_begins c after same)
 letter_dash c bytes after (inr is) same = absurd (let e : replacement ≡ dash = sym is.0 ∙ same in omega arith)

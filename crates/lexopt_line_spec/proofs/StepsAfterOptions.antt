@@ -15,7 +15,7 @@ use Rattle.lexopt_line_spec.proofs.FullValues.{FullStep, full_step}
 use Rattle.lexopt_line_spec.proofs.SeveralLaw.{several_law}
 use Rattle.lexopt_line_spec.proofs.ReplyKinds.{IsValueReply, value_reply, optional_reply, values_reply}
 
--- the call that is due after an option of this kind answers so, where memory is enough
+-- the call that is due after an option of this kind returns this, where memory is enough
 abbrev pub StepAfterOption : Kind → UnreadLine → Reply → UnreadLine → Type 0
 StepAfterOption flag u r v = NextStep u r v
 StepAfterOption one u r v = ValueStep u r v
@@ -42,14 +42,15 @@ last_full (calls.values n) steps.end is = tt
 last_full (calls.values n) final is = absurd is
 last_full call final is = tt
 
--- after an option that has values, the call that is due gives a value, or says that there is none
+-- after an option that has values, the call that is due gives a value, or reports that there is
+-- none
 pub reply_after_option : (k : Kind) (u v : UnreadLine) (r : Reply) → k ≢ flag → StepAfterOption k u r v → IsValueReply r
 reply_after_option flag u v r other step = absurd (other refl)
 reply_after_option one u v r other step = value_reply u v r step
 reply_after_option optional u v r other step = optional_reply u v r step
 reply_after_option several u v r other step = values_reply u v r step
 
--- and what the line shows there is what that call says of it
+-- and what the line shows there is what it shows by the reply of that call
 pub law_after_option : (t : Table) (k : Kind) (name : Name) (u v : UnreadLine) (r : Reply) (l : List Item) → k ≢ flag → (kind t name ≡ k) × (u.ended ≡ false) → IsLine u → StepAfterOption k u r v
     → ShowsAfter t name u l ↔ ValueShows t name r v l
 law_after_option t flag name u v r l other is line step = absurd (other refl)

@@ -28,7 +28,7 @@ PartsShow t short_equals (rest bytes) ended words items = (¬ BeginsWithMark sho
 abbrev pub ShowsFrom : Table → UnreadLine → List Item → Type 0
 ShowsFrom t u items = PartsShow t u.short_equals u.tail u.ended u.words items
 
--- what is pending, as what stands after an option in its word
+-- what is pending, as what comes after an option in its word
 abbrev pub after_of : Option (List ℕ × Bool) → After
 after_of None = nothing
 after_of (Some (value, true)) = spelling.joined value

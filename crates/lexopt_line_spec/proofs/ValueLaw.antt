@@ -1,4 +1,4 @@
--- What a line shows after an option, and what it shows once `value` has answered.
+-- What a line shows after an option, and what it shows once `value` has returned.
 use Rattle.std.proofs.Common.{◌≡◌, ◌↔◌, ℕ, Bool, true, false, List, [], ◌∷◌, Option, Some, None, refl, sym, ap, subst, ◌∙◌}
 use Rattle.lexopt_spec.specs.UnreadLine.{Tail, no_tail, joined, rest, LastOption, UnreadLine, pending, spelling, IsLine, TailStands}
 use Rattle.lexopt_spec.specs.Steps.{Reply, taken, missing, ValueStep, pending_value, takes_word, nothing_to_take}
@@ -42,7 +42,7 @@ one_is : (t : Table) (name : Name) (after : After) (words : List (List ℕ)) (it
     → OneValue name after words item left → Completes (kind t name) name after words item left
 one_is t name after words item left k completes = subst (λ (x : Kind). Completes x name after words item left) (sym k) completes
 
--- ---- one answer, and what it says
+-- ---- one result, and what it means
 
 abbrev ValueLaw : Table → Name → UnreadLine → Reply → UnreadLine → Type 0
 ValueLaw t name u r v = (items : List Item) → ShowsAfter t name u items ↔ ValueShows t name r v items
@@ -112,9 +112,9 @@ parts_answer t name None (joined value) words ended last short_equals bin k is s
 parts_answer t name None (rest []) words ended last short_equals bin k is stands = absurd (stands.2 refl)
 parts_answer t name None (rest (b ∷ bs)) words ended last short_equals bin k is stands = absurd (is_some_rest short_equals b bs is)
 
--- ---- each answer
+-- ---- each result
 
--- what the line shows after an option that has one value is what `value` says of it
+-- what the line shows after an option that has one value is what it shows by the reply of `value`
 pub value_law : (t : Table) (name : Name) (u v : UnreadLine) (r : Reply) (items : List Item) → kind t name ≡ one → IsLine u → ValueStep u r v
     → ShowsAfter t name u items ↔ ValueShows t name r v items
 value_law t name u v r items k line step =

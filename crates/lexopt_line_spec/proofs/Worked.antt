@@ -1,4 +1,5 @@
--- Steps of worked examples. What a list of bytes decides is a test here, so that an example answers it by `refl`.
+-- Steps of worked examples. What a list of bytes decides is a test here, so that an example proves
+-- it by `refl`.
 use Rattle.std.proofs.Common.{◌≡◌, ◌≢◌, ℕ, zero, suc, Bool, true, false, ◌==◌, ◌&&◌, not, List, [], ◌∷◌, ◌++◌, None, encode_utf8, length, take, refl, sym, ap, ◌∙◌, arith, true≢false}
 use Rattle.std.proofs.lemmas.Bool.{eq-eqb}
 use lib.Utf8.{scalar}
@@ -155,7 +156,7 @@ pub reads_plain : (u : UnreadLine) (w : List ℕ) (ws : List (List ℕ)) → u.t
     → NextStep u (steps.positional w) (record u { words = ws })
 reads_plain u w ws tail ended words plain = next_word tail ended (reads_positional w ws words (plain_holds false w plain) refl refl)
 
--- `values` answers n of the values that can be had
+-- `values` returns n of the values that can be had
 pub gives_values : (n : ℕ) (u : UnreadLine) (front left : List (List ℕ)) → IsPlainFront u.ended u.words front left → available_with (pending u) front ≢ []
     → ValuesStep n u (steps.items (take n (available_with (pending u) front))) (without (pending u) (length (take n (available_with (pending u) front))) u)
 gives_values n u front left is found =

@@ -1,4 +1,4 @@
--- How many replies a line can give, and what `next` answers among other calls.
+-- How many replies a line can give, and what `next` returns among other calls.
 -- The source is `docs/behaviour.md`.
 use Rattle.std.specs.Prelude.{ℕ, ◌+◌, ◌-◌, max, List, [], ◌∷◌, length}
 use Rattle.std.specs.List.{sum_by}
@@ -28,7 +28,7 @@ reply_count reply = length (handed_items reply)
 abbrev pub replies_count : List Reply → ℕ
 replies_count replies = sum_by reply_count replies
 
--- what the calls of `next` among these were answered, in order, but for those that ran out of
+-- what the calls of `next` among these returned, in order, but for those that ran out of
 -- memory
 abbrev pub next_replies : List Call → List Reply → List Reply
 next_replies [] replies = []

@@ -7,7 +7,7 @@ use Rattle.lexopt_spec.specs.UnreadLine.{UnreadLine, dash, equals, no_tail}
 use Rattle.lexopt_spec.specs.Steps.{Reply, short}
 use Rattle.lexopt_spec.specs.Runs.{Call, next}
 
--- Take a line that begins with a cluster, where `short_equals` is false or no `=` stands after the
+-- Take a line that begins with a cluster, where `short_equals` is false or no `=` comes after the
 -- first byte of the cluster. If the calls are `next`, once for each piece, the replies are its
 -- lossy characters, so none of them is `no_memory`, and the word is gone.
 abbrev pub ReadsPieces : UnreadLine → List Call → List Reply → UnreadLine → Type 0

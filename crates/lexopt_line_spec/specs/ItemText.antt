@@ -18,7 +18,7 @@ abbrev pub value_text : Option (List ℕ) → List ℕ
 value_text None = []
 value_text (Some bytes) = codes " = " ++ quoted bytes
 
--- the text of what a line says
+-- the text of what a line means
 abbrev pub item_text : Item → List ℕ
 item_text (option name found) = name_text name ++ value_text found
 item_text (many name all) = name_text name ++ (codes " = " ++ bracketed quoted all)

@@ -1,4 +1,4 @@
--- How a line is read by a table: which calls are made, and what their replies say.
+-- How a line is read by a table: which calls are made, and what their replies mean.
 -- The source is `docs/behaviour.md`.
 use Rattle.std.specs.Prelude.{◌≡◌, ◌<◌, ℕ, length, Bool, List, [], ◌∷◌, ◌++◌, Some, None}
 use Rattle.lexopt_spec.specs.UnreadLine.{UnreadLine, fresh}
@@ -71,7 +71,7 @@ item_after name (steps.maybe word ∷ replies) = option name word
 item_after name (steps.items words ∷ replies) = many name words
 item_after name (reply ∷ replies) = option name None
 
--- what the replies of a reading say
+-- what the replies of a reading mean
 abbrev pub items_said : List Reply → List Item
 items_said [] = []
 items_said (steps.short c ∷ replies) = item_after (short c) replies ∷ items_said replies
@@ -79,7 +79,7 @@ items_said (steps.long name ∷ replies) = item_after (long name) replies ∷ it
 items_said (steps.positional word ∷ replies) = positional word ∷ items_said replies
 items_said (reply ∷ replies) = items_said replies
 
--- a reading of this line, which ends with this reply and says these items
+-- a reading of this line, which ends with this reply and gives these items
 pub record IsReading (t : Table) (u : UnreadLine) (final : Reply) (l : List Item) : Type 0 where
   pub calls : List Call
   pub replies : List Reply
@@ -88,7 +88,7 @@ pub record IsReading (t : Table) (u : UnreadLine) (final : Reply) (l : List Item
   pub asked : Asked t calls replies final
   pub items_are : l ≡ items_said replies
 
--- what is read between the two lines says these items: every reading of the second line is the end
+-- what is read between the two lines means these items: every reading of the second line is the end
 -- of one of the first
 abbrev pub SaysUpTo : Table → UnreadLine → List Item → UnreadLine → Type 0
 SaysUpTo t u l v = (final : Reply) (m : List Item) → IsReading t v final m

@@ -1,4 +1,4 @@
--- Words that spell what a line is to say, where some do: from items to words. The source is
+-- Words that spell what a line is to mean, where some do: from items to words. The source is
 -- `docs/behaviour.md`, "From items back to words", after the POSIX Utility Syntax Guidelines and
 -- GNU's long options. Each row of the tables there is a constructor here. `SpellerTables` computes
 -- the same.
@@ -14,7 +14,7 @@ use Rattle.lexopt_line_spec.specs.Spelling.{After, nothing, attached, joined, Sp
 
 -- why an item cannot be spelled after those before it
 pub data Reason : Type 0 where
-  -- the option's name is no character, or no text: a `char` and a `String` always are
+  -- the option's name is not a character, or not text: a `char` and a `String` always are
   no_name : Reason
   -- a long option has `=` in its name
   equals_in_name : Reason
@@ -26,7 +26,7 @@ pub data Reason : Type 0 where
   wants_many : Reason
   -- an option that does not have several values is given a list of them
   not_many : Reason
-  -- an empty value cannot stand right after a character
+  -- an empty value cannot come right after a character
   empty_value : Reason
   -- one of several values would be an option
   option_among_values : Reason
@@ -62,7 +62,7 @@ is_positional (positional w) = true
 abbrev pub ArePositionals : List Item → Type 0
 ArePositionals items = (words : List (List ℕ)) × (items ≡ map positional words)
 
--- a positional stands first, and an option somewhere after it
+-- a positional comes first, and an option somewhere after it
 abbrev pub ArePositionalThenOption : List Item → Type 0
 ArePositionalThenOption items = (w : List ℕ) × (others : List Item)
     × (items ≡ positional w ∷ others) × ¬ ArePositionals others
@@ -74,14 +74,14 @@ NeedSeparator items = (words : List (List ℕ)) × (items ≡ map positional wor
 
 -- ---- an option and its values
 
--- this is the only value, a positional stands right after the option, and an option somewhere after
+-- this is the only value, a positional comes right after the option, and an option somewhere after
 -- that; and the setting is on
 abbrev pub IsLoneAndJoined : Bool → List Item → List (List ℕ) → Type 0
 IsLoneAndJoined short_equals later values = (length values ≡ 1) × (short_equals ≡ true)
     × ArePositionalThenOption later
 
--- An option of this kind and name, as this item, before these items: what stands after its name in
--- its word, which words stand after that word, and what the next item follows then.
+-- An option of this kind and name, as this item, before these items: what comes after its name in
+-- its word, which words come after that word, and what the next item follows then.
 --
 -- In the comments v is a flag, o and out have one value, c and color one or none, d and cmd
 -- several.
@@ -121,7 +121,7 @@ pub data HasForm (short_equals : Bool) (later : List Item)
   -- color "x": `--color=x`, whatever the value is
   long_optional : (name v : List ℕ) → HasForm short_equals later optional (long name)
       (option (long name) (Some v)) (joined v) [] open_line
-  -- d "1": `-d=1`, if the separator would otherwise stand before an option
+  -- d "1": `-d=1`, if the separator would otherwise come before an option
   lone_joined : (c : ℕ) (v : List ℕ) → IsLoneAndJoined short_equals later (v ∷ [])
       → HasForm short_equals later several (short c) (many (short c) (v ∷ []))
       (joined v) [] open_line
@@ -233,10 +233,10 @@ IsOf name (positional w) = ⊥
 -- At this place, and before these items, an item cannot be spelled, and this is why.
 pub data CannotBeSpelled (t : Table) (short_equals : Bool) (later : List Item)
     : Place → Item → Reason → Type 0 where
-  -- a number that is no character, which no `char` is
+  -- a number that is not a character, which no `char` is
   no_character : (c : ℕ) (place : Place) (item : Item) → ¬ IsScalar c → IsOf (short c) item
       → CannotBeSpelled t short_equals later place item no_name
-  -- bytes that are no text, as those of each `String` are
+  -- bytes that are not text; those of each `String` are
   no_text : (name : List ℕ) (place : Place) (item : Item) → ¬ IsUtf8 name → IsOf (long name) item
       → CannotBeSpelled t short_equals later place item no_name
   -- a long option has `=` in its name
@@ -254,12 +254,12 @@ pub data CannotBeSpelled (t : Table) (short_equals : Bool) (later : List Item)
   empty_long : (place next : Place) (item : Item) (words : List (List ℕ))
       → HasForm short_equals later (kind t (long [])) (long []) item nothing words next
       → CannotBeSpelled t short_equals later place item empty_name
-  -- an option of one character stands after the separator
+  -- an option of one character comes after the separator
   short_past_separator : (c : ℕ) (next : Place) (item : Item) (after : After)
       (words : List (List ℕ)) → IsScalar c
       → HasForm short_equals later (kind t (short c)) (short c) item after words next
       → CannotBeSpelled t short_equals later ended item past_separator
-  -- a long option stands after the separator
+  -- a long option comes after the separator
   long_past_separator : (name : List ℕ) (next : Place) (item : Item) (after : After)
       (words : List (List ℕ)) → IsUtf8 name → ¬ Contains name equals
       → (name ≢ []) ⊎ (after ≢ nothing)
@@ -329,7 +329,7 @@ pub record IsAtFault (t : Table) (short_equals : Bool) (items : List Item) (i : 
 
 -- ---- what a reason is of
 
--- the reason is where the item stands, and not the item
+-- the reason is where the item is, and not the item
 abbrev pub is_of_the_place : Reason → Bool
 is_of_the_place no_name = false
 is_of_the_place equals_in_name = false

@@ -1,5 +1,5 @@
 -- The words that the relations of `Speller` choose, and the faults that they name, as functions:
--- what an item adds, by the place that it stands at.
+-- what an item adds, by the place that it is at.
 use Rattle.std.specs.Prelude.{ℕ, suc, Bool, true, false, ◌==◌, ◌&&◌, not, List, [], ◌∷◌, ◌++◌}
 use Rattle.std.specs.Prelude.{Option, Some, None, Result, Ok, Err, encode_utf8, if◌then◌else◌}
 use Rattle.std.specs.List.{list_any, list_all}
@@ -18,7 +18,7 @@ use Rattle.lexopt_line_spec.specs.Speller.{is_positional, Fault}
 
 -- ---- the values of an option
 
--- what stands after an option's name in its word, the words after that word, and what the next item
+-- what comes after an option's name in its word, the words after that word, and what the next item
 -- follows then
 pub record Form : Type 0 where
   pub after : After
@@ -68,7 +68,7 @@ abbrev pub words_form : Bool → List (List ℕ) → Result Form Reason
 words_form true values = Ok (record { after = nothing; words = values; place = after_values })
 words_form false values = Err option_among_values
 
--- the same after a character: a first value that would be an option stands in its word. Whether the
+-- the same after a character: a first value that would be an option is in its word. Whether the
 -- first is plain, and the others
 abbrev pub short_words_form : Bool → Bool → List ℕ → List (List ℕ) → Result Form Reason
 short_words_form true others v vs = words_form others (v ∷ vs)
@@ -153,8 +153,8 @@ long_added true true place name form = Err equals_in_name
 long_added true false place name (Err reason) = Err reason
 long_added true false place name (Ok f) = long_placed (is_named name f.after) place name f
 
--- a positional stands by itself where it is plain, unless it begins a row before which the
--- separator is to stand
+-- a positional is by itself where it is plain, unless it begins a row before which the
+-- separator is to come
 abbrev pub stands : Bool → Bool → Place → Bool
 stands plain due open_line = plain && not due
 stands plain due in_cluster = plain && not due
@@ -162,7 +162,7 @@ stands plain due after_values = plain
 stands plain due after_positional = plain
 stands plain due ended = plain
 
--- a positional: whether it stands by itself. After values the separator keeps it from being one
+-- a positional: whether it is by itself. After values the separator keeps it from being one
 -- more of them
 abbrev pub positional_added : Bool → Place → List ℕ → Added
 positional_added alone ended w = record { goes_on = false; word = w; words = []; place = ended }
@@ -182,7 +182,7 @@ positional_added true after_positional w =
     record { goes_on = false; word = w; words = []; place = after_positional }
 
 -- an item at this place; whether one of several values is to be joined, where it can be, and
--- whether the separator is to stand before a row of positionals that begins here
+-- whether the separator is to come before a row of positionals that begins here
 abbrev pub adds : Table → Bool → Bool → Bool → Place → Item → Result Added Reason
 adds t short_equals joins due place (option (short c) value) =
     short_added (scalar c) (c == dash) place c (short_form short_equals (kind t (short c)) value)
@@ -201,7 +201,7 @@ adds t short_equals joins due place (positional w) =
 -- ---- all items
 
 -- these items are a positional and, after it, an option among others. After a value in a word the
--- separator would have to stand before that positional, and so before that option
+-- separator would have to come before that positional, and so before that option
 abbrev pub separator_comes_too_early : List Item → Bool
 separator_comes_too_early [] = false
 separator_comes_too_early (item ∷ items) = is_positional item && not (list_all is_positional items)
@@ -211,7 +211,7 @@ is_plain_item (option name value) = true
 is_plain_item (many name values) = true
 is_plain_item (positional w) = is_plain false w
 
--- these items are positionals, and one of them would be an option: so the separator is to stand
+-- these items are positionals, and one of them would be an option: so the separator is to come
 -- before all that are left. A program that stops at the first positional reads it there alone
 abbrev pub separator_is_due : List Item → Bool
 separator_is_due items = list_all is_positional items && not (list_all is_plain_item items)

@@ -1,4 +1,4 @@
--- How words spell what a line says: from items to words, with no call and no state.
+-- How words spell what a line means: from items to words, with no call and no state.
 -- The source is `docs/behaviour.md`, after the README of lexopt 0.3.2, "Command line syntax".
 use Rattle.std.specs.Prelude.{◌≡◌, ◌≢◌, ℕ, Bool, true, false, ◌⊎◌, List, [], ◌∷◌, ◌++◌, length, map}
 use Rattle.std.specs.Prelude.{Contains, Some, None, encode_utf8}
@@ -34,7 +34,7 @@ damaged = record {
 
 -- ---- an option's value
 
--- what stands after an option's name in its word
+-- what comes after an option's name in its word
 pub data After : Type 0 where
   nothing : After
   -- a value, right after a character
@@ -91,11 +91,11 @@ Completes several = SeveralValues
 
 -- ---- clusters, as `-abc`
 
--- `=` stands first in these bytes, and the setting makes it a mark
+-- `=` comes first in these bytes, and the setting makes it a mark
 abbrev pub BeginsWithMark : Bool → List ℕ → Type 0
 BeginsWithMark short_equals bytes = (short_equals ≡ true) × BeginsWith equals bytes
 
--- these bytes stand after the last character of a cluster
+-- these bytes come after the last character of a cluster
 pub data IsAfterLast (short_equals : Bool) (bytes : List ℕ) (after : After) : Type 0 where
   nothing_more : bytes ≡ [] → after ≡ nothing → IsAfterLast short_equals bytes after
   a_value : bytes ≢ [] → ¬ BeginsWithMark short_equals bytes → after ≡ attached bytes
@@ -106,7 +106,7 @@ pub data IsAfterLast (short_equals : Bool) (bytes : List ℕ) (after : After) : 
 -- these bytes of a cluster, with the words after it, spell the items, and the words are left
 pub data Cluster (letters : Letters) (t : Table) (short_equals : Bool)
     (words left : List (List ℕ)) : List ℕ → List Item → Type 0 where
-  -- a flag, and more characters, the first of which is no `=` that is a mark
+  -- a flag, and more characters, the first of which is not an `=` that is a mark
   flag_first : (c : ℕ) (character others : List ℕ) (items : List Item)
       → letters.character c character others → kind t (short c) ≡ flag
       → ¬ BeginsWithMark short_equals others

@@ -1,4 +1,4 @@
-//! Examples of definitions: what they say, and what they deny.
+//! Examples of definitions: what they mean, and what they rule out.
 ghost use Rattle.std.specs.Prelude.{◌≡◌, [], ◌∷◌, ℕ, List, false, true, Some, None, codes};
 ghost use Rattle.lexopt_line_spec.specs.Clusters.{ReadsPieces};
 ghost use Rattle.lexopt_line_spec.specs.Readings.{items_said};
@@ -75,7 +75,7 @@ fn tails_are_bounded()
     ensures nothing { bound (fresh []) ≡ 0 }
 {}
 
-// The options of a table, and what replies say.
+// The options of a table, and what replies mean.
 fn tables_and_replies_are_told_apart()
     ensures one_value { one_value (codes "o") (codes "out" ∷ []) ≡ record {
       shorts = codes "o";

@@ -3,7 +3,7 @@
 //! replies a line can give. `proofs/` has the lemmas that code cites.
 //!
 //! There is no code here. That the definitions fit each other is the subject of `lexopt_laws`.
-//! `examples` has what a few of them say and deny.
+//! `examples` has what a few of them mean and rule out.
 #![tactic(auto)]
 
 mod examples;

@@ -33,7 +33,7 @@ use Rattle.lexopt_options.specs.declared.complete.Place.{Place}
 use Rattle.lexopt_options.specs.Reading.{indexed_view}
 use Rattle.lexopt_options.specs.Roles.{IsDeclared, place_view}
 
--- ---- the last that is said
+-- ---- the last that is read
 
 pub ends_so : (l : List Indexed) → ends_in_one l ≡ true → EndsInOne (map indexed_view l)
 ends_so [] is = absurd (false≢true is)
@@ -61,7 +61,7 @@ ends_at (s ∷ t ∷ l) last some is =
     let at : length (s ∷ t ∷ l) - 1 ≡ 1 + i = omega arith in
     ends_at (t ∷ l) last (omega arith) (is ∙ ap (λ (n : ℕ). get_or (s ∷ t ∷ l) n last) at ∙ sym (get_or-drop 1 (s ∷ t ∷ l) i last))
 
--- ---- whether an option can stand
+-- ---- whether an option can come
 
 opens_by : (d : Declaration) (words : List (List ℕ)) (l m : Vec Indexed Global) (r : Bool) → SaysFront d (words ++ dashes ∷ []) (map indexed_view l.items)
     → SaysFront d (words ++ [] ∷ []) (map indexed_view m.items) → (IsTrue r ↔ TakeAnyWord l.items m.items) → Opens d words (not r)
@@ -92,7 +92,7 @@ opens_so d words l m xs ys r dashed_is plain_is dashed plain takes =
     opens_by d words l m r dashed plain
     (subst (λ (x : List Indexed). IsTrue r ↔ TakeAnyWord x m.items) dashed_is (subst (λ (y : List Indexed). IsTrue r ↔ TakeAnyWord xs y) plain_is takes))
 
--- nothing is said with an empty word
+-- nothing is read with an empty word
 pub opens_full : (d : Declaration) (words : List (List ℕ)) (l : Vec Indexed Global) → SaysFront d (words ++ dashes ∷ []) (map indexed_view l.items) → IsPart d (words ++ [] ∷ []) None → Opens d words true
 opens_full d words l dashed plain = ((λ yes. go (open_or_not d words (map indexed_view l.items) dashed)), (λ there. refl))
   where
@@ -100,7 +100,7 @@ opens_full d words l dashed plain = ((λ yes. go (open_or_not d words (map index
     go (open_words.opens is) = (map indexed_view l.items, is)
     go (takes_any_word as_much) = absurd (plain as_much.said as_much.front)
 
--- nothing is said with `--`
+-- nothing is read with `--`
 pub opens_never : (d : Declaration) (words : List (List ℕ)) → IsPart d (words ++ dashes ∷ []) None → Opens d words false
 opens_never d words dashed = ((λ yes. absurd (false≢true yes)), (λ there. absurd (dashed there.0 there.1.with_separator)))
 
@@ -124,7 +124,7 @@ some_role d words said (Some role) says (before, last, items_are, role_is) = (
 
 -- ---- what `--` would be
 
--- it adds nothing where an option can stand
+-- it adds nothing where an option can come
 pub no_dashed : (d : Declaration) (words : List (List ℕ)) → Opens d words true → IsDashedRole d words None
 no_dashed d words opens = λ before s other.
     let there = opens.0 refl in
@@ -199,7 +199,7 @@ offered_all d typed (Err e) options bytes b sound utf8 can are also text is = tt
 none_there : (s : List ℕ) → Contains [] s → ⊥
 none_there s (k, below, is) = omega (arith, below)
 
--- nothing is offered where no option can stand
+-- nothing is offered where no option can come
 pub none_stands : (d : Declaration) (words : List (List ℕ)) (typed : List ℕ) → Opens d words false → AreOffered d words typed []
 none_stands d words typed closed = record {
   sound = λ s has. absurd (none_there s has);
@@ -242,7 +242,7 @@ declared_by options (item ∷ items) l [] s said is =
         let e : legal.positional word ≡ s = cc in
         subst (λ x. IsDeclared (length options) (spec.role_of x)) e tt
 
--- the last of what words say
+-- the last of what words mean
 last_declared : (d : Declaration) (words : List (List ℕ)) (before : List legal.Said) (s : legal.Said) → SaysFront d words (before ++ s ∷ []) → IsDeclared (length d.options) (spec.role_of s)
 last_declared d words before s says = declared_by d.options says.items (before ++ s ∷ []) before s says.said refl
 

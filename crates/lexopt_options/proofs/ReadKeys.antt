@@ -30,7 +30,7 @@ use Rattle.lexopt_options.specs.Reading.{IsReadByKey, ReadsSaid, indexed_view, s
 use Rattle.lexopt_options.proofs.Keys.{asked_more, said_length, said_more}
 use Rattle.lexopt_options.proofs.ReadNext.{count_more, count_small, no_count, one_more, option_said}
 
--- the line u was read up to v, and this was said by the keys; nothing was asked for
+-- the line u was read up to v, and this was read by the keys; nothing was asked for
 pub record HasRead {F V M S : Type 0} (d : Declaration) (options : List (Declared F V M S)) (u v : UnreadLine) (count : ℕ) (said : List (Said F V M S)) : Type 0 where
   pub l : List legal.Said
   pub read : ReadsUpTo d u l v
@@ -55,7 +55,7 @@ pub read_so : {F V M S : Type 0} (o : Options F V M S) (count : ℕ) (u v w : Un
 read_so o count u v w name k index values s t k_is step found is reads tells =
     (indexed_view s, option_said (declaration_of o) count u v w name k index s o.sound k_is step found (values, is, reads), tells, ap counts is ∙ no_count index values)
 
--- there are no more positionals than things that are said
+-- there are no more positionals than things that are read
 pub count_within : {F V M S : Type 0} (d : Declaration) (options : List (Declared F V M S)) (u v : UnreadLine) (count : ℕ) (said : List (Said F V M S)) → HasRead d options u v count said → count ≤ length said
 count_within d options u v count said had = omega (arith, had.counted, count_small had.l, said_length options had.l said had.are)
 

@@ -32,7 +32,7 @@ append_nil : (l : List Item) → l ++ [] ≡ l
 append_nil [] = refl
 append_nil (x ∷ l) = ap (λ m. x ∷ m) (append_nil l)
 
--- words that are read to their end say what was read
+-- words that are read to their end mean what was read
 front : (d : Declaration) (words : List (List ℕ)) (l : List legal.Said) (v w : UnreadLine) → is_sound d.options ≡ true → ReadsUpTo d (start d.short_equals words) l v → Next v steps.end w
     → SaysFront d words l
 front d words l v w sound read ends =
@@ -55,7 +55,7 @@ line_stopped d words l u v count why is read counted stops = record {
   stops = subst (λ (n : ℕ). Stops d n v why) counted stops;
 }
 
--- ---- what is said before a mistake
+-- ---- what was read before a mistake
 
 pub before_is : (d : Declaration) (m : Mistake) (why : stops.Mistake) (l : List legal.Said) → IsMistake d m why → before_mistake m l ≡ said_before why l
 before_is d (mistake.UnknownOption name nearest) why l told = ap (λ w. said_before w l) (sym told.0)
@@ -91,7 +91,7 @@ kept_said options (s ∷ t ∷ l) (x ∷ y ∷ xs) n is are =
 
 -- ---- what a line comes to
 
--- a line that is read so is of the list that its words say
+-- a line that is read so is of the list that its words mean
 pub line_of : {F V M S : Type 0} (o : Options F V M S) (words : List (List ℕ)) (line : Line F V M S) → IsLineRead o words line → (l : List legal.Said) → Says (declaration_of o) words l → IsLineOf o l line
 line_of o words (line.Said said) (m, other, none, are) l says =
     subst (λ (x : List legal.Said). IsLineOf o x (line.Said said)) (one_front (declaration_of o) words m l other.front says.front) (none, are)
@@ -111,7 +111,7 @@ at_end d count n u m is (stops.value_of_flag option value v step) = absurd (let 
 at_end d count n u m is (stops.no_value name index option call v w step found due takes) = absurd (let e : stops.missing_value index option ≡ stops.missing_argument n = is in cc)
 at_end d count n u m is (stops.one_too_many word v step limit) = absurd (let e : stops.unexpected_argument word ≡ stops.missing_argument n = is in cc)
 
--- so the words say what was read, but for that
+-- so the words mean what was read, but for that
 pub few_said : (d : Declaration) (words : List (List ℕ)) (l : List legal.Said) (m : Mistake) (placeholder : _) (why : stops.Mistake) → is_sound d.options ≡ true → m ≡ mistake.MissingArgument placeholder
     → IsMistake d m why → StopsAt d words l why → SaysFront d words l
 few_said d words l m placeholder why sound is told stops =
@@ -127,7 +127,7 @@ other_mistake d (mistake.MissingValue option placeholder) m count other told is 
 other_mistake d (mistake.UnexpectedArgument word) m count other told is = let e = sym is ∙ told in cc
 other_mistake d (mistake.MissingArgument placeholder) m count other told is = other placeholder refl
 
--- and the words say nothing
+-- and the words mean nothing
 pub nothing_part : (d : Declaration) (words : List (List ℕ)) (l : List legal.Said) (m : Mistake) (why : stops.Mistake) → ((placeholder : _) → m ≡ mistake.MissingArgument placeholder → ⊥)
     → IsMistake d m why → StopsAt d words l why → (said : List legal.Said) → SaysFront d words said → ⊥
 nothing_part d words l m why other told stops said says = no_front d words l why stops (λ count is. other_mistake d m why count other told is) said says

@@ -22,7 +22,7 @@ use Rattle.lexopt_declaration.specs.Scripts.{shell_name, shell_script}
 
 -- ---- what a shell asks for
 
--- the words ask what can stand where the last of them is typed, after these
+-- the words ask what can come where the last of them is typed, after these
 abbrev pub AsksToComplete : List (List ℕ) → List (List ℕ) → List ℕ → Type 0
 AsksToComplete words before typed = words ≡ codes "__complete" ∷ (before ++ typed ∷ [])
 
@@ -36,7 +36,7 @@ pub record IsOrdinary (words : List (List ℕ)) : Type 0 where
       → ¬ AsksToComplete words before typed
   pub no_script : (shell : Shell) → ¬ AsksForScript words shell
 
--- a word can stand there that is no option, such as the name of a file
+-- a word that is not an option can come there, such as the name of a file
 abbrev pub files_line : {F V M S : Type 0} → Option (Role F V M S) → List ℕ
 files_line None = []
 files_line (Some role) = codes "files\n"
@@ -89,7 +89,7 @@ pub record IsCount (text : List ℕ) (n : ℕ) : Type 0 where
   pub fits : n < 2 ^ 64
   pub some : 0 < n
 
--- the width that a text stands for: the number that it is, and 80 if it is none
+-- the width that a text denotes: the number that it is, and 80 if it is not a number
 pub record IsWidth (text : List ℕ) (width : ℕ) : Type 0 where
   pub number : (n : ℕ) → IsCount text n → width ≡ n
   pub other : ((n : ℕ) → ¬ IsCount text n) → width ≡ 80

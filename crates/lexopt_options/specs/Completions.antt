@@ -1,4 +1,4 @@
--- What can stand where a word is typed, as contracts see it.
+-- What can come where a word is typed, as contracts see it.
 use Rattle.std.specs.Prelude.{◌≡◌, ◌⊎◌, ◌↔◌, ◌∷◌, ℕ, Bool, true, false, IsTrue, List, [], Option, filter}
 use Rattle.std.specs.Prelude.{length, map, nat_eq, string_bytes}
 use Rattle.std.specs.List.{Contains, starts_with}
@@ -13,7 +13,7 @@ use Rattle.lexopt_options.specs.declared.indexed.Indexed.TheVariants as indexed
 use Rattle.lexopt_options.specs.Declarations.{declaration_of, options_of}
 use Rattle.lexopt_options.specs.Roles.{IsOptionAt, IsRoleAt}
 
--- exactly the spellings that can stand where this was typed after these words, in the order of the
+-- exactly the spellings that can come where this was typed after these words, in the order of the
 -- declaration
 pub record AreOffered (d : Declaration) (words : List (List ℕ)) (typed : List ℕ)
     (offered : List (List ℕ)) : Type 0 where
@@ -22,7 +22,7 @@ pub record AreOffered (d : Declaration) (words : List (List ℕ)) (typed : List 
   pub in_order : (offered ≡ filter (λ s. starts_with nat_eq s typed) (spellings d.options))
       ⊎ (offered ≡ [])
 
--- exactly what can stand where this was typed after these words
+-- exactly what can come where this was typed after these words
 pub record IsCompletion {F V M S : Type 0} (o : Options F V M S) (words : List (List ℕ))
     (typed : List ℕ) (completion : Completion F V M S) : Type 0 where
   pub spellings : AreOffered (declaration_of o) words typed
@@ -36,19 +36,19 @@ pub record IsCompletion {F V M S : Type 0} (o : Options F V M S) (words : List (
   pub is_joined : IsJoined (declaration_of o) words typed index
   pub joined : IsOptionAt (options_of o) index completion.joined
 
--- ---- where an option can stand
+-- ---- where an option can come
 
--- this tells whether an option can stand after these words
+-- this tells whether an option can come after these words
 abbrev pub Opens : Declaration → List (List ℕ) → Bool → Type 0
 Opens d words b = IsTrue b ↔ ((l : List legal.Said) × IsOpen d words l)
 
--- it is no option of several values
+-- it is not an option of several values
 abbrev pub is_one : Indexed → Bool
 is_one (indexed.Option index value) = true
 is_one (indexed.Several index values) = false
 is_one (indexed.Positional word) = true
 
--- something is said, and the last of it is no option of several values
+-- something is read, and the last of it is not an option of several values
 abbrev pub ends_in_one : List Indexed → Bool
 ends_in_one [] = false
 ends_in_one (s ∷ []) = is_one s

@@ -1,4 +1,4 @@
--- What is said, by the keys of a declaration.
+-- What is read from a line, by the keys of a declaration.
 use Rattle.std.specs.Prelude.{◌≡◌, ℕ, List, Some, None, map, option_map, slice_get}
 use Rattle.std.specs.List.{AllZip}
 use Rattle.lexopt_options_spec.specs.Declaration as spec
@@ -20,7 +20,7 @@ use Rattle.lexopt_options.specs.declared.said.Told.TheVariants as told
 abbrev pub HasKind : {F V M S : Type 0} → List (Declared F V M S) → ℕ → Kind F V M S → Type 0
 HasKind options i k = option_map (λ o. o.kind) (slice_get options i) ≡ Some k
 
--- What is said of the option of an index is this, by its key; and a positional is the word.
+-- What is read by the index of an option is this by its key; and a positional is the word.
 abbrev pub IsSaid : {F V M S : Type 0} → List (Declared F V M S) → legal.Said → Said F V M S
     → Type 0
 IsSaid options s (said.Flag key) =

@@ -23,13 +23,13 @@ use Rattle.lexopt_options.specs.Reading.{indexed_view}
 
 -- ---- by indices
 
--- the words say this to their end, or up to this mistake
+-- the words mean this to their end, or up to this mistake
 abbrev pub IsReading : Declaration → List (List ℕ) → Reading → Type 0
 IsReading d words (reading.Whole said) = Says d words (map indexed_view said.items)
 IsReading d words (reading.Stopped said mistake) = (why : stops.Mistake) × IsMistake d mistake why
     × StopsAt d words (map indexed_view said.items) why
 
--- what is said before this mistake, where the reading came to it
+-- what was read before this mistake, where the reading came to it
 abbrev pub before_mistake : Mistake → List legal.Said → List legal.Said
 before_mistake (mistake.UnexpectedValue option value) l = all_but_last l
 before_mistake m l = l
@@ -42,7 +42,7 @@ abbrev pub LineSays : {F V M S : Type 0} → Options F V M S → List (List ℕ)
 LineSays o words said = (l : List legal.Said) × Says (declaration_of o) words l
     × (first_asked (declaration_of o).options l ≡ None) × AreSaid (options_of o) l said
 
--- The reading of the words comes to this mistake. Before it they ask for nothing, and say this.
+-- The reading of the words comes to this mistake. Before it they ask for nothing, and this is read.
 pub record IsRefused {F V M S : Type 0} (o : Options F V M S) (words : List (List ℕ))
     (refused : Refused F V M S) : Type 0 where
   pub program : refused.program.now ≡ (declaration_of o).program
@@ -61,7 +61,7 @@ IsLineRead o words (line.Said said) = LineSays o words said.items
 IsLineRead o words (line.Asked asked) = AskFor (declaration_of o) words (asked_view asked)
 IsLineRead o words (line.Refused refused) = IsRefused o words refused
 
--- the line is one that says this list: all of it by the keys, or what it asks for
+-- the line is the one of this list: all of it by the keys, or what it asks for
 abbrev pub IsLineOf : {F V M S : Type 0} → Options F V M S → List legal.Said → Line F V M S
     → Type 0
 IsLineOf o l (line.Said said) = (first_asked (declaration_of o).options l ≡ None)

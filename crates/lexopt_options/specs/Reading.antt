@@ -1,4 +1,4 @@
--- What a line says, as contracts see it, and what one step of its reading reads.
+-- What is read from a line, as contracts see it, and what one step of its reading reads.
 use Rattle.std.specs.Prelude.{◌≡◌, ◌≤◌, ◌+◌, ℕ, List, Some, Result, Ok, Err}
 use Rattle.lexopt_spec.specs.UnreadLine.{UnreadLine, IsLine}
 use Rattle.lexopt_spec.specs.Steps as steps

@@ -34,7 +34,7 @@ abbrev pub place_view : Place → spec.Role
 place_view (place.Value index) = spec.value index
 place_view place.Argument = spec.argument
 
--- there is an option of the index, if it has one: they are so many
+-- there is an option of the index, if it has one, where this is the number of options
 abbrev pub IsDeclared : ℕ → spec.Role → Type 0
 IsDeclared count (spec.value i) = i < count
 IsDeclared count spec.argument = Unit {0}

@@ -78,7 +78,7 @@ abbrev pub named : {T : Type 0} → Option Names → Result T Error → Result T
 named option (Ok value) = Ok value
 named option (Err error) = Err (invalid option error)
 
--- what the word stands for, by the `FromStr` of the type; or the error, which names the option
+-- what the word denotes, by the `FromStr` of the type; or the error, which names the option
 pub record ConvertsFor {T E : Type 0} (option : Option Names)
     (gives : List ℕ → Result T E → Type 0) (converts : E → Cause → Type 0) (word : List ℕ)
     (result : Result T UsageError) : Type 0 where

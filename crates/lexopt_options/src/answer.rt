@@ -19,7 +19,7 @@ use std::str;
 /// What a program is to do.
 #[derive(Debug, Drop)]
 pub enum Answer<'a, F, V = Infallible, M = Infallible, S = Infallible> {
-    /// Its work, which the line says.
+    /// Do its work, by what was read from the line.
     Said(Vec<Said<F, V, M, S>>),
     /// Write this to standard output, and end: the help, the version, or what a shell asked for.
     Text(String),
@@ -28,7 +28,8 @@ pub enum Answer<'a, F, V = Infallible, M = Infallible, S = Infallible> {
 }
 
 // What is offered, as the scripts for shells read it: a line for each spelling; a line `files` if a
-// word can stand there that is no option; and a line `value` if a value is typed there after `=`.
+// word that is not an option can come there; and a line `value` if a value is typed there after
+// `=`.
 fn text_of<F, V, M, S>(
     alloc: Global,
     completion: &Completion<'_, F, V, M, S>,
@@ -67,7 +68,7 @@ fn asked_shell(words: &[OsString]) -> Option<Shell>
     }
 }
 
-// The width that a text stands for, if it is a number and not 0.
+// The width that a text denotes: its number if it is one and not 0, and 80 otherwise.
 fn width_of(text: &[u8]) -> usize
     ensures { IsWidth text.now result }
 {
@@ -83,7 +84,7 @@ fn width_of(text: &[u8]) -> usize
 // How many bytes a number of columns has at most.
 const NUMBER_ROOM: usize = 20;
 
-// The width of the terminal, if the environment says so.
+// The width of the terminal in columns, by the environment.
 fn columns<R: Env>(rt: &R) -> usize {
     let mut room = [0u8; NUMBER_ROOM];
     match rt.var("COLUMNS", &mut room) {
@@ -185,15 +186,15 @@ impl<'a, F: Copy, V: Copy, M: Copy, S: Copy> Options<'a, F, V, M, S> {
 
     /// What the program is to do about the words that it was called with, without its name.
     ///
-    /// - If an option that asks for the help or the version occurs before any mistake, the answer
+    /// - If an option that asks for the help or the version occurs before any mistake, the result
     ///   is the help for this width, or the text of the version and a line feed. The first of them
     ///   counts.
     /// - The words `__script bash` ask for the script by which that shell completes the lines of
     ///   the program; `zsh` and `fish` have one too. That script asks by the hidden first word
     ///   `__complete`, then the words before the one that is typed, and then what was typed of it.
-    ///   The answer is a line for each spelling that can stand there; a line `files` if a word can
-    ///   stand there that is no option; and a line `value` if what was typed is `--name=` and more,
-    ///   and a value of that option.
+    ///   The result is a line for each spelling that can come there; a line `files` if a word that
+    ///   is not an option can come there; and a line `value` if what was typed is `--name=`, with
+    ///   or without more after it, and a value of that option.
     /// - All other words are read as by [`Options::read`].
     ///
     /// The only error is that memory ran out.

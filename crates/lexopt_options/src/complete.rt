@@ -1,4 +1,4 @@
-//! What can stand where a word is typed, for shells.
+//! What can come where a word is typed, for shells.
 ghost use Rattle.std.specs.Prelude.{◌≡◌, ◌↔◌, ◌∷◌, ◌++◌, ℕ, IfOk, IsTrue, List, MatchOption, []};
 ghost use Rattle.std.specs.Prelude.{◌<◌, Some, length, option_map, slice_get};
 ghost use Rattle.lexopt_spec.specs.UnreadLine.{BeginsWith, dash};
@@ -30,17 +30,17 @@ pub enum Role<'a, F, V = Infallible, M = Infallible, S = Infallible> {
     Argument,
 }
 
-/// What can stand where a word is typed.
+/// What can come where a word is typed.
 #[derive(Debug, Drop)]
 pub struct Completion<'a, F, V = Infallible, M = Infallible, S = Infallible> {
-    /// The spellings of declared options that can stand there and begin with what was typed. If
+    /// The spellings of declared options that can come there and begin with what was typed. If
     /// that is not UTF-8, there are none.
     pub spellings: Vec<String>,
     /// What a word that is not an option would be there, if anything: as the empty word would be,
     /// or as the word `--` if a dash was typed first.
     pub word: Option<Role<'a, F, V, M, S>>,
     /// The option whose value is typed there after `=`, if what was typed is a long option with `=`
-    /// and an option can stand there.
+    /// and an option can come there.
     pub joined: Option<&'a Declared<'a, F, V, M, S>>,
 }
 
@@ -53,9 +53,9 @@ enum Place {
     Argument,
 }
 
-// ---- where an option can stand
+// ---- where an option can come
 
-// Whether this is no option of several values.
+// Whether this is not an option of several values.
 fn is_one(said: &Indexed) -> bool
     ensures { result ≡ is_one said.now }
 {
@@ -65,7 +65,7 @@ fn is_one(said: &Indexed) -> bool
     }
 }
 
-// Whether something is said, and the last of it is no option of several values.
+// Whether something is read, and the last of it is not an option of several values.
 fn ends_in_one(said: &[Indexed]) -> bool
     ensures { result ≡ ends_in_one said.now }
 {
@@ -75,8 +75,8 @@ fn ends_in_one(said: &[Indexed]) -> bool
     }
 }
 
-// Whether as much is said with `--` as with an empty word, and the last that is said with the empty
-// word is no option of several values: the next word is the value of an option, or a positional
+// Whether as much is read with `--` as with an empty word, and the last that is read with the empty
+// word is not an option of several values: the next word is the value of an option, or a positional
 // argument after the separator, whatever it looks like.
 fn take_any_word(dashed: &[Indexed], plain: &[Indexed]) -> bool
     ensures { IsTrue result ↔ TakeAnyWord dashed.now plain.now }
@@ -84,8 +84,8 @@ fn take_any_word(dashed: &[Indexed], plain: &[Indexed]) -> bool
     dashed.len() == plain.len() && ends_in_one(plain)
 }
 
-// Whether an option can stand after words that say this with `--` after them, and this with an
-// empty word.
+// Whether an option can come after words from which this is read with `--` after them, and this
+// with an empty word.
 fn is_open(dashed: &Option<Vec<Indexed>>, plain: &Option<Vec<Indexed>>) -> bool
     ensures { (d : Declaration) (words : List (List ℕ))
         → IsPart d (words ++ (dash ∷ dash ∷ []) ∷ []) dashed.now
@@ -100,9 +100,9 @@ fn is_open(dashed: &Option<Vec<Indexed>>, plain: &Option<Vec<Indexed>>) -> bool
     }
 }
 
-// ---- a word that is no option
+// ---- a word that is not an option
 
-// What the last word is, by the last of what is said.
+// What the last word is, by the last of what is read.
 fn place_of(said: &Indexed) -> Place
     ensures { place_view result ≡ spec.role_of (indexed_view said.now) }
 {
@@ -112,7 +112,7 @@ fn place_of(said: &Indexed) -> Place
     }
 }
 
-// The same, if something is said.
+// The same, if something is read.
 fn last_place(mut said: Vec<Indexed>) -> Option<Place>
     ensures { MatchOption result (said.items ≡ []) (λ place. (before : List Indexed) × (last : Indexed)
         × (said.items ≡ before ++ last ∷ [])
@@ -124,7 +124,7 @@ fn last_place(mut said: Vec<Indexed>) -> Option<Place>
     }
 }
 
-// What an empty word would be after words that say this with it.
+// What an empty word would be after words from which this is read with it.
 fn plain_place(plain: Option<Vec<Indexed>>) -> Option<Place>
     ensures { (d : Declaration) (words : List (List ℕ)) → IsPart d (words ++ [] ∷ []) plain
         → IsPlainRole d words (option_map place_view result) }
@@ -135,7 +135,7 @@ fn plain_place(plain: Option<Vec<Indexed>>) -> Option<Place>
     }
 }
 
-// What `--` would be after words that say this with it, if it is not the separator.
+// What `--` would be after words from which this is read with it, if it is not the separator.
 fn dashed_place(opens: bool, dashed: Option<Vec<Indexed>>) -> Option<Place>
     ensures { (d : Declaration) (words : List (List ℕ)) → Opens d words opens
         → IsPart d (words ++ (dash ∷ dash ∷ []) ∷ []) dashed
@@ -157,8 +157,8 @@ fn begins_with_dash(typed: &OsString) -> bool
     typed.as_bytes().first() == Some(&b'-')
 }
 
-// What a word that is no option and begins so would be after words that say this with `--` after
-// them, and this with an empty word.
+// What a word that is not an option and begins so would be after words from which this is read with
+// `--` after them, and this with an empty word.
 fn place_after(
     typed: &OsString,
     opens: bool,
@@ -197,7 +197,7 @@ fn one_word(alloc: Global, word: &OsString) -> Result<Vec<OsString>, AllocError>
     Ok(words)
 }
 
-// The option that is said, if that is all that is said.
+// The option that is read, if that is all that is read.
 fn only_option(said: &[Indexed]) -> Option<usize>
     ensures { MatchOption result
         ((i : ℕ) (s : Indexed) → said.now ≡ s ∷ [] → ¬ IsOption i (indexed_view s))
@@ -245,7 +245,7 @@ impl<'a, F, V, M, S> Options<'a, F, V, M, S> {
     ghost use Rattle.lexopt_options.specs.Roles.{IsOptionAt, IsRoleAt, place_view};
     ghost use Rattle.lexopt_options.specs.Fronts.{IsPart};
 
-    // What these words say with this one after them, whether or not positional arguments are
+    // What these words mean with this one after them, whether or not positional arguments are
     // missing; nothing if no line begins so.
     fn read_with(
         &self,
@@ -261,7 +261,7 @@ impl<'a, F, V, M, S> Options<'a, F, V, M, S> {
         self.read_part(alloc, copy)
     }
 
-    // The spellings that begin with what was typed, if an option can stand there.
+    // The spellings that begin with what was typed, if an option can come there.
     fn spellings_for(
         &self,
         alloc: Global,
@@ -281,7 +281,7 @@ impl<'a, F, V, M, S> Options<'a, F, V, M, S> {
         }
     }
 
-    // The option whose value is typed after `=`, if an option can stand there.
+    // The option whose value is typed after `=`, if an option can come there.
     fn joined_option(
         &self,
         alloc: Global,
@@ -303,7 +303,7 @@ impl<'a, F, V, M, S> Options<'a, F, V, M, S> {
         }
     }
 
-    // The option whose value is typed after `=`, if an option can stand there.
+    // The option whose value is typed after `=`, if an option can come there.
     fn joined(
         &self,
         alloc: Global,
@@ -339,11 +339,11 @@ impl<'a, F, V, M, S> Options<'a, F, V, M, S> {
         }
     }
 
-    /// What can stand where a word is typed: after these words, the name of the program not among
+    /// What can come where a word is typed: after these words, the name of the program not among
     /// them, and this much of it was typed.
     ///
     /// Under options `v|verbose`, a flag, and `o|output` of one value, after `-v` and with `--` it
-    /// is `--verbose` and `--output`; after `-o` no option can stand, but a value of `output`.
+    /// is `--verbose` and `--output`; after `-o` no option can come, but a value of `output`.
     ///
     /// The only error is that memory ran out.
     pub fn complete(
@@ -352,10 +352,10 @@ impl<'a, F, V, M, S> Options<'a, F, V, M, S> {
         words: &[OsString],
         typed: &OsString,
     ) -> Result<Completion<'a, F, V, M, S>, AllocError>
-        // What is returned is exactly what can stand there: the spellings of declared options that
+        // What is returned is exactly what can come there: the spellings of declared options that
         // begin with what was typed, and after which some words make a legal line where that option
-        // stands; what a word would be that is no option and begins so; and of which option a value
-        // is typed after `=`.
+        // occurs; what a word that is not an option and begins so would be; and of which option a
+        // value is typed after `=`.
         ensures { IfOk result (λ completion.
             IsCompletion self.now words.now typed.now completion) }
     {

@@ -1,11 +1,11 @@
-//! What a line says, by the indices of its options in the declaration.
+//! What is read from a line, by the indices of its options in the declaration.
 ghost use Rattle.std.specs.Prelude.{◌≡◌};
 ghost use Rattle.lexopt_options.specs.Reading.{indexed_view, said_with};
 
 use lexopt_items::values::Values;
 use lexopt_words::os_string::OsString;
 
-// What a line says, in order.
+// What is read from a line, in order.
 #[derive(Debug, Drop)]
 pub enum Indexed {
     // The option of this index in the declaration, with its value if it has one.

@@ -276,7 +276,7 @@ fn read_next<'a, F, V, M, S>(
     }
 }
 
-// Adds what was said to a list.
+// Adds what was read to a list.
 fn add(said: &mut Vec<Indexed>, item: Indexed) -> Result<(), AllocError>
     ensures { OnOk result (map indexed_view said.new.items
         ≡ map indexed_view said.old.items ++ indexed_view item ∷ []) }
@@ -284,16 +284,16 @@ fn add(said: &mut Vec<Indexed>, item: Indexed) -> Result<(), AllocError>
     Ok(said.push(item)?)
 }
 
-// What a line says, by the indices of its options.
+// What is read from a line, by the indices of its options.
 #[derive(Drop)]
 pub enum Reading<'a> {
     // All of it.
     Whole(Vec<Indexed>),
-    // What it says before a mistake.
+    // What was read before a mistake.
     Stopped(Vec<Indexed>, Mistake<'a>),
 }
 
-// For how many things that a longer line says there is room before their list grows.
+// How many things a longer line may have before their list grows.
 const FIRST_ROOM: usize = 16;
 
 // Reads a line into a list with room for `room` things from the start.
@@ -348,7 +348,8 @@ fn refuse<'a, F, V, M, S>(
     })
 }
 
-// What is said before a mistake, where all of this was read before it.
+// What was read before a mistake, where this was read up to it: without the option that was given a
+// value and takes none, if that is the mistake.
 fn said_before<F: Drop, V: Drop, M: Drop, S: Drop>(
     mut said: Vec<Said<F, V, M, S>>,
     mistake: &Mistake<'_>,
@@ -450,7 +451,8 @@ impl<F, V, M, S> Options<'_, F, V, M, S> {
     ghost use Rattle.lexopt_options.specs.Declarations.{declaration_of};
     ghost use Rattle.lexopt_options.specs.Fronts.{IsPart};
 
-    // What words say, whether or not positional arguments are missing; nothing if no line begins so.
+    // What words mean, whether or not positional arguments are missing; nothing if no line begins
+    // so.
     pub(crate) fn read_part(
         &self,
         alloc: Global,
@@ -512,12 +514,12 @@ impl<'a, F: Copy, V: Copy, M: Copy, S: Copy> Options<'a, F, V, M, S> {
     ///
     /// Under options `v|verbose`, a flag with the key `Verbose`, and `o|output` of one value with
     /// the key `Output`, and any number of positional arguments, the words
-    /// `-vo=x --output y -- file` say `Flag(Verbose)`, `Value(Output, x)`, `Value(Output, y)` and
+    /// `-vo=x --output y -- file` mean `Flag(Verbose)`, `Value(Output, x)`, `Value(Output, y)` and
     /// `Positional(file)`.
     ///
     /// If an option that asks for the help or the version occurs before any mistake, the line is
-    /// [`Line::Asked`], whatever comes after it. A refusal has the first mistake, and what the line
-    /// says before it.
+    /// [`Line::Asked`], whatever comes after it. A refusal has the first mistake, and what was read
+    /// before it.
     ///
     /// The only error is that memory ran out.
     pub fn read(
@@ -528,10 +530,10 @@ impl<'a, F: Copy, V: Copy, M: Copy, S: Copy> Options<'a, F, V, M, S> {
         // The list is the one that the words legally spell, by declared options alone, with as many
         // positional arguments as are declared, and each option by its key; and they ask for
         // nothing. Or they ask for the help or the version before any mistake. Or their reading
-        // comes to this mistake, before which they say this and ask for nothing.
+        // comes to this mistake, before which this was read and nothing was asked for.
         ensures line { IfOk result (λ line. IsLineRead self.now words.items line) }
 
-        // If words say a list, the line is of that list: it is not refused.
+        // If the words legally spell a list, the line is of that list: it is not refused.
         ensures answered { (l : List legal.Said) → Says (declaration_of self.now) words.items l
             → IfOk result (λ line. IsLineOf self.now l line) }
     {

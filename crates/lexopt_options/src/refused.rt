@@ -19,7 +19,7 @@ pub struct Refused<'a, F, V = Infallible, M = Infallible, S = Infallible> {
     pub program: &'a str,
     /// The option that asks for the help, if one is declared.
     pub help: Option<Names<'a>>,
-    /// What the line says before the mistake.
+    /// What was read before the mistake.
     pub before: Vec<Said<F, V, M, S>>,
     /// What is wrong.
     pub mistake: Mistake<'a>,
@@ -62,7 +62,7 @@ impl<F: Debug + Drop, V: Debug + Drop, M: Debug + Drop, S: Debug + Drop> std::er
 /// What a line comes to.
 #[derive(Debug, Drop)]
 pub enum Line<'a, F, V = Infallible, M = Infallible, S = Infallible> {
-    /// It is legal, and says this.
+    /// It is legal, and this is what it means.
     Said(Vec<Said<F, V, M, S>>),
     /// It asks for the help or the version before any mistake.
     Asked(Asked<'a>),

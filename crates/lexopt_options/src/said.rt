@@ -1,9 +1,9 @@
-//! What a line says, by the keys of a declaration.
+//! What is read from a line, by the keys of a declaration.
 use lexopt_words::os_string::OsString;
 use std::convert::Infallible;
 
-/// What a line says, in order: each option by the program's key for it, whichever of its names was
-/// typed.
+/// What is read from a line, in order: each option by the program's key for it, whichever of its
+/// names was typed.
 #[derive(Debug, PartialEq, Eq, Drop)]
 pub enum Said<F, V = Infallible, M = Infallible, S = Infallible> {
     /// A flag.

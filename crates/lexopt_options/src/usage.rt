@@ -1,4 +1,4 @@
-//! Mistakes that a program finds itself in what a line says, and what is printed about them.
+//! Mistakes that a program itself finds in what was read, and what is printed about them.
 ghost use Rattle.std.specs.Prelude.{◌≡◌, position};
 ghost use Rattle.std.specs.Fmt.{WritesOnOk};
 ghost use Rattle.lexopt_options.specs.Usage as usage;
@@ -17,7 +17,7 @@ use std::alloc::{AllocError, AllocFailed};
 use std::fmt;
 use std::str::FromStr;
 
-/// A mistake that a program finds itself in what a line says: the error of the functions that turn
+/// A mistake that a program itself finds in what was read: the error of the functions that turn
 /// it into a value of the program's own. By `?` it takes an error of [`Options::parse_value`] and
 /// its like, of `ValueExt::parse`, of `push`, `collect` and `format!`, a text that was made by
 /// `format!`, and a text of the program's source: `Err("SOURCE and DEST are one file")?`.
@@ -115,7 +115,7 @@ impl<'a> From<&'a str> for UsageError<'a> {
     }
 }
 
-/// What is printed of a mistake that the program found.
+/// What is printed about a mistake that the program found.
 #[derive(Debug, Drop)]
 pub struct Report<'a> {
     /// The name of the program.
@@ -313,8 +313,8 @@ impl<'a, F, V: Copy + PartialEq, M, S> Options<'a, F, V, M, S> {
     ghost use Rattle.lexopt_options.specs.Declarations.{options_of};
     ghost use Rattle.lexopt_options.specs.Usage.{ConvertsFor, value_names};
 
-    /// What the text of a value stands for, by its type's `FromStr`: a value of the option with
-    /// this key. The error names the first option with it.
+    /// The value that a word denotes, by its type's `FromStr`. The word is a value of the option
+    /// with this key. The error names the first option with it.
     pub fn parse_value<T: FromStr>(&self, key: V, word: &OsString) -> Result<T, UsageError<'a>>
     where
         T::Err: Into<anyhow::Error>,
@@ -331,7 +331,7 @@ impl<'a, F, V, M: Copy + PartialEq, S> Options<'a, F, V, M, S> {
     ghost use Rattle.lexopt_options.specs.Declarations.{options_of};
     ghost use Rattle.lexopt_options.specs.Usage.{ConvertsFor, maybe_names};
 
-    /// The same of an option whose value may be left out.
+    /// The same for an option whose value may be left out.
     pub fn parse_maybe<T: FromStr>(&self, key: M, word: &OsString) -> Result<T, UsageError<'a>>
     where
         T::Err: Into<anyhow::Error>,
@@ -348,7 +348,7 @@ impl<'a, F, V, M, S: Copy + PartialEq> Options<'a, F, V, M, S> {
     ghost use Rattle.lexopt_options.specs.Declarations.{options_of};
     ghost use Rattle.lexopt_options.specs.Usage.{ConvertsFor, values_names};
 
-    /// The same of one of an option's several values.
+    /// The same for one of an option's several values.
     pub fn parse_values<T: FromStr>(&self, key: S, word: &OsString) -> Result<T, UsageError<'a>>
     where
         T::Err: Into<anyhow::Error>,
@@ -366,7 +366,7 @@ impl<'a, F, V, M, S> Options<'a, F, V, M, S> {
     ghost use Rattle.lexopt_declaration.specs.Lookups.{help_names};
     ghost use Rattle.lexopt_options.specs.Declarations.{declaration_of, options_of};
 
-    /// What to print of a mistake that the program found, before it ends with the status
+    /// What to print about a mistake that the program found, before it ends with the status
     /// [`USAGE_ERROR`](crate::USAGE_ERROR).
     pub fn report(&self, error: UsageError<'a>) -> Report<'a>
         ensures program { result.program.now ≡ (declaration_of self.now).program }

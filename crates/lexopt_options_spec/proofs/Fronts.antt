@@ -1,4 +1,4 @@
--- What words say, and where their reading stops.
+-- What words mean, and where their reading stops.
 use Rattle.std.proofs.Common.{◌≡◌, ◌≤◌, ℕ, ◌+◌, suc, true, List, [], ◌∷◌, ◌++◌, map, Option, Some, None, refl, sym, ap, subst, ◌∙◌, arith}
 use Rattle.std.specs.Option.{option_map}
 use Rattle.lexopt_spec.specs.UnreadLine.{UnreadLine}
@@ -35,7 +35,7 @@ undeclared options name (spec.option other value) is none = ap (option_map (λ i
 undeclared options name (spec.many other values) is none = ap (option_map (λ i. _)) (ap (index_of options) is ∙ none)
 undeclared options name (spec.positional word) is none = absurd is
 
--- ---- what is said is one list
+-- ---- what is read is one list
 
 pub one_front : (d : Declaration) (words : List (List ℕ)) (l m : List Said) → SaysFront d words l → SaysFront d words m → l ≡ m
 one_front d words l m says other =
@@ -43,7 +43,7 @@ one_front d words l m says other =
     (spelled_shows (table d.options) d.short_equals words says.items says.spelled) (spelled_shows (table d.options) d.short_equals words other.items other.spelled) in
     same_somes l m (sym says.said ∙ ap (map (said_item d.options)) same ∙ other.said)
 
--- a reading that comes to the end says it
+-- what a reading that comes to the end means
 pub front_said : (d : Declaration) → is_sound d.options ≡ true → (words : List (List ℕ)) (items : List Item) (l : List Said) → IsReading (table d.options) (start d.short_equals words) steps.end items
     → map (said_item d.options) items ≡ map (λ s. Some s) l → IsWithin (positional_count l) (most d.positionals) → SaysFront d words l
 front_said d sound words items l reading said within = record {
@@ -53,9 +53,10 @@ front_said d sound words items l reading said within = record {
   within = within;
 }
 
--- ---- where a reading stops, nothing is said
+-- ---- where a reading stops, nothing is read
 
--- every reading of the line that is left is the end of one of the whole, so it says what the words spell
+-- every reading of the line that is left is the end of one of the whole, so it means what the words
+-- spell
 record Ends (d : Declaration) (before : List Item) (spelled : List Item) (final : Reply) (m : List Item) : Type 0 where
   final_is : final ≡ steps.end
   items_are : spelled ≡ before ++ m
@@ -103,12 +104,12 @@ stops_front d words before mistake other there is not (one_too_many word v step 
     above (positional_count before) (positional_count first.0) (most d.positionals) limit (subst (λ n. IsWithin n (most d.positionals)) count says.within)
 stops_front d words before mistake other there is not (too_few v step few) l says = absurd (not (positional_count before) refl)
 
--- no front of a line is said by these words, but where a positional is missing
+-- these words mean no front of a line, but where a positional is missing
 pub no_front : (d : Declaration) (words : List (List ℕ)) (before : List Said) (mistake : Mistake) → StopsAt d words before mistake
     → ((count : ℕ) → mistake ≡ missing_argument count → ⊥) → (l : List Said) → SaysFront d words l → ⊥
 no_front d words before mistake there not l says = stops_front d words before mistake mistake there refl not there.stops l says
 
--- where a positional is missing, what was read is all that is said
+-- where a positional is missing, what was read is all that is read
 front_is : (d : Declaration) (words : List (List ℕ)) (before : List Said) (mistake : Mistake) (there : StopsAt d words before mistake) (v : UnreadLine) → Next there.there steps.end v
     → (l : List Said) → SaysFront d words l → l ≡ before
 front_is d words before mistake there v step l says =
@@ -135,13 +136,13 @@ stops_whole d words before mistake other there is (no_value name index option ca
 stops_whole d words before mistake other there is (one_too_many word v step limit) l says =
     stops_front d words before mistake other there is (λ count same. cc) (one_too_many word v step limit) l says.front
 
--- nothing is said by words whose reading stops
+-- nothing is read by words whose reading stops
 pub nothing_said : (d : Declaration) (words : List (List ℕ)) (before : List Said) (mistake : Mistake) → StopsAt d words before mistake → (l : List Said) → Says d words l → ⊥
 nothing_said d words before mistake there l says = stops_whole d words before mistake mistake there refl there.stops l says
 
--- ---- what a front of a line says
+-- ---- what a front of a line means
 
--- what words say begins with what was read of them
+-- what words mean begins with what was read of them
 pub front_later : (d : Declaration) (words : List (List ℕ)) (before : List Said) (there : UnreadLine) → ReadsUpTo d (start d.short_equals words) before there → (l : List Said) → SaysFront d words l
     → (later : List Said) × (l ≡ before ++ later)
 front_later d words before there read l says =

@@ -51,9 +51,9 @@ with_both k c name value =
     ∙ sym (ap (λ text. (text ++ codes ", ") ++ long_text k name value) (short_before k c name value)
     ∙ ap (λ text. (short_word c (before_long k value) ++ codes ", ") ++ text) (after_name k name value))
 
--- ---- what an option can say
+-- ---- what an option can spell
 
--- the items that an option of this kind says, with this for its value
+-- the items that an option of this kind spells, with this for its value
 abbrev OneOf : Kind → Name → List ℕ → Item → Type 0
 OneOf flag name value item = item ≡ option name None
 OneOf one name value item = item ≡ option name (Some value)
@@ -135,7 +135,7 @@ module _ (o : Declared) where
   shows_both c name short_named long_named =
       (short_shown c, long_shown name, short_shows c short_named, long_shows name long_named, is_both c name short_named long_named)
 
-  -- ---- where each form stands
+  -- ---- where each form occurs
 
   abbrev Stands : List ℕ → Type 0
   Stands text = (before : List ℕ) × (after : List ℕ) × (label o ≡ before ++ text ++ after)

@@ -15,7 +15,7 @@ use Rattle.lexopt_options_spec.specs.Declaration.{Declared, is_long, is_short, t
 use Rattle.lexopt_options_spec.specs.Help.{LabelForm, short_flag, short_one, short_optional, short_optional_value, short_several, long_flag, long_one, long_optional, long_optional_value, long_several, short_word, HasTextNames}
 use Rattle.lexopt_options_spec.proofs.Tables.{IsIn, contains_in, kind_of_name, pointwise_refl}
 
--- ---- what soundness says of one option
+-- ---- what soundness means for one option
 
 -- nothing is wrong with the option
 record IsFine (o : Declared) : Type 0 where
@@ -55,7 +55,7 @@ no_equals_in : (name : List ℕ) → long_fault (Some name) ≡ None → ¬ Cont
 no_equals_in [] fine = absurd (some_name [] fine refl)
 no_equals_in (b ∷ bs) fine = no_equals (b ∷ bs) (free (has equals (b ∷ bs)) (has replacement (lossy_characters (b ∷ bs))) fine)
 
--- what can stand for a value
+-- what can be a placeholder
 record IsValue (value : List ℕ) : Type 0 where
   some : value ≢ []
   no_option : ¬ BeginsWith dash value

@@ -1,4 +1,4 @@
--- What becomes of the last word of a line, if it is no option.
+-- What becomes of the last word of a line, if it is not an option.
 use Rattle.std.proofs.Common.{◌≡◌, ℕ, suc, Bool, false, List, [], ◌∷◌, ◌++◌, Some, None, refl, sym, ap, subst, ◌∙◌, arith, append_assoc}
 use Rattle.std.specs.List.{All}
 use Rattle.std.proofs.lemmas.List.{append-nil}
@@ -133,7 +133,7 @@ nothing_said letters t short_equals words items is (group_first ws left front ot
 nothing_said letters t short_equals words items is (group_first ws left front others (spelling.long_option text bytes name after item more are is_long none named completes items_are) opens) =
     absurd (let e : (dash ∷ dash ∷ text) ∷ more ≡ [] = sym are ∙ is in cc)
 
--- a word alone that is no option
+-- a word alone that is not an option
 lone : (letters : Letters) (t : Table) (short_equals : Bool) (words : List (List ℕ)) (p : List ℕ) (items : List Item) → IsNoOption letters t short_equals p → words ≡ p ∷ []
     → OpenLine letters t short_equals words items → IsPlain false p × (items ≡ positional p ∷ [])
 lone letters t short_equals words p items never is nothing_yet = absurd (let e : [] ≡ p ∷ [] = is in cc)
@@ -178,7 +178,7 @@ taken letters t short_equals (v ∷ vs) all p items never is (group_first ws lef
         spelled (alone said plain are g) = alone said plain (same ∙ are) (group_alone (v ∷ vs) said g)
         spelled (among said name values plain are) = among said name values plain (same ∙ are)
 
-    -- the word stands after those that the option takes
+    -- the word comes after those that the option takes
     later : (rest : List (List ℕ)) (x : List ℕ) → ((r : List (List ℕ)) → left ≡ r ++ p ∷ [] → Takes (OpenLine letters t short_equals) r p others) → left ≡ rest ++ x ∷ [] → Takes (OpenLine letters t short_equals) (v ∷ vs) p (front ++ others)
     later rest x again ends_so = at rest refl
       where

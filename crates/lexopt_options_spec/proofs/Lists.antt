@@ -1,4 +1,4 @@
--- Lists of what is said.
+-- Lists of what is read.
 use Rattle.std.proofs.Common.{◌≡◌, ◌+◌, List, [], ◌∷◌, ◌++◌, map, Option, Some, None, refl, sym, ap, ◌∙◌, arith}
 use Rattle.lexopt_options_spec.specs.Legal.{Said, positional_count}
 

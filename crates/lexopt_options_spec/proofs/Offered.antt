@@ -119,7 +119,7 @@ keeps p (x ∷ xs) s has is = go (p x) refl (λ more. keeps p xs s more is)
         (λ more. rest more)
         (cons_cases x xs s has)
 
--- ---- what can stand
+-- ---- what can come
 
 any_within : (p : Declared → Bool) (os : List Declared) → list_any p os ≡ true → position_or_len p os < length os
 any_within p [] is = absurd (false≢true is)

@@ -78,7 +78,7 @@ pub data Parts (letters : Letters) (t : Table) (short_equals : Bool) (words : Li
   up_to_separator : (before rest : List (List ℕ)) (front : List Item) → words ≡ before ++ dashes ∷ rest → items ≡ front ++ map positional rest → OpenLine letters t short_equals before front
       → Parts letters t short_equals words items
 
--- what stands before words at the end
+-- what comes before words at the end
 pub record Cut (words tail : List (List ℕ)) (P : List (List ℕ) → Type 0) : Type 0 where
   pub before : List (List ℕ)
   pub words_are : words ≡ before ++ tail

@@ -1,4 +1,4 @@
--- Where an option can stand, by what the words say with `--` after them, and with an empty word.
+-- Where an option can come, by what the words mean with `--` after them, and with an empty word.
 use Rattle.std.proofs.Common.{◌≡◌, ◌≢◌, ℕ, Bool, List, [], ◌∷◌, ◌++◌, map, length, Option, Some, None, refl, sym, ap, subst, ◌∙◌, arith, append_assoc, length-append}
 use Rattle.std.specs.Option.{option_map}
 use Rattle.std.proofs.lemmas.List.{append-nil, length-map}
@@ -19,7 +19,7 @@ use Rattle.lexopt_options_spec.proofs.LastWords.{Takes, due, alone, among, IsNoO
 use Rattle.lexopt_options_spec.proofs.OpenLines.{OpenLine, Parts, open_to_the_end, up_to_separator, dashes, goes_on, parts}
 use Rattle.lexopt_options_spec.proofs.Stands.{dashes_calm, more_positionals, open_line}
 
--- ---- two words that are no options
+-- ---- two words that are not options
 
 empty_never : (letters : Letters) (t : Table) (short_equals : Bool) → IsNoOption letters t short_equals []
 empty_never letters t short_equals = record { none = none }
@@ -42,9 +42,9 @@ dashes_never letters t short_equals = record { none = none }
     none others left items (spelling.long_option text bytes name after item more are is_long without named completes items_are) =
         separator_long text (λ is. no_long bytes after (subst (λ x. IsLong x bytes after) is is_long)) (first_same dashes (dash ∷ dash ∷ text) others more are).0
 
--- ---- the last that is said
+-- ---- the last that is read
 
--- it is no option of several values
+-- it is not an option of several values
 pub record EndsInOne (l : List Said) : Type 0 where
   pub front : List Said
   pub last : Said
@@ -80,16 +80,16 @@ said_last f (y ∷ base) x (s ∷ l) is =
       last_is = rest.last_is;
     }
 
--- ---- other words that say as much
+-- ---- other words that mean as much
 
--- these words say as much, and the last of it is no option of several values
+-- these words mean as much, and the last of it is not an option of several values
 pub record SaysAsMuch (d : Declaration) (words : List (List ℕ)) (l : List Said) : Type 0 where
   pub said : List Said
   pub front : SaysFront d words said
   pub same : length said ≡ length l
   pub ends : EndsInOne said
 
--- an item says the same of another word
+-- an item is the same with another word
 record SaysAlike (options : List Declared) (y : Item) (s : Said) : Type 0 where
   said : Said
   is : said_item options y ≡ Some said
@@ -140,7 +140,7 @@ option_alike options name w v s is = at (index_of options name) refl
       one = λ j values same. cc;
     }
 
--- ---- an option can stand, or any word is said
+-- ---- an option can come, or any word is read
 
 open_spells : (t : Table) (short_equals : Bool) (words : List (List ℕ)) (items : List Item) → OpenLine exact t short_equals words items → Line exact t short_equals words items
 open_spells t short_equals words items opens =
@@ -201,7 +201,7 @@ open_or_not d words l says = go (parts exact (table d.options) d.short_equals (w
         value_taken (taken exact (table d.options) d.short_equals words (words ++ dashes ∷ []) dashes says.items (dashes_never exact (table d.options) d.short_equals) refl open_to_end)
     go (up_to_separator before rest front are items_are open_before) = at before rest front are items_are open_before (ending rest)
 
--- ---- where an option can stand, no such word is said
+-- ---- where an option can come, no such word is read
 
 as_long : (d : Declaration) (words : List (List ℕ)) (l : List Said) (says : SaysFront d words l) → length says.items ≡ length l
 as_long d words l says = sym (length-map says.items (said_item d.options)) ∙ ap length says.said ∙ length-map l (λ s. Some s)

@@ -89,7 +89,7 @@ found p (o ∷ os) i is =
 pub good : (options : List Declared) (name : Name) (i : ℕ) → is_sound options ≡ true → index_of options name ≡ Some i → IsGoodName name
 good options name i sound is = good_after [] options name sound (found (has_name name) options i is)
 
--- ---- what is said names options that can be declared
+-- ---- what is read names options that can be declared
 
 whole : (name : Name) → IsGoodName name → IsWholeName name
 whole (short c) is = is.1

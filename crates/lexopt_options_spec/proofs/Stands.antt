@@ -1,4 +1,4 @@
--- Where an option can stand.
+-- Where an option can come.
 use Rattle.std.proofs.Common.{◌≡◌, ◌≢◌, ◌<◌, ◌≤◌, ◌+◌, ◌-◌, ℕ, zero, suc, Bool, true, false, List, [], ◌∷◌, ◌++◌, map, length, filter, slice_index_or, Option, Some, None, if◌then◌else◌, encode_utf8, refl, sym, ap, subst, ◌∙◌, arith, inr, append_assoc, length-append}
 use Rattle.std.specs.Char.{IsScalar}
 use Rattle.std.specs.List.{list_any}
@@ -20,7 +20,7 @@ use Rattle.lexopt_options_spec.proofs.Lists.{count_append, first_same, same_some
 use Rattle.lexopt_options_spec.proofs.Sound.{IsGoodName, good}
 use Rattle.lexopt_options_spec.proofs.OpenLines.{OpenLine, Parts, open_to_the_end, up_to_separator, dashes, goes_on, parts}
 
--- ---- words that are no values
+-- ---- words that are not values
 
 encoded_some : (c : ℕ) → IsScalar c → encode_utf8 c ≢ []
 encoded_some c scalar none = some_bytes c [] scalar (ap (λ (l : List ℕ). l ++ []) none)
@@ -72,19 +72,19 @@ spelled_group t on (long name) tail text is calm =
     lines.long_option name name name nothing (item_for (kind t (long name)) (long name)) (values_of (kind t (long name)) ++ tail) refl (name_alone is.0 refl refl) is.1 (text, refl)
     (completed (kind t (long name)) (long name) tail calm) refl
 
--- so many empty words
+-- this many empty words
 blanks : ℕ → List (List ℕ)
 blanks zero = []
 blanks (suc n) = [] ∷ blanks n
 
--- the option, and then so many positionals after a separator
+-- the option, and then this many positionals after a separator
 spelled_line : (t : Table) (on : Bool) (name : Name) (n : ℕ) → IsText name → IsGoodName name
     → Line exact t on (spelling name ∷ values_of (kind t name) ++ dashes ∷ blanks n) (item_for (kind t name) name ∷ map spec.positional (blanks n))
 spelled_line t on name n text is =
     group (spelling name ∷ values_of (kind t name) ++ dashes ∷ blanks n) (dashes ∷ blanks n) (item_for (kind t name) name ∷ []) (map spec.positional (blanks n))
     (spelled_group t on name (dashes ∷ blanks n) text is (dashes_calm (blanks n))) (separator (blanks n))
 
--- ---- what is said of it
+-- ---- what is read of it
 
 said_for : ℕ → Kind → Said
 said_for i flag = option i None
@@ -157,7 +157,7 @@ enough_within ps n within = go (most ps) within (least_within ps)
     go None a b = tt
     go (Some m) a b = omega arith
 
--- ---- where the words are open, each declared option can stand
+-- ---- where the words are open, each declared option can come
 
 longer : {X : Type 0} (l : List X) (x : X) (m : List X) → l ++ x ∷ m ≢ l
 longer l x m is = let e = ap length is in let f = length-append l (x ∷ m) in absurd (omega (arith, e, f))
@@ -175,7 +175,7 @@ more_positionals t on words before rest more items front are items_are opens =
     (ap (λ is. front ++ is) (positionals_append rest more) ∙ sym (append_assoc front (map spec.positional rest) (map spec.positional more)) ∙ sym (ap (λ is. is ++ map spec.positional more) items_are))
     (goes_on exact t on before (dashes ∷ (rest ++ more)) front (map spec.positional (rest ++ more)) (dashes_calm (rest ++ more)) opens (separator (rest ++ more))))
 
--- what is said then
+-- what is read then
 later_positionals : (d : Declaration) (words before rest more : List (List ℕ)) (front : List Item) (l all : List Said) (says : SaysFront d words l) → words ≡ before ++ dashes ∷ rest
     → says.items ≡ front ++ map spec.positional rest → OpenLine exact (table d.options) d.short_equals before front → (whole : SaysFront d (words ++ more) all) → all ≡ l ++ map positional more
 later_positionals d words before rest more front l all says are items_are opens whole =
@@ -261,7 +261,7 @@ stands_open d words s stands = go (parts exact (table d.options) d.short_equals 
         (same_later stands.before stands.said stands.later (map positional (s ∷ stands.rest))
         (later_positionals d words before rest (s ∷ stands.rest) front stands.before _ stands.words_say are items_are opens stands.line_says.front)))
 
--- where as much is said with a separator as without
+-- where as much is read with a separator as without
 pub same_open : (d : Declaration) (words : List (List ℕ)) (l m : List Said) → SaysFront d words l → SaysFront d (words ++ dashes ∷ []) m → length l ≡ length m → IsOpen d words l
 same_open d words l m says with_separator same = go (parts exact (table d.options) d.short_equals words says.items says.spelled)
   where

@@ -81,9 +81,9 @@ AreFull-more limit (x ∷ y ∷ more) last word none full = (full.0, AreFull-mor
 in_order-more : (front : List Line) (last : Line) → flat_map (λ (line : Line). line) (front ++ last ∷ []) ≡ flat_map (λ (line : Line). line) front ++ last
 in_order-more front last = flat_map-append (λ (line : Line). line) front (last ∷ []) ∙ ap (λ l. flat_map (λ (line : Line). line) front ++ l) (append-nil last)
 
--- ---- so many words are written
+-- ---- this many words are written
 
--- after these bytes the words stand on lines, with so much room left on the last one
+-- after these bytes the words are on lines, with this much room left on the last one
 pub record Written (limit column : ℕ) (before : List ℕ) (words : List (List ℕ)) (room : ℕ) (text : List ℕ) : Type 0 where
   pub front : List Line
   pub last : Line

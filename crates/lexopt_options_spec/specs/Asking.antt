@@ -31,7 +31,7 @@ all_but_last [] = []
 all_but_last (s ∷ []) = []
 all_but_last (s ∷ t ∷ l) = s ∷ all_but_last (t ∷ l)
 
--- what is said before a mistake, where a line is read up to it: not the option that has a value
+-- what was read before a mistake, where a line is read up to it: not the option that has a value
 -- which it does not take, the last one that was read
 abbrev pub said_before : Mistake → List Said → List Said
 said_before (unexpected_value name value) l = all_but_last l

@@ -1,4 +1,4 @@
--- What can stand where a word is typed, after words that stand before it.
+-- What can come where a word is typed, after the words before it.
 -- The source is `docs/behaviour.md`.
 use Rattle.std.specs.Prelude.{◌≡◌, ◌++◌, ◌==◌, ◌&&◌, ℕ}
 use Rattle.std.specs.Prelude.{Bool, true, false, nat_eq, List, [], ◌∷◌, map, Option, Some, None}
@@ -17,14 +17,14 @@ abbrev pub spelling : Name → List ℕ
 spelling (short c) = dash ∷ encode_utf8 c
 spelling (long name) = dash ∷ dash ∷ name
 
--- what is said is the option of this index
+-- what is read is the option of this index
 abbrev pub IsOption : ℕ → Said → Type 0
 IsOption i (option j value) = j ≡ i
 IsOption i (several j values) = j ≡ i
 IsOption i (positional word) = ⊥
 
--- after these words, s can stand as the spelling of a declared option: the words say something, and
--- with some words after s, they and s legally say that, then this option, and then what may come
+-- after these words, s can come as the spelling of a declared option: the words mean something, and
+-- with some words after s, they and s legally spell that, then this option, and then what may come
 pub record CanStand (d : Declaration) (words : List (List ℕ)) (s : List ℕ) : Type 0 where
   pub name : Name
   pub index : ℕ
@@ -38,15 +38,15 @@ pub record CanStand (d : Declaration) (words : List (List ℕ)) (s : List ℕ) :
   pub words_say : SaysFront d words before
   pub line_says : Says d (words ++ s ∷ rest) (before ++ said ∷ later)
 
--- after these words, s can stand where this was typed so far, which is no damaged text
+-- after these words, s can come where this was typed so far, which is not damaged
 pub record Completes (d : Declaration) (words : List (List ℕ)) (typed s : List ℕ) : Type 0 where
   pub text : IsUtf8 typed
   pub begins : starts_with nat_eq s typed ≡ true
   pub stands : CanStand d words s
 
--- ---- where an option can stand
+-- ---- where an option can come
 
--- the words say this, and a separator after them says nothing more: the separator is not among
+-- the words mean this, and a separator after them adds nothing: the separator is not among
 -- them, and no value is due
 pub record IsOpen (d : Declaration) (words : List (List ℕ)) (l : List Said) : Type 0 where
   pub front : SaysFront d words l
@@ -69,7 +69,7 @@ IsText (long name) = IsUtf8 name
 abbrev pub AreText : List Declared → Type 0
 AreText options = (name : Name) → list_any (has_name name) options ≡ true → IsText name
 
--- ---- a word that is no option
+-- ---- a word that is not an option
 
 -- what a word is
 pub data Role : Type 0 where
@@ -77,21 +77,22 @@ pub data Role : Type 0 where
   value : ℕ → Role
   argument : Role
 
--- what the last word is, by the last of what is said
+-- what the last word is, by the last of what is read
 abbrev pub role_of : Said → Role
 role_of (option i v) = value i
 role_of (several i values) = value i
 role_of (positional word) = argument
 
--- the empty word, which is no option, would be this after these words; or nothing is said with it
+-- the empty word, which is not an option, would be this after these words; or nothing is read with
+-- it
 abbrev pub IsPlainRole : Declaration → List (List ℕ) → Option Role → Type 0
 IsPlainRole d words None =
     (before : List Said) (s : Said) → ¬ SaysFront d (words ++ [] ∷ []) (before ++ s ∷ [])
 IsPlainRole d words (Some role) = (before : List Said) × (s : Said)
     × SaysFront d (words ++ [] ∷ []) (before ++ s ∷ []) × (role_of s ≡ role)
 
--- the word `--` would be this after these words, and not the separator; or nothing is said with it
--- that is not said without it
+-- the word `--` would be this after these words, and not the separator; or nothing is read with it
+-- that is not read without it
 abbrev pub IsDashedRole : Declaration → List (List ℕ) → Option Role → Type 0
 IsDashedRole d words None = (before : List Said) (s : Said)
     → SaysFront d (words ++ (dash ∷ dash ∷ []) ∷ []) (before ++ s ∷ [])
@@ -100,8 +101,8 @@ IsDashedRole d words (Some role) = (before : List Said) × (s : Said)
     × SaysFront d (words ++ (dash ∷ dash ∷ []) ∷ []) (before ++ s ∷ [])
     × (¬ SaysFront d words (before ++ s ∷ [])) × (role_of s ≡ role)
 
--- A word that is no option, and longer than what was typed of it, would be this: by the empty word,
--- or by `--` where a dash was typed first.
+-- A word that is not an option, and longer than what was typed of it, would be this: by the empty
+-- word, or by `--` where a dash was typed first.
 pub record HasRole (d : Declaration) (words : List (List ℕ)) (typed : List ℕ) (role : Option Role)
     : Type 0 where
   pub plain : ¬ BeginsWith dash typed → IsPlainRole d words role
@@ -115,7 +116,7 @@ is_long_with_equals [] = false
 is_long_with_equals (b ∷ []) = false
 is_long_with_equals (b ∷ c ∷ rest) = b == dash && c == dash && has equals rest
 
--- an option can stand after these words, and what was typed is this one, with a value after `=`
+-- an option can come after these words, and what was typed is this one, with a value after `=`
 abbrev pub IsJoined : Declaration → List (List ℕ) → List ℕ → Option ℕ → Type 0
 IsJoined d words typed None = (l : List Said) (i : ℕ) (s : Said)
     → is_long_with_equals typed ≡ true → IsOpen d words l → SaysFront d (typed ∷ []) (s ∷ [])

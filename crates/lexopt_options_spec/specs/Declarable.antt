@@ -24,7 +24,7 @@ abbrev pub is_good_long : Option (List ℕ) → Bool
 is_good_long None = true
 is_good_long (Some name) = not (is_empty name) && not (has equals name) && not (has_replacement name)
 
--- this can stand for the value of an option, if it has one
+-- this can be the placeholder of the value of an option, if it has one
 abbrev pub is_good_placeholder : Kind → List ℕ → Bool
 is_good_placeholder flag placeholder = true
 is_good_placeholder k placeholder = is_placeholder placeholder

@@ -20,7 +20,7 @@ pub record Declared : Type 0 where
   pub short_name : Option ℕ
   pub long_name : Option (List ℕ)
   pub kind : Kind
-  -- what stands for its value in messages and in the help: empty if it is a flag
+  -- the placeholder of its value in messages and in the help: empty if it is a flag
   pub placeholder : List ℕ
   -- what the help tells of it
   pub help : List ℕ
@@ -29,7 +29,7 @@ pub record Declared : Type 0 where
   -- the help leaves it out
   pub hidden : Bool
 
--- how often a positional argument may stand
+-- how often a positional argument may occur
 pub data Count : Type 0 where
   once : Count
   at_most_once : Count
@@ -50,7 +50,7 @@ pub record Declaration : Type 0 where
   pub positionals : List Positional
   -- paragraphs at the end of the help
   pub epilogue : List (List ℕ)
-  -- in a cluster, `=` stands between an option and its value
+  -- in a cluster, `=` separates an option from its value
   pub short_equals : Bool
 
 -- ---- an option by its name
@@ -110,9 +110,9 @@ pub data Reason : Type 0 where
   empty_name : Reason
   -- `--a=b` is `a` with a value
   equals_in_name : Reason
-  -- U+FFFD stands for damage in what was typed
+  -- U+FFFD shows damage in what was typed
   replacement_in_name : Reason
-  -- what stands for its value is empty, or begins with `-` or `=`: it could not stand there
+  -- the placeholder of its value is empty, or begins with `-` or `=`: no such value could be there
   bad_placeholder : Reason
   -- an option before it has one of its names
   same_name : Reason
@@ -168,7 +168,7 @@ fault before o = or_else (short_fault o.short_name) (or_else (long_fault o.long_
     (or_else (placeholder_fault o.kind o.placeholder)
     (if list_any (shares_name o) before then Some same_name else None)))
 
--- the same of each of these options, where others stand before them
+-- the same for each of these options, where others come before them
 abbrev pub faults : List Declared → List Declared → List (Option Reason)
 faults before [] = []
 faults before (o ∷ os) = fault before o ∷ faults (before ++ o ∷ []) os

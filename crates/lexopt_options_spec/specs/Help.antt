@@ -88,7 +88,7 @@ if_alone None text = text
 if_alone (Some name) text = []
 
 -- a form that the label shows, with the placeholder for the value: the text that shows it, its
--- words, and the item that they are to say
+-- words, and the item that they are to spell
 pub data LabelForm (o : Declared) : List ℕ → List (List ℕ) → Item → Type 0 where
   -- `-v`
   short_flag : (c : ℕ) → o.short_name ≡ Some c → o.kind ≡ flag
@@ -130,7 +130,7 @@ pub data LabelForm (o : Declared) : List ℕ → List (List ℕ) → Item → Ty
       → LabelForm o (long_word_with name o.placeholder ++ codes "...")
       (long_word_with name o.placeholder ∷ []) (many (long name) (o.placeholder ∷ []))
 
--- by this name, with whatever stands after it, an option of this kind can say this item
+-- by this name, with whatever comes after it, an option of this kind can spell this item
 abbrev pub CanSay : Kind → Name → Item → Type 0
 CanSay k name item = (after : After) × (words : List (List ℕ)) × (left : List (List ℕ))
     × Completes k name after words item left
@@ -142,7 +142,7 @@ HasOnly value (option name (Some v)) = v ≡ value
 HasOnly value (many name values) = values ≡ value ∷ []
 HasOnly value (positional word) = ⊥
 
--- by this text the label shows all that the option can say by this name, with the placeholder for
+-- by this text the label shows all that the option can spell by this name, with the placeholder for
 -- the value
 abbrev pub ShowsName : Declared → Name → List ℕ → Type 0
 ShowsName o name shown = (item : Item) → CanSay o.kind name item → HasOnly o.placeholder item
@@ -155,7 +155,7 @@ pub record HasTextNames (o : Declared) : Type 0 where
 
 -- ---- words on lines
 
--- what stands between the blanks of a text
+-- what is between the blanks of a text
 abbrev pub words_of : List ℕ → List (List ℕ)
 words_of text = filter (λ word. not (is_empty word)) (slice_split (λ b. b == blank) text)
 
@@ -170,7 +170,7 @@ line_text line = join_with_byte blank line
 abbrev pub line_columns : Line → ℕ
 line_columns line = sum_by columns line + (length line - 1)
 
--- it has words, and takes so many columns at most, or is one word, which cannot be broken
+-- it has words, and takes at most this many columns, or is one word, which cannot be broken
 pub record Fits (limit : ℕ) (line : Line) : Type 0 where
   pub words : 0 < length line
   pub narrow : (line_columns line ≤ limit) ⊎ (length line ≡ 1)
@@ -186,26 +186,26 @@ AreFull limit (line ∷ []) = Unit {0}
 AreFull limit (line ∷ next ∷ lines) =
     (limit < line_columns (line ++ take 1 next)) × AreFull limit (next ∷ lines)
 
--- the lines, of at most so many columns, are these words in order
+-- the lines, of at most this many columns, are these words in order
 pub record Wraps (limit : ℕ) (words : List (List ℕ)) (lines : List Line) : Type 0 where
   pub in_order : flat_map (λ line. line) lines ≡ words
   pub fit : AllFit limit lines
   pub full : AreFull limit lines
 
--- lines one below another, each but the first after so many blanks
+-- lines one below another, each but the first after this many blanks
 abbrev pub below : ℕ → List Line → List ℕ
 below column lines = join_by line_text (line_feed ∷ blanks column) lines
 
 -- ---- an entry
 
--- what stands between a label and its help, which begins at this column: on the same line, if the
+-- what comes between a label and its help, which begins at this column: on the same line, if the
 -- label and the two blanks before it end two columns before that; else on the next one
 abbrev pub gap : ℕ → List ℕ → List ℕ
 gap column text =
     if nat_le (columns text + 4) column then blanks (column - (columns text + 2))
     else (line_feed ∷ blanks column)
 
--- what stands after a label: the lines of its help, if there are any
+-- what comes after a label: the lines of its help, if there are any
 abbrev pub beside : ℕ → List ℕ → List Line → List ℕ
 beside column text [] = []
 beside column text (line ∷ lines) = gap column text ++ below column (line ∷ lines)

@@ -1,4 +1,4 @@
--- Which words say what, under a declaration: from items to words, with no call and no state.
+-- Which words mean what, under a declaration: from items to words, with no call and no state.
 -- The source is `docs/behaviour.md`.
 use Rattle.std.specs.Prelude.{◌≡◌, ◌≤◌, ◌+◌, ℕ, Bool, true, false, List, [], ◌∷◌, length, filter}
 use Rattle.std.specs.Prelude.{map, Option, Some, None, if◌then◌else◌}
@@ -10,8 +10,8 @@ use Rattle.lexopt_line_spec.specs.Spelling.{Spells}
 use Rattle.lexopt_options_spec.specs.Declaration.{Declared, Declaration, Positional, Count, once}
 use Rattle.lexopt_options_spec.specs.Declaration.{at_most_once, any_number, index_of, table}
 
--- what a line says, in order: an option by its index in the declaration, whichever of its names was
--- typed, with its value if it has one; an option of several values with all of them; or a
+-- what is read from a line, in order: an option by its index in the declaration, whichever of its
+-- names was typed, with its value if it has one; an option of several values with all of them; or a
 -- positional
 pub data Said : Type 0 where
   option : ℕ → Option (List ℕ) → Said
@@ -52,11 +52,11 @@ is_any_number any_number = true
 abbrev pub required : List Positional → List Positional
 required ps = filter (λ p. is_once p.count) ps
 
--- as many positionals stand at least
+-- at least this many positionals have to occur
 abbrev pub least : List Positional → ℕ
 least ps = length (required ps)
 
--- and at most: there is no limit if one of them may stand any number of times
+-- and at most: there is no limit if one of them may occur any number of times
 abbrev pub most : List Positional → Option ℕ
 most ps = if list_any (λ p. is_any_number p.count) ps then None else Some (length ps)
 
@@ -67,7 +67,7 @@ IsWithin n (Some limit) = n ≤ limit
 -- ---- a whole line
 
 -- the words legally spell options that are declared, and no more positionals than are declared, and
--- say this
+-- this is what they mean
 pub record SaysFront (d : Declaration) (words : List (List ℕ)) (l : List Said) : Type 0 where
   pub items : List Item
   pub spelled : Spells (table d.options) d.short_equals words items

@@ -1,4 +1,4 @@
--- Where the reading of a line stops that says nothing legal, and why.
+-- Where the reading of a line that is not legal stops, and why.
 -- The source is `docs/behaviour.md`.
 use Rattle.std.specs.Prelude.{◌≡◌, ◌<◌, ℕ, List, [], map, Some, None, slice_get}
 use Rattle.std.specs.Prelude.{slice_index_or, unwrap_or}
@@ -24,11 +24,11 @@ pub data Mistake : Type 0 where
   missing_value : ℕ → List ℕ → Mistake
   -- one positional more than are declared
   unexpected_argument : List ℕ → Mistake
-  -- fewer positionals than are declared: so many stand there
+  -- fewer positionals than are required: this many are there
   missing_argument : ℕ → Mistake
 
--- the line u was read up to the line v, and what was read says this: options that are declared, and
--- no more positionals than are declared
+-- the line u was read up to the line v, and what was read means this: options that are declared,
+-- and no more positionals than are declared
 pub record ReadsUpTo (d : Declaration) (u : UnreadLine) (l : List Said) (v : UnreadLine)
     : Type 0 where
   pub items : List Item
@@ -37,7 +37,7 @@ pub record ReadsUpTo (d : Declaration) (u : UnreadLine) (l : List Said) (v : Unr
   pub said : map (said_item d.options) items ≡ map (λ s. Some s) l
   pub within : IsWithin (positional_count l) (most d.positionals)
 
--- With so many positionals before it, the line cannot be read on, and this is why. Of an option
+-- With this many positionals before it, the line cannot be read on, and this is why. Of an option
 -- that is not declared nothing more is read than its name.
 pub data Stops (d : Declaration) (count : ℕ) (u : UnreadLine) : Mistake → Type 0 where
   not_declared : (name : Name) (v : UnreadLine) → Next u (option_reply name) v
@@ -53,18 +53,18 @@ pub data Stops (d : Declaration) (count : ℕ) (u : UnreadLine) : Mistake → Ty
   too_few : (v : UnreadLine) → Next u steps.end v → count < least d.positionals
       → Stops d count u (missing_argument count)
 
--- These words are read up to this mistake, and say this before it.
+-- These words are read up to this mistake, and mean this before it.
 pub record StopsAt (d : Declaration) (words : List (List ℕ)) (before : List Said)
     (mistake : Mistake) : Type 0 where
   pub there : UnreadLine
   pub read : ReadsUpTo d (start d.short_equals words) before there
   pub stops : Stops d (positional_count before) there mistake
 
--- what stands for the value of the option of this index
+-- the placeholder of the value of the option of this index
 abbrev pub placeholder_at : List Declared → ℕ → List ℕ
 placeholder_at options index =
     unwrap_or (option_map (λ o. o.placeholder) (slice_get options index)) []
 
--- what stands for this one, counted from 0, of the positionals that cannot be left out
+-- the placeholder of this one, counted from 0, of the positionals that cannot be left out
 abbrev pub required_placeholder : List Positional → ℕ → List ℕ
 required_placeholder ps n = slice_index_or (map (λ p. p.placeholder) (required ps)) n []

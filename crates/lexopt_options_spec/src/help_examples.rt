@@ -28,7 +28,7 @@ pub fn labels_look_so()
     ensures short_several { label_of (Some 0x77) None several (codes "PART") ≡ codes "-w PART..." }
 {}
 
-/// Words are what stands between blanks. Lines begin at one column, which is the 24th at most.
+/// Words are what is between blanks. Lines begin at one column, which is the 24th at most.
 pub fn words_stand_in_columns()
     ensures words { words_of (codes " tell  more ") ≡ codes "tell" ∷ codes "more" ∷ [] }
     ensures none { words_of (codes "  ") ≡ [] }

@@ -23,7 +23,7 @@ pub fn declarable_options_are_sound()
 
 /// What the help shows can be typed. Among options that can be declared together, each form that
 /// the label of one shows, with the placeholder for the value, is legal, whether `=` is a mark in
-/// clusters or not, and says that option, with the placeholder for its value.
+/// clusters or not, and means that option, with the placeholder for its value.
 pub fn labels_are_spelled()
     ensures { (options : List Declared) (o : Declared) (short_equals : Bool)
         (shown : List ℕ) (words : List (List ℕ)) (item : Item)
@@ -40,7 +40,7 @@ pub fn forms_stand_in_labels()
 
 /// A label shows the names of its option and nothing else: the character alone, the long name alone
 /// after four blanks, or both with a comma and a blank between them. By the text of each name it
-/// shows all that the option can say by that name, with the placeholder for the value.
+/// shows all that the option can spell by that name, with the placeholder for the value.
 pub fn labels_show_their_names()
     ensures short { (o : Declared) (c : ℕ) → o.short_name ≡ Some c → o.long_name ≡ None
         → ShowsName o (short c) (label o) }

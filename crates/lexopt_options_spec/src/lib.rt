@@ -1,6 +1,6 @@
 //! What the contracts of declared options cite: definitions over plain data, in `specs/`:
-//! declarations, which words say what under one, where a reading stops, which option is nearest to
-//! a mistyped one, what can be completed, and what the help says. `proofs/` has the lemmas that
+//! declarations, which words mean what under one, where a reading stops, which option is nearest to
+//! a mistyped one, what can be completed, and what is in the help. `proofs/` has the lemmas that
 //! code cites.
 //!
 //! The only code here are laws and worked examples of the definitions, on which nothing rests:

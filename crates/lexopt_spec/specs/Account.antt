@@ -140,6 +140,6 @@ segment_shown (given bytes) = bytes
 segment_shown (mark bytes) = []
 segment_shown (damage bytes) = encode_utf8 replacement
 
--- what of the segments stands in replies
+-- what of the segments is in replies
 abbrev pub shown_of : List Segment → List ℕ
 shown_of segments = flat_map segment_shown segments

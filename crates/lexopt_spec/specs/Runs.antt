@@ -12,7 +12,7 @@ pub data Call : Type 0 where
   next : Call
   value : Call
   optional : Call
-  -- a view, and so many items asked of it
+  -- a view, and how many items are asked of it
   values : ℕ → Call
   raw : ℕ → Call
   try_raw : ℕ → Call
@@ -20,7 +20,7 @@ pub data Call : Type 0 where
   raw_if : List ℕ → Call
   set_short_equals : Bool → Call
 
--- with enough memory, a call answers so
+-- with enough memory, a call returns this
 abbrev pub StepWithMemory : Call → UnreadLine → Reply → UnreadLine → Type 0
 StepWithMemory next = NextStep
 StepWithMemory value = ValueStep
@@ -31,7 +31,7 @@ StepWithMemory (try_raw n) = TryRawStep n
 StepWithMemory (raw_if word) = RawStep (TakesWordIf word)
 StepWithMemory (set_short_equals on) = SetsShortEquals on
 
--- what a call answers at the line u, and the line after it
+-- what a call returns at the line u, and the line after it
 abbrev pub Step : Call → UnreadLine → Reply → UnreadLine → Type 0
 Step call u reply after = Answers (StepWithMemory call) u reply after
 

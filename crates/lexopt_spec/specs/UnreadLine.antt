@@ -32,13 +32,13 @@ pub record UnreadLine : Type 0 where
   -- the separator `--` was read
   pub ended : Bool
   pub last : LastOption
-  -- in a cluster, `=` stands between an option and its value
+  -- in a cluster, `=` separates an option from its value
   pub short_equals : Bool
   -- the binary name, if the line had one: no rule changes it
   pub bin_name : Option (List ℕ)
 
--- a tail stands only with a last option and never after the separator, and the rest of a cluster is
--- never empty
+-- there is a tail only with a last option and never after the separator, and the rest of a cluster
+-- is never empty
 abbrev pub TailStands : Tail → LastOption → Bool → Type 0
 TailStands no_tail last ended = Unit {0}
 TailStands (joined value) last ended = (last ≢ no_option) × (ended ≡ false)

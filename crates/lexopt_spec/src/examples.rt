@@ -1,4 +1,4 @@
-//! Examples of definitions: what they say, and what they deny.
+//! Examples of definitions: what they mean, and what they rule out.
 ghost use Rattle.std.specs.Prelude.{◌≡◌, [], ◌∷◌, true, false, None, Some, codes};
 ghost use Rattle.lexopt_spec.specs.Account.{NamesOption, damage, given, given_of, handed_items};
 ghost use Rattle.lexopt_spec.specs.Account.{mark};
@@ -56,7 +56,7 @@ fn lines_are_told_apart()
     ensures unexpected { NamesOption (unexpected (codes "-a") (codes "b")) → ⊥ }
 {}
 
-// A call asked for at most so many items: never for more than before.
+// A call asked for at most n items: never for more than before.
 fn fewer_items_are_asked()
     ensures values { up_to 5 (values 2) ≡ values 2 }
     ensures fewer_values { up_to 1 (values 2) ≡ values 1 }

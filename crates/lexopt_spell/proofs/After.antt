@@ -34,6 +34,6 @@ row_asked f xs b all asked =
     ap not (asked ∙ sym (list_all-map is_plain_item f xs))
     ∙ ap (λ a. a && not (list_all is_plain_item (map f xs))) (sym (list_all-map is_positional f xs ∙ all))
 
--- one is no positional
+-- one is not a positional
 pub no_row : {X : Type 0} (f : X → Item) (xs : List X) → list_all (λ y. is_positional (f y)) xs ≡ false → false ≡ separator_is_due (map f xs)
 no_row f xs some = ap (λ a. a && not (list_all is_plain_item (map f xs))) (sym (list_all-map is_positional f xs ∙ some))

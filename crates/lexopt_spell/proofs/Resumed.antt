@@ -177,7 +177,7 @@ joined_on after_values words r = words ++ r.words
 joined_on after_positional words r = words ++ r.words
 joined_on ended words r = words ++ r.words
 
--- these words spell so many items and lead to this place, and this is spelled after them
+-- these words spell i items and lead to this place, and this is spelled after them
 abbrev pub resumed : ℕ → Place → List (List ℕ) → Result Rest Fault → Result (List (List ℕ)) Fault
 resumed i place words (Err fault) = Err (record { index = i + fault.index; reason = fault.reason })
 resumed i place words (Ok r) = Ok (joined_on place words r)

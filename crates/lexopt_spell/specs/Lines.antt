@@ -1,5 +1,5 @@
--- What `spell` tells of a whole line, over a table and items of Rust. `short_equals` is the setting
--- of the switch.
+-- What `spell` ensures for a whole line, over a table and items of Rust. `short_equals` is the
+-- setting of the switch.
 use Rattle.std.specs.Prelude.{◌≡◌, ℕ, Bool, List, map}
 use Rattle.lexopt_spec.specs.Steps as steps
 use Rattle.lexopt_spec.specs.Steps.{Reply}
@@ -24,7 +24,7 @@ abbrev pub HaveFault : Table → Bool → List Item → SpellError → Type 0
 HaveFault table short_equals items e =
     views.HasFault (table_view table) short_equals (map item_view items) e
 
--- every reading of the words comes to the end of the line, and says these items
+-- every reading of the words comes to the end of the line, and gives these items
 abbrev pub LineSaysNothingElse : Table → Bool → List (List ℕ) → List Item → Type 0
 LineSaysNothingElse table short_equals words items = (final : Reply) (l : List table_spec.Item)
     → IsReading (table_view table) (start short_equals words) final l

@@ -1,4 +1,4 @@
--- What the speller's functions answer, as contracts see it.
+-- What the speller's functions return, as contracts see it.
 use Rattle.std.specs.Prelude.{ℕ, Bool, true, false, List, ◌∷◌, [], ◌++◌, Result, Ok, Err}
 use Rattle.std.specs.Prelude.{encode_utf8, string_bytes}
 use Rattle.lexopt_spec.specs.UnreadLine.{dash}

@@ -82,7 +82,7 @@ fn long_added<'a>(
     long_placed(place, name, form?)
 }
 
-// Whether an item is no option.
+// Whether an item is not an option.
 fn is_no_option(item: &Item) -> bool
     ensures { result ≡ spec.is_positional (item_view item.now) }
 {
@@ -96,7 +96,7 @@ fn are_no_options(items: &[Item]) -> bool
     items.iter().all(|item| is_no_option(item))
 }
 
-// Whether the separator would stand before an option, if it stood before the first of these items.
+// Whether the separator would come before an option, if it came before the first of these items.
 //
 // It reads on to the first option, and is asked after options alone: it reads each item of a line
 // once at most.
@@ -109,7 +109,7 @@ fn separator_comes_too_early(items: &[Item]) -> bool
     }
 }
 
-// Whether an item is no positional that would be an option.
+// Whether an item is not a positional that would be an option.
 fn is_plain_item(item: &Item) -> bool
     ensures { result ≡ tables.is_plain_item (item_view item.now) }
 {
@@ -167,7 +167,7 @@ fn positional_added<'a>(place: Place, word: &'a OsString, after: &[Item]) -> Add
     }
 }
 
-/// What an item adds at this place, where these items stand after it.
+/// What an item adds at this place, where these items come after it.
 pub fn adds<'a>(
     place: Place,
     item: &'a Item,

@@ -1,4 +1,4 @@
-//! Where the values of an option stand: after its name in its word, or in words of their own.
+//! Where the values of an option are: after its name in its word, or in words of their own.
 ghost use Rattle.std.specs.Prelude.{◌≡◌, false};
 ghost use Rattle.std.specs.List.{list_all};
 ghost use Rattle.lexopt_line_spec.specs.SpellerTables as tables;
@@ -27,7 +27,7 @@ pub enum Place {
     Ended,
 }
 
-/// What stands after an option's name in its word.
+/// What comes after an option's name in its word.
 #[derive(Clone, Copy)]
 pub enum After<'a> {
     Nothing,
@@ -37,7 +37,7 @@ pub enum After<'a> {
     Joined(&'a OsString),
 }
 
-/// What stands after an option's name in its word, the words after that word, and what the next
+/// What comes after an option's name in its word, the words after that word, and what the next
 /// item follows then.
 #[derive(Clone, Copy)]
 pub struct Form<'a> {
@@ -68,7 +68,7 @@ fn in_word(after: After<'_>) -> Form<'_>
     }
 }
 
-// A value right after a character. It stands after `=` where it would be lost, or begins with `=`,
+// A value right after a character. It comes after `=` where it would be lost, or begins with `=`,
 // if `short_equals` is on.
 fn attached_form(short_equals: bool, value: &OsString) -> Result<Form<'_>, Reason>
     ensures { form_answer result ≡ tables.attached_form short_equals value.now }
@@ -129,7 +129,7 @@ pub fn long_form(kind: Kind, value: &Option<OsString>) -> Result<Form<'_>, Reaso
     }
 }
 
-/// Whether a word is no option, as one of several values is to be.
+/// Whether a word is not an option, as one of several values is to be.
 pub fn is_plain(word: &OsString) -> bool
     ensures { result ≡ line.is_plain false word.now }
 {

@@ -1,4 +1,4 @@
-//! Words that spell what a line is to say. The crate `lexopt` re-exports its public items.
+//! Words that spell what a line is to mean. The crate `lexopt` re-exports its public items.
 #![tactic(auto)]
 
 mod added;

@@ -1,4 +1,4 @@
-//! Words that spell what a line is to say: from items to words, for another program.
+//! Words that spell what a line is to mean: from items to words, for another program.
 ghost use Rattle.std.specs.Prelude.{◌≡◌, ◌⊎◌, ℕ, List, IfErr, IfOk};
 ghost use Rattle.lexopt_items.specs.Lines.{LineReads, LineShows, LineSpells};
 ghost use Rattle.lexopt_spell.specs.Lines.{HaveFault, HaveWords, LineSaysNothingElse};
@@ -32,18 +32,18 @@ pub enum Reason {
     /// with it on, `-c=` has one.
     EmptyValue,
     /// One of several values would be an option: `-x` after `1` in `--dim 1 -x`. A first one may
-    /// stand right after a character, as in `-d-x 1`, and a lone one after the `=` of a long
+    /// come right after a character, as in `-d-x 1`, and a lone one after the `=` of a long
     /// option.
     OptionAmongValues,
-    /// A long option has an empty name, and not one value, which stands after `=`: `--` alone is
+    /// A long option has an empty name, and not one value, which comes after `=`: `--` alone is
     /// the separator.
     EmptyName,
-    /// An option stands after a positional that needs `--` before it, so that the option would be a
+    /// An option comes after a positional that needs `--` before it, so that the option would be a
     /// positional too.
     PastSeparator,
     /// `-` as an option of one character, with no flag of one character right before it. No word
     /// begins with it, since `--` is the separator and `--name` a long option, but in `-v-` it
-    /// stands after `v`.
+    /// comes after `v`.
     DashWithoutFlag,
 }
 
@@ -74,7 +74,7 @@ impl fmt::Display for Reason {
     }
 }
 
-/// Why no words are answered.
+/// Why no words are returned.
 #[derive(Debug, Clone, Copy, PartialEq, Eq)]
 pub enum SpellError {
     /// An item cannot be spelled after those before it, and those before it can.
@@ -123,14 +123,14 @@ impl From<AllocError> for SpellError {
 /// `Long("color", Some(z))`, `ShortMany('d', [1, 2])` and `Positional(-f)` give the words `-v`,
 /// `-o`, `x`, `--out=y`, `--color=z`, `-d`, `1`, `2`, `--` and `-f`. Each option has a word of its
 /// own, except for `-` as an option of one character, which goes on with the flag before it: `-v-`.
-/// The separator stands only where a positional needs it, which would be an option, or one more of
+/// The separator comes only where a positional needs it, which would be an option, or one more of
 /// several values; and then before the first of the positionals that end the line. Where it would
-/// stand before an option too, a lone value of a short option of several is joined to it, as
+/// come before an option too, a lone value of a short option of several is joined to it, as
 /// `-d=1`, if `short_equals` is on.
 ///
-/// `short_equals` says whether `=` in a cluster stands between an option and its value. It is to be
-/// the setting that the words are read under. Items that no words spell, as an option after a
-/// positional `-f`, are refused.
+/// `short_equals` tells whether `=` in a cluster separates an option from its value. It is to be
+/// the setting that the words are read under. Items that no words spell, such as an option
+/// after a positional `-f`, are refused.
 pub fn spell(
     alloc: Global,
     items: &[Item],
@@ -142,8 +142,8 @@ pub fn spell(
     ensures form { IfOk result (λ words. HaveWords table.now short_equals items.now words.items) }
     ensures fault { IfErr result (λ e. HaveFault table.now short_equals items.now e) }
 
-    // What is returned legally spells the items. A reading of it comes to the end and says them, as
-    // every reading does.
+    // What is returned legally spells the items. A reading of it comes to the end and gives them,
+    // as every reading does.
     ensures spelled { IfOk result (λ words.
         LineSpells table.now short_equals words.items items.now) }
     ensures read { IfOk result (λ words. LineReads table.now short_equals words.items items.now) }

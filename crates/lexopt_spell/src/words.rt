@@ -23,7 +23,7 @@ pub enum Word<'a> {
     Positional(&'a OsString),
 }
 
-// Adds to the bytes of a name what stands after it.
+// Adds to the bytes of a name what comes after it.
 fn with_after(name: String, after: After<'_>) -> Result<OsString, AllocError>
     ensures { IfOk result (λ word.
         word ≡ string_bytes name ++ after_bytes (after_view after.entry)) }

@@ -1,4 +1,4 @@
--- Words that are answered one after another, when one more has come and when none is to come.
+-- Words that are returned one after another, when one more has come and when none is to come.
 use Rattle.std.proofs.Common.{◌+◌, ◌∷◌, [], ◌++◌, ℕ, List, Option, Some, None, sym, subst, append-nil}
 use Rattle.std.proofs.lemmas.List.{append_assoc}
 use Rattle.lexopt_words.specs.Answered.{AreAnswered}

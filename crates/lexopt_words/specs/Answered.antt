@@ -1,4 +1,4 @@
--- Words that are answered one after another, each at its place.
+-- Words that are returned one after another, each at its place.
 use Rattle.std.specs.Prelude.{◌∷◌, [], ℕ, List, Option, Some, None, ◌+◌}
 
 -- these are the words at a place and after it, up to the first place that has none

@@ -1,4 +1,4 @@
--- What `next` reads: options, and what a program answers where it does not know one.
+-- What `next` reads: options, and what a program returns where it does not know one.
 use Rattle.std.specs.Prelude.{◌≡◌, Some, string_bytes}
 use Rattle.lexopt_spec.specs.UnreadLine.{LastOption, short_option, long_option, spelling}
 use Rattle.lexopt_words.specs.declared.error.Arg.{Arg}

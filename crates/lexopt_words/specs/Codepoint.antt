@@ -1,4 +1,4 @@
--- What `first_codepoint` answers.
+-- What `first_codepoint` returns.
 use Rattle.std.specs.Prelude.{◌≡◌, ℕ, List, [], Option, Some, None}
 use Rattle.lexopt_spec.specs.Pieces.{IsFirstPiece}
 use Rattle.lexopt_words.specs.declared.codepoint.FirstCodepoint.{FirstCodepoint}
@@ -17,7 +17,7 @@ size_of Empty = 0
 size_of (Character c size) = size
 size_of (Damage size) = size
 
--- the answer is the first piece of the bytes, by the table
+-- the result is the first piece of the bytes, by the table
 abbrev pub IsFirstOf : List ℕ → FirstCodepoint → Type 0
 IsFirstOf bytes Empty = bytes ≡ []
 IsFirstOf bytes (Character c size) = IsFirstPiece bytes size (Some c)

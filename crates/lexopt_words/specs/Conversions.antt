@@ -1,4 +1,4 @@
--- What the conversion of a value answers.
+-- What the conversion of a value returns.
 use Rattle.std.specs.Prelude.{◌≡◌, ◌⊎◌, List, ℕ, Result, Ok, Err, MatchResult, string_bytes}
 use Rattle.anyhow.specs.declared.error.Error.{Error as Cause}
 use Rattle.lexopt_words.specs.declared.error.Error.{Error}
@@ -18,7 +18,7 @@ IsParsingFailed text P (NonUnicodeValue value) = ⊥
 IsParsingFailed text P (Custom error) = ⊥
 IsParsingFailed text P OutOfMemory = ⊥
 
--- what is answered for a text at which the function answered so: its value, or an error with the
+-- what is returned for a text for which the function returned this: its value, or an error with the
 -- text and what `converts` makes of its error
 abbrev pub IsParsed : {T E : Type 0} → (E → Cause → Type 0) → List ℕ → Result T E → Result T Error
     → Type 0
@@ -26,7 +26,7 @@ IsParsed converts text (Ok value) result = result ≡ Ok value
 IsParsed converts text (Err error) result = MatchResult result (λ _. ⊥) (λ e. (e ≡ OutOfMemory)
     ⊎ IsParsingFailed text (converts error) e)
 
--- what is answered for a word that is not UTF-8
+-- what is returned for a word that is not UTF-8
 abbrev pub IsNotUnicode : {T : Type 0} → List ℕ → Result T Error → Type 0
 IsNotUnicode word result = MatchResult result (λ _. ⊥) (λ e. (e ≡ OutOfMemory)
     ⊎ (e ≡ NonUnicodeValue word))

@@ -17,7 +17,7 @@ const FIRST_ROOM: usize = 256;
 trait WordSource {
     ghost use Rattle.std.specs.declared.env.FillError.TheVariants.{NotPresent};
 
-    // What may be answered at a place: the word there, or none after the last.
+    // What may be returned at a place: the word there, or none after the last.
     ghost answers: { Self → ℕ → Option (List ℕ) → Type 0 };
 
     // Copies the word at a place to the front of the room.
@@ -27,7 +27,7 @@ trait WordSource {
         ensures end { result ≡ Err NotPresent → answers self.now place None };
 }
 
-// What `Env` promises is that an answer fits into the room, and nothing about its bytes.
+// What `Env` promises is that a result fits into the room, and nothing about its bytes.
 impl<R: Env> WordSource for R {
     ghost answers = { λ _ _ _. Unit {0} };
 

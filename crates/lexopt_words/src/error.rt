@@ -11,9 +11,9 @@ use std::fmt;
 pub enum Arg<'a> {
     /// An option of one character: `-o` reads as `Short('o')`.
     Short(char),
-    /// An option with a name, which stands here without its dashes: `--out` reads as `Long("out")`.
+    /// An option with a name, here without its dashes: `--out` reads as `Long("out")`.
     Long(&'a str),
-    /// A word that is no option, or that stands after the separator.
+    /// A word that is not an option, or that comes after the separator.
     Value(OsString),
 }
 

@@ -1,4 +1,4 @@
-//! What the command line lexer reads and answers with: words of any bytes and their pieces, errors
+//! What the command line lexer reads and returns: words of any bytes and their pieces, errors
 //! and their messages, and the conversions of values.
 #![tactic(auto)]
 

@@ -34,7 +34,7 @@ in_step u w after (next_in_cluster bytes tail goes reads) = let is : positional 
 in_step u w after (after_separator tail ended reads) = in_words u w after reads
 in_step u w after (next_word tail ended reads) = in_word u w after reads
 
--- a word that `next` can answer as a positional argument is one of the words
+-- a word that `next` can return as a positional argument is one of the words
 pub positional_is_a_word : (u : UnreadLine) (w : List ℕ) → IsReplyOfNext u (Some (positional w)) → Contains u.words w
 positional_is_a_word u w (after, inl step) = in_step u w after step
 positional_is_a_word u w (after, inr refused) = let is : positional w ≡ no_memory = refused.reply_is in cc

@@ -173,7 +173,7 @@ line_if None line = []
 line_if (Some x) line = line
 
 -- The words ask what can be typed. The text has a line for each spelling, a line `files` if a word
--- is possible that is no option, and a line `value` if a value is typed after `=`.
+-- is possible that is not an option, and a line `value` if a value is typed after `=`.
 pub record IsOffer (words : List (List ℕ)) (text : List ℕ) : Type 0 where
   pub before : List (List ℕ)
   pub typed : List ℕ

@@ -1,5 +1,5 @@
 //! Callers of whole lines and of lists of calls, with clauses of their own. These rest on the
-//! clauses of the public calls alone, and say what those say by the grammar.
+//! clauses of the public calls alone, and restate those by the grammar.
 ghost use Rattle.std.specs.Prelude.{◌≡◌, ◌⊎◌, ◌+◌, ◌++◌, ◌≤◌, ℕ, List, Some, map, IfOk, IfErr};
 ghost use Rattle.std.specs.Prelude.{Bool, Err, IfSome, OnErr};
 ghost use Rattle.std.specs.List.{flat_map};
@@ -63,7 +63,7 @@ pub fn read_back(
     }
 }
 
-/// Reads words, and spells what they say. `None` if they say nothing, or memory runs out.
+/// Reads words, and spells what is read from them. `None` if they are refused, or memory runs out.
 pub fn spelled_again(
     alloc: Global,
     words: Vec<OsString>,
@@ -161,7 +161,8 @@ pub fn output_of(alloc: Global, script: &[u8]) -> Result<Vec<u8>, RunError>
     Ok(text)
 }
 
-/// What the clauses of `replay`, `read_items` and `spell` say that follow from their other clauses.
+/// What those clauses of `replay`, `read_items` and `spell` mean that follow from their other
+/// clauses.
 pub fn clauses_say_the_grammar()
     ensures run { (u v : UnreadLine) (calls : List Call) (replies : List Reply)
         → Replays u calls replies v

@@ -1,5 +1,5 @@
 //! Callers of pieces, of errors and of conversions, with clauses of their own. These rest on the
-//! clauses of the public calls alone, which exclude every answer that is unreachable here.
+//! clauses of the public calls alone, which exclude every result that is unreachable here.
 ghost use Rattle.std.specs.Prelude.{◌≡◌, [], ◌∷◌, Some, Ok, IfSome, IfOk, IfErr, IsUtf8};
 ghost use Rattle.std.specs.Prelude.{MatchOption, slice_get, string_bytes};
 ghost use Rattle.anyhow.specs.Error.{IsMadeOf};
@@ -52,7 +52,7 @@ pub fn unknown_long(alloc: Global, name: &str) -> Option<String>
     }
 }
 
-/// The word that an error tells, for an unknown one.
+/// The word that an error reports, for an unknown one.
 pub fn unknown_word(alloc: Global, word: OsString) -> OsString
     ensures { result ≡ word }
 {
@@ -78,8 +78,8 @@ pub fn cause_of_text(text: &str) -> anyhow::Error
     }
 }
 
-/// What the text of a word stands for, or that text if it stands for nothing. `None` if memory runs
-/// out.
+/// The value that the text of a word represents, or that text if it represents none. `None` if
+/// memory runs out.
 pub fn parsed<T: FromStr>(word: &OsString) -> Option<Result<T, String>>
 where
     T::Err: Into<anyhow::Error>,
@@ -102,7 +102,7 @@ where
     }
 }
 
-/// The word that an error tells, for one that is not UTF-8. `None` if memory runs out.
+/// The word that an error reports, for one that is not UTF-8. `None` if memory runs out.
 pub fn damaged(word: &OsString) -> Option<OsString>
     requires { IsUtf8 word.now → ⊥ }
     ensures { IfSome result (λ told. told ≡ word.now) }
@@ -124,7 +124,7 @@ pub fn copied_short(option: char) -> Arg<'static>
     }
 }
 
-/// Words are answered one after another, up to the first place that has none.
+/// Words are returned one after another, up to the first place that has none.
 pub fn two_words_are_answered()
     ensures both { AreAnswered (λ place word. word ≡ slice_get ((1 ∷ []) ∷ (2 ∷ []) ∷ []) place) 0
         ((1 ∷ []) ∷ (2 ∷ []) ∷ []) }

@@ -9,12 +9,12 @@ use test_helpers::environments::Arguments;
 use test_helpers::errors::prints;
 use test_helpers::parsers::words_from;
 
-// Whether `arguments` answers these words.
+// Whether `arguments` returns these words.
 fn are_answered(rt: &impl Env, alloc: Global, words: &[OsString]) -> Result<bool, AllocError> {
     Ok(arguments(rt, alloc)?.as_slice() == words)
 }
 
-// Whether `arguments` answers these words, and `from_env_os` makes a parser with this name, which
+// Whether `arguments` returns these words, and `from_env_os` makes a parser with this name, which
 // has those after the first to read.
 fn come_whole(
     rt: &impl Env,
@@ -32,7 +32,7 @@ fn are_read(alloc: Global, words: &[OsString], name: Option<&str>) -> Result<boo
     come_whole(&Arguments { words }, alloc, words, name)
 }
 
-// A word of so many bytes, none of them 00. They count up from the first, and begin again at 01.
+// A word of this many bytes, none of them 00. They count up from the first, and begin again at 01.
 fn counting(alloc: Global, length: usize, first: u8) -> Result<OsString, AllocError> {
     let mut bytes = Vec::with_capacity(alloc, length)?;
     let mut byte = first;
@@ -79,7 +79,7 @@ fn lines_of_any_bytes(rt: HostRuntime) {
     );
 }
 
-// Words of so many bytes, of which the one at place N begins with the byte N + 1.
+// Words of these lengths, of which the one at place N begins with the byte N + 1.
 fn words_of_lengths(alloc: Global, lengths: &[usize]) -> Result<Vec<OsString>, AllocError> {
     let mut words = Vec::new(alloc);
     for (length, first) in lengths.iter().zip(1..=u8::MAX) {
@@ -105,7 +105,7 @@ fn long_and_short_words(rt: HostRuntime) {
     assert!(rt; lengths_are_read(rt.alloc(), &LENGTHS).expect(&rt, "success"));
 }
 
-// So many words, each of which is its place.
+// This many words, each of which is its place.
 fn places(alloc: Global, count: usize) -> Result<Vec<OsString>, AllocError> {
     let mut words = Vec::new(alloc);
     for place in 0..count {

@@ -19,7 +19,7 @@ impl fmt::Display for Bad {
 
 impl std::error::Error for Bad {}
 
-// Whether an answer is an error with this message.
+// Whether a result is an error with this message.
 fn fails<T: Drop>(
     alloc: Global,
     answer: Result<T, Error>,
@@ -54,7 +54,7 @@ fn texts(rt: HostRuntime) {
     assert!(rt; is_given_back(rt.alloc(), b"foo\xff").expect(&rt, "success"));
 }
 
-// Whether the answer to a word is this number, or this message where it is none.
+// Whether a word is parsed as this number, or, if there is no number, refused with this message.
 fn is_number(
     alloc: Global,
     word: &[u8],
@@ -84,7 +84,7 @@ fn numbers(rt: HostRuntime) {
     }
 }
 
-// Whether a function of the text answers, and whether its error is told.
+// Whether what a function of the text returns is the result, and whether its error is reported.
 fn is_asked(alloc: Global) -> Result<bool, Error> {
     let word = OsString::from_text(alloc, "-10")?;
     let zero = word.parse_with(|_text| -> Result<u8, Bad> { Ok(0) })?;
@@ -92,7 +92,7 @@ fn is_asked(alloc: Global) -> Result<bool, Error> {
     Ok(zero == 0 && fails(alloc, answer, "cannot parse argument \"-10\": bad")?)
 }
 
-// Whether no function is asked about damage.
+// Whether damage fails with its own error, whatever the function would return.
 fn is_not_asked(alloc: Global) -> Result<bool, Error> {
     let word = OsString::from_bytes(alloc, b"foo\xff")?;
     let answer = word.parse_with(|_text| -> Result<u8, Bad> { Ok(0) });
@@ -107,7 +107,7 @@ fn functions_of_texts(rt: HostRuntime) {
     );
 }
 
-// Whether a number below 0 is none without a sign, and the error has a cause.
+// Whether a number below 0 cannot be parsed as an unsigned one, and the error has a cause.
 fn has_a_cause(alloc: Global) -> Result<bool, Error> {
     match OsString::from_text(alloc, "-10")?.parse::<u32>() {
         Ok(_) => Ok(false),

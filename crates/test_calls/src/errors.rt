@@ -17,9 +17,9 @@ enum Made {
     OfLong(&'static str),
     OfWord(&'static [u8]),
     OfValue(&'static str, &'static str),
-    // These bytes are no text.
+    // These bytes are not text.
     OfBytes(&'static [u8]),
-    // This value was not parsed, and so it was told.
+    // This value was not parsed, for this reason.
     OfParse(&'static str, &'static str),
     // A program's own message.
     OfStr(&'static str),
@@ -131,8 +131,7 @@ fn messages(rt: HostRuntime) {
     assert_eq!(rt; first_not_told(&rt, &MESSAGES), None);
 }
 
-// `anyhow` keeps at most 120 bytes of a message: of 121 letters it keeps a front and a mark that
-// says so.
+// `anyhow` keeps a front of a message that is longer than 120 bytes, and not all of it.
 fn keeps_a_front(alloc: Global) -> Result<bool, AllocError> {
     let mut text = String::new(alloc);
     for _ in 0..121 {
@@ -148,7 +147,7 @@ fn long_message(rt: HostRuntime) {
     assert!(rt; keeps_a_front(rt.alloc()).expect(&rt, "success"));
 }
 
-// Whether the cause of an error says this; none is that there is no cause.
+// Whether the cause of an error prints this; `None` means that there is no cause.
 fn is_caused(rt: &(impl Abort + AllocGlobal), made: Made, by: Option<&str>) -> bool {
     match error_of(rt, made).cause() {
         Some(cause) => Some(cause.to_string(rt.alloc()).expect(rt, "memory").as_str()) == by,

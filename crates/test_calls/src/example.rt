@@ -40,8 +40,8 @@ fn read_options(parser: &mut Parser, options: &mut Options) -> Result<(), UsageE
     Ok(())
 }
 
-// Whether a line, given as one word in each line, is understood if `known` says so, and what was
-// read is `-n 10`, `--shout` and these files.
+// Whether a line, given as one word in each line, is understood exactly if `known` is true, and
+// what was read is `-n 10`, `--shout` and these files.
 fn reads(alloc: Global, line: &[u8], known: bool, files: &[&[u8]]) -> Result<bool, Error> {
     let mut parser = Parser::from_vec(split_words(alloc, line)?);
     let mut options = Options {

@@ -97,7 +97,7 @@ fn words_of_an_environment(rt: HostRuntime) {
     assert!(rt; reads_an_environment(rt.alloc()).expect(&rt, "success"));
 }
 
-// Whether no words are no name.
+// Whether no words give no name.
 fn reads_no_words(alloc: Global) -> Result<bool, Error> {
     let mut parser = parser_of_arguments(alloc, &[])?;
     Ok(parser.bin_name().is_none() && is_at_end(&mut parser)?)

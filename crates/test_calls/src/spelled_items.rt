@@ -200,7 +200,8 @@ const SHORT_OPTIONAL: [Row; 4] = [
     },
 ];
 
-// If `short_equals` is on, `=` stands between where the value is empty or begins with `=`.
+// If `short_equals` is on, `=` is between the option and its value where the value is empty or
+// begins with `=`.
 const SHORT_OPTIONAL_ON: [Row; 3] = [
     Row {
         items: &[ShortValue('c', b"")],
@@ -344,7 +345,7 @@ const SEVERAL: [Row; 8] = [
 ];
 
 // If `short_equals` is on, a lone value of a short option of several is joined where a positional
-// comes next and an option stands somewhere after that.
+// comes next and an option occurs somewhere after that.
 const JOINED: [Row; 3] = [
     Row {
         items: &[ShortMany('d', &[b"1"]), Positional(b"f"), Short('v')],
@@ -365,7 +366,7 @@ const JOINED: [Row; 3] = [
     },
 ];
 
-// Elsewhere it stands in a word of its own, if it is a plain word.
+// Elsewhere it is in a word of its own, if it is a plain word.
 const NOT_JOINED: [Row; 3] = [
     Row {
         items: &[ShortMany('d', &[b"1"]), Positional(b"f")],
@@ -381,7 +382,7 @@ const NOT_JOINED: [Row; 3] = [
     },
 ];
 
-// The separator stands once at most: before a positional that would be one more of several values,
+// The separator occurs at most once: before a positional that would be one more of several values,
 // or before the last positionals, where one of them would be an option.
 const POSITIONALS: [Row; 9] = [
     Row {
@@ -470,7 +471,7 @@ const DAMAGE: [Row; 7] = [
     },
 ];
 
-// One value of a long option of several that has no name stands after `=`.
+// One value of a long option of several that has no name comes after `=`.
 const NAMELESS: [Row; 1] = [Row {
     items: &[LongMany("", &[b"a"])],
     words: &[b"--=a"],
@@ -701,7 +702,7 @@ const EMPTY_NAME: [Fault; 1] = [Fault {
     printed: "items[1]: a long option with an empty name needs one value after `=`",
 }];
 
-// Of several values of an option with no name none can stand after `=`.
+// Of several values of an option with no name none can come after `=`.
 const NAMELESS_OF_SEVERAL: [Fault; 1] = [Fault {
     items: &[Short('v'), LongMany("", &[b"a", b"b"])],
     index: 1,

@@ -24,7 +24,8 @@ fn push_items(text: &mut String, items: &[Item]) -> Result<(), AllocError> {
     Ok(())
 }
 
-// What these words say by that table, as text: each item on a line of its own, or the message.
+// What these words are read as by that table, as text: each item on a line of its own, or the
+// message.
 fn told(rt: &(impl Abort + AllocGlobal), words: &[u8]) -> String {
     let words = split_words(rt.alloc(), words).expect(rt, "memory");
     match read_items(rt.alloc(), words, true, &table_with_a_dash(rt)) {

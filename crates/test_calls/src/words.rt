@@ -94,7 +94,7 @@ fn quoted_bytes(rt: HostRuntime) {
 }
 
 // Whether bytes are this text, in a view, in a word and in the text that a word becomes; a word
-// that is none stays one.
+// that is not text stays a word.
 fn has_text(rt: &(impl Abort + AllocGlobal), bytes: &[u8], text: Option<&str>) -> bool {
     let word = OsString::from_bytes(rt.alloc(), bytes).expect(rt, "memory");
     let is_text = OsStr::from_bytes(bytes).to_str() == text && word.to_str() == text;
@@ -164,7 +164,7 @@ const ORDERED: [&[u8]; 12] = [
     b"\xff",
 ];
 
-// Whether words stand to each other as their places do.
+// Whether words compare with each other as their places do.
 fn are_ordered(rt: &(impl Abort + AllocGlobal), place: usize, other_place: usize) -> bool {
     let (Some(bytes), Some(others)) = (ORDERED.get(place), ORDERED.get(other_place)) else {
         return false;

@@ -1,8 +1,8 @@
 //! Replays cases: scripts of calls and whole lines, each with the text that it should write.
 //!
-//! Standard input holds the cases; the head of the file `stdin` says how they are written. Each
-//! case that differs is printed, and after each section the number of its cases that agree and that
-//! differ.
+//! Standard input holds the cases; the head of the file `stdin` describes how they are written.
+//! Each case that differs is printed, and after each section the number of its cases that agree and
+//! that differ.
 #![tactic(auto)]
 
 use lexopt_calls::run::run;

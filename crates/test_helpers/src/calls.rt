@@ -46,7 +46,7 @@ pub fn gives(word: Option<OsString>, wanted: &[u8]) -> bool {
     }
 }
 
-/// Whether the error says that this option has no value; `None` if memory ran out.
+/// Whether the error reports that this option has no value; `None` if memory ran out.
 pub fn is_missing(error: Option<Error>, of: &str) -> Option<bool> {
     match error {
         Some(
@@ -59,7 +59,7 @@ pub fn is_missing(error: Option<Error>, of: &str) -> Option<bool> {
     }
 }
 
-/// Whether the error says that this option has this unexpected value; `None` if memory ran out.
+/// Whether the error reports that this option has this unexpected value; `None` if memory ran out.
 pub fn is_unexpected(error: Option<Error>, of: &str, held: &[u8]) -> Option<bool> {
     match error {
         Some(Error::UnexpectedValue { option, value }) => {

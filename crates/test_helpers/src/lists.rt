@@ -4,7 +4,7 @@ use std::alloc::{AllocError, Global};
 // The most things of a list.
 const MOST: usize = 3;
 
-/// The numbers of the lists of at most three of so many things are below this one.
+/// The numbers of the lists of at most three of `count` things are below this one.
 pub fn numbers_of(count: usize) -> usize {
     let base = count.saturating_add(1);
     base.saturating_mul(base).saturating_mul(base)

@@ -1,6 +1,6 @@
 //! Words of every kind.
 
-/// Words that are no option, the separator, clusters and long options: with values, without, and
+/// Words that are not options, the separator, clusters and long options: with values, without, and
 /// damaged.
 pub const WORDS: [&[u8]; 25] = [
     b"",

@@ -1,8 +1,8 @@
-//! Answers calls, so that the answers can be compared. `bench/src/bin/compare` does the same with
-//! the Rust crate.
+//! Makes calls and writes their results, so that these can be compared. `bench/src/bin/compare`
+//! does the same with the Rust crate.
 //!
 //! Standard input has a case in each line: a constructor, words and calls, with a space between
-//! them. For each case a line is written: the answer to each call and a space, and then what is
+//! them. For each case a line is written: the result of each call and a space, and then what is
 //! left, the pending value and the words.
 //!
 //! - The constructor is `a` for `from_args`, or `i` for `from_iter`.
@@ -196,7 +196,7 @@ fn parser_of(alloc: Global, constructor: &str, words: Vec<OsString>) -> Result<P
     }
 }
 
-// Makes the call of a letter and a digit, and answers it.
+// Makes the call of a letter and a digit, and writes its result.
 fn answer_call(
     alloc: Global,
     parser: &mut Parser,
@@ -213,7 +213,7 @@ fn answer_call(
     answers.letter(b' ')
 }
 
-// Makes these calls, and says what is left.
+// Makes these calls, and writes what is left.
 fn make_calls(
     alloc: Global,
     parser: &mut Parser,
@@ -237,7 +237,7 @@ fn answer(alloc: Global, case: &str, answers: &mut Answers) -> Result<(), Error>
     make_calls(alloc, &mut parser, calls, answers)
 }
 
-/// Answers the cases of standard input.
+/// Runs the cases of standard input.
 pub fn print(rt: &HostRuntime) -> Result<()> {
     let alloc = rt.alloc();
     let mut input = String::new(alloc);

@@ -74,7 +74,7 @@ fn is_same_in_parts(
     Ok(replies.starts_with(&before) && replies.ends_with(&after))
 }
 
-// What the words say by this table, if anything.
+// What the words are read as by this table, if anything.
 fn items_of(
     alloc: Global,
     words: &[OsString],

@@ -103,7 +103,7 @@ impl Found {
         Ok(())
     }
 
-    // Reads these words in both ways, and spells what they say.
+    // Reads these words in both ways, and spells what is read from them.
     fn read(
         &mut self,
         alloc: Global,

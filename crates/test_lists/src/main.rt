@@ -1,8 +1,8 @@
 //! Tries the library on many lists of words, and prints what was found.
 //!
 //! With no argument it reads every short list of words, makes every sequence of calls on each,
-//! makes random calls, and answers the cases of standard input. With `chance SEED ROUNDS` it only
-//! makes random calls, and with `answers` it only answers cases; `bench/compare` uses that.
+//! makes random calls, and runs the cases of standard input. With `chance SEED ROUNDS` it only
+//! makes random calls, and with `answers` it only runs cases; `bench/compare` uses that.
 #![tactic(auto)]
 
 mod answers;

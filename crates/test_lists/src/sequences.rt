@@ -5,8 +5,8 @@
 //! second parser of the same words, on which `advance` and `long_name` are called in place of
 //! `next`, `take` in place of `value` and `begin_values` in place of `values`. A sequence ends when
 //! `next` finds nothing more, or when there is no value or no optional value; `values` is read to
-//! its end. Before each call it checks what `raw_args`, `try_raw_args` and `optional_value` say
-//! about the line, on copies if they consume something.
+//! its end. Before each call it checks what `raw_args`, `try_raw_args` and `optional_value`
+//! return for the line, on copies if they consume something.
 //!
 //! It prints how many lists it tried, and what went wrong first, if anything did.
 

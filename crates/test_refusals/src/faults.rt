@@ -1,5 +1,5 @@
 //! Readers and writers that fail, that are slow and that never end, and scripts that a case file
-//! cannot say.
+//! cannot express.
 use lexopt::replay::{RunError, run};
 use std::alloc::{AllocError, Global};
 use std::io;
@@ -81,7 +81,7 @@ impl Write for Narrow {
     }
 }
 
-// Whether a script that is read from here comes to this answer, and this is written for it.
+// Whether a script that is read from here ends with this result, and this is written for it.
 fn comes_to<R: Read>(
     alloc: Global,
     reader: &mut R,
@@ -124,8 +124,8 @@ fn reads_that_fail(rt: HostRuntime) {
     );
 }
 
-// Whether the stored script comes to this answer where its writer has so much room, and what that
-// took is a front of what is to be written.
+// Whether the stored script ends with this result where its writer has this much room, and what
+// that took is a front of what is to be written.
 fn goes_out(
     alloc: Global,
     room: usize,
@@ -156,7 +156,7 @@ fn writes_that_fail(rt: HostRuntime) {
 }
 
 // Whether a script of this many line feeds, of which another byte takes the place of the first,
-// comes to this answer.
+// ends with this result.
 fn is_long(
     alloc: Global,
     first: u8,
@@ -187,7 +187,7 @@ fn limits(rt: HostRuntime) -> Result<(), Fail> {
     Ok(())
 }
 
-// Scripts that a case file cannot say.
+// Scripts that a case file cannot express.
 #[test]
 fn line_ends_and_bytes(rt: HostRuntime) {
     for (script, text, answer) in [

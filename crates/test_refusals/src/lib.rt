@@ -1,5 +1,5 @@
 //! Tests of refused memory, of readers and writers that fail, and of scripts that a case file
-//! cannot say. It has nothing else.
+//! cannot express. It has nothing else.
 #![tactic(auto)]
 
 #[cfg(test)]

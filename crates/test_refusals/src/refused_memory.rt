@@ -1,8 +1,8 @@
 //! Refused memory: the script `refused_memory` beside `src` runs these tests with each request for
 //! memory refused in turn.
 //!
-//! One request of a test is refused in a run. Each test checks what stands afterwards, and then
-//! fails and says which call was refused. Where nothing is refused, each test passes.
+//! One request of a test is refused in a run. Each test checks what holds afterwards, and then
+//! fails and reports which call was refused. Where nothing is refused, each test passes.
 use lexopt::os_string::arguments;
 use lexopt::replay::{Call, Reply, RunError, read_items, replay, run};
 use lexopt::spell::{Reason, SpellError, spell};
@@ -35,7 +35,7 @@ fn told(refused: bool, call: &str) -> Result<(), Fail> {
     }
 }
 
-// The same, if each answer was as wanted: there is then whether a call was refused.
+// The same, if each result was as wanted: `seen` then holds whether a call was refused.
 fn ended(seen: Option<bool>, call: &str) -> Result<(), Fail> {
     match seen {
         Some(refused) => told(refused, call),
@@ -43,7 +43,7 @@ fn ended(seen: Option<bool>, call: &str) -> Result<(), Fail> {
     }
 }
 
-// Whether one of two calls was refused memory. Of each there is whether its answer was as wanted,
+// Whether one of two calls was refused memory. Of each there is whether its result was as wanted,
 // or `None` if memory ran out.
 fn refused_once(first: Option<bool>, second: Option<bool>) -> Option<bool> {
     match (first, second) {
@@ -344,7 +344,7 @@ const GIVEN: [&[u8]; 6] = [
     b"--\xff=\xfe",
 ];
 
-// Whether `arguments` is refused memory; asked again where it was, it answers the words.
+// Whether `arguments` is refused memory; called again where it was, it returns the words.
 fn answers_words(alloc: Global, words: &[OsString]) -> Result<Option<bool>, AllocError> {
     let environment = Arguments { words };
     let mut answer = arguments(&environment, alloc);
@@ -355,7 +355,7 @@ fn answers_words(alloc: Global, words: &[OsString]) -> Result<Option<bool>, Allo
     Ok((answer?.as_slice() == words).then_some(refused))
 }
 
-// Whether `from_env_os` is refused memory. Asked again then, it makes a parser of the words.
+// Whether `from_env_os` is refused memory. Called again then, it makes a parser of the words.
 fn reads_words(alloc: Global, words: &[OsString]) -> Result<Option<bool>, Error> {
     let environment = Arguments { words };
     let mut made = Parser::from_env_os(&environment, alloc);
@@ -422,7 +422,7 @@ fn copied_bytes(rt: HostRuntime) -> Result<(), Fail> {
     ended(gives_word(first, second, b"a\xff"), "to_os_string")
 }
 
-// A value that was taken out of its word is copied without what stood before it.
+// A value that was taken out of its word is copied without what came before it.
 #[test]
 fn copied_value(rt: HostRuntime) -> Result<(), Fail> {
     let Ok(word) = OsString::from_bytes(rt.alloc(), b"--n=a\xff") else {
@@ -448,7 +448,7 @@ fn copied_argument(rt: HostRuntime) -> Result<(), Fail> {
     ended(refused_once(first, second), "clone")
 }
 
-// Whether the error says that this option was not expected; `None` if memory ran out.
+// Whether the error reports that this option was not expected; `None` if memory ran out.
 fn is_not_expected(error: Error, of: &str) -> Option<bool> {
     match error {
         Error::UnexpectedOption(option) => Some(option.as_str() == of),
@@ -471,8 +471,8 @@ fn unexpected_long_option(rt: HostRuntime) -> Result<(), Fail> {
     ended(refused_once(first, second), "unexpected")
 }
 
-// Whether the error is the one for this word, which is no number or no text; `None` if memory ran
-// out.
+// Whether the error is the one for this word, which is not a number or not text; `None` if memory
+// ran out.
 fn is_of_word(error: Option<Error>, word: &OsString) -> Option<bool> {
     match error {
         Some(Error::ParsingFailed { value, .. }) => Some(word.to_str() == Some(value.as_str())),
@@ -552,7 +552,7 @@ fn every_call(alloc: Global) -> Result<[Call; 13], AllocError> {
     ])
 }
 
-// What stands before a place of a list and after it, if it is one.
+// What is before a place of a list and what is after it, if the list has that place.
 fn around<T>(list: &[T], place: usize) -> Option<(&[T], &[T])> {
     Some((list.get(..place)?, list.get(place..)?.get(1..)?))
 }
@@ -578,7 +578,7 @@ fn changed_nothing(
     )
 }
 
-// A call, with so many of its items where it has some; a call that changes nothing for any other.
+// A call, with this many of its items where it has some; a call that changes nothing for any other.
 fn cut(call: Option<&Call>, items: usize) -> Call {
     match call {
         Some(Call::Values(_)) => Call::Values(items),
@@ -645,7 +645,7 @@ fn calls_of_every_kind(rt: HostRuntime) -> Result<(), Fail> {
     }
 }
 
-// What a line says, or that its reading was refused memory.
+// What a line is read as, or that its reading was refused memory.
 fn read_so(alloc: Global, lines: &[u8], wanted: &str) -> Result<(), Fail> {
     let Ok(table) = table_of_each_kind(alloc) else {
         return told(true, "the table");
@@ -708,7 +708,7 @@ fn line_with_an_unexpected_value(rt: HostRuntime) -> Result<(), Fail> {
     )
 }
 
-// The line of a script that stands for the whole line is an error where its reading is refused
+// The line that a script writes for the whole line is an error where the reading of that is refused
 // memory; the calls after it want none.
 #[test]
 fn script_of_a_whole_line(rt: HostRuntime) -> Result<(), Fail> {
@@ -718,14 +718,14 @@ fn script_of_a_whole_line(rt: HostRuntime) -> Result<(), Fail> {
     replays(rt.alloc(), script, whole, refused, "read_items")
 }
 
-// What `spell` is to answer: these words, or which item is at fault and why.
+// What `spell` is to return: these words, or which item is at fault and why.
 #[derive(Clone, Copy)]
 enum Wanted {
     Words(&'static [&'static [u8]]),
     Fault(usize, Reason),
 }
 
-// Whether this is the answer.
+// Whether this is the result.
 fn is_spelled_so(answer: &Result<Vec<OsString>, SpellError>, wanted: Wanted) -> bool {
     match (answer, wanted) {
         (Ok(words), Wanted::Words(wanted)) => are_words(words, wanted),
@@ -736,7 +736,7 @@ fn is_spelled_so(answer: &Result<Vec<OsString>, SpellError>, wanted: Wanted) -> 
     }
 }
 
-// The answer to these items; asked again where their spelling was refused memory, the same answer.
+// `spell` returns this for these items; where it was refused memory, it does when called again.
 fn spells_so(alloc: Global, given: &[Given], wanted: Wanted) -> Result<(), Fail> {
     let Ok(table) = table_of_each_kind(alloc) else {
         return told(true, "the table");
@@ -808,7 +808,7 @@ fn spelled_values(rt: HostRuntime) -> Result<(), Fail> {
     )
 }
 
-// Items at fault are told so, or memory is refused: no words are answered.
+// Items at fault are reported, or memory is refused: no words are returned.
 #[test]
 fn items_at_fault(rt: HostRuntime) -> Result<(), Fail> {
     spells_so(
@@ -828,7 +828,7 @@ enum Value {
     Output,
 }
 
-// A flag, an option with a value, and the help.
+// A flag, an option with a value, the help and the version.
 static PACK: Declaration<'static, Flag, Value> = declare! {
     program: "pack",
     about: "Packs.",
@@ -836,11 +836,12 @@ static PACK: Declaration<'static, Flag, Value> = declare! {
         flag(Flag::Verbose, Names::Both('v', "verbose"), "tell more"),
         value(Value::Output, Names::Both('o', "output"), "FILE", "write to this file"),
         help(Names::Both('h', "help")),
+        version(Names::Long("version"), "pack 1.0"),
     ],
     positionals: [any_number("FILE")],
 };
 
-// Adds what is answered.
+// Adds the answer.
 fn write_answer(answer: &Answer<'_, Flag, Value>, text: &mut String) -> Result<(), AllocError> {
     match answer {
         Answer::Said(said) => write!(text, "{said:?}"),
@@ -884,7 +885,7 @@ fn declared_line(rt: HostRuntime) -> Result<(), Fail> {
     )
 }
 
-// A mistake after something is said, with the nearest name.
+// A mistake after something is read, with the nearest name.
 #[test]
 fn declared_mistake(rt: HostRuntime) -> Result<(), Fail> {
     answers_so(
@@ -903,8 +904,14 @@ fn declared_help(rt: HostRuntime) -> Result<(), Fail> {
         "Usage: pack [OPTION]... [FILE]...\nPacks.\n\n  \
         -v, --verbose\n             tell more\n  \
         -o, --output=FILE\n             write to this file\n  \
-        -h, --help\n             print this help and exit\n",
+        -h, --help\n             print this help and exit\n      \
+        --version\n             print the version and exit\n",
     )
+}
+
+#[test]
+fn declared_version(rt: HostRuntime) -> Result<(), Fail> {
+    answers_so(rt.alloc(), b"-v\n--version\n--verbsoe", "pack 1.0\n")
 }
 
 #[test]
@@ -912,6 +919,6 @@ fn declared_completion(rt: HostRuntime) -> Result<(), Fail> {
     answers_so(
         rt.alloc(),
         b"__complete\n-v\n-o\nx\n--",
-        "--verbose\n--output\n--help\n",
+        "--verbose\n--output\n--help\n--version\n",
     )
 }

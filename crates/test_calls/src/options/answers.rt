@@ -2,8 +2,10 @@
 use crate::options::archive::{
     ArchiveOption, ArchiveOptions, Flag, archive, archive_of_files, debug_of, words_of,
 };
+use crate::options::texts::HELP_AT_80;
 use lexopt_options::{Answer, Declared, Names, Options, Positional};
 use std::alloc::{AllocError, Global};
+use test_helpers::environments::{Arguments, Terminal};
 
 /// What a program is to do about a line.
 #[derive(Clone, Copy, PartialEq, Eq)]
@@ -33,12 +35,12 @@ Packs files.
              print this help and exit
 ";
 
-// Lines, what is to be done, and what is said or printed.
+// Lines, what is to be done, and what is read or printed.
 static LINES: [(&[u8], Do, &str); 16] = [
     (b"", Work, "[]"),
     (b"-v a", Work, "[Flag(Verbose), Positional(\"a\")]"),
     (b"-h", Print, HELP_AT_40),
-    // What stands after it does not matter.
+    // What comes after it does not matter.
     (b"a --help --bogus", Print, HELP_AT_40),
     (
         b"--bogus --help",
@@ -78,7 +80,7 @@ static SCRIPTS: [(&[u8], &str); 3] = [
     ),
 ];
 
-// What is to be done about a line, and what is said or printed.
+// What is to be done about a line, and what is read or printed.
 fn answer_to(
     alloc: Global,
     options: &ArchiveOptions<'_>,
@@ -91,7 +93,7 @@ fn answer_to(
     }
 }
 
-// Whether a line is answered so.
+// Whether this is the answer to a line.
 fn is_answered(
     alloc: Global,
     options: &ArchiveOptions<'_>,
@@ -103,7 +105,7 @@ fn is_answered(
     Ok(done == wanted && found.as_str() == text)
 }
 
-// Whether a line asks for a script that begins so.
+// Whether a line asks for a script that begins like this.
 fn is_script(
     alloc: Global,
     options: &ArchiveOptions<'_>,
@@ -114,7 +116,7 @@ fn is_script(
     Ok(done == Print && text.as_str().starts_with(front) && text.as_str().ends_with('\n'))
 }
 
-/// The row of these that is not as it says, or none.
+/// The first of these rows that does not hold, or none.
 pub fn first_wrong(
     alloc: Global,
     options: &ArchiveOptions<'_>,
@@ -136,7 +138,7 @@ fn lines(rt: HostRuntime) {
     );
 }
 
-// The script that does not begin as its row says, or none.
+// The first script that does not begin as in its row, or none.
 fn first_wrong_script(
     alloc: Global,
     options: &ArchiveOptions<'_>,
@@ -157,7 +159,7 @@ fn scripts(rt: HostRuntime) {
     );
 }
 
-// Whether `-h` is answered so under these options and arguments.
+// Whether this is the answer to `-h` under these options and arguments.
 fn is_answered_by(
     alloc: Global,
     declared: &[ArchiveOption<'_>],
@@ -178,7 +180,8 @@ Packs files.
              print this help and exit
 ";
 
-// The help is printed although an argument is missing. A flag with its name is no request for it.
+// The help is printed although an argument is missing. A flag with its name is not a request for
+// it.
 #[test]
 fn help(rt: HostRuntime) {
     let help = [Declared::help(Names::Both('h', "help"))];
@@ -190,4 +193,49 @@ fn help(rt: HostRuntime) {
     assert!(rt;
         is_answered_by(rt.alloc(), &other, &[], Work, "[Flag(Verbose)]").expect(&rt, "success")
     );
+}
+
+// Whether the words `archive -h` print this help where `COLUMNS` is this, or is not set.
+fn is_help_of_columns(
+    alloc: Global,
+    columns: Option<&[u8]>,
+    help: &str,
+) -> Result<bool, AllocError> {
+    let words = words_of(alloc, b"archive -h")?;
+    let arguments = Arguments { words: &words };
+    let environment = Terminal { arguments, columns };
+    match archive_of_files().from_env(&(environment, alloc))? {
+        Answer::Text(text) => Ok(text.as_str() == help),
+        _ => Ok(false),
+    }
+}
+
+// The width of the help, for each value of `COLUMNS`: 80 if that is not a number, or is 0, or has no
+// room in 64 bits.
+const COLUMNS: [(Option<&[u8]>, &str); 10] = [
+    (Some(b"40"), HELP_AT_40),
+    (Some(b"+40"), HELP_AT_40),
+    (Some(b"00000000000000000040"), HELP_AT_40),
+    (None, HELP_AT_80),
+    (Some(b""), HELP_AT_80),
+    (Some(b"0"), HELP_AT_80),
+    (Some(b"40 "), HELP_AT_80),
+    (Some(b"-40"), HELP_AT_80),
+    (Some(b"4\xff"), HELP_AT_80),
+    (Some(b"18446744073709551616"), HELP_AT_80),
+];
+
+// The row of these whose help has another width, or none.
+fn first_wrong_width(alloc: Global) -> Result<Option<usize>, AllocError> {
+    for (row, (columns, help)) in COLUMNS.iter().enumerate() {
+        if !is_help_of_columns(alloc, *columns, help)? {
+            return Ok(Some(row));
+        }
+    }
+    Ok(None)
+}
+
+#[test]
+fn columns(rt: HostRuntime) {
+    assert_eq!(rt; first_wrong_width(rt.alloc()).expect(&rt, "success"), None);
 }

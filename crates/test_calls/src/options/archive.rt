@@ -98,12 +98,13 @@ pub fn tells(text: &str, mistake: &str) -> bool {
         == Some("\nTry 'archive --help' for more information.")
 }
 
-/// What is said, as `Debug` writes it.
+/// What is read, as `Debug` writes it.
 pub fn debug_of(alloc: Global, said: &[ArchiveSaid]) -> Result<String, AllocError> {
     format!(in alloc; "{said:?}")
 }
 
-/// What words say or ask for, as `Debug` writes it. If they have a mistake, its message follows.
+/// What words are read as or ask for, as `Debug` writes it. If they have a mistake, its message
+/// follows.
 pub fn text_of_words(
     alloc: Global,
     options: &ArchiveOptions<'_>,
@@ -116,7 +117,7 @@ pub fn text_of_words(
     }
 }
 
-// What is said before the mistake, and then what is printed of it.
+// What is read before the mistake, and then what is printed for it.
 fn text_of_refused(
     alloc: Global,
     refused: &Refused<'_, Flag, Value, Maybe, Values>,

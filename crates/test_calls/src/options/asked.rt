@@ -4,8 +4,8 @@ use crate::options::answers::first_wrong;
 use crate::options::archive::{Archive, Flag};
 use lexopt_options::{Names, Options, declare};
 
-// An option that the help does not tell of, a version, a help with a character alone, and an
-// argument that has to stand.
+// An option that the help does not mention, a version, a help with a character alone, and an
+// argument that has to occur.
 static COPY: Archive<'static> = declare! {
     program: "copy",
     options: [
@@ -26,7 +26,7 @@ const COPY_HELP_AT_40: &str = "Usage: copy [OPTION]... SOURCE
 ";
 
 static COPY_LINES: [(&[u8], Do, &str); 10] = [
-    // Nothing has to stand beside a request.
+    // Nothing has to occur beside a request.
     (b"--version", Print, "copy 1.0\n"),
     (b"a -h", Print, COPY_HELP_AT_40),
     // The first one counts.
@@ -50,7 +50,7 @@ static COPY_LINES: [(&[u8], Do, &str); 10] = [
         Refuse,
         "copy: missing argument SOURCE\nTry 'copy -h' for more information.",
     ),
-    // An argument after the separator is no request.
+    // An argument after the separator is not a request.
     (b"-- -h", Work, "[Positional(\"-h\")]"),
 ];
 

@@ -1,4 +1,4 @@
-//! What can stand where a word is typed.
+//! What can occur where a word is typed.
 use crate::options::archive::{
     ARCHIVE, ArchiveOptions, Flag, Maybe, Value, Values, archive, archive_of_files, words_of,
 };
@@ -15,7 +15,7 @@ enum Word {
 
 use Word::{Argument, ValueOf};
 
-// What was typed after which words, and what can stand there.
+// What was typed after which words, and what can occur there.
 struct Row {
     words: &'static [u8],
     typed: &'static [u8],
@@ -170,7 +170,7 @@ fn is_word(found: Option<Role<'_, Flag, Value, Maybe, Values>>, wanted: Option<W
     }
 }
 
-// Whether a row is as it says.
+// Whether a row holds.
 fn is_offered(alloc: Global, options: &ArchiveOptions<'_>, row: &Row) -> Result<bool, AllocError> {
     let words = words_of(alloc, row.words)?;
     let typed = OsString::from_bytes(alloc, row.typed)?;
@@ -181,7 +181,7 @@ fn is_offered(alloc: Global, options: &ArchiveOptions<'_>, row: &Row) -> Result<
     )
 }
 
-// The row of these that is not as it says, or none. With no options the first one is not.
+// The first of these rows that does not hold, or none. With no options the first one does not.
 fn first_wrong(
     alloc: Global,
     options: Option<ArchiveOptions<'_>>,
@@ -230,7 +230,7 @@ fn damage(rt: HostRuntime) {
     );
 }
 
-// Where no argument can stand, an option or a value can.
+// Where no argument can occur, an option or a value can.
 static ROWS_WITHOUT_ARGUMENTS: [Row; 7] = [
     Row {
         words: b"",

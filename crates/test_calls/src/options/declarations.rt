@@ -65,7 +65,7 @@ static FAULTS: [(Names<'static>, ArchiveKind<'static>, Option<Reason>); 16] = [
     (Names::Both('H', "helps"), VERBOSE, None),
 ];
 
-// The row of these that is not as it says, or none.
+// The first of these rows that does not hold, or none.
 fn first_wrong(rows: &[(Names<'static>, ArchiveKind<'static>, Option<Reason>)]) -> Option<usize> {
     rows.iter().position(|(names, kind, reason)| !is_refused_for(*names, *kind, *reason))
 }

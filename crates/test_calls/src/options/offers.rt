@@ -1,5 +1,5 @@
 //! Completion beside reading: a spelling is offered after some words exactly if the words, it and
-//! what may come after it can be read as what the words say, and then its option.
+//! what may come after it can be read as what the words alone are read as, and then its option.
 use crate::options::archive::{
     ArchiveKind, ArchiveLine, ArchiveOptions, ArchiveSaid, Flag, Maybe, Value, Values,
     archive_of_files,
@@ -46,7 +46,7 @@ fn line_by_both(
         .expect(rt, "memory")
 }
 
-// Whether an option of this kind is said.
+// Whether an option of this kind is read.
 fn is_option(said: Option<&ArchiveSaid>, kind: &ArchiveKind<'_>) -> bool {
     match (said, kind) {
         (Some(Said::Flag(found)), Kind::Flag(key)) => found == key,
@@ -57,7 +57,7 @@ fn is_option(said: Option<&ArchiveSaid>, kind: &ArchiveKind<'_>) -> bool {
     }
 }
 
-// Whether more is said than before: that, and then an option of this kind. These words do not ask
+// Whether more is read than before: that, and then an option of this kind. These words do not ask
 // for the help before that.
 fn goes_on(before: &[ArchiveSaid], line: &ArchiveLine<'_>, kind: &ArchiveKind<'_>) -> bool {
     match line {

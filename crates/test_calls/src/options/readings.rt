@@ -1,11 +1,11 @@
-//! What lines say.
+//! What lines are read as.
 use crate::options::archive::{
     ARCHIVE, Archive, ArchiveOptions, archive_of_files, text_of_words, words_of,
 };
 use lexopt_options::{Declaration, Options};
 use std::alloc::{AllocError, Global};
 
-// Whether a line says this.
+// Whether a line is read as this.
 fn says(
     alloc: Global,
     options: &ArchiveOptions<'_>,
@@ -22,7 +22,7 @@ static LINES: [(&[u8], &str); 11] = [
         "[Flag(Verbose), Value(Output, \"x\"), Value(Output, \"y\"), Maybe(Backup, Some(\"z\")), \
         Values(Exclude, [\"a\", \"b\"]), Positional(\"-f\")]",
     ),
-    // What stands after the request for the help does not matter.
+    // What comes after the request for the help does not matter.
     (b"-h --backup z --backup=", "Help"),
     (b"--help --bogus", "Help"),
     (b"-h --verbose=x -o", "Help"),
@@ -49,7 +49,7 @@ static LINES: [(&[u8], &str); 11] = [
     (b"-o\xFF", "[Value(Output, \"\\xFF\")]"),
 ];
 
-// The row of these that is not as it says, or none.
+// The first of these rows that does not hold, or none.
 fn first_wrong(
     alloc: Global,
     options: &ArchiveOptions<'_>,

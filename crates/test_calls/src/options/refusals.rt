@@ -1,4 +1,4 @@
-//! What is printed of lines that are refused, and what they say before.
+//! What is printed for lines that are refused, and what is read from them before the mistake.
 use crate::options::archive::{
     ARCHIVE, Archive, ArchiveKind, ArchiveOptions, Maybe, Value, Values, archive, archive_of_files,
     tells, text_of_words, words_of,
@@ -8,7 +8,7 @@ use lexopt_options::{
 };
 use std::alloc::{AllocError, Global};
 
-// Whether a line is refused with this mistake, and says this before.
+// Whether a line is refused with this mistake, and this is read before it.
 fn is_refused(
     alloc: Global,
     options: &ArchiveOptions<'_>,
@@ -41,13 +41,13 @@ static MISTAKES: [(&[u8], &str, &str); 13] = [
         "invalid option '--bogus'",
     ),
     (b"-vqo", "[Flag(Verbose)]", "invalid option '-q'"),
-    // An option with a value that it does not take is not said before its mistake.
+    // An option with a value that it does not take is not part of what is read before its mistake.
     (
         b"-v --verbose=x -o",
         "[Flag(Verbose)]",
         "unexpected argument for option '--verbose': \"x\"",
     ),
-    // A request for the help that has a value is none.
+    // A request for the help that has a value is not a request.
     (
         b"a --help=1",
         "[Positional(\"a\")]",
@@ -77,7 +77,7 @@ static MISTAKES: [(&[u8], &str, &str); 13] = [
     (b"-v --", "[Flag(Verbose)]", "missing argument SOURCE"),
 ];
 
-// The row of these that is not as it says, or none. With no options the first one is not.
+// The first of these rows that does not hold, or none. With no options the first one does not.
 fn first_wrong(
     alloc: Global,
     options: Option<ArchiveOptions<'_>>,
@@ -123,7 +123,7 @@ fn reported(
     Ok((report.to_string(alloc)?, report.status()))
 }
 
-// Whether a mistake that the program found is printed so.
+// Whether a mistake that the program found is printed like this.
 fn is_reported(
     alloc: Global,
     options: &ArchiveOptions<'static>,
@@ -224,7 +224,7 @@ fn invalid_values(rt: HostRuntime) {
     }
 }
 
-// Refused memory is no mistake in the line.
+// Refused memory is not a mistake in the line.
 #[test]
 fn no_memory(rt: HostRuntime) {
     let error = UsageError::from(Error::OutOfMemory);

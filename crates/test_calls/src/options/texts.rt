@@ -3,7 +3,8 @@ use crate::options::archive::{ARCHIVE, ArchiveOption, Flag, Maybe, Value, Values
 use lexopt_options::{Declared, Names, Options, Positional, WIDTH};
 use std::alloc::{AllocError, Global};
 
-const HELP_AT_80: &str = "Usage: archive [OPTION]... [FILE]...
+/// The help of the program at 80 columns.
+pub const HELP_AT_80: &str = "Usage: archive [OPTION]... [FILE]...
 Packs files.
 
   -v, --verbose         tell more
@@ -16,7 +17,7 @@ Packs files.
   -h, --help            print this help and exit
 ";
 
-// Each word stands on a line of its own.
+// Each word is on a line of its own.
 const HELP_AT_0: &str = "Usage: archive
        [OPTION]...
        [FILE]...
@@ -108,7 +109,7 @@ const LONG: &str =
     aaaaaaaaaaaaaaaaaaaaaaaaaaaaaaaaaaaaaaaaaaaaaaaaaaaaaaaaaaaaaaaaaaaaaaaaaaaaaaaa\
     aaaaaaaaaaaaaaaaaaaaaaaaaaaaaaaaaaaaaaaa";
 
-// Whether it stands on a line of its own, unbroken, with its help below.
+// Whether it is on a line of its own, unbroken, with its help below.
 fn is_on_one_line(alloc: Global) -> Result<bool, AllocError> {
     let declared = [Declared::flag(Flag::Verbose, Names::Long(LONG), "say it")];
     let wanted = format!(in alloc;

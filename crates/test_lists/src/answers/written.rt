@@ -1,4 +1,4 @@
-//! Answers as they are compared: a letter, and then bytes in hexadecimal digits.
+//! Results as they are compared: a letter, and then bytes in hexadecimal digits.
 use lexopt_base::{Error, OsString};
 use std::alloc::Global;
 
@@ -21,13 +21,13 @@ impl Answers {
         self.text.as_slice()
     }
 
-    /// An answer without bytes, or the beginning of one; also what separates answers.
+    /// A result without bytes, or the beginning of one; also what separates results.
     pub fn letter(&mut self, letter: u8) -> Result<(), Error> {
         self.text.push(letter)?;
         Ok(())
     }
 
-    /// An answer with these bytes.
+    /// A result with these bytes.
     pub fn bytes(&mut self, letter: u8, bytes: &[u8]) -> Result<(), Error> {
         self.letter(letter)?;
         self.field(b':', bytes)
@@ -41,7 +41,7 @@ impl Answers {
         }
     }
 
-    /// An answer with all these words.
+    /// A result with all these words.
     pub fn words(&mut self, words: &[OsString]) -> Result<(), Error> {
         self.letter(b'W')?;
         for word in words {

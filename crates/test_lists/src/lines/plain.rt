@@ -11,7 +11,7 @@ use std::mem;
 /// Why a line has no items.
 #[derive(Drop)]
 pub enum Refusal {
-    /// The words say nothing, for this reason.
+    /// The words have no items, for this reason.
     Message(String),
     NoMemory,
 }
@@ -315,7 +315,7 @@ impl Reader<'_> {
     }
 }
 
-/// What the words say under the table.
+/// What the words are read as under the table.
 pub fn read(
     alloc: Global,
     words: &[&[u8]],

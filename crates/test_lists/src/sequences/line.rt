@@ -1,4 +1,4 @@
-//! What the calls that look at a line say about it.
+//! What the calls that look at a line return.
 use crate::sequences::step::Step;
 use lexopt_base::{Error, OsString, Parser};
 use lexopt_calls::reply::Reply;

@@ -19,7 +19,8 @@ pub enum Step {
 
 pub const STEPS: [Step; 4] = [Step::Next, Step::Value, Step::Optional, Step::Values];
 
-// What an error of the parser says. Any other error is handed on, and so is `OutOfMemory`.
+// The reply that an error of the parser means. Any other error is handed on, and so is
+// `OutOfMemory`.
 fn refusal(error: Error) -> Result<Reply, Error> {
     match error {
         Error::MissingValue { option } => Ok(Reply::Missing(option)),

@@ -1,4 +1,5 @@
--- `call_next` lends the parser to `next` for a new lifetime, copies the reply out under it, and ends it. So the parser is back at what `next` says of it.
+-- `call_next` lends the parser to `next` for a new lifetime, copies the reply out under it, and
+-- ends it. So the parser is back at what `next` ensures of it.
 use Rattle.std.proofs.Common.{◌≡◌, ℕ, Some, refl}
 use Rattle.std.specs.Prelude.{IfOk, IsSome}
 use Rattle.std.proofs.raw_atomic.Walks.{proved}
@@ -105,14 +106,16 @@ call_next_spec 𝓤 𝓛 𝓜 𝓡 wired =
     await ! tt $ pick ! (λ y. split ! $ split ! $ split ! $ move ! (2 ∷ []) $
     -- [the reply; the token of α; nothing; the rest; what the lender keeps; the allocator]
     move ! (3 ∷ []) $ pick ! (λ ws. split ! $ drop ! $ split ! $ move ! (1 ∷ []) $ heard ! _ (λ can.
-    -- [what `next` says; the reply; the token of α; nothing; what the lender keeps; the allocator]
+    -- [what `next` ensures; the reply; the token of α; nothing; what the lender keeps; the
+    -- allocator]
     move ! (1 ∷ []) $ peeks ! Or (Is Or) (shows 𝓛 Or) y (u ∷ []) (λ is.
     let typed = ((Or-laws.lawful 𝓛).typed y (u ∷ []) is).0 in
     lands_as ! refl refl typed $ sets ! (of_opd ! (get ! refl)) refl typed $
     let C = triple_of 𝓛 copied.signature (copied.spec 𝓛 𝓜.mem 𝓡.returns) in
     let zc : C.Ghost = (((α ∷ [], tt), (full_share, tt), tt, (al, (y, tt)), (va ∷ [], (u ∷ [], tt))), tt) in
     let Asked = IsSome (next_reply y) in
-    -- [the reply; what `next` says; the token of α; nothing; what the lender keeps; the allocator]
+    -- [the reply; what `next` ensures; the token of α; nothing; what the lender keeps; the
+    -- allocator]
     nothing ! $ move ! (1 ∷ 0 ∷ []) $ join ! $ move ! (5 ∷ 0 ∷ []) $ join ! $ nothing ! $ move ! (3 ∷ 0 ∷ []) $ join ! $ join ! $
     use0 𝓛 (raw (fact 𝓤 Asked)) (fact_i 𝓤 Asked (emp 𝓤) (some_reply Next r.now (next_reply y) can.0 can.1)) $ move ! (1 ∷ 0 ∷ []) $ use2 𝓛 (raw (C.pre zc)) (id⊢ 𝓤 _) $
     calls_at ! (framed 𝓤 𝓛.H 𝓜 (tables 𝓤 𝓛.H 𝓜 𝓡 𝓡.env)) C (copied_met 𝓤 𝓛 𝓜 𝓡 (code.calls-lexopt_calls::replay::copy_reply 𝓡.env wired)) zc
