@@ -11,6 +11,8 @@ pub mod Cuts
 pub mod Stays
 pub mod OneItem
 pub mod OneStop
+pub mod AskedOnce
+pub mod WorkedAsking
 pub mod SomeAnswer
 pub mod WorkedStops
 pub mod WorkedSays

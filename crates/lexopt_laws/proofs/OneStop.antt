@@ -21,7 +21,7 @@ use Rattle.lexopt_options_spec.proofs.Fronts.{item_of, undeclared}
 
 -- with `count` positionals before it, the line that is left is read to this reply, and gives these
 -- items, so that this is the mistake
-data Left (d : Declaration) (count : ℕ) (m : Mistake) (final : Reply) (items : List Item) : Type 0 where
+pub data Left (d : Declaration) (count : ℕ) (m : Mistake) (final : Reply) (items : List Item) : Type 0 where
   undeclared_first : (name : Name) (item : Item) (rest : List Item) → m ≡ unknown_option name → items ≡ item ∷ rest → IsOf name item → index_of d.options name ≡ None → Left d count m final items
   flag_value : (option value : List ℕ) → m ≡ unexpected_value option value → final ≡ steps.unexpected option value → items ≡ [] → Left d count m final items
   valueless : (name : Name) (index : ℕ) (option : List ℕ) → m ≡ missing_value index option → final ≡ steps.missing (Some option) → items ≡ spec.option name None ∷ []
@@ -29,13 +29,13 @@ data Left (d : Declaration) (count : ℕ) (m : Mistake) (final : Reply) (items :
   no_room : (word : List ℕ) (rest : List Item) → m ≡ unexpected_argument word → items ≡ spec.positional word ∷ rest → most d.positionals ≡ Some count → Left d count m final items
   at_end : m ≡ missing_argument count → final ≡ steps.end → items ≡ [] → Left d count m final items
 
-record IsLeft (d : Declaration) (count : ℕ) (u : UnreadLine) (m : Mistake) : Type 0 where
-  final : Reply
-  items : List Item
-  reading : IsReading (table d.options) u final items
-  left : Left d count m final items
+pub record IsLeft (d : Declaration) (count : ℕ) (u : UnreadLine) (m : Mistake) : Type 0 where
+  pub final : Reply
+  pub items : List Item
+  pub reading : IsReading (table d.options) u final items
+  pub left : Left d count m final items
 
-left_of : (d : Declaration) (count : ℕ) (u : UnreadLine) (m : Mistake) → IsLine u → Stops d count u m → IsLeft d count u m
+pub left_of : (d : Declaration) (count : ℕ) (u : UnreadLine) (m : Mistake) → IsLine u → Stops d count u m → IsLeft d count u m
 left_of d count u m line (not_declared name v step none) =
     let r = option_reading (table d.options) u v name (step_line next u (option_reply name) v line step) step in record {
       final = r.0;
@@ -77,7 +77,7 @@ left_of d count u m line (too_few v step few) = record {
 
 -- ---- two lists in two parts
 
-data Compared (xs ys ms ns : List Item) : Type 0 where
+pub data Compared (xs ys ms ns : List Item) : Type 0 where
   same : xs ≡ ys → ms ≡ ns → Compared xs ys ms ns
   shorter : (x : Item) (rest : List Item) → ys ≡ xs ++ x ∷ rest → ms ≡ x ∷ rest ++ ns → Compared xs ys ms ns
   longer : (x : Item) (rest : List Item) → xs ≡ ys ++ x ∷ rest → ns ≡ x ∷ rest ++ ms → Compared xs ys ms ns
@@ -85,7 +85,7 @@ data Compared (xs ys ms ns : List Item) : Type 0 where
 head_same : (x y : Item) (xs ys : List Item) → x ∷ xs ≡ y ∷ ys → (x ≡ y) × (xs ≡ ys)
 head_same x y xs ys is = (cc, cc)
 
-compared : (xs ys ms ns : List Item) → xs ++ ms ≡ ys ++ ns → Compared xs ys ms ns
+pub compared : (xs ys ms ns : List Item) → xs ++ ms ≡ ys ++ ns → Compared xs ys ms ns
 compared [] [] ms ns is = same refl is
 compared [] (y ∷ ys) ms ns is = shorter y ys refl is
 compared (x ∷ xs) [] ms ns is = longer x xs refl (sym is)
@@ -116,25 +116,25 @@ above n k None is within = let e : None ≡ Some n = is in cc
 above n k (Some m) is within = let e : m ≡ n = (let f : Some m ≡ Some n = is in cc) in omega arith
 
 -- nothing is read past a mistake
-not_shorter : (d : Declaration) (l k : List Said) (m n : Mistake) (final : Reply) (xs ms ns : List Item) (x : Item) (rest : List Item)
+pub not_shorter : (d : Declaration) (l k : List Said) (m : Mistake) (final : Reply) (xs ms ns : List Item) (x : Item) (rest : List Item)
     → map (said_item d.options) xs ≡ map (λ s. Some s) l → map (said_item d.options) (xs ++ x ∷ rest) ≡ map (λ s. Some s) k → IsWithin (positional_count k) (most d.positionals)
-    → ms ≡ x ∷ rest ++ ns → Left d (positional_count l) m final ms → Left d (positional_count k) n final ns → ⊥
-not_shorter d l k m n final xs ms ns x rest said more within is (undeclared_first name item others m_is are of none) other =
+    → ms ≡ x ∷ rest ++ ns → Left d (positional_count l) m final ms → ((option : List ℕ) → final ≡ steps.missing (Some option) → ns ≡ [] → ⊥) → ⊥
+not_shorter d l k m final xs ms ns x rest said more within is (undeclared_first name item others m_is are of none) other =
     let later = split (said_item d.options) xs (x ∷ rest) l k said more in
     let first = head_same x item (rest ++ ns) others (sym is ∙ are) in
     first_none (said_item d.options) x rest later.later (ap (said_item d.options) first.0 ∙ undeclared d.options name item of none) later.are
-not_shorter d l k m n final xs ms ns x rest said more within is (flag_value option value m_is final_is are) other = let e : x ∷ (rest ++ ns) ≡ [] = sym is ∙ are in cc
-not_shorter d l k m n final xs ms ns x rest said more within is (valueless name index option m_is final_is are found) other =
+not_shorter d l k m final xs ms ns x rest said more within is (flag_value option value m_is final_is are) other = let e : x ∷ (rest ++ ns) ≡ [] = sym is ∙ are in cc
+not_shorter d l k m final xs ms ns x rest said more within is (valueless name index option m_is final_is are found) other =
     let first = head_same x (spec.option name None) (rest ++ ns) [] (sym is ∙ are) in
-    no_missing d (positional_count k) n final ns option final_is (nothing_more rest ns first.1) other
-not_shorter d l k m n final xs ms ns x rest said more within is (no_room word others m_is are limit) other =
+    other option final_is (nothing_more rest ns first.1)
+not_shorter d l k m final xs ms ns x rest said more within is (no_room word others m_is are limit) other =
     let later = split (said_item d.options) xs (x ∷ rest) l k said more in
     let first = head_same x (spec.positional word) (rest ++ ns) others (sym is ∙ are) in
     let one = first_is (said_item d.options) x (positional word) rest later.later (ap (said_item d.options) first.0) later.are in
     let count : positional_count k ≡ positional_count l + suc (positional_count one.0) =
     ap positional_count later.all_are ∙ count_append l later.later ∙ ap (λ s. positional_count l + positional_count s) one.1 ∙ ap (λ i. positional_count l + i) (omega arith) in
     above (positional_count l) (positional_count one.0) (most d.positionals) limit (subst (λ i. IsWithin i (most d.positionals)) count within)
-not_shorter d l k m n final xs ms ns x rest said more within is (at_end m_is final_is are) other = let e : x ∷ (rest ++ ns) ≡ [] = sym is ∙ are in cc
+not_shorter d l k m final xs ms ns x rest said more within is (at_end m_is final_is are) other = let e : x ∷ (rest ++ ns) ≡ [] = sym is ∙ are in cc
 
 one_name : (name other : Name) (item : Item) → IsOf name item → IsOf other item → name ≡ other
 one_name name other (spec.option n value) is too = sym is ∙ too
@@ -203,9 +203,11 @@ stops_compared d l k m n final xs ys ms ns said too within room left other (same
     let lists : l ≡ k = same_somes l k (sym said ∙ ap (map (said_item d.options)) front ∙ too) in
     (lists, same_left d (positional_count k) m n final ms ns back (subst (λ i. Left d i m final ms) (ap positional_count lists) left) other)
 stops_compared d l k m n final xs ys ms ns said too within room left other (shorter x rest front back) =
-    absurd (not_shorter d l k m n final xs ms ns x rest said (subst (λ s. map (said_item d.options) s ≡ map (λ s. Some s) k) front too) room back left other)
+    absurd (not_shorter d l k m final xs ms ns x rest said (subst (λ s. map (said_item d.options) s ≡ map (λ s. Some s) k) front too) room back left
+    (λ option is none. no_missing d (positional_count k) n final ns option is none other))
 stops_compared d l k m n final xs ys ms ns said too within room left other (longer x rest front back) =
-    absurd (not_shorter d k l n m final ys ns ms x rest too (subst (λ s. map (said_item d.options) s ≡ map (λ s. Some s) l) front said) within back other left)
+    absurd (not_shorter d k l n final ys ns ms x rest too (subst (λ s. map (said_item d.options) s ≡ map (λ s. Some s) l) front said) within back other
+    (λ option is none. no_missing d (positional_count l) m final ms option is none left))
 
 pub one_stop : (d : Declaration) (words : List (List ℕ)) (l k : List Said) (m n : Mistake) → StopsAt d words l m → StopsAt d words k n → (l ≡ k) × (m ≡ n)
 one_stop d words l k m n stops again =

@@ -1,7 +1,7 @@
 -- What no rule names stays.
 use Rattle.std.proofs.Common.{◌≡◌, ◌≢◌, ℕ, Bool, true, List, refl, sym, ap, subst, ◌∙◌, inl, inr}
-use Rattle.lexopt_spec.specs.UnreadLine.{no_tail, short_option, long_option, LastOption, UnreadLine}
-use Rattle.lexopt_spec.specs.Steps.{Reply, Next, short, long, TakesMemory, ReadsShort, ReadsPositional, no_word_left, word_left, ReadsWord, no_word, reads_separator, reads_long, reads_cluster, reads_positional, NextStep, joined_value, equals_value, next_in_cluster, after_separator, next_word}
+use Rattle.lexopt_spec.specs.UnreadLine.{no_tail, UnreadLine}
+use Rattle.lexopt_spec.specs.Steps.{Reply, short, long, TakesMemory, ReadsShort, ReadsPositional, no_word_left, word_left, ReadsWord, no_word, reads_separator, reads_long, reads_cluster, reads_positional, NextStep, joined_value, equals_value, next_in_cluster, after_separator, next_word}
 use Rattle.lexopt_spec.specs.Views.{TakesWords, TakesWordIf}
 use Rattle.lexopt_spec.specs.Account.{NamesOption, handed_items}
 use Rattle.lexopt_spec.specs.Runs.{Call, next, value, optional, values, raw, try_raw, raw_if, set_short_equals, StepWithMemory, Step}

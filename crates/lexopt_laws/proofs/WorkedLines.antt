@@ -1,6 +1,5 @@
 -- Words on lines, in the worked examples.
-use Rattle.std.proofs.Common.{◌≡◌, ◌≤◌, ◌<◌, ◌⊎◌, ℕ, List, [], ◌∷◌, length, arith, inl, inr, lit≤, lit<}
-use Rattle.std.proofs.Math.Dec.{leb}
+use Rattle.std.proofs.Common.{◌≡◌, ◌≤◌, ◌<◌, ℕ, length, inl, inr}
 use Rattle.lexopt_options_spec.specs.Help.{Line, line_columns, Fits}
 
 pub fits : {limit : ℕ} {line : Line} → 0 < length line → line_columns line ≤ limit → Fits limit line

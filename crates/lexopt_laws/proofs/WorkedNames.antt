@@ -7,7 +7,7 @@ use Rattle.std.specs.List.{slice_get}
 use Rattle.std.specs.Option.{option_map}
 use Rattle.std.specs.Str.{chars}
 use Rattle.lexopt_options_spec.specs.Declaration.{Declared}
-use Rattle.lexopt_options_spec.specs.Nearest.{IsDistance, IsNear, IsNearAt, IsNearestAt, IsNearest}
+use Rattle.lexopt_options_spec.specs.Nearest.{IsDistance, IsNear, IsNearAt, IsNearest}
 use Rattle.lexopt_options_spec.proofs.Distance.{one_distance}
 use Rattle.lexopt_options_spec.proofs.Nearest.{one_nearest}
 use Rattle.lexopt_laws.proofs.WorkedDistances.{distance, distance_of}

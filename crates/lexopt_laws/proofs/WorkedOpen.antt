@@ -1,5 +1,5 @@
 -- What can come after short lines.
-use Rattle.std.proofs.Common.{◌≡◌, ℕ, ◌==◌, ◌||◌, Bool, true, false, List, [], ◌∷◌, ◌++◌, length, map, Option, Some, None, codes, refl, sym, ap, subst, ◌∙◌, true≢false, lit≤, lit<}
+use Rattle.std.proofs.Common.{◌≡◌, ℕ, ◌==◌, true, false, List, [], ◌∷◌, ◌++◌, map, Option, Some, None, codes, refl, sym, ap, subst, ◌∙◌, true≢false, lit≤}
 use Rattle.std.specs.Prelude.{Contains}
 use Rattle.std.specs.Char.{IsScalar}
 use Rattle.std.specs.Str.{IsUtf8, is_utf8}
@@ -14,10 +14,10 @@ use Rattle.lexopt_line_spec.specs.Table.{Item, Name, short, long, kind}
 use Rattle.lexopt_line_spec.specs.Spelling.{Spells, nothing, no_value, next_word, no_optional, several_words, nothing_more, no_words, separator}
 use Rattle.lexopt_line_spec.proofs.Computing.{computing}
 use Rattle.lexopt_line_spec.proofs.Worked.{last_of, cluster_line, plain_front_is, some}
-use Rattle.lexopt_options_spec.specs.Declaration.{Declaration, Declared, has_name, is_short, is_long, is_sound, table}
+use Rattle.lexopt_options_spec.specs.Declaration.{Declaration, Declared, has_name, is_short, is_long, table}
 use Rattle.lexopt_options_spec.specs.Legal.{Said, option, several, said_item, positional_count, most, IsWithin}
 use Rattle.lexopt_options_spec.specs.Completion.{AreText, CanStand, IsOpen, IsText, spellings}
-use Rattle.lexopt_options_spec.proofs.Offered.{offered_stands, stands_offered}
+use Rattle.lexopt_options_spec.proofs.Offered.{stands_offered}
 use Rattle.lexopt_options_spec.proofs.Sound.{either}
 use Rattle.lexopt_options_spec.proofs.Tables.{pointwise_refl}
 use Rattle.lexopt_laws.specs.Sample.{sample, sample_options, verbose, output, backup, exclude, mode}

@@ -1,5 +1,5 @@
 -- What short lines mean.
-use Rattle.std.proofs.Common.{◌≡◌, ◌≤◌, ℕ, true, false, List, [], ◌∷◌, map, Some, None, codes, refl, lit≤}
+use Rattle.std.proofs.Common.{◌≡◌, ◌≤◌, ℕ, true, List, [], ◌∷◌, map, Some, codes, refl, lit≤}
 use Rattle.lexopt_line_spec.specs.Table as spec
 use Rattle.lexopt_line_spec.specs.Table.{Item, kind}
 use Rattle.lexopt_line_spec.specs.Spelling.{Spells}

@@ -1,16 +1,16 @@
 -- Where short lines stop.
-use Rattle.std.proofs.Common.{◌≡◌, ℕ, ◌+◌, List, [], ◌∷◌, Some, None, refl}
+use Rattle.std.proofs.Common.{◌≡◌, ℕ, List, [], ◌∷◌, Some, None, refl}
 use Rattle.lexopt_spec.specs.UnreadLine.{UnreadLine}
 use Rattle.lexopt_spec.specs.Steps as steps
 use Rattle.lexopt_spec.specs.Steps.{Next}
 use Rattle.lexopt_spec.specs.Runs.{next}
 use Rattle.lexopt_line_spec.specs.Table as spec
 use Rattle.lexopt_line_spec.specs.Table.{Item, Name, flag, kind}
-use Rattle.lexopt_line_spec.specs.Readings.{SaysUpTo, option_reply, start}
+use Rattle.lexopt_line_spec.specs.Readings.{option_reply, start}
 use Rattle.lexopt_line_spec.proofs.ReadingSteps.{says_flag, says_positional}
 use Rattle.lexopt_line_spec.proofs.RunAccounts.{step_line}
-use Rattle.lexopt_options_spec.specs.Declaration.{Declaration, index_of, table}
-use Rattle.lexopt_options_spec.specs.Legal.{Said, option, positional, said_item, counts, positional_count, most, IsWithin}
+use Rattle.lexopt_options_spec.specs.Declaration.{Declaration, table}
+use Rattle.lexopt_options_spec.specs.Legal.{option, positional, said_item, most, IsWithin}
 use Rattle.lexopt_options_spec.specs.Stops.{Mistake, Stops, StopsAt}
 use Rattle.lexopt_laws.proofs.SomeAnswer.{nothing_read, one_more}
 

@@ -1,7 +1,8 @@
 -- The options of the worked examples, as `docs/behaviour.md` and `docs/formats.md` have them.
-use Rattle.std.specs.Prelude.{Bool, false, List, [], ◌∷◌, ℕ, Some, None, codes}
+use Rattle.std.specs.Prelude.{Bool, false, List, [], ◌∷◌, ◌++◌, ℕ, Some, None, codes}
 use Rattle.lexopt_line_spec.specs.Table.{flag, one, optional, several}
 use Rattle.lexopt_options_spec.specs.Declaration.{Declared, Declaration, Positional, for_help}
+use Rattle.lexopt_options_spec.specs.Declaration.{for_version}
 use Rattle.lexopt_options_spec.specs.Declaration.{once, at_most_once, any_number}
 
 abbrev pub verbose : Declared
@@ -89,4 +90,18 @@ asks_for_help = record {
   help = codes "print this help and exit";
   asks = Some for_help;
   hidden = false;
+}
+
+abbrev pub asks_for_version : Declared
+asks_for_version = record asks_for_help {
+  short_name = None;
+  long_name = Some (codes "version");
+  help = codes "print the version and exit";
+  asks = Some (for_version (codes "1.0"));
+}
+
+-- the sample with both, at the indices 4 and 5
+abbrev pub asking_sample : List Positional → Bool → Declaration
+asking_sample positionals short_equals = record (sample positionals short_equals) {
+  options = sample_options ++ asks_for_help ∷ asks_for_version ∷ [];
 }

@@ -5,16 +5,19 @@ ghost use Rattle.std.specs.Prelude.{◌≡◌, ◌++◌, [], ◌∷◌, ℕ, Lis
 ghost use Rattle.std.specs.Prelude.{codes};
 ghost use Rattle.lexopt_line_spec.specs.Table as spec;
 ghost use Rattle.lexopt_line_spec.specs.Table.{flag, long, many, one, optional, short};
+ghost use Rattle.lexopt_options_spec.specs.Asking.{AskFor, all_but_last, asked_at, asked_by};
+ghost use Rattle.lexopt_options_spec.specs.Asking.{first_asked, said_before};
 ghost use Rattle.lexopt_options_spec.specs.Completion.{AreText, CanStand, Completes, IsOpen};
 ghost use Rattle.lexopt_options_spec.specs.Completion.{IsOption, IsText, names_of, spelling};
 ghost use Rattle.lexopt_options_spec.specs.Completion.{HasRole, IsDashedRole, IsJoined};
 ghost use Rattle.lexopt_options_spec.specs.Completion.{IsPlainRole, Role, argument};
 ghost use Rattle.lexopt_options_spec.specs.Completion.{is_long_with_equals, role_of, spellings};
 ghost use Rattle.lexopt_options_spec.specs.Completion.{value};
-ghost use Rattle.lexopt_options_spec.specs.Declaration.{Declaration};
+ghost use Rattle.lexopt_options_spec.specs.Declaration.{Asked, Declaration};
 ghost use Rattle.lexopt_options_spec.specs.Declaration.{IsFirstFault, bad_placeholder, dash_name};
 ghost use Rattle.lexopt_options_spec.specs.Declaration.{empty_name, equals_in_name, index_of};
 ghost use Rattle.lexopt_options_spec.specs.Declaration.{Reason, is_sound, replacement_in_name};
+ghost use Rattle.lexopt_options_spec.specs.Declaration.{for_help, for_version};
 ghost use Rattle.lexopt_options_spec.specs.Declaration.{same_name, table};
 ghost use Rattle.lexopt_options_spec.specs.Legal.{Said, Says, SaysFront, least, most, option};
 ghost use Rattle.lexopt_options_spec.specs.Legal.{positional, positional_count, said_item, several};
@@ -26,7 +29,8 @@ ghost use Rattle.lexopt_options_spec.specs.Help.{HasTextNames, IsEntry, IsHelp, 
 ghost use Rattle.lexopt_options_spec.specs.Help.{IsUsage, LabelForm, Wraps};
 ghost use Rattle.lexopt_options_spec.specs.Help.{beside, blanks, entry, gap, label, label_of};
 ghost use Rattle.lexopt_options_spec.specs.Help.{line_columns, line_text};
-ghost use Rattle.lexopt_laws.specs.Sample.{asks_for_help, backup, described_files, exclude};
+ghost use Rattle.lexopt_laws.specs.Sample.{asking_sample, asks_for_help, asks_for_version};
+ghost use Rattle.lexopt_laws.specs.Sample.{backup, described_files, exclude};
 ghost use Rattle.lexopt_laws.specs.Sample.{files, mode, output, sample};
 ghost use Rattle.lexopt_options_spec.specs.Nearest.{IsDistance, IsHint, IsNearest, long_name_at};
 ghost use Rattle.lexopt_laws.specs.Sample.{named, sample_options, target, verbose};
@@ -243,6 +247,74 @@ fn lines_do_not_stop_elsewhere()
     ensures what_is_missing { (l : List Said) (m : Mistake)
         → StopsAt (sample (mode ∷ mode ∷ []) true) (codes "a" ∷ []) l m
         → (l ≡ positional (codes "a") ∷ []) × (m ≡ missing_argument 1) }
+{}
+
+// What the option of an index asks for, and what the first asks for that asks for anything.
+fn options_ask()
+    ensures help { asked_at (asks_for_version ∷ asks_for_help ∷ []) 1 ≡ Some for_help }
+    ensures version { asked_at (asks_for_version ∷ asks_for_help ∷ []) 0
+        ≡ Some (for_version (codes "1.0")) }
+    ensures nothing { asked_at (asks_for_help ∷ verbose ∷ []) 1 ≡ None }
+    ensures no_option { asked_at (asks_for_help ∷ []) 1 ≡ None }
+    ensures with_a_value { asked_by (record output { asks = Some for_help } ∷ [])
+        (option 0 (Some (codes "f"))) ≡ Some for_help }
+    ensures with_several_values { asked_by (record exclude { asks = Some for_help } ∷ [])
+        (several 0 (codes "a" ∷ [])) ≡ Some for_help }
+    ensures positional { asked_by (asks_for_help ∷ []) (positional (codes "-h")) ≡ None }
+    ensures none { first_asked (asks_for_help ∷ []) [] ≡ None }
+    ensures first { first_asked (asks_for_version ∷ asks_for_help ∷ [])
+        (option 1 None ∷ option 0 None ∷ []) ≡ Some for_help }
+    ensures later { first_asked (asks_for_help ∷ verbose ∷ [])
+        (option 1 None ∷ positional (codes "a") ∷ option 0 None ∷ []) ≡ Some for_help }
+{}
+
+// What was read before a mistake. An option that was given a value and takes none is the mistake.
+fn options_are_read_before_mistakes()
+    ensures all_but_none { all_but_last [] ≡ [] }
+    ensures all_but_one { all_but_last (option 0 None ∷ []) ≡ [] }
+    ensures all_but_the_last { all_but_last (option 0 None ∷ option 1 None ∷ option 2 None ∷ [])
+        ≡ option 0 None ∷ option 1 None ∷ [] }
+    ensures given_a_value { said_before (unexpected_value (codes "-v") (codes "1"))
+        (option 1 None ∷ option 0 None ∷ []) ≡ option 1 None ∷ [] }
+    ensures not_declared { said_before (unknown_option (short 0x7A)) (option 0 None ∷ [])
+        ≡ option 0 None ∷ [] }
+    ensures no_value { said_before (missing_value 1 (codes "-o")) (option 0 None ∷ [])
+        ≡ option 0 None ∷ [] }
+    ensures one_too_many { said_before (unexpected_argument (codes "a")) (option 0 None ∷ [])
+        ≡ option 0 None ∷ [] }
+    ensures one_too_few { said_before (missing_argument 0) (option 0 None ∷ [])
+        ≡ option 0 None ∷ [] }
+{}
+
+// Lines that ask for something.
+fn lines_ask()
+    ensures by_a_long_name { AskFor (asking_sample (files ∷ []) true) (codes "--help" ∷ [])
+        for_help }
+    ensures by_a_character { AskFor (asking_sample (files ∷ []) false) (codes "-h" ∷ [])
+        for_help }
+    ensures in_a_cluster { AskFor (asking_sample (files ∷ []) true) (codes "-vh" ∷ []) for_help }
+    ensures where_an_argument_is_missing { AskFor (asking_sample (mode ∷ []) true)
+        (codes "--help" ∷ []) for_help }
+    ensures before_a_mistake { AskFor (asking_sample [] true) (codes "--help" ∷ codes "a" ∷ [])
+        for_help }
+    ensures for_the_version { AskFor (asking_sample (files ∷ []) true)
+        (codes "--version" ∷ codes "-h" ∷ []) (for_version (codes "1.0")) }
+    ensures under_its_setting { AskFor (asking_sample (files ∷ []) false)
+        (codes "-h=1" ∷ []) for_help }
+{}
+
+// What lines do not ask for.
+fn lines_do_not_ask()
+    ensures with_a_value { (a : Asked) → AskFor (asking_sample (files ∷ []) true)
+        (codes "--help=1" ∷ []) a → ⊥ }
+    ensures in_a_cluster_with_a_value { (a : Asked) → AskFor (asking_sample (files ∷ []) true)
+        (codes "-h=1" ∷ []) a → ⊥ }
+    ensures for_the_second { (a : Asked) → AskFor (asking_sample (files ∷ []) true)
+        (codes "--version" ∷ codes "-h" ∷ []) a → a ≡ for_version (codes "1.0") }
+    ensures after_a_mistake { (a : Asked) → AskFor (asking_sample [] true)
+        (codes "-z" ∷ codes "--help" ∷ []) a → ⊥ }
+    ensures after_the_separator { (a : Asked) → AskFor (asking_sample (files ∷ []) true)
+        (codes "--" ∷ codes "--help" ∷ []) a → ⊥ }
 {}
 
 // How far two lists of characters are from each other. A swap is one edit, and what was swapped is

@@ -1,6 +1,8 @@
 //! Laws of declared options.
 ghost use Rattle.std.specs.Prelude.{◌≡◌, ◌⊎◌, ℕ, List, true};
-ghost use Rattle.lexopt_options_spec.specs.Declaration.{Declaration, is_sound};
+ghost use Rattle.std.specs.Prelude.{Option, Some};
+ghost use Rattle.lexopt_options_spec.specs.Asking.{AskFor, first_asked, said_before};
+ghost use Rattle.lexopt_options_spec.specs.Declaration.{Asked, Declaration, is_sound};
 ghost use Rattle.lexopt_options_spec.specs.Legal.{Said, Says};
 ghost use Rattle.lexopt_options_spec.specs.Stops.{Mistake, StopsAt};
 
@@ -17,4 +19,19 @@ pub fn each_line_says_something_or_stops()
         → StopsAt d words l m → StopsAt d words k n → (l ≡ k) × (m ≡ n) }
     ensures not_both { (d : Declaration) (words : List (List ℕ)) (l k : List Said) (m : Mistake)
         → Says d words l → StopsAt d words k m → ⊥ }
+{}
+
+/// A line asks for the help or for a version, and for one of them alone, whatever comes after the
+/// option that asks. If the words mean a list, the line asks for what the first option in it asks
+/// for that asks for anything. If reading stops at a mistake, the same holds of what was read
+/// before it, without an option that was given a value and takes none. So a line that asks is
+/// neither one that only means a list nor one that is refused.
+pub fn each_line_asks_for_one_thing()
+    ensures one_asked { (d : Declaration) (words : List (List ℕ)) (a b : Asked)
+        → AskFor d words a → AskFor d words b → a ≡ b }
+    ensures of_a_list { (d : Declaration) (words : List (List ℕ)) (l : List Said) (a : Asked)
+        → Says d words l → AskFor d words a → first_asked d.options l ≡ Some a }
+    ensures before_a_mistake { (d : Declaration) (words : List (List ℕ)) (l : List Said)
+        (m : Mistake) (a : Asked) → StopsAt d words l m → AskFor d words a
+        → first_asked d.options (said_before m l) ≡ Some a }
 {}

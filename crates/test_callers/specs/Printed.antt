@@ -1,5 +1,5 @@
 -- What is printed of declared options, and which of two cannot be declared, in plain data.
-use Rattle.std.specs.Prelude.{ℕ, List, [], ◌∷◌, ◌++◌, Option, Some, None, codes, encode_utf8, false}
+use Rattle.std.specs.Prelude.{◌≡◌, zero, suc, ℕ, List, [], ◌∷◌, ◌++◌, Option, Some, None, codes, encode_utf8, false}
 use Rattle.std.specs.Prelude.{string_bytes}
 use Rattle.anyhow.specs.Error.{error_message}
 use Rattle.lexopt_spec.specs.Text.{quoted}
@@ -135,6 +135,13 @@ reason_of reason.ReplacementInName = spec.replacement_in_name
 reason_of reason.BadPlaceholder = spec.bad_placeholder
 reason_of reason.SameName = spec.same_name
 
-abbrev pub IsFaultOf : ℕ → List ℕ → List ℕ → Reason → Type 0
-IsFaultOf character name placeholder reason = (index : ℕ)
-    × IsFirstFault (two_options character name placeholder) index (reason_of reason)
+-- the character of the first of them, or of the second
+abbrev pub character_at : ℕ → ℕ → ℕ
+character_at character zero = character
+character_at character (suc index) = 118
+
+-- the option of this character is the first that cannot be declared, and why
+abbrev pub IsFaultOf : ℕ → List ℕ → List ℕ → ℕ × Reason → Type 0
+IsFaultOf character name placeholder fault = (index : ℕ)
+    × IsFirstFault (two_options character name placeholder) index (reason_of fault.1)
+    × (fault.0 ≡ character_at character index)

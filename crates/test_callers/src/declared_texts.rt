@@ -1,8 +1,10 @@
 //! Callers of what prints names and errors, and of what refuses a declaration, with clauses of their
 //! own in plain data.
-ghost use Rattle.std.specs.Prelude.{◌≡◌, ◌≢◌, IfOk, IfSome, string_bytes};
+ghost use Rattle.std.specs.Prelude.{◌≡◌, ◌≢◌, IfOk, string_bytes, true};
+ghost use Rattle.std.specs.Option.{MatchOption};
+ghost use Rattle.lexopt_options_spec.specs.Declaration.{is_sound};
 ghost use Rattle.test_callers.specs.Printed.{IsFaultOf, declaration_line, names_line, refused_line};
-ghost use Rattle.test_callers.specs.Printed.{report_line};
+ghost use Rattle.test_callers.specs.Printed.{report_line, two_options};
 
 use crate::declared::{Flag, Value};
 use lexopt_options::{
@@ -49,9 +51,11 @@ pub fn report_status(report: &Report<'_>) -> u8
     report.status()
 }
 
-/// Declares two options, and returns why they cannot be declared.
-pub fn fault_of_two(character: char, name: &str, placeholder: &str) -> Option<Reason>
-    ensures { IfSome result (λ reason. IsFaultOf character name.now placeholder.now reason) }
+/// Declares two options, and returns the character of the first of them that cannot be declared, and
+/// why; `None` if both can be declared together.
+pub fn fault_of_two(character: char, name: &str, placeholder: &str) -> Option<(char, Reason)>
+    ensures { MatchOption result (is_sound (two_options character name.now placeholder.now) ≡ true)
+        (IsFaultOf character name.now placeholder.now) }
 {
     let options = [
         Declared::flag(Flag::Verbose, Names::Both(character, name), ""),
@@ -67,6 +71,9 @@ pub fn fault_of_two(character: char, name: &str, placeholder: &str) -> Option<Re
     };
     match Options::try_new(&declaration) {
         Ok(_) => None,
-        Err(error) => Some(error.reason),
+        Err(error) => match error.option {
+            Names::Both(character, _) => Some((character, error.reason)),
+            Names::Short(_) | Names::Long(_) => None,
+        },
     }
 }

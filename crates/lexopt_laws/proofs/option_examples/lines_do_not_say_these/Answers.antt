@@ -1,4 +1,4 @@
-use Rattle.std.proofs.Common.{◌≡◌, [], ◌∷◌, true, Some, None, codes, refl, inl, lit<, lit≤}
+use Rattle.std.proofs.Common.{◌≡◌, [], ◌∷◌, true, None, codes, refl, inl, lit<, lit≤}
 use Rattle.lexopt_spec.specs.Steps.{joined_value, next_word, no_word}
 use Rattle.lexopt_line_spec.specs.Table.{short, long, kind}
 use Rattle.lexopt_line_spec.proofs.Computing.{computing}

@@ -1,5 +1,4 @@
-use Rattle.std.proofs.Common.{[], ◌∷◌, Some, None, codes, refl, inl, lit<, lit≤}
-use Rattle.lexopt_spec.specs.Steps as steps
+use Rattle.std.proofs.Common.{[], ◌∷◌, codes, refl, inl, lit<, lit≤}
 use Rattle.lexopt_spec.specs.Steps.{joined_value, equals_value, next_in_cluster, nothing_to_take, next_word, no_word}
 use Rattle.lexopt_spec.specs.Runs.{value, values}
 use Rattle.lexopt_line_spec.specs.Table.{short, long, kind}

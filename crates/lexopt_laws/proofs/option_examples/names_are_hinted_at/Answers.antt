@@ -1,4 +1,4 @@
-use Rattle.std.proofs.Common.{◌≡◌, [], ◌∷◌, Some, None, codes, refl, ap, ◌∙◌}
+use Rattle.std.proofs.Common.{◌≡◌, Some, None, codes, refl, ap, ◌∙◌}
 use Rattle.lexopt_line_spec.proofs.Computing.{computing}
 use Rattle.lexopt_options_spec.specs.Nearest.{IsNearest, long_name_at}
 use Rattle.lexopt_options_spec.proofs.Nearest.{one_nearest}

@@ -1,8 +1,5 @@
-use Rattle.std.proofs.Common.{◌≡◌, [], ◌∷◌, Some, None, codes, refl}
+use Rattle.std.proofs.Common.{◌∷◌, codes, refl}
 use Rattle.lexopt_line_spec.proofs.Computing.{computing}
-use Rattle.lexopt_options_spec.specs.Nearest.{IsNearest}
-use Rattle.lexopt_options_spec.proofs.Nearest.{one_nearest}
-use Rattle.lexopt_laws.specs.Sample.{named, sample_options}
 use Rattle.lexopt_laws.proofs.WorkedNames.{nearest_is, nothing_near, not_this, not_none}
 use Rattle.lexopt_laws.proofs.option_examples.names_are_near.Goals as goal
 

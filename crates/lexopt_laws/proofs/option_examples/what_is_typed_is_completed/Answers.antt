@@ -1,4 +1,4 @@
-use Rattle.std.proofs.Common.{◌≡◌, [], ◌∷◌, true, false, codes, refl, sym, ◌∙◌, lit<, true≢false}
+use Rattle.std.proofs.Common.{◌≡◌, [], ◌∷◌, true, false, codes, refl, sym, lit<, true≢false}
 use Rattle.std.proofs.lemmas.Str.{IsUtf8-from_is_utf8}
 use Rattle.lexopt_line_spec.proofs.Computing.{computing}
 use Rattle.lexopt_options_spec.proofs.Offered.{offered_stands}

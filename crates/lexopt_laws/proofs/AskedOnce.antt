@@ -1,0 +1,165 @@
+-- What a line asks for is one thing, whatever else is found of the line.
+use Rattle.std.proofs.Common.{◌≡◌, ℕ, List, [], ◌∷◌, ◌++◌, map, Option, Some, None, refl, sym, ap, subst, ◌∙◌, inl, inr}
+use Rattle.lexopt_spec.specs.UnreadLine.{UnreadLine}
+use Rattle.lexopt_spec.specs.Steps as steps
+use Rattle.lexopt_spec.specs.Steps.{Reply, Next}
+use Rattle.lexopt_spec.specs.Runs.{Call, Run, Step}
+use Rattle.lexopt_line_spec.specs.Table as spec
+use Rattle.lexopt_line_spec.specs.Table.{Item, Kind, Table, flag}
+use Rattle.lexopt_line_spec.specs.Readings.{AskedAfter, last, more, GoesOn, IsDue, IsReading, items_said, start}
+use Rattle.lexopt_line_spec.proofs.OneReading.{some_reading, no_other_reading}
+use Rattle.lexopt_line_spec.proofs.ReplyKinds.{IsNextReply, next_reply}
+use Rattle.lexopt_options_spec.specs.Asking.{AskFor, all_but_last, asked_by, first_asked, or_asked, said_before}
+use Rattle.lexopt_options_spec.specs.Declaration.{Asked, Declaration, Declared, table}
+use Rattle.lexopt_options_spec.specs.Legal.{Said, Says, said_item, positional_count}
+use Rattle.lexopt_options_spec.specs.Stops.{Mistake, StopsAt, unknown_option, unexpected_value, missing_value, unexpected_argument, missing_argument}
+use Rattle.lexopt_options_spec.proofs.Fronts.{front_later}
+use Rattle.lexopt_options_spec.proofs.Lists.{same_somes, split}
+use Rattle.lexopt_laws.proofs.OneStop.{Compared, same, shorter, longer, compared, Left, undeclared_first, flag_value, valueless, no_room, at_end, left_of, not_shorter}
+
+-- ---- the first that asks
+
+parts_none : (o rest : Option Asked) → or_asked o rest ≡ None → (o ≡ None) × (rest ≡ None)
+parts_none None rest is = (refl, is)
+parts_none (Some a) rest is = absurd (let e : Some a ≡ None = is in cc)
+
+-- what comes later does not change it
+asks_first : (options : List Declared) (before : List Said) (s : Said) (later : List Said) (a : Asked) → first_asked options before ≡ None → asked_by options s ≡ Some a
+    → first_asked options ((before ++ s ∷ []) ++ later) ≡ Some a
+asks_first options [] s later a none is = ap (λ o. or_asked o (first_asked options later)) is
+asks_first options (b ∷ before) s later a none is =
+    let parts = parts_none (asked_by options b) (first_asked options before) none in
+    ap (λ o. or_asked o (first_asked options ((before ++ s ∷ []) ++ later))) parts.0 ∙ asks_first options before s later a parts.1 is
+
+append_nil : {X : Type 0} (l : List X) → l ++ [] ≡ l
+append_nil [] = refl
+append_nil (x ∷ l) = ap (λ m. x ∷ m) (append_nil l)
+
+some_same : (a b : Asked) → Some a ≡ Some b → a ≡ b
+some_same a b is = cc
+
+-- what was read up to an option that asks, and that option
+abbrev asking : {d : Declaration} {words : List (List ℕ)} {a : Asked} → AskFor d words a → List Said
+asking ask = ask.before ++ ask.said ∷ []
+
+asked_with : (d : Declaration) (words : List (List ℕ)) (a : Asked) (ask : AskFor d words a) (later : List Said) → first_asked d.options (asking ask ++ later) ≡ Some a
+asked_with d words a ask later = asks_first d.options ask.before ask.said later a ask.none_before ask.asks
+
+asked_alone : (d : Declaration) (words : List (List ℕ)) (a : Asked) (ask : AskFor d words a) → first_asked d.options (asking ask) ≡ Some a
+asked_alone d words a ask = ap (first_asked d.options) (sym (append_nil (asking ask))) ∙ asked_with d words a ask []
+
+-- ---- a line that is read to its end
+
+pub asked_of_list : (d : Declaration) (words : List (List ℕ)) (l : List Said) (a : Asked) → Says d words l → AskFor d words a → first_asked d.options l ≡ Some a
+asked_of_list d words l a says ask =
+    let rest = front_later d words (asking ask) ask.there ask.read l says.front in
+    ap (first_asked d.options) rest.1 ∙ asked_with d words a ask rest.0
+
+-- ---- two that ask
+
+same_asked : (d : Declaration) (words : List (List ℕ)) (a b : Asked) (ask : AskFor d words a) (again : AskFor d words b) (ms ns : List Item)
+    → Compared ask.read.items again.read.items ms ns → a ≡ b
+same_asked d words a b ask again ms ns (same front back) =
+    let lists : asking ask ≡ asking again = same_somes (asking ask) (asking again) (sym ask.read.said ∙ ap (map (said_item d.options)) front ∙ again.read.said) in
+    some_same a b (sym (asked_alone d words a ask) ∙ ap (first_asked d.options) lists ∙ asked_alone d words b again)
+same_asked d words a b ask again ms ns (shorter x rest front back) =
+    let later = split (said_item d.options) ask.read.items (x ∷ rest) (asking ask) (asking again) ask.read.said (sym (ap (map (said_item d.options)) front) ∙ again.read.said) in
+    some_same a b (sym (asked_with d words a ask later.later) ∙ ap (first_asked d.options) (sym later.all_are) ∙ asked_alone d words b again)
+same_asked d words a b ask again ms ns (longer x rest front back) =
+    let later = split (said_item d.options) again.read.items (x ∷ rest) (asking again) (asking ask) again.read.said (sym (ap (map (said_item d.options)) front) ∙ ask.read.said) in
+    some_same a b (sym (asked_alone d words a ask) ∙ ap (first_asked d.options) later.all_are ∙ asked_with d words b again later.later)
+
+pub one_asked : (d : Declaration) (words : List (List ℕ)) (a b : Asked) → AskFor d words a → AskFor d words b → a ≡ b
+one_asked d words a b ask again =
+    let t = table d.options in
+    let one = some_reading t ask.there ask.read.line in
+    let other = some_reading t again.there again.read.line in
+    let both = no_other_reading t (start d.short_equals words) one.0 other.0 (ask.read.items ++ one.1) (again.read.items ++ other.1)
+    (ask.read.read one.0 one.1 one.2) (again.read.read other.0 other.1 other.2) in
+    same_asked d words a b ask again one.1 other.1 (compared ask.read.items again.read.items one.1 other.1 both.1)
+
+-- ---- a reading that gives nothing
+
+next_found : (u after : UnreadLine) (r : Reply) → (IsNextReply r → ⊥) → (r ≡ steps.no_memory → ⊥) → Next u r after → ⊥
+next_found u after r other memory (inl step) = other (next_reply u after r step)
+next_found u after r other memory (inr refused) = memory refused.reply_is
+
+goes_with_item : (t : Table) (u between : UnreadLine) (r : Reply) (k : Kind) (replies : List Reply) → GoesOn t r k → Next u r between → items_said (r ∷ replies) ≡ [] → ⊥
+goes_with_item t u between (steps.short c) k replies goes step none = let e : _ ∷ items_said replies ≡ [] = none in cc
+goes_with_item t u between (steps.long name) k replies goes step none = let e : _ ∷ items_said replies ≡ [] = none in cc
+goes_with_item t u between (steps.positional word) k replies goes step none = let e : spec.positional word ∷ items_said replies ≡ [] = none in cc
+goes_with_item t u between (steps.taken word) k replies goes step none = next_found u between (steps.taken word) (λ is. is) (λ same. let e : steps.taken word ≡ steps.no_memory = same in cc) step
+goes_with_item t u between (steps.maybe word) k replies goes step none = next_found u between (steps.maybe word) (λ is. is) (λ same. let e : steps.maybe word ≡ steps.no_memory = same in cc) step
+goes_with_item t u between (steps.items words) k replies goes step none = next_found u between (steps.items words) (λ is. is) (λ same. let e : steps.items words ≡ steps.no_memory = same in cc) step
+goes_with_item t u between r k replies goes step none = absurd goes
+
+last_next : (t : Table) (u after : UnreadLine) (final : Reply) (k : Kind) (calls : List Call) (replies : List Reply) → k ≡ flag → AskedAfter t final k calls replies → Run u calls replies after
+    → items_said replies ≡ [] → (there : UnreadLine) × Next u final there
+last_next t u after final k calls replies is (last k' call due ends) run none = (run.0, subst (λ c. Step c u final run.0) (subst (λ (x : Kind). IsDue x call) is due) run.1)
+last_next t u after final k calls replies is (more k' l call reply calls' replies' due full goes asked) run none =
+    absurd (goes_with_item t u run.0 reply l replies' goes (subst (λ c. Step c u reply run.0) (subst (λ (x : Kind). IsDue x call) is due) run.1) none)
+
+-- it is one call of `next`, which returns its last reply
+nothing_given : (t : Table) (u : UnreadLine) (final : Reply) (items : List Item) → items ≡ [] → IsReading t u final items → (there : UnreadLine) × Next u final there
+nothing_given t u final items none reading = last_next t u reading.after final flag reading.calls reading.replies refl reading.asked reading.run (sym reading.items_are ∙ none)
+
+no_missing : (t : Table) (u : UnreadLine) (final : Reply) (items : List Item) → IsReading t u final items → (option : List ℕ) → final ≡ steps.missing (Some option) → items ≡ [] → ⊥
+no_missing t u final items reading option is none =
+    let found = nothing_given t u final items none reading in
+    next_found u found.0 final (λ kind. subst IsNextReply is kind) (λ same. let e : steps.missing (Some option) ≡ steps.no_memory = sym is ∙ same in cc) found.1
+
+-- ---- a line that stops at a mistake
+
+all_but_last_of : (l : List Said) (s : Said) (k : List Said) → all_but_last (l ++ s ∷ k) ≡ l ++ all_but_last (s ∷ k)
+all_but_last_of [] s k = refl
+all_but_last_of (a ∷ []) s k = refl
+all_but_last_of (a ∷ b ∷ l) s k = ap (λ m. a ∷ m) (all_but_last_of (b ∷ l) s k)
+
+-- a mistake takes nothing away but the last
+kept_before : (m : Mistake) (l : List Said) (s : Said) (k : List Said) → (later : List Said) × (said_before m (l ++ s ∷ k) ≡ l ++ later)
+kept_before (unexpected_value name value) l s k = (all_but_last (s ∷ k), all_but_last_of l s k)
+kept_before (unknown_option name) l s k = (s ∷ k, refl)
+kept_before (missing_value index option) l s k = (s ∷ k, refl)
+kept_before (unexpected_argument word) l s k = (s ∷ k, refl)
+kept_before (missing_argument count) l s k = (s ∷ k, refl)
+
+-- and nothing at all, unless it is a value that an option does not take
+all_before : (d : Declaration) (words : List (List ℕ)) (n : ℕ) (a : Asked) (ask : AskFor d words a) (l : List Said) (m : Mistake) (final : Reply) (ms ns : List Item) → ms ≡ ns
+    → IsReading (table d.options) ask.there final ns → Left d n m final ms → said_before m l ≡ l
+all_before d words n a ask l m final ms ns is reading (undeclared_first name item rest m_is are of none) = ap (λ x. said_before x l) m_is
+all_before d words n a ask l m final ms ns is reading (flag_value option value m_is final_is are) =
+    let found = nothing_given (table d.options) ask.there final ns (sym is ∙ are) reading in
+    absurd (ask.no_value option value found.0 (subst (λ r. Next ask.there r found.0) final_is found.1))
+all_before d words n a ask l m final ms ns is reading (valueless name index option m_is final_is are found) = ap (λ x. said_before x l) m_is
+all_before d words n a ask l m final ms ns is reading (no_room word rest m_is are limit) = ap (λ x. said_before x l) m_is
+all_before d words n a ask l m final ms ns is reading (at_end m_is final_is are) = ap (λ x. said_before x l) m_is
+
+asked_before : (d : Declaration) (words : List (List ℕ)) (l : List Said) (m : Mistake) (a : Asked) (stops : StopsAt d words l m) (ask : AskFor d words a) (final : Reply) (ms ns : List Item)
+    → Left d (positional_count l) m final ms → IsReading (table d.options) ask.there final ns → Compared stops.read.items ask.read.items ms ns
+    → first_asked d.options (said_before m l) ≡ Some a
+asked_before d words l m a stops ask final ms ns left reading (same front back) =
+    let lists : l ≡ asking ask = same_somes l (asking ask) (sym stops.read.said ∙ ap (map (said_item d.options)) front ∙ ask.read.said) in
+    ap (first_asked d.options) (all_before d words (positional_count l) a ask l m final ms ns back reading left ∙ lists) ∙ asked_alone d words a ask
+asked_before d words l m a stops ask final ms ns left reading (shorter x rest front back) =
+    absurd (not_shorter d l (asking ask) m final stops.read.items ms ns x rest stops.read.said (subst (λ s. map (said_item d.options) s ≡ map (λ s. Some s) (asking ask)) front ask.read.said)
+    ask.read.within back left (no_missing (table d.options) ask.there final ns reading))
+asked_before d words l m a stops ask final ms ns left reading (longer x rest front back) =
+    let later = split (said_item d.options) ask.read.items (x ∷ rest) (asking ask) l ask.read.said (sym (ap (map (said_item d.options)) front) ∙ stops.read.said) in
+    more_before later.later later.are later.all_are
+  where
+    more_before : (later : List Said) → map (said_item d.options) (x ∷ rest) ≡ map (λ s. Some s) later → l ≡ asking ask ++ later → first_asked d.options (said_before m l) ≡ Some a
+    more_before [] are all_are = absurd (let e : said_item d.options x ∷ map (said_item d.options) rest ≡ [] = are in cc)
+    more_before (s ∷ k) are all_are =
+        let kept = kept_before m (asking ask) s k in
+        ap (λ z. first_asked d.options (said_before m z)) all_are ∙ ap (first_asked d.options) kept.1 ∙ asked_with d words a ask kept.0
+
+pub asked_of_stop : (d : Declaration) (words : List (List ℕ)) (l : List Said) (m : Mistake) (a : Asked) → StopsAt d words l m → AskFor d words a
+    → first_asked d.options (said_before m l) ≡ Some a
+asked_of_stop d words l m a stops ask =
+    let t = table d.options in
+    let left = left_of d (positional_count l) stops.there m stops.read.line stops.stops in
+    let one = some_reading t ask.there ask.read.line in
+    let both = no_other_reading t (start d.short_equals words) left.final one.0 (stops.read.items ++ left.items) (ask.read.items ++ one.1)
+    (stops.read.read left.final left.items left.reading) (ask.read.read one.0 one.1 one.2) in
+    asked_before d words l m a stops ask left.final left.items one.1 left.left (subst (λ f. IsReading t ask.there f one.1) (sym both.0) one.2)
+    (compared stops.read.items ask.read.items left.items one.1 both.1)
