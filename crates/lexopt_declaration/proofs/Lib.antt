@@ -1,6 +1,7 @@
 pub mod Faults
 pub mod Positions
 pub mod Counting
+pub mod Longer
 pub mod Rows
 pub mod Candidates
 pub mod Spelled

@@ -18,6 +18,7 @@ use Rattle.lexopt_declaration.specs.declared.declaration.Reason.{Reason}
 use Rattle.lexopt_declaration.specs.declared.declaration.Reason.TheVariants.{DashName, EmptyName}
 use Rattle.lexopt_declaration.specs.declared.declaration.Reason.TheVariants.{EqualsInName}
 use Rattle.lexopt_declaration.specs.declared.declaration.Reason.TheVariants.{ReplacementInName, BadPlaceholder}
+use Rattle.lexopt_declaration.specs.declared.declaration.Reason.TheVariants.{BlankOrControlInName}
 use Rattle.lexopt_declaration.specs.declared.declaration.Reason.TheVariants.{SameName}
 
 abbrev pub short_name : Names → Option ℕ
@@ -86,5 +87,6 @@ reason_view DashName = spec.dash_name
 reason_view EmptyName = spec.empty_name
 reason_view EqualsInName = spec.equals_in_name
 reason_view ReplacementInName = spec.replacement_in_name
+reason_view BlankOrControlInName = spec.blank_or_control_in_name
 reason_view BadPlaceholder = spec.bad_placeholder
 reason_view SameName = spec.same_name

@@ -5,6 +5,7 @@ use Rattle.lexopt_declaration.specs.declared.declaration.Reason.{Reason}
 use Rattle.lexopt_declaration.specs.declared.declaration.Reason.TheVariants.{DashName, EmptyName}
 use Rattle.lexopt_declaration.specs.declared.declaration.Reason.TheVariants.{EqualsInName}
 use Rattle.lexopt_declaration.specs.declared.declaration.Reason.TheVariants.{ReplacementInName}
+use Rattle.lexopt_declaration.specs.declared.declaration.Reason.TheVariants.{BlankOrControlInName}
 use Rattle.lexopt_declaration.specs.declared.declaration.Reason.TheVariants.{BadPlaceholder}
 use Rattle.lexopt_declaration.specs.declared.declaration.Reason.TheVariants.{SameName}
 use Rattle.lexopt_declaration.specs.declared.declaration.Names.{Names}
@@ -22,6 +23,7 @@ reason_text DashName = codes "its character is '-'"
 reason_text EmptyName = codes "its name is empty"
 reason_text EqualsInName = codes "its name has '=' in it"
 reason_text ReplacementInName = codes "its name has U+FFFD in it"
+reason_text BlankOrControlInName = codes "its name has a blank or a control character in it"
 reason_text BadPlaceholder = codes "its placeholder is empty or begins with '-' or '='"
 reason_text SameName = codes "an option before it has one of its names"
 

@@ -374,6 +374,9 @@ pub enum Reason {
     EqualsInName,
     /// Its character or its name has U+FFFD in it, which shows damage in what was typed.
     ReplacementInName,
+    /// Its character, or a byte of its name, is a blank or a control character of ASCII: a shell parts
+    /// words at the one, and a terminal acts on the other.
+    BlankOrControlInName,
     /// The placeholder of its value is empty, or begins with `-` or `=`: a form that the help shows
     /// could be illegal with it, or mean another value.
     BadPlaceholder,
@@ -402,6 +405,9 @@ impl fmt::Display for Reason {
             Reason::EmptyName => f.write_str("its name is empty"),
             Reason::EqualsInName => f.write_str("its name has '=' in it"),
             Reason::ReplacementInName => f.write_str("its name has U+FFFD in it"),
+            Reason::BlankOrControlInName => {
+                f.write_str("its name has a blank or a control character in it")
+            }
             Reason::BadPlaceholder => {
                 f.write_str("its placeholder is empty or begins with '-' or '='")
             }
@@ -456,6 +462,22 @@ fn has_replacement(name: &str) -> bool
     any_replacement(name)
 }
 
+// Whether a byte is a blank, or a control character of ASCII.
+fn is_blank_or_control(byte: u8) -> bool
+    ensures { result ≡ spec.is_blank_or_control byte }
+{
+    byte < b'!' || byte == 0x7F
+}
+
+// Whether a blank, or a control character of ASCII, is in a name.
+fn has_blank_or_control(name: &str) -> bool
+    ensures { result ≡ list_any spec.is_blank_or_control name.now }
+{
+    name.as_bytes()
+        .iter()
+        .any(|byte| is_blank_or_control(*byte))
+}
+
 // What is wrong with a character as a name.
 fn short_fault(name: Option<char>) -> Option<Reason>
     ensures { option_map reason_view result ≡ spec.short_fault name }
@@ -463,6 +485,7 @@ fn short_fault(name: Option<char>) -> Option<Reason>
     match name {
         Some('-') => Some(Reason::DashName),
         Some('\u{FFFD}') => Some(Reason::ReplacementInName),
+        Some('\0'..=' ' | '\x7F') => Some(Reason::BlankOrControlInName),
         Some(_) | None => None,
     }
 }
@@ -478,6 +501,8 @@ fn long_fault(name: Option<&str>) -> Option<Reason>
         Some(Reason::EqualsInName)
     } else if has_replacement(name) {
         Some(Reason::ReplacementInName)
+    } else if has_blank_or_control(name) {
+        Some(Reason::BlankOrControlInName)
     } else {
         None
     }

@@ -15,6 +15,7 @@ ghost use Rattle.lexopt_options_spec.specs.Completion.{is_long_with_equals, role
 ghost use Rattle.lexopt_options_spec.specs.Completion.{value};
 ghost use Rattle.lexopt_options_spec.specs.Declaration.{Asked, Declaration};
 ghost use Rattle.lexopt_options_spec.specs.Declaration.{IsFirstFault, bad_placeholder, dash_name};
+ghost use Rattle.lexopt_options_spec.specs.Declaration.{blank_or_control_in_name};
 ghost use Rattle.lexopt_options_spec.specs.Declaration.{empty_name, equals_in_name, index_of};
 ghost use Rattle.lexopt_options_spec.specs.Declaration.{Reason, is_sound, replacement_in_name};
 ghost use Rattle.lexopt_options_spec.specs.Declaration.{for_help, for_version};
@@ -32,7 +33,9 @@ ghost use Rattle.lexopt_options_spec.specs.Help.{line_columns, line_text};
 ghost use Rattle.lexopt_laws.specs.Sample.{asking_sample, asks_for_help, asks_for_version};
 ghost use Rattle.lexopt_laws.specs.Sample.{backup, described_files, exclude};
 ghost use Rattle.lexopt_laws.specs.Sample.{files, mode, output, sample};
-ghost use Rattle.lexopt_options_spec.specs.Nearest.{IsDistance, IsHint, IsNearest, long_name_at};
+ghost use Rattle.lexopt_options_spec.specs.Nearest.{IsDistance, IsHint, IsNearest, begins_with};
+ghost use Rattle.lexopt_options_spec.specs.Nearest.{hinted_name, long_name_at, longer_count};
+ghost use Rattle.lexopt_options_spec.specs.Nearest.{only_longer};
 ghost use Rattle.lexopt_laws.specs.Sample.{named, sample_options, target, verbose};
 
 // The option of a name, by its index: the first one, if two have the name. A name is typed whole.
@@ -86,6 +89,14 @@ fn options_are_refused()
     ensures long_name { IsFirstFault (record verbose {
       long_name = Some (0x61 ∷ 0xEF ∷ 0xBF ∷ 0xBD ∷ []);
     } ∷ []) 0 replacement_in_name }
+    ensures blank { IsFirstFault (record verbose { short_name = Some 0x20 } ∷ []) 0
+        blank_or_control_in_name }
+    ensures control { IsFirstFault (record verbose { short_name = Some 0x1B } ∷ []) 0
+        blank_or_control_in_name }
+    ensures delete { IsFirstFault (record verbose { short_name = Some 0x7F } ∷ []) 0
+        blank_or_control_in_name }
+    ensures blank_in_a_long_name { IsFirstFault
+        (record verbose { long_name = Some (codes "dry run") } ∷ []) 0 blank_or_control_in_name }
     ensures no_placeholder { IsFirstFault (record output { placeholder = [] } ∷ []) 0
         bad_placeholder }
     ensures placeholder_with_dash { IsFirstFault
@@ -127,6 +138,9 @@ fn options_are_declared()
     ensures flag { is_sound (record verbose { placeholder = codes "-" } ∷ []) ≡ true }
     ensures dash_inside { is_sound (record output { long_name = Some (codes "out-put") } ∷ []) ≡ true }
     ensures dash_in_placeholder { is_sound (record output { placeholder = codes "A-B=C" } ∷ [])
+        ≡ true }
+    ensures printed { is_sound (record verbose { short_name = Some 0x21 }
+        ∷ record output { short_name = Some 0x7E } ∷ record backup { short_name = Some 0xE4 } ∷ [])
         ≡ true }
     ensures no_characters { is_sound (record verbose { short_name = None }
         ∷ record output { short_name = None } ∷ []) ≡ true }
@@ -353,6 +367,21 @@ fn names_are_near()
     ensures not_none { IsNearest sample_options (codes "verbsoe") None → ⊥ }
 {}
 
+// The long name that begins with what was typed, if exactly one does.
+fn names_are_longer()
+    ensures begins { begins_with (codes "verb") (Some (codes "verbose")) ≡ true }
+    ensures inside { begins_with (codes "put") (Some (codes "output")) ≡ false }
+    ensures shorter { begins_with (codes "verbose") (Some (codes "verb")) ≡ false }
+    ensures no_name { begins_with (codes "v") None ≡ false }
+    ensures none { longer_count sample_options (codes "put") ≡ 0 }
+    ensures two { longer_count (named (codes "outer") ∷ sample_options) (codes "out") ≡ 2 }
+    ensures third { only_longer sample_options (codes "back") ≡ Some (codes "backup") }
+    ensures none_of_two { only_longer (named (codes "outer") ∷ sample_options) (codes "out") ≡ None }
+    ensures none_at_all { only_longer sample_options (codes "put") ≡ None }
+    ensures near { hinted_name sample_options (codes "back") (Some 0) ≡ Some (codes "verbose") }
+    ensures not_near { hinted_name sample_options (codes "back") None ≡ Some (codes "backup") }
+{}
+
 // The long name that is hinted at.
 fn names_are_hinted_at()
     ensures near { IsHint sample_options (long (codes "verbsoe")) (Some (codes "verbose")) }
@@ -360,6 +389,11 @@ fn names_are_hinted_at()
     ensures character { IsHint sample_options (short 0x77) None }
     ensures no_character { IsHint sample_options (short 0x77) (Some (codes "verbose")) → ⊥ }
     ensures not_far { IsHint sample_options (long (codes "colour")) (Some (codes "output")) → ⊥ }
+    ensures longer { IsHint sample_options (long (codes "verb")) (Some (codes "verbose")) }
+    ensures one_of_two { IsHint (named (codes "outer") ∷ sample_options) (long (codes "out"))
+        (Some (codes "output")) → ⊥ }
+    ensures near_and_longer { IsHint (named (codes "outputs") ∷ sample_options)
+        (long (codes "outpu")) (Some (codes "output")) }
     ensures at { long_name_at sample_options (Some 1) ≡ Some (codes "output") }
     ensures at_none { long_name_at sample_options None ≡ None }
     ensures at_no_option { long_name_at sample_options (Some 4) ≡ None }

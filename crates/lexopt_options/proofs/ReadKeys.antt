@@ -1,5 +1,5 @@
 -- One step of the reading of a line by keys.
-use Rattle.std.proofs.Common.{◌≡◌, ◌≤◌, ◌+◌, ℕ, Ok, true, List, [], ◌∷◌, ◌++◌, None, Some, length, map, refl, sym, ap, subst, ◌∙◌, inl, inr, arith}
+use Rattle.std.proofs.Common.{◌≡◌, ◌≤◌, ◌+◌, ℕ, Ok, true, List, [], ◌∷◌, ◌++◌, None, Some, length, refl, sym, ap, subst, ◌∙◌, inl, inr, arith}
 use Rattle.lexopt_spec.specs.UnreadLine.{UnreadLine, LastOption, no_option, short_option, long_option, no_tail, joined, rest, equals, BeginsWith}
 use Rattle.lexopt_spec.specs.Steps as steps
 use Rattle.lexopt_spec.specs.Steps.{Reply, Next, NextStep, ReadsPositional, no_word_left, word_left, ReadsWord, no_word, reads_separator, reads_long, reads_cluster, reads_positional, unexpected, joined_value, equals_value, next_in_cluster, after_separator, next_word}

@@ -82,7 +82,7 @@ option_said d count u v w name k index said sound k_is step found reads =
       within = λ within. same_count count (counts (said_with index values)) (most d.positionals) (no_count index values) within;
     })
 
--- what was answered
+-- what was returned
 pub answered : (u w : UnreadLine) (r x : Result Found Refusal) → RepliesWith Next u (advance_reply w.last r) w → r ≡ x → RepliesWith Next u (advance_reply w.last x) w
 answered u w r x h is = subst (λ (q : Result Found Refusal). RepliesWith Next u (advance_reply w.last q) w) is h
 

@@ -1,12 +1,12 @@
 -- What a reading of a whole line shows.
-use Rattle.std.proofs.Common.{append_assoc, ◌≡◌, ◌≤◌, ◌-◌, ℕ, suc, length, take, arith, true, List, [], ◌∷◌, ◌++◌, map, Some, refl, sym, ap, subst, ◌∙◌, inl, inr}
+use Rattle.std.proofs.Common.{append_assoc, ◌≡◌, ◌≤◌, ◌-◌, ℕ, suc, length, take, arith, true, List, [], ◌∷◌, ◌++◌, refl, sym, ap, subst, ◌∙◌}
 use Rattle.lexopt_spec.specs.UnreadLine.{UnreadLine}
 use Rattle.lexopt_spec.specs.Steps as steps
 use Rattle.lexopt_spec.specs.Steps.{Next}
 use Rattle.lexopt_line_spec.specs.Table.{Item}
 use Rattle.lexopt_line_spec.specs.Readings.{IsReading, start}
 use Rattle.lexopt_line_spec.proofs.ReadingSteps.{reads_last}
-use Rattle.lexopt_options_spec.specs.Declaration.{Declaration, Declared, is_sound, table}
+use Rattle.lexopt_options_spec.specs.Declaration.{Declaration, is_sound, table}
 use Rattle.lexopt_options_spec.specs.Legal as legal
 use Rattle.lexopt_options_spec.specs.Legal.{Says, SaysFront, least, positional_count}
 use Rattle.lexopt_options_spec.specs.Stops as stops
@@ -15,18 +15,16 @@ use Rattle.lexopt_options_spec.specs.Stops.{ReadsUpTo, Stops, StopsAt}
 use Rattle.lexopt_options_spec.proofs.Fronts.{front_later, front_said, no_front, nothing_said, one_front}
 use Rattle.lexopt_options.specs.declared.mistake.Mistake.{Mistake}
 use Rattle.lexopt_options.specs.declared.mistake.Mistake.TheVariants as mistake
-use Rattle.lexopt_options.specs.declared.indexed.Indexed.{Indexed}
 use Rattle.lexopt_options.specs.declared.options.Options.{Options}
 use Rattle.lexopt_options.specs.declared.refused.Line.{Line}
 use Rattle.lexopt_options.specs.declared.refused.Line.TheVariants as line
 use Rattle.lexopt_declaration.specs.declared.declaration.Declared as declared
-use Rattle.lexopt_options.specs.Declarations.{declaration_of, options_of}
+use Rattle.lexopt_options.specs.Declarations.{declaration_of}
 use Rattle.lexopt_options.specs.declared.said.Said.{Said}
 use Rattle.lexopt_options.specs.Keys.{AreSaid, asked_view}
 use Rattle.lexopt_options.proofs.Keys.{asked_here}
 use Rattle.lexopt_options.specs.Lines.{IsLineOf, IsLineRead, before_mistake}
 use Rattle.lexopt_options.specs.Mistakes.{IsMistake}
-use Rattle.lexopt_options.specs.Reading.{indexed_view}
 
 append_nil : (l : List Item) → l ++ [] ≡ l
 append_nil [] = refl
@@ -58,14 +56,14 @@ line_stopped d words l u v count why is read counted stops = record {
 -- ---- what was read before a mistake
 
 pub before_is : (d : Declaration) (m : Mistake) (why : stops.Mistake) (l : List legal.Said) → IsMistake d m why → before_mistake m l ≡ said_before why l
-before_is d (mistake.UnknownOption name nearest) why l told = ap (λ w. said_before w l) (sym told.0)
+before_is d (mistake.UnknownOption name hint) why l told = ap (λ w. said_before w l) (sym told.0)
 before_is d (mistake.UnexpectedValue option value) why l told = ap (λ w. said_before w l) (sym told)
 before_is d (mistake.MissingValue option placeholder) why l told = ap (λ w. said_before w l) (sym told.1)
 before_is d (mistake.UnexpectedArgument word) why l told = ap (λ w. said_before w l) (sym told)
 before_is d (mistake.MissingArgument placeholder) why l told = ap (λ w. said_before w l) (sym told.1)
 
 pub before_other : (m : Mistake) (l : List legal.Said) → ((option : _) (value : _) → m ≡ mistake.UnexpectedValue option value → ⊥) → before_mistake m l ≡ l
-before_other (mistake.UnknownOption name nearest) l other = refl
+before_other (mistake.UnknownOption name hint) l other = refl
 before_other (mistake.UnexpectedValue option value) l other = absurd (other option value refl)
 before_other (mistake.MissingValue option placeholder) l other = refl
 before_other (mistake.UnexpectedArgument word) l other = refl
@@ -121,7 +119,7 @@ few_said d words l m placeholder why sound is told stops =
 
 -- no other mistake is that one
 other_mistake : (d : Declaration) (x : Mistake) (m : stops.Mistake) (count : ℕ) → ((placeholder : _) → x ≡ mistake.MissingArgument placeholder → ⊥) → IsMistake d x m → m ≡ stops.missing_argument count → ⊥
-other_mistake d (mistake.UnknownOption name nearest) m count other told is = let e = sym is ∙ told.0 in cc
+other_mistake d (mistake.UnknownOption name hint) m count other told is = let e = sym is ∙ told.0 in cc
 other_mistake d (mistake.UnexpectedValue option value) m count other told is = let e = sym is ∙ told in cc
 other_mistake d (mistake.MissingValue option placeholder) m count other told is = let e = sym is ∙ told.1 in cc
 other_mistake d (mistake.UnexpectedArgument word) m count other told is = let e = sym is ∙ told in cc

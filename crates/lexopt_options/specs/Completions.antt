@@ -54,7 +54,7 @@ ends_in_one [] = false
 ends_in_one (s ∷ []) = is_one s
 ends_in_one (s ∷ t ∷ l) = ends_in_one (t ∷ l)
 
--- as much is said with `--` as with an empty word, and the last that is said with the empty word is
--- no option of several values
+-- as much is read with `--` as with an empty word, and the last that is read with the empty word is
+-- not an option of several values
 abbrev pub TakeAnyWord : List Indexed → List Indexed → Type 0
 TakeAnyWord l m = (length l ≡ length m) × (ends_in_one m ≡ true)

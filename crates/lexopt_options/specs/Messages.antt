@@ -1,6 +1,9 @@
 -- What is printed of a line that is refused. The source is `docs/formats.md`.
 use Rattle.std.specs.Prelude.{ℕ, List, [], ◌++◌, Option, Some, None, codes, encode_utf8, string_bytes}
-use Rattle.lexopt_spec.specs.Text.{unexpected_argument_message}
+use Rattle.std.specs.Prelude.{nat_lt, ◌==◌, ◌||◌, if◌then◌else◌}
+use Rattle.std.specs.List.{flat_map}
+use Rattle.std.specs.Str.{chars}
+use Rattle.lexopt_spec.specs.Text.{quoted_character, unexpected_argument_message}
 use Rattle.lexopt_spec.specs.Text.{unexpected_option_message, unexpected_value_message}
 use Rattle.lexopt_declaration.specs.Texts.{names_text}
 use Rattle.lexopt_declaration.specs.declared.declaration.Names.{Names}
@@ -12,15 +15,19 @@ use Rattle.lexopt_options.specs.declared.mistake.Mistake.TheVariants.{MissingArg
 use Rattle.lexopt_options.specs.declared.mistake.OptionName.{OptionName}
 use Rattle.lexopt_options.specs.declared.mistake.OptionName.TheVariants.{Short, Long}
 
+-- a character of a name: a control character of ASCII as in the quoted form, any other as it is
+abbrev pub escaped : ℕ → List ℕ
+escaped c = if nat_lt c 0x20 || c == 0x7F then quoted_character c [] else encode_utf8 c
+
 -- a name with its dashes
 abbrev pub name_text : OptionName → List ℕ
-name_text (Short c) = codes "-" ++ encode_utf8 c
-name_text (Long name) = codes "--" ++ string_bytes name
+name_text (Short c) = codes "-" ++ escaped c
+name_text (Long name) = codes "--" ++ flat_map escaped (chars (string_bytes name))
 
 abbrev pub message : Mistake → List ℕ
 message (UnknownOption name None) = unexpected_option_message (name_text name)
-message (UnknownOption name (Some nearest)) = unexpected_option_message (name_text name)
-    ++ (codes "; did you mean '--" ++ (nearest.now ++ codes "'?"))
+message (UnknownOption name (Some hint)) = unexpected_option_message (name_text name)
+    ++ (codes "; did you mean '--" ++ (hint.now ++ codes "'?"))
 message (UnexpectedValue option value) = unexpected_value_message (string_bytes option) value
 message (MissingValue option placeholder) = codes "missing argument "
     ++ (placeholder.now ++ (codes " for option '" ++ (string_bytes option ++ codes "'")))

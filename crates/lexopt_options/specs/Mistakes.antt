@@ -13,8 +13,8 @@ use Rattle.lexopt_options.specs.declared.mistake.Mistake.TheVariants.{MissingArg
 
 -- the mistake is this one of the definitions
 abbrev pub IsMistake : Declaration → Mistake → stops.Mistake → Type 0
-IsMistake d (UnknownOption name nearest) m = (m ≡ stops.unknown_option (name_view name))
-    × IsHint d.options (name_view name) (option_map (λ text. text.now) nearest)
+IsMistake d (UnknownOption name hint) m = (m ≡ stops.unknown_option (name_view name))
+    × IsHint d.options (name_view name) (option_map (λ text. text.now) hint)
 IsMistake d (UnexpectedValue option value) m =
     m ≡ stops.unexpected_value (string_bytes option) value
 IsMistake d (MissingValue option placeholder) m = (index : ℕ)

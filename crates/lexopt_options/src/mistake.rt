@@ -1,12 +1,16 @@
 //! What can be wrong with a line, and what is printed about it.
 ghost use Rattle.std.specs.Prelude.{IfOk, map, option_map};
 ghost use Rattle.lexopt_options_spec.specs.Nearest.{IsHint};
+ghost use Rattle.std.specs.Fmt.{WritesOnOk};
+ghost use Rattle.std.specs.List.{flat_map};
+ghost use Rattle.std.specs.Str.{chars};
+ghost use Rattle.lexopt_options.specs.Messages.{escaped};
 ghost use Rattle.lexopt_options.specs.Names.{name_view};
 ghost use Rattle.lexopt_declaration.specs.Models.{option_view};
 
 use lexopt_declaration::declaration::Declared;
 use lexopt_declaration::lookup::long_name_of;
-use lexopt_declaration::nearest::nearest;
+use lexopt_declaration::nearest::{nearest, only_longer};
 use lexopt_words::message::write_unexpected_value;
 use lexopt_words::os_string::{OsString, Quoted};
 use std::alloc::{AllocError, Global};
@@ -21,17 +25,52 @@ pub enum OptionName {
     Long(String),
 }
 
+// Writes a character of a name: a control character of ASCII as in the quoted form of bytes, any
+// other as it is.
+fn write_escaped<W: fmt::Write>(character: char, f: &mut fmt::Formatter<W>) -> fmt::Result
+    ensures { WritesOnOk W.write_str_gives f.old result (escaped character) f.new }
+{
+    match character {
+        '\t' => f.write_str("\\t"),
+        '\n' => f.write_str("\\n"),
+        '\r' => f.write_str("\\r"),
+        '\0' => f.write_str("\\0"),
+        '\x01'..='\x1f' | '\x7f' => {
+            let code = u32::from(character);
+            write!(f, "\\u{{{code:x}}}")
+        }
+        _ => f.write_char(character),
+    }
+}
+
+// Writes each character of a name.
+fn write_name<W: fmt::Write>(name: &str, f: &mut fmt::Formatter<W>) -> fmt::Result
+    ensures { WritesOnOk W.write_str_gives f.old result (flat_map escaped (chars name.now)) f.new }
+{
+    for character in name.chars() {
+        write_escaped(character, f)?;
+    }
+    Ok(())
+}
+
 impl fmt::Display for OptionName {
     ghost use Rattle.std.specs.Prelude.{Some};
     ghost use Rattle.lexopt_options.specs.Messages.{name_text};
 
     ghost output = { λ name. Some (name_text name) };
 
-    /// Writes the name with its dashes.
+    /// Writes the name with its dashes. A control character of ASCII is escaped, as in the quoted
+    /// form of bytes.
     fn fmt<W: fmt::Write>(&self, f: &mut fmt::Formatter<W>) -> fmt::Result {
         match self {
-            OptionName::Short(character) => write!(f, "-{character}"),
-            OptionName::Long(name) => write!(f, "--{name}"),
+            OptionName::Short(character) => {
+                f.write_str("-")?;
+                write_escaped(*character, f)
+            }
+            OptionName::Long(name) => {
+                f.write_str("--")?;
+                write_name(name, f)
+            }
         }
     }
 }
@@ -43,8 +82,10 @@ pub enum Mistake<'a> {
     UnknownOption {
         /// Its name.
         name: OptionName,
-        /// The name of the nearest declared option, if a long name was typed and one is near.
-        nearest: Option<&'a str>,
+        /// A declared long name that may have been meant, if a long name was typed: that of the
+        /// nearest option; or, if none is near, the one that begins with what was typed, if exactly
+        /// one does.
+        hint: Option<&'a str>,
     },
     /// An option that takes no value has one joined to it.
     UnexpectedValue {
@@ -75,14 +116,11 @@ impl fmt::Display for Mistake<'_> {
 
     fn fmt<W: fmt::Write>(&self, f: &mut fmt::Formatter<W>) -> fmt::Result {
         match self {
+            Mistake::UnknownOption { name, hint: None } => write!(f, "invalid option '{name}'"),
             Mistake::UnknownOption {
                 name,
-                nearest: None,
-            } => write!(f, "invalid option '{name}'"),
-            Mistake::UnknownOption {
-                name,
-                nearest: Some(nearest),
-            } => write!(f, "invalid option '{name}'; did you mean '--{nearest}'?"),
+                hint: Some(hint),
+            } => write!(f, "invalid option '{name}'; did you mean '--{hint}'?"),
             Mistake::UnexpectedValue { option, value } => write_unexpected_value(option, value, f),
             Mistake::MissingValue {
                 option,
@@ -99,7 +137,7 @@ impl fmt::Display for Mistake<'_> {
 
 impl std::error::Error for Mistake<'_> {}
 
-/// The nearest declared name to one that is not declared.
+/// The long name that may have been meant by a name that is not declared.
 ///
 /// The only error is that memory ran out.
 pub(crate) fn hint<'a, F, V, M, S>(
@@ -112,6 +150,9 @@ pub(crate) fn hint<'a, F, V, M, S>(
 {
     match name {
         OptionName::Short(_) => Ok(None),
-        OptionName::Long(name) => Ok(long_name_of(options, nearest(alloc, name, options)?)),
+        OptionName::Long(name) => match nearest(alloc, name, options)? {
+            Some(index) => Ok(long_name_of(options, Some(index))),
+            None => Ok(only_longer(options, name)),
+        },
     }
 }

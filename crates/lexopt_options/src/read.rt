@@ -204,8 +204,8 @@ fn unknown_option<'a, F, V, M, S>(
     ensures { IfOk result (λ mistake. IsMistake (declaration_of options.now) mistake
         (stops.unknown_option (name_view name))) }
 {
-    let nearest = hint(alloc, options.options(), &name)?;
-    Ok(Mistake::UnknownOption { name, nearest })
+    let hint = hint(alloc, options.options(), &name)?;
+    Ok(Mistake::UnknownOption { name, hint })
 }
 
 // Whether `count` positional arguments are as many as there may be.

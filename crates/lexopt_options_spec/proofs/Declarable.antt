@@ -7,11 +7,11 @@ use Rattle.std.proofs.lemmas.List.Folds.{list_any-append}
 use lib.Dec.{ltb}
 use lib.Utf8.{encode}
 use Rattle.lexopt_spec.specs.Pieces.{replacement, lossy_characters}
-use Rattle.lexopt_spec.specs.UnreadLine.{equals}
+use Rattle.lexopt_spec.specs.UnreadLine.{dash, equals}
 use Rattle.lexopt_line_spec.specs.Table.{long, Kind, flag, one, optional, several}
 use Rattle.lexopt_line_spec.proofs.Names.{encoded}
 use Rattle.lexopt_options_spec.specs.Completion.{AreText}
-use Rattle.lexopt_options_spec.specs.Declaration.{Declared, Reason, same_name, or_else, has, has_name, is_empty, shares_name, short_fault, long_fault, placeholder_fault, fault, faults, is_sound}
+use Rattle.lexopt_options_spec.specs.Declaration.{Declared, Reason, same_name, or_else, has, has_name, is_blank_or_control, is_empty, shares_name, short_fault, long_fault, placeholder_fault, fault, faults, is_sound}
 use Rattle.lexopt_options_spec.specs.Declarable.{has_replacement, is_good_short, is_good_long, is_good_placeholder, is_good, can_be_declared}
 use Rattle.lexopt_options_spec.proofs.Tables.{pointwise_refl}
 
@@ -95,23 +95,26 @@ only_if false r rest none = (refl, none)
 short_sound : (o : Option ℕ) → is_good_short o ≡ true → short_fault o ≡ None
 short_sound None good = refl
 short_sound (Some c) good =
-    let parts = and_parts _ _ good in
-    unless _ _ _ (not-true _ parts.0) (unless _ _ _ (not-true _ parts.1) refl)
+    let parts = and_parts (not (c == dash) && not (c == replacement)) (not (is_blank_or_control c)) good in
+    let front = and_parts (not (c == dash)) (not (c == replacement)) parts.0 in
+    unless _ _ _ (not-true _ front.0) (unless _ _ _ (not-true _ front.1) (unless _ _ _ (not-true _ parts.1) refl))
 
 short_good : (o : Option ℕ) → short_fault o ≡ None → is_good_short o ≡ true
 short_good None none = refl
 short_good (Some c) none =
     let first = only_if _ _ _ none in
     let second = only_if _ _ _ first.1 in
-    and_from _ _ (not_from_false _ first.0) (not_from_false _ second.0)
+    let third = only_if _ _ _ second.1 in
+    and_from _ _ (and_from _ _ (not_from_false _ first.0) (not_from_false _ second.0)) (not_from_false _ third.0)
 
 long_sound : (o : Option (List ℕ)) → HasText o → is_good_long o ≡ true → long_fault o ≡ None
 long_sound None text good = refl
 long_sound (Some name) text good =
-    let parts = and_parts (not (is_empty name) && not (has equals name)) (not (has_replacement name)) good in
+    let whole = and_parts (not (is_empty name) && not (has equals name) && not (has_replacement name)) (not (list_any is_blank_or_control name)) good in
+    let parts = and_parts (not (is_empty name) && not (has equals name)) (not (has_replacement name)) whole.0 in
     let front = and_parts (not (is_empty name)) (not (has equals name)) parts.0 in
     unless _ _ _ (not-true _ front.0) (unless _ _ _ (not-true _ front.1)
-    (unless _ _ _ (none_by_characters name text (not-true _ parts.1)) refl))
+    (unless _ _ _ (none_by_characters name text (not-true _ parts.1)) (unless _ _ _ (not-true _ whole.1) refl)))
 
 long_good : (o : Option (List ℕ)) → HasText o → long_fault o ≡ None → is_good_long o ≡ true
 long_good None text none = refl
@@ -119,7 +122,8 @@ long_good (Some name) text none =
     let first = only_if (is_empty name) _ _ none in
     let second = only_if (has equals name) _ _ first.1 in
     let third = only_if (has replacement (lossy_characters name)) _ _ second.1 in
-    and_from _ _ (and_from _ _ (not_from_false _ first.0) (not_from_false _ second.0)) (not_from_false _ (none_by_bytes name text third.0))
+    let fourth = only_if (list_any is_blank_or_control name) _ _ third.1 in
+    and_from _ _ (and_from _ _ (and_from _ _ (not_from_false _ first.0) (not_from_false _ second.0)) (not_from_false _ (none_by_bytes name text third.0))) (not_from_false _ fourth.0)
 
 is_none_if : (b : Bool) (r : Reason) → b ≡ true → cond b None (Some r) ≡ None
 is_none_if b r is = rw is refl

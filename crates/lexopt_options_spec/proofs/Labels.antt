@@ -11,7 +11,7 @@ use Rattle.lexopt_spec.specs.UnreadLine.{dash, equals, BeginsWith, IsPlain}
 use Rattle.lexopt_line_spec.specs.Table.{short, long, Item, Kind, flag, one, optional, several, Table, kind}
 use Rattle.lexopt_line_spec.specs.Spelling.{After, nothing, attached, joined, no_value, joined_value, next_word, no_optional, attached_optional, joined_optional, joined_several, several_words, Completes, last_option, IsAfterLast, nothing_more, a_value, IsLong, name_alone, name_and_value, cluster, long_option, no_words, group, Spells}
 use Rattle.lexopt_line_spec.proofs.SpellerTests.{dash_first, no_equals}
-use Rattle.lexopt_options_spec.specs.Declaration.{Declared, is_long, is_short, table, Reason, dash_name, empty_name, equals_in_name, replacement_in_name, bad_placeholder, has, is_placeholder, short_fault, long_fault, placeholder_fault, or_else, fault, faults, is_sound}
+use Rattle.lexopt_options_spec.specs.Declaration.{Declared, is_long, is_short, table, Reason, is_blank_or_control, blank_or_control_in_name, dash_name, empty_name, equals_in_name, replacement_in_name, bad_placeholder, has, is_placeholder, short_fault, long_fault, placeholder_fault, or_else, fault, faults, is_sound}
 use Rattle.lexopt_options_spec.specs.Help.{LabelForm, short_flag, short_one, short_optional, short_optional_value, short_several, long_flag, long_one, long_optional, long_optional_value, long_several, short_word, HasTextNames}
 use Rattle.lexopt_options_spec.proofs.Tables.{IsIn, contains_in, kind_of_name, pointwise_refl}
 
@@ -41,19 +41,19 @@ fine_one before (q ∷ os) o sound (inr more) =
 
 no_dash : (c : ℕ) → short_fault (Some c) ≡ None → c ≢ dash
 no_dash c fine is =
-    let e : Some dash_name ≡ None = sym (ap (λ b. cond b (Some dash_name) (cond (c == replacement) (Some replacement_in_name) None)) (eq-eqb c dash is)) ∙ fine in cc
+    let e : Some dash_name ≡ None = sym (ap (λ b. cond b (Some dash_name) (cond (c == replacement) (Some replacement_in_name) (cond (is_blank_or_control c) (Some blank_or_control_in_name) None))) (eq-eqb c dash is)) ∙ fine in cc
 
 some_name : (name : List ℕ) → long_fault (Some name) ≡ None → name ≢ []
 some_name [] fine is = let e : Some empty_name ≡ None = fine in cc
 some_name (b ∷ bs) fine is = cc
 
-free : (b c : Bool) → cond b (Some equals_in_name) (cond c (Some replacement_in_name) None) ≡ None → b ≡ false
-free true c e = let f : Some equals_in_name ≡ None = e in cc
-free false c e = refl
+free : (b : Bool) (rest : Option Reason) → cond b (Some equals_in_name) rest ≡ None → b ≡ false
+free true rest e = let f : Some equals_in_name ≡ None = e in cc
+free false rest e = refl
 
 no_equals_in : (name : List ℕ) → long_fault (Some name) ≡ None → ¬ Contains name equals
 no_equals_in [] fine = absurd (some_name [] fine refl)
-no_equals_in (b ∷ bs) fine = no_equals (b ∷ bs) (free (has equals (b ∷ bs)) (has replacement (lossy_characters (b ∷ bs))) fine)
+no_equals_in (b ∷ bs) fine = no_equals (b ∷ bs) (free (has equals (b ∷ bs)) _ fine)
 
 -- what can be a placeholder
 record IsValue (value : List ℕ) : Type 0 where

@@ -5,8 +5,8 @@ use Rattle.std.specs.List.{list_any, starts_with}
 use Rattle.lexopt_spec.specs.Pieces.{replacement}
 use Rattle.lexopt_spec.specs.UnreadLine.{dash, equals}
 use Rattle.lexopt_line_spec.specs.Table.{Kind, flag}
-use Rattle.lexopt_options_spec.specs.Declaration.{Declared, has, is_empty, is_placeholder}
-use Rattle.lexopt_options_spec.specs.Declaration.{shares_name}
+use Rattle.lexopt_options_spec.specs.Declaration.{Declared, has, is_blank_or_control, is_empty}
+use Rattle.lexopt_options_spec.specs.Declaration.{is_placeholder, shares_name}
 
 -- the bytes of U+FFFD are among these
 abbrev pub has_replacement : List ℕ → Bool
@@ -17,12 +17,13 @@ has_replacement (b ∷ bs) =
 -- a character that is there can be a name
 abbrev pub is_good_short : Option ℕ → Bool
 is_good_short None = true
-is_good_short (Some c) = not (c == dash) && not (c == replacement)
+is_good_short (Some c) = not (c == dash) && not (c == replacement) && not (is_blank_or_control c)
 
 -- and a name that is there
 abbrev pub is_good_long : Option (List ℕ) → Bool
 is_good_long None = true
-is_good_long (Some name) = not (is_empty name) && not (has equals name) && not (has_replacement name)
+is_good_long (Some name) = not (is_empty name) && not (has equals name)
+    && not (has_replacement name) && not (list_any is_blank_or_control name)
 
 -- this can be the placeholder of the value of an option, if it has one
 abbrev pub is_good_placeholder : Kind → List ℕ → Bool

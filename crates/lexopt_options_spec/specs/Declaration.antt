@@ -2,6 +2,7 @@
 -- The source is `docs/behaviour.md`. Names are without their dashes, texts are their UTF-8.
 use Rattle.std.specs.Prelude.{◌≡◌, ℕ, Bool, true, false, ◌==◌, ◌||◌, ◌&&◌, not, List, [], ◌∷◌, ◌++◌}
 use Rattle.std.specs.Prelude.{Option, Some, None, is_none, position, slice_get, take, if◌then◌else◌}
+use Rattle.std.specs.Prelude.{nat_lt}
 use Rattle.std.specs.Option.{option_to_list}
 use Rattle.std.specs.List.{flat_map, list_all, list_any}
 use Rattle.std.specs.Cmp.Lexicographic.{pointwise}
@@ -112,15 +113,22 @@ pub data Reason : Type 0 where
   equals_in_name : Reason
   -- U+FFFD shows damage in what was typed
   replacement_in_name : Reason
+  -- a shell parts words at a blank, and a terminal acts on a control character
+  blank_or_control_in_name : Reason
   -- the placeholder of its value is empty, or begins with `-` or `=`: no such value could be there
   bad_placeholder : Reason
   -- an option before it has one of its names
   same_name : Reason
 
+-- a blank, or a control character of ASCII
+abbrev pub is_blank_or_control : ℕ → Bool
+is_blank_or_control b = nat_lt b 0x21 || b == 0x7F
+
 abbrev pub short_fault : Option ℕ → Option Reason
 short_fault None = None
 short_fault (Some c) = if c == dash then Some dash_name
-    else (if c == replacement then Some replacement_in_name else None)
+    else (if c == replacement then Some replacement_in_name
+    else (if is_blank_or_control c then Some blank_or_control_in_name else None))
 
 abbrev pub is_empty : List ℕ → Bool
 is_empty [] = true
@@ -133,7 +141,8 @@ abbrev pub long_fault : Option (List ℕ) → Option Reason
 long_fault None = None
 long_fault (Some name) = if is_empty name then Some empty_name
     else (if has equals name then Some equals_in_name
-    else (if has replacement (lossy_characters name) then Some replacement_in_name else None))
+    else (if has replacement (lossy_characters name) then Some replacement_in_name
+    else (if list_any is_blank_or_control name then Some blank_or_control_in_name else None)))
 
 abbrev pub is_placeholder : List ℕ → Bool
 is_placeholder [] = false

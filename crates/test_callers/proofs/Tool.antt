@@ -41,8 +41,8 @@ are_told options (s ∷ l) [] all = absurd all
 are_told options (s ∷ l) (o ∷ os) all = (told options s o all.0, are_told options l os all.1)
 
 stopped_by : (words : List (List ℕ)) (before : List (Said Flag Value Maybe Values)) (m : Mistake) (why : stops.Mistake) → IsMistake tool m why → Stopped words before why → StoppedBy words before m
-stopped_by words before (mistake.UnknownOption (name.Short c) nearest) why is stopped = (subst (Stopped words before) is.0 stopped, is.1)
-stopped_by words before (mistake.UnknownOption (name.Long own) nearest) why is stopped = (subst (Stopped words before) is.0 stopped, is.1)
+stopped_by words before (mistake.UnknownOption (name.Short c) hint) why is stopped = (subst (Stopped words before) is.0 stopped, is.1)
+stopped_by words before (mistake.UnknownOption (name.Long own) hint) why is stopped = (subst (Stopped words before) is.0 stopped, is.1)
 stopped_by words before (mistake.UnexpectedValue option value) why is stopped = subst (Stopped words before) is stopped
 stopped_by words before (mistake.MissingValue option placeholder) why is stopped = (is.0, subst (Stopped words before) is.1 stopped, is.2)
 stopped_by words before (mistake.UnexpectedArgument word) why is stopped = subst (Stopped words before) is stopped

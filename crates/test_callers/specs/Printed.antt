@@ -1,8 +1,10 @@
 -- What is printed of declared options, and which of two cannot be declared, in plain data.
 use Rattle.std.specs.Prelude.{◌≡◌, zero, suc, ℕ, List, [], ◌∷◌, ◌++◌, Option, Some, None, codes, encode_utf8, false}
-use Rattle.std.specs.Prelude.{string_bytes}
+use Rattle.std.specs.Prelude.{string_bytes, nat_lt, ◌==◌, ◌||◌, if◌then◌else◌}
 use Rattle.anyhow.specs.Error.{error_message}
-use Rattle.lexopt_spec.specs.Text.{quoted}
+use Rattle.std.specs.List.{flat_map}
+use Rattle.std.specs.Str.{chars}
+use Rattle.lexopt_spec.specs.Text.{quoted, quoted_character}
 use Rattle.lexopt_words.specs.Message as words
 use Rattle.lexopt_words.specs.declared.error.Error.{Error}
 use Rattle.lexopt_words.specs.declared.error.Error.TheVariants as error
@@ -35,6 +37,8 @@ reason_line reason.DashName = codes "its character is '-'"
 reason_line reason.EmptyName = codes "its name is empty"
 reason_line reason.EqualsInName = codes "its name has '=' in it"
 reason_line reason.ReplacementInName = codes "its name has U+FFFD in it"
+reason_line reason.BlankOrControlInName =
+    codes "its name has a blank or a control character in it"
 reason_line reason.BadPlaceholder = codes "its placeholder is empty or begins with '-' or '='"
 reason_line reason.SameName = codes "an option before it has one of its names"
 
@@ -44,16 +48,20 @@ declaration_line error = codes "option '"
 
 -- ---- a line that is refused
 
+-- a control character of ASCII is printed as between quotes
+abbrev pub printed : ℕ → List ℕ
+printed c = if nat_lt c 0x20 || c == 0x7F then quoted_character c [] else encode_utf8 c
+
 abbrev pub typed_name : OptionName → List ℕ
-typed_name (typed.Short c) = codes "-" ++ encode_utf8 c
-typed_name (typed.Long name) = codes "--" ++ string_bytes name
+typed_name (typed.Short c) = codes "-" ++ printed c
+typed_name (typed.Long name) = codes "--" ++ flat_map printed (chars (string_bytes name))
 
 abbrev pub mistake_line : Mistake → List ℕ
 mistake_line (mistake.UnknownOption name None) =
     codes "invalid option '" ++ (typed_name name ++ codes "'")
-mistake_line (mistake.UnknownOption name (Some nearest)) =
+mistake_line (mistake.UnknownOption name (Some hint)) =
     (codes "invalid option '" ++ (typed_name name ++ codes "'"))
-    ++ (codes "; did you mean '--" ++ (nearest.now ++ codes "'?"))
+    ++ (codes "; did you mean '--" ++ (hint.now ++ codes "'?"))
 mistake_line (mistake.UnexpectedValue option value) = codes "unexpected argument for option '"
     ++ (string_bytes option ++ (codes "': " ++ quoted value))
 mistake_line (mistake.MissingValue option placeholder) = codes "missing argument "
@@ -132,6 +140,7 @@ reason_of reason.DashName = spec.dash_name
 reason_of reason.EmptyName = spec.empty_name
 reason_of reason.EqualsInName = spec.equals_in_name
 reason_of reason.ReplacementInName = spec.replacement_in_name
+reason_of reason.BlankOrControlInName = spec.blank_or_control_in_name
 reason_of reason.BadPlaceholder = spec.bad_placeholder
 reason_of reason.SameName = spec.same_name
 

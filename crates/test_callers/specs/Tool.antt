@@ -103,12 +103,12 @@ Stopped words before why = (read : List legal.Said) × StopsAt tool words read w
     × AreTold (said_before why read) before
 
 abbrev pub StoppedBy : List (List ℕ) → List (Said Flag Value Maybe Values) → Mistake → Type 0
-StoppedBy words before (mistake.UnknownOption (name.Short c) nearest) =
+StoppedBy words before (mistake.UnknownOption (name.Short c) hint) =
     Stopped words before (stops.unknown_option (short c))
-    × IsHint tool_options (short c) (option_map (λ text. text.now) nearest)
-StoppedBy words before (mistake.UnknownOption (name.Long own) nearest) =
+    × IsHint tool_options (short c) (option_map (λ text. text.now) hint)
+StoppedBy words before (mistake.UnknownOption (name.Long own) hint) =
     Stopped words before (stops.unknown_option (long (string_bytes own)))
-    × IsHint tool_options (long (string_bytes own)) (option_map (λ text. text.now) nearest)
+    × IsHint tool_options (long (string_bytes own)) (option_map (λ text. text.now) hint)
 StoppedBy words before (mistake.UnexpectedValue option value) =
     Stopped words before (stops.unexpected_value (string_bytes option) value)
 StoppedBy words before (mistake.MissingValue option placeholder) = (index : ℕ)

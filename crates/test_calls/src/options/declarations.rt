@@ -26,7 +26,7 @@ fn is_refused_for(names: Names<'_>, kind: ArchiveKind<'_>, reason: Option<Reason
 
 const VERBOSE: ArchiveKind<'static> = Kind::Flag(Flag::Verbose);
 
-static FAULTS: [(Names<'static>, ArchiveKind<'static>, Option<Reason>); 16] = [
+static FAULTS: [(Names<'static>, ArchiveKind<'static>, Option<Reason>); 26] = [
     (Names::Short('-'), VERBOSE, Some(Reason::DashName)),
     (Names::Both('-', "dash"), VERBOSE, Some(Reason::DashName)),
     (Names::Long(""), VERBOSE, Some(Reason::EmptyName)),
@@ -41,6 +41,41 @@ static FAULTS: [(Names<'static>, ArchiveKind<'static>, Option<Reason>); 16] = [
         Names::Long("a\u{FFFD}"),
         VERBOSE,
         Some(Reason::ReplacementInName),
+    ),
+    (
+        Names::Short(' '),
+        VERBOSE,
+        Some(Reason::BlankOrControlInName),
+    ),
+    (
+        Names::Short('\0'),
+        VERBOSE,
+        Some(Reason::BlankOrControlInName),
+    ),
+    (
+        Names::Short('\x7F'),
+        VERBOSE,
+        Some(Reason::BlankOrControlInName),
+    ),
+    (
+        Names::Long("dry run"),
+        VERBOSE,
+        Some(Reason::BlankOrControlInName),
+    ),
+    (
+        Names::Long("dry\nrun"),
+        VERBOSE,
+        Some(Reason::BlankOrControlInName),
+    ),
+    (
+        Names::Both('d', "dry\x1B[1m"),
+        VERBOSE,
+        Some(Reason::BlankOrControlInName),
+    ),
+    (
+        Names::Long("dry\x7F"),
+        VERBOSE,
+        Some(Reason::BlankOrControlInName),
     ),
     (
         Names::Short('o'),
@@ -61,7 +96,10 @@ static FAULTS: [(Names<'static>, ArchiveKind<'static>, Option<Reason>); 16] = [
     (Names::Long("help"), VERBOSE, Some(Reason::SameName)),
     (Names::Both('h', "host"), VERBOSE, Some(Reason::SameName)),
     (Names::Short('='), Kind::Value(Value::Output, "N=M"), None),
+    (Names::Short('!'), VERBOSE, None),
+    (Names::Both('~', "größe"), VERBOSE, None),
     (Names::Long("-"), VERBOSE, None),
+    (Names::Long("~!"), VERBOSE, None),
     (Names::Both('H', "helps"), VERBOSE, None),
 ];
 

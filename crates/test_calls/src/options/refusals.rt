@@ -23,11 +23,33 @@ fn is_refused(
     }
 }
 
-static MISTAKES: [(&[u8], &str, &str); 13] = [
+static MISTAKES: [(&[u8], &str, &str); 19] = [
     (
         b"--verbsoe",
         "[]",
         "invalid option '--verbsoe'; did you mean '--verbose'?",
+    ),
+    (
+        b"--verb",
+        "[]",
+        "invalid option '--verb'; did you mean '--verbose'?",
+    ),
+    (
+        b"--e=1",
+        "[]",
+        "invalid option '--e'; did you mean '--exclude'?",
+    ),
+    (b"--erb", "[]", "invalid option '--erb'"),
+    (
+        b"--a\x1B[1m\n\x7F\"\\",
+        "[]",
+        "invalid option '--a\\u{1b}[1m\\n\\u{7f}\"\\'",
+    ),
+    (b"-\t", "[]", "invalid option '-\\t'"),
+    (
+        b"--gr\xC3\xB6\xC3\x9Fe\xFF",
+        "[]",
+        "invalid option '--größe\u{FFFD}'",
     ),
     (
         b"a --colour always",

@@ -1,8 +1,8 @@
-use Rattle.std.proofs.Common.{◌≡◌, Some, None, codes, refl, ap, ◌∙◌}
+use Rattle.std.proofs.Common.{◌≡◌, ◌∷◌, Some, None, codes, refl, ap, ◌∙◌}
 use Rattle.lexopt_line_spec.proofs.Computing.{computing}
-use Rattle.lexopt_options_spec.specs.Nearest.{IsNearest, long_name_at}
+use Rattle.lexopt_options_spec.specs.Nearest.{IsNearest, hinted_name}
 use Rattle.lexopt_options_spec.proofs.Nearest.{one_nearest}
-use Rattle.lexopt_laws.specs.Sample.{sample_options}
+use Rattle.lexopt_laws.specs.Sample.{named, sample_options}
 use Rattle.lexopt_laws.proofs.WorkedNames.{nearest_is, nothing_near}
 use Rattle.lexopt_laws.proofs.option_examples.names_are_hinted_at.Goals as goal
 
@@ -25,4 +25,19 @@ unfolding computing
 returns-clause-not_far c is =
     let none : IsNearest sample_options (codes "colour") None = nothing_near (codes "colour") refl in
     let same = one_nearest sample_options (codes "colour") is.0 None is.1 none in
-    let e : Some (codes "output") ≡ None = is.2 ∙ ap (long_name_at sample_options) same in cc
+    let e : Some (codes "output") ≡ None = is.2 ∙ ap (hinted_name sample_options (codes "colour")) same in cc
+
+pub returns-clause-longer : goal.returns-clause-longer
+unfolding computing
+returns-clause-longer c = (None, nothing_near (codes "verb") refl, refl)
+
+pub returns-clause-one_of_two : goal.returns-clause-one_of_two
+unfolding computing
+returns-clause-one_of_two c is =
+    let none : IsNearest (named (codes "outer") ∷ sample_options) (codes "out") None = nothing_near (codes "out") refl in
+    let same = one_nearest (named (codes "outer") ∷ sample_options) (codes "out") is.0 None is.1 none in
+    let e : Some (codes "output") ≡ None = is.2 ∙ ap (hinted_name (named (codes "outer") ∷ sample_options) (codes "out")) same in cc
+
+pub returns-clause-near_and_longer : goal.returns-clause-near_and_longer
+unfolding computing
+returns-clause-near_and_longer c = (Some 2, nearest_is (codes "outpu") 2 1 _ refl refl refl refl, refl)

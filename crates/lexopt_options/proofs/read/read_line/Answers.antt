@@ -3,7 +3,6 @@ use Rattle.std.proofs.lemmas.List.{length-map}
 use Rattle.lexopt_options_spec.specs.Legal as legal
 use Rattle.lexopt_options_spec.specs.Legal.{positional_count}
 use Rattle.lexopt_options_spec.specs.Stops.{ReadsUpTo}
-use Rattle.lexopt_options.specs.declared.indexed.Indexed.TheVariants as indexed
 use Rattle.lexopt_options.specs.Declarations.{declaration_of}
 use Rattle.lexopt_options.specs.Reading.{indexed_view}
 use Rattle.lexopt_options.proofs.ReadNext.{count_more, count_small, one_more}

@@ -1,0 +1,18 @@
+use Rattle.std.proofs.Common.{[], flat_map, map-id, refl, sym, ap, ◌∙◌}
+use Rattle.std.proofs.Output.{has_written_append, has_written_of_eq}
+use Rattle.std.proofs.lemmas.Iterator.{YieldsList-from_chars}
+use Rattle.std.proofs.lemmas.Iterator.Consumers.{YieldsList-end}
+use Rattle.std.proofs.lemmas.List.{flat_map_more}
+use Rattle.lexopt_options.specs.Messages.{escaped}
+use Rattle.lexopt_options.proofs.mistake.write_name.Goals as goal
+
+pub loop-character-preserved : goal.loop-character-preserved
+loop-character-preserved g c = λ plain.
+    let so_far = c.loop-character.invariant plain in
+    has_written_of_eq _ _ _ _ _ (flat_map_more escaped [] c.loop-character.yielded c.in-Some.character)
+    (has_written_append _ _ _ _ (escaped c.in-Some.character) _ so_far (c.in_ok-write_escaped.ensures so_far.plain refl))
+
+pub returns : goal.returns
+returns g c = λ plain _.
+    let end = YieldsList-end (YieldsList-from_chars c.args.name.now c.utf8.name cc) c.loop-character.yielded _ c.loop-character.yielded_by _ _ c.in-None.is c.next.ensures.steps in
+    has_written_of_eq _ _ _ _ _ (ap (flat_map escaped) (sym (map-id c.loop-character.yielded) ∙ end.0)) (c.loop-character.invariant plain)
