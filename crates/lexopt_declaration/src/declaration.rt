@@ -455,10 +455,13 @@ fn any_replacement(name: &str) -> bool
     name.chars().any(|character| character == '\u{FFFD}')
 }
 
-// Whether U+FFFD is in a name.
+// Whether U+FFFD is in a name. Few names have its first byte, EF.
 fn has_replacement(name: &str) -> bool
     ensures { result ≡ has replacement (lossy_characters name.now) }
 {
+    if !name.as_bytes().contains(&0xEF) {
+        return false;
+    }
     any_replacement(name)
 }
 
