@@ -21,6 +21,11 @@ pub enum Value {
 }
 
 #[derive(Clone, Copy)]
+pub enum Word {
+    File,
+}
+
+#[derive(Clone, Copy)]
 pub enum Maybe {
     Color = 8,
 }
@@ -30,7 +35,7 @@ pub enum Values {
     Exclude = 9,
 }
 
-pub const DECLARATION: Declaration<'static, Flag, Value, Maybe, Values> = declare! {
+pub const DECLARATION: Declaration<'static, Flag, Value, Word, Maybe, Values> = declare! {
     program: "bench_options",
     about: "Reads words.",
     options: [
@@ -45,5 +50,5 @@ pub const DECLARATION: Declaration<'static, Flag, Value, Maybe, Values> = declar
         maybe(Maybe::Color, Names::Long("color"), "WHEN", "in color"),
         values(Values::Exclude, Names::Both('x', "exclude"), "PATTERN", "leave these out"),
     ],
-    positionals: [any_number("FILE")],
+    positionals: [any_number(Word::File, "FILE")],
 };

@@ -15,7 +15,7 @@ mod declared;
 mod seen;
 
 use anyhow::{Context, Result, bail};
-use declared::{DECLARATION, Flag, Maybe, Value, Values};
+use declared::{DECLARATION, Flag, Maybe, Value, Values, Word};
 use lexopt_options::{Declaration, Line, Options, OsString};
 use seen::Seen;
 use std::alloc::{AllocError, Global};
@@ -53,9 +53,9 @@ fn copies(alloc: Global, words: &[&[u8]]) -> Result<Vec<OsString>, AllocError> {
 // Declares the options, and counts them. It is not inlined, so that it is done each time.
 #[inline(never)]
 fn declare<'a>(
-    declaration: &'a Declaration<'a, Flag, Value, Maybe, Values>,
+    declaration: &'a Declaration<'a, Flag, Value, Word, Maybe, Values>,
     seen: &mut Seen,
-) -> Option<Options<'a, Flag, Value, Maybe, Values>> {
+) -> Option<Options<'a, Flag, Value, Word, Maybe, Values>> {
     match Options::try_new(declaration) {
         Ok(options) => {
             seen.options(options.options().len());
@@ -69,7 +69,7 @@ fn declare<'a>(
 fn read_line(
     alloc: Global,
     words: Vec<OsString>,
-    options: &Options<'_, Flag, Value, Maybe, Values>,
+    options: &Options<'_, Flag, Value, Word, Maybe, Values>,
     seen: &mut Seen,
 ) -> bool {
     match options.read(alloc, words) {
@@ -86,8 +86,8 @@ fn do_once(
     alloc: Global,
     work: Work,
     words: &[&[u8]],
-    declaration: &Declaration<'_, Flag, Value, Maybe, Values>,
-    options: &Options<'_, Flag, Value, Maybe, Values>,
+    declaration: &Declaration<'_, Flag, Value, Word, Maybe, Values>,
+    options: &Options<'_, Flag, Value, Word, Maybe, Values>,
     seen: &mut Seen,
 ) -> Result<bool, AllocError> {
     match work {

@@ -1,6 +1,6 @@
 //! What the reads saw: counts, and a hash of the first read, since one of every read would cost
 //! more than what is measured.
-use crate::declared::{Flag, Maybe, Value, Values};
+use crate::declared::{Flag, Maybe, Value, Values, Word};
 use lexopt_options::{OsString, Said};
 use std::fmt;
 
@@ -44,7 +44,7 @@ impl Seen {
     }
 
     /// What is read from a line.
-    pub fn line(&mut self, line: &[Said<Flag, Value, Maybe, Values>]) {
+    pub fn line(&mut self, line: &[Said<Flag, Value, Word, Maybe, Values>]) {
         for said in line {
             match said {
                 Said::Flag(flag) => self.option(*flag as u64),
@@ -62,7 +62,7 @@ impl Seen {
                     self.option(*option as u64);
                     self.several(values);
                 }
-                Said::Positional(word) => self.positional(word.as_bytes()),
+                Said::Positional(Word::File, word) => self.positional(word.as_bytes()),
             }
         }
     }

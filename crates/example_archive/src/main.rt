@@ -25,6 +25,11 @@ enum Value {
 }
 
 #[derive(Clone, Copy)]
+enum Word {
+    File,
+}
+
+#[derive(Clone, Copy)]
 enum Maybe {
     Backup,
 }
@@ -34,7 +39,7 @@ enum Values {
     Exclude,
 }
 
-static DECLARATION: Declaration<'static, Flag, Value, Maybe, Values> = declare! {
+static DECLARATION: Declaration<'static, Flag, Value, Word, Maybe, Values> = declare! {
     program: "example_archive",
     about: "Prints what it has read.",
     options: [
@@ -54,7 +59,7 @@ static DECLARATION: Declaration<'static, Flag, Value, Maybe, Values> = declare! 
         ),
         help(Names::Both('h', "help")),
     ],
-    positionals: [any_number("FILE")],
+    positionals: [any_number(Word::File, "FILE")],
 };
 
 fn print_word(rt: &impl Print, name: &str, word: &OsString) -> io::Result<()> {
@@ -62,7 +67,7 @@ fn print_word(rt: &impl Print, name: &str, word: &OsString) -> io::Result<()> {
     println!(rt; "{name}: {word}")
 }
 
-fn print_said(rt: &impl Print, said: &Said<Flag, Value, Maybe, Values>) -> io::Result<()> {
+fn print_said(rt: &impl Print, said: &Said<Flag, Value, Word, Maybe, Values>) -> io::Result<()> {
     match said {
         Said::Flag(Flag::Verbose) => rt.println("verbose"),
         Said::Value(Value::Output, file) => print_word(rt, "output", file),
@@ -74,7 +79,7 @@ fn print_said(rt: &impl Print, said: &Said<Flag, Value, Maybe, Values>) -> io::R
             }
             Ok(())
         }
-        Said::Positional(file) => print_word(rt, "file", file),
+        Said::Positional(Word::File, file) => print_word(rt, "file", file),
     }
 }
 

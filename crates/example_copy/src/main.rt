@@ -1,4 +1,5 @@
-//! What is read, as a struct of the program's own: `example_copy OPTION.. SOURCE DEST`.
+//! What is read, as a struct of the program's own: `example_copy OPTION.. --owner=USER SOURCE..
+//! DEST`.
 //!
 //! It copies nothing: it prints what it would do. The exit status is 0, or 2 if the command line
 //! was refused, or 1 if memory ran out or a line could not be printed; then standard error says
@@ -21,12 +22,19 @@ enum Flag {
 #[derive(Clone, Copy, PartialEq)]
 enum Value {
     Jobs,
+    Owner,
     Suffix,
 }
 
-type Copying<'a> = Options<'a, Flag, Value>;
+#[derive(Clone, Copy)]
+enum Word {
+    Source,
+    Dest,
+}
 
-static DECLARATION: Declaration<'static, Flag, Value> = declare! {
+type Copying<'a> = Options<'a, Flag, Value, Word>;
+
+static DECLARATION: Declaration<'static, Flag, Value, Word> = declare! {
     program: "example_copy",
     about: "Prints what it would copy.",
     options: [
@@ -38,11 +46,15 @@ static DECLARATION: Declaration<'static, Flag, Value> = declare! {
             "COUNT",
             "how many files at a time, from 1 to 64; 4 if it is left out",
         ),
+        value(Value::Owner, Names::Both('o', "owner"), "USER", "who is to own the copies").required(),
         value(Value::Suffix, Names::Long("suffix"), "SUFFIX", "what a backup ends with"),
         help(Names::Both('h', "help")),
         version(Names::Long("version"), "example_copy 1.0"),
     ],
-    positionals: [once("SOURCE", "what to copy"), once("DEST", "the name of the copy")],
+    positionals: [
+        at_least_once(Word::Source, "SOURCE", "what to copy"),
+        once(Word::Dest, "DEST", "where to"),
+    ],
     epilogue: ["A file is never copied onto itself."],
 };
 
@@ -52,8 +64,9 @@ struct Settings {
     verbosity: u32,
     force: bool,
     jobs: u32,
+    owner: OsString,
     suffix: Option<OsString>,
-    source: OsString,
+    sources: Vec<OsString>,
     dest: OsString,
 }
 
@@ -70,48 +83,55 @@ fn jobs(
     Ok(jobs)
 }
 
-// What is read from a line, as settings. Of `--jobs` and `--suffix` the last counts.
+// What is read from a line, as settings. Of an option that occurs more than once the last counts.
 fn settings_of(
     alloc: Global,
     options: &Copying<'static>,
-    line: Vec<Said<Flag, Value>>,
+    line: Vec<Said<Flag, Value, Word>>,
 ) -> Result<Settings, UsageError<'static>> {
     let mut verbosity = 0u32;
     let mut force = false;
     let mut count = 4;
-    let mut suffix = None;
-    let mut names = Vec::new(alloc);
+    let (mut owner, mut suffix, mut dest) = (None, None, None);
+    let mut sources = Vec::new(alloc);
     for said in line {
         match said {
             Said::Flag(Flag::Verbose) => verbosity = verbosity.saturating_add(1),
             Said::Flag(Flag::Force) => force = true,
             Said::Value(Value::Jobs, word) => count = jobs(alloc, options, &word)?,
+            Said::Value(Value::Owner, word) => owner = Some(word),
             Said::Value(Value::Suffix, word) => suffix = Some(word),
-            Said::Positional(word) => names.push(word)?,
+            Said::Positional(Word::Source, word) => sources.push(word)?,
+            Said::Positional(Word::Dest, word) => dest = Some(word),
         }
     }
-    let (Some(dest), Some(source)) = (names.pop(), names.pop()) else {
-        return Err(UsageError::from("SOURCE and DEST are missing"));
+    let (Some(owner), Some(dest)) = (owner, dest) else {
+        return Err(UsageError::from("--owner or DEST is missing"));
     };
-    if source == dest {
-        return Err(UsageError::from("SOURCE and DEST are one file"));
+    if sources.contains(&dest) {
+        return Err(UsageError::from("DEST is one of the files to copy"));
     }
     Ok(Settings {
         verbosity,
         force,
         jobs: count,
+        owner,
         suffix,
-        source,
+        sources,
         dest,
     })
 }
 
 fn print_settings(rt: &impl Print, settings: &Settings) -> io::Result<()> {
-    let source = Quoted::new(settings.source.as_bytes());
     let dest = Quoted::new(settings.dest.as_bytes());
+    let owner = Quoted::new(settings.owner.as_bytes());
+    for source in &settings.sources {
+        let source = Quoted::new(source.as_bytes());
+        println!(rt; "{source} to {dest}, for {owner}")?;
+    }
     let jobs = settings.jobs;
     let verbosity = settings.verbosity;
-    println!(rt; "{source} to {dest}, {jobs} at a time, verbosity {verbosity}")?;
+    println!(rt; "{jobs} at a time, verbosity {verbosity}")?;
     if settings.force {
         rt.println("replaces what is there")?;
     }

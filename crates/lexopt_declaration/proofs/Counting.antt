@@ -5,52 +5,53 @@ use Rattle.std.specs.List.{list_any}
 use Rattle.std.proofs.lemmas.List.{length-map}
 use Rattle.lexopt_line_spec.proofs.Lists.{list_any-map}
 use Rattle.lexopt_options_spec.specs.Declaration as spec
-use Rattle.lexopt_options_spec.specs.Legal.{is_once, is_any_number, most, least, required}
+use Rattle.lexopt_options_spec.specs.Declaration.{has_to_occur, may_repeat}
+use Rattle.lexopt_options_spec.specs.Legal.{most, least, required}
 use Rattle.lexopt_options_spec.specs.Stops.{required_placeholder}
 use Rattle.lexopt_declaration.specs.declared.declaration.Positional.{Positional}
 use Rattle.lexopt_declaration.specs.Models.{count_view, positional_view}
 
-unlimited_is : (ps : List Positional) → list_any (λ p. is_any_number (count_view p.count)) ps ≡ list_any (λ (p : spec.Positional). is_any_number p.count) (map positional_view ps)
-unlimited_is ps = sym (list_any-map positional_view (λ (p : spec.Positional). is_any_number p.count) ps)
+unlimited_is : {P : Type 0} (ps : List (Positional P)) → list_any (λ p. may_repeat (count_view p.count)) ps ≡ list_any (λ (p : spec.Positional). may_repeat p.count) (map positional_view ps)
+unlimited_is ps = sym (list_any-map positional_view (λ (p : spec.Positional). may_repeat p.count) ps)
 
-pub unlimited : (ps : List Positional) → list_any (λ p. is_any_number (count_view p.count)) ps ≡ true → None ≡ most (map positional_view ps)
+pub unlimited : {P : Type 0} (ps : List (Positional P)) → list_any (λ p. may_repeat (count_view p.count)) ps ≡ true → None ≡ most (map positional_view ps)
 unlimited ps is = ap (λ (b : Bool). if b then None else Some (length (map positional_view ps))) (sym is ∙ unlimited_is ps)
 
-pub limited : (ps : List Positional) → list_any (λ p. is_any_number (count_view p.count)) ps ≡ false → Some (length ps) ≡ most (map positional_view ps)
+pub limited : {P : Type 0} (ps : List (Positional P)) → list_any (λ p. may_repeat (count_view p.count)) ps ≡ false → Some (length ps) ≡ most (map positional_view ps)
 limited ps is = ap (λ n. Some n) (sym (length-map ps positional_view))
     ∙ ap (λ (b : Bool). if b then None else Some (length (map positional_view ps))) (sym is ∙ unlimited_is ps)
 
-kept : (b : Bool) (x : Positional) (xs : List Positional) (ys : List spec.Positional) → length xs ≡ length ys → length (if b then x ∷ xs else xs) ≡ length (if b then positional_view x ∷ ys else ys)
+kept : {P : Type 0} (b : Bool) (x : Positional P) (xs : List (Positional P)) (ys : List spec.Positional) → length xs ≡ length ys → length (if b then x ∷ xs else xs) ≡ length (if b then positional_view x ∷ ys else ys)
 kept true x xs ys is = ap (λ n. suc n) is
 kept false x xs ys is = is
 
-pub required_are : (ps : List Positional) → length (filter (λ p. is_once (count_view p.count)) ps) ≡ least (map positional_view ps)
+pub required_are : {P : Type 0} (ps : List (Positional P)) → length (filter (λ p. has_to_occur (count_view p.count)) ps) ≡ least (map positional_view ps)
 required_are [] = refl
-required_are (p ∷ ps) = kept (is_once (count_view p.count)) p _ _ (required_are ps)
+required_are (p ∷ ps) = kept (has_to_occur (count_view p.count)) p _ _ (required_are ps)
 
 -- ---- the one of a number
 
 -- the first of those that are left
-pub required_step : (ps : List Positional) (i : ℕ) (d : Positional) → i < length ps → required (map positional_view (drop i ps))
-    ≡ (if is_once (count_view (get_or ps i d).count) then positional_view (get_or ps i d) ∷ required (map positional_view (drop (i + 1) ps)) else required (map positional_view (drop (i + 1) ps)))
+pub required_step : {P : Type 0} (ps : List (Positional P)) (i : ℕ) (d : Positional P) → i < length ps → required (map positional_view (drop i ps))
+    ≡ (if has_to_occur (count_view (get_or ps i d).count) then positional_view (get_or ps i d) ∷ required (map positional_view (drop (i + 1) ps)) else required (map positional_view (drop (i + 1) ps)))
 required_step ps i d within = rw (add-one, drop-cons ps i d) refl
 
 names : List spec.Positional → List (List ℕ)
 names ps = map (λ (p : spec.Positional). p.placeholder) ps
 
-here : (ps : List Positional) (i : ℕ) (d : Positional) → i < length ps → is_once (count_view (get_or ps i d).count) ≡ true
+here : {P : Type 0} (ps : List (Positional P)) (i : ℕ) (d : Positional P) → i < length ps → has_to_occur (count_view (get_or ps i d).count) ≡ true
     → required (map positional_view (drop i ps)) ≡ positional_view (get_or ps i d) ∷ required (map positional_view (drop (i + 1) ps))
 here ps i d within is = required_step ps i d within
     ∙ ap (λ (b : Bool). if b then positional_view (get_or ps i d) ∷ required (map positional_view (drop (i + 1) ps)) else required (map positional_view (drop (i + 1) ps))) is
 
-pub this_one : (ps : List Positional) (i left : ℕ) (d : Positional) (n : ℕ) → i < length ps → is_once (count_view (get_or ps i d).count) ≡ true → left ≡ 0
+pub this_one : {P : Type 0} (ps : List (Positional P)) (i left : ℕ) (d : Positional P) (n : ℕ) → i < length ps → has_to_occur (count_view (get_or ps i d).count) ≡ true → left ≡ 0
     → required_placeholder (map positional_view (drop i ps)) left ≡ required_placeholder (map positional_view ps) n → (get_or ps i d).placeholder.now ≡ required_placeholder (map positional_view ps) n
 unfolding names
 this_one ps i left d n within is none same =
     sym (ap (λ k. get_or (names (positional_view (get_or ps i d) ∷ required (map positional_view (drop (i + 1) ps)))) k []) none)
     ∙ sym (ap (λ l. get_or (names l) left []) (here ps i d within is)) ∙ same
 
-pub passed : (ps : List Positional) (i left : ℕ) (d : Positional) → i < length ps → is_once (count_view (get_or ps i d).count) ≡ true → left ≢ 0
+pub passed : {P : Type 0} (ps : List (Positional P)) (i left : ℕ) (d : Positional P) → i < length ps → has_to_occur (count_view (get_or ps i d).count) ≡ true → left ≢ 0
     → required_placeholder (map positional_view (drop (i + 1) ps)) (left - 1) ≡ required_placeholder (map positional_view (drop i ps)) left
 unfolding names
 passed ps i left d within is some =
@@ -58,12 +59,12 @@ passed ps i left d within is some =
     ap (λ k. get_or (names (positional_view (get_or ps i d) ∷ required (map positional_view (drop (i + 1) ps)))) k []) e
     ∙ sym (ap (λ l. get_or (names l) left []) (here ps i d within is))
 
-pub passed_over : (ps : List Positional) (i left : ℕ) (d : Positional) → i < length ps → is_once (count_view (get_or ps i d).count) ≡ false
+pub passed_over : {P : Type 0} (ps : List (Positional P)) (i left : ℕ) (d : Positional P) → i < length ps → has_to_occur (count_view (get_or ps i d).count) ≡ false
     → required_placeholder (map positional_view (drop (i + 1) ps)) left ≡ required_placeholder (map positional_view (drop i ps)) left
 unfolding names
 passed_over ps i left d within is =
     sym (ap (λ l. get_or (names l) left []) (required_step ps i d within
     ∙ ap (λ (b : Bool). if b then positional_view (get_or ps i d) ∷ required (map positional_view (drop (i + 1) ps)) else required (map positional_view (drop (i + 1) ps))) is))
 
-pub none_left : (ps : List Positional) (i left : ℕ) → length ps ≤ i → required_placeholder (map positional_view (drop i ps)) left ≡ []
+pub none_left : {P : Type 0} (ps : List (Positional P)) (i left : ℕ) → length ps ≤ i → required_placeholder (map positional_view (drop i ps)) left ≡ []
 none_left ps i left over = ap (λ l. required_placeholder (map positional_view l) left) (drop_of_length-le ps over)

@@ -6,3 +6,6 @@ pub mod Replacement
 pub mod Rows
 pub mod Candidates
 pub mod Spelled
+pub mod Repeated
+pub mod Suspects
+pub mod Marks

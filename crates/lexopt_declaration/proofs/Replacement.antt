@@ -1,8 +1,7 @@
 -- U+FFFD is not in a name without its first byte.
-use Rattle.std.proofs.Common.{◌≡◌, ℕ, Bool, true, false, ◌==◌, ◌||◌, List, [], ◌∷◌, ◌++◌, encode_utf8, encode_utf8_all, refl, sym, ap, subst, ◌∙◌, ⊎_elim}
-use Rattle.std.specs.List.{list_any}
+use Rattle.std.proofs.Common.{◌≡◌, ℕ, true, false, ◌==◌, List, [], ◌∷◌, ◌++◌, encode_utf8, encode_utf8_all, refl, sym, ap, subst, ◌∙◌, ⊎_elim}
 use Rattle.std.specs.Str.{IsUtf8}
-use Rattle.std.proofs.lemmas.Bool.{true≢false, or_left, or_right, or_cases, false_from_ne_true, eqb-true}
+use Rattle.std.proofs.lemmas.Bool.{true≢false, or_right, or_cases, false_from_ne_true, eqb-true}
 use Rattle.std.proofs.lemmas.List.Folds.{list_any-append}
 use lib.Utf8.{encode}
 use Rattle.lexopt_spec.specs.Pieces.{replacement, lossy_characters}

@@ -4,7 +4,7 @@ use Rattle.lexopt_options_spec.specs.Declaration as spec
 use Rattle.lexopt_declaration.specs.Models.{option_view, positional_view}
 use Rattle.lexopt_declaration.specs.declared.declaration.Declaration.{Declaration}
 
-abbrev pub declaration_view : {F V M S : Type 0} → Declaration F V M S → spec.Declaration
+abbrev pub declaration_view : {F V P M S : Type 0} → Declaration F V P M S → spec.Declaration
 declaration_view d = record {
   program = d.program.now;
   about = d.about.now;

@@ -1,14 +1,40 @@
--- Options that cannot be declared together, as contracts see them.
-use Rattle.std.specs.Prelude.{◌≡◌, ℕ, List, Some, map}
-use Rattle.lexopt_options_spec.specs.Declaration.{IsFirstFault}
-use Rattle.lexopt_declaration.specs.declared.declaration.Declared.{Declared}
+-- What cannot be declared, as contracts see it.
+use Rattle.std.specs.Prelude.{◌≡◌, ◌==◌, ◌||◌, ℕ, Bool, true, List, Some, map, option_map}
+use Rattle.std.specs.Prelude.{slice_get}
+use Rattle.std.specs.Borrow.{Bor}
+use Rattle.lexopt_spec.specs.UnreadLine.{equals}
+use Rattle.lexopt_options_spec.specs.Declaration.{IsFirstFault, IsSecondRepeated, is_sound}
+use Rattle.lexopt_options_spec.specs.Declaration.{is_blank_or_control}
+use Rattle.lexopt_declaration.specs.declared.declaration.Declaration.{Declaration}
 use Rattle.lexopt_declaration.specs.declared.declaration.DeclarationError.{DeclarationError}
+use Rattle.lexopt_declaration.specs.declared.declaration.DeclarationError.TheVariants as error
+use Rattle.lexopt_declaration.specs.declared.declaration.Declared.{Declared}
+use Rattle.lexopt_declaration.specs.declared.declaration.Names.{Names}
+use Rattle.lexopt_declaration.specs.declared.declaration.Positional.{Positional}
+use Rattle.lexopt_declaration.specs.declared.declaration.Reason.{Reason}
 use Rattle.lexopt_declaration.specs.Lookups.{names_at}
-use Rattle.lexopt_declaration.specs.Models.{option_view, reason_view}
+use Rattle.lexopt_declaration.specs.Models.{option_view, positional_view, reason_view}
+
+-- `=`, a blank or a control character of ASCII, or the first byte of U+FFFD
+abbrev pub is_suspect : ℕ → Bool
+is_suspect b = is_blank_or_control b || (b == equals || b == 0xEF)
 
 -- the option with these names is the first that cannot be declared after those before it, and why
-abbrev pub IsDeclarationError : {F V M S : Type 0} → List (Declared F V M S) → DeclarationError
+abbrev pub IsOptionError : {F V M S : Type 0} → List (Declared F V M S) → Names → Reason → Type 0
+IsOptionError options names reason = (index : ℕ)
+    × IsFirstFault (map option_view options) index (reason_view reason)
+    × (names_at options (Some index) ≡ Some names)
+
+-- the positional with this placeholder is the second that may occur more than once
+abbrev pub IsPositionalError : {P : Type 0} → List (Positional P) → Bor (List ℕ) → Type 0
+IsPositionalError positionals placeholder = (index : ℕ)
+    × IsSecondRepeated (map positional_view positionals) index
+    × (option_map (λ p. p.placeholder) (slice_get positionals index) ≡ Some placeholder)
+
+-- it has such an option, or it has none and such a positional
+abbrev pub IsDeclarationError : {F V P M S : Type 0} → Declaration F V P M S → DeclarationError
     → Type 0
-IsDeclarationError options error = (index : ℕ)
-    × IsFirstFault (map option_view options) index (reason_view error.reason)
-    × (names_at options (Some index) ≡ Some error.option)
+IsDeclarationError d (error.Option names reason) = IsOptionError d.options.now names reason
+IsDeclarationError d (error.Positional placeholder) =
+    (is_sound (map option_view d.options.now) ≡ true)
+    × IsPositionalError d.positionals.now placeholder

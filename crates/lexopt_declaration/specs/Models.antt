@@ -13,6 +13,7 @@ use Rattle.lexopt_declaration.specs.declared.declaration.Arity.TheVariants.{Zero
 use Rattle.lexopt_declaration.specs.declared.declaration.Declared.{Declared}
 use Rattle.lexopt_declaration.specs.declared.declaration.Count.{Count}
 use Rattle.lexopt_declaration.specs.declared.declaration.Count.TheVariants.{Once, AtMostOnce, AnyNumber}
+use Rattle.lexopt_declaration.specs.declared.declaration.Count.TheVariants.{AtLeastOnce}
 use Rattle.lexopt_declaration.specs.declared.declaration.Positional.{Positional}
 use Rattle.lexopt_declaration.specs.declared.declaration.Reason.{Reason}
 use Rattle.lexopt_declaration.specs.declared.declaration.Reason.TheVariants.{DashName, EmptyName}
@@ -71,14 +72,16 @@ option_view o = record {
   help = o.help.now;
   asks = asked_of o.kind;
   hidden = o.hidden;
+  required = o.required;
 }
 
 abbrev pub count_view : Count → spec.Count
 count_view Once = spec.once
 count_view AtMostOnce = spec.at_most_once
 count_view AnyNumber = spec.any_number
+count_view AtLeastOnce = spec.at_least_once
 
-abbrev pub positional_view : Positional → spec.Positional
+abbrev pub positional_view : {P : Type 0} → Positional P → spec.Positional
 positional_view p =
     record { placeholder = p.placeholder.now; count = count_view p.count; help = p.help.now }
 

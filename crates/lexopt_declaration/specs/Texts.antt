@@ -1,6 +1,7 @@
--- What is printed of an option's names, and of a declaration that cannot be.
+-- What is printed of an option's names, and of what cannot be declared.
 use Rattle.std.specs.Prelude.{ℕ, List, ◌++◌, codes, encode_utf8}
 use Rattle.lexopt_declaration.specs.declared.declaration.DeclarationError.{DeclarationError}
+use Rattle.lexopt_declaration.specs.declared.declaration.DeclarationError.TheVariants as error
 use Rattle.lexopt_declaration.specs.declared.declaration.Reason.{Reason}
 use Rattle.lexopt_declaration.specs.declared.declaration.Reason.TheVariants.{DashName, EmptyName}
 use Rattle.lexopt_declaration.specs.declared.declaration.Reason.TheVariants.{EqualsInName}
@@ -27,7 +28,9 @@ reason_text BlankOrControlInName = codes "its name has a blank or a control char
 reason_text BadPlaceholder = codes "its placeholder is empty or begins with '-' or '='"
 reason_text SameName = codes "an option before it has one of its names"
 
--- which option, and why
+-- which option or positional argument, and why
 abbrev pub declaration_error_text : DeclarationError → List ℕ
-declaration_error_text error = codes "option '"
-    ++ (names_text error.option ++ (codes "': " ++ reason_text error.reason))
+declaration_error_text (error.Option option reason) =
+    codes "option '" ++ (names_text option ++ (codes "': " ++ reason_text reason))
+declaration_error_text (error.Positional placeholder) = codes "positional argument "
+    ++ (placeholder.now ++ codes ": one before it may occur more than once too")

@@ -7,11 +7,12 @@ ghost use Rattle.std.specs.Str.{IsUtf8, chars};
 ghost use Rattle.lexopt_spec.specs.Pieces.{lossy_characters, replacement};
 ghost use Rattle.lexopt_options_spec.specs.Completion.{AreText};
 ghost use Rattle.lexopt_options_spec.specs.Declaration as spec;
-ghost use Rattle.lexopt_options_spec.specs.Declaration.{has, is_sound};
-ghost use Rattle.lexopt_declaration.specs.Faults.{IsDeclarationError};
+ghost use Rattle.lexopt_options_spec.specs.Declaration.{are_clear, has, is_sound};
+ghost use Rattle.lexopt_declaration.specs.Faults.{IsDeclarationError, IsOptionError, is_suspect};
 ghost use Rattle.lexopt_declaration.specs.Models.{arity_kind, arity_placeholder, option_view};
-ghost use Rattle.lexopt_declaration.specs.Models.{reason_view};
+ghost use Rattle.lexopt_declaration.specs.Models.{positional_view, reason_view};
 
+use crate::positionals::second_repeated;
 use std::convert::Infallible;
 use std::fmt;
 
@@ -77,6 +78,7 @@ impl<'a> Names<'a> {
     }
 
     // Whether this is its name.
+    #[inline(always)]
     pub(crate) fn is_long(self, name: &str) -> bool
         ensures { result ≡ spec.is_long name.now (long_name self.entry) }
     {
@@ -103,9 +105,9 @@ pub enum Arity<'a> {
 /// What an option is: a flag, or one with values; each with the program's own key for it, which the
 /// program gets when the option occurs. Or it asks for the help or the version.
 ///
-/// There is a type of keys for each kind: `F` for flags, `V` for options with a value, `M` for those
-/// whose value may be left out, and `S` for those with several values. Two options may have the same
-/// key; where one is looked up by its key, the first is found.
+/// There is a type of keys for each kind: `F` for flags, `V` for options with a value, `M` for
+/// those whose value may be left out, and `S` for those with several values. Two options may have
+/// the same key; where one is looked up by its key, the first is found.
 #[derive(Debug, Clone, Copy)]
 pub enum Kind<'a, F, V = Infallible, M = Infallible, S = Infallible> {
     /// No value: `-v`, `--verbose`.
@@ -164,6 +166,8 @@ pub struct Declared<'a, F, V = Infallible, M = Infallible, S = Infallible> {
     pub help: &'a str,
     /// Whether the help leaves it out.
     pub hidden: bool,
+    /// Whether every line has to have it.
+    pub required: bool,
 }
 
 impl<'a, F, V, M, S> Declared<'a, F, V, M, S> {
@@ -176,6 +180,7 @@ impl<'a, F, V, M, S> Declared<'a, F, V, M, S> {
           kind = Kind.Flag key;
           help = help.entry;
           hidden = false;
+          required = false;
         } }
     {
         Declared {
@@ -183,6 +188,7 @@ impl<'a, F, V, M, S> Declared<'a, F, V, M, S> {
             kind: Kind::Flag(key),
             help,
             hidden: false,
+            required: false,
         }
     }
 
@@ -198,6 +204,7 @@ impl<'a, F, V, M, S> Declared<'a, F, V, M, S> {
           kind = Kind.Value key placeholder.entry;
           help = help.entry;
           hidden = false;
+          required = false;
         } }
     {
         Declared {
@@ -205,6 +212,7 @@ impl<'a, F, V, M, S> Declared<'a, F, V, M, S> {
             kind: Kind::Value(key, placeholder),
             help,
             hidden: false,
+            required: false,
         }
     }
 
@@ -220,6 +228,7 @@ impl<'a, F, V, M, S> Declared<'a, F, V, M, S> {
           kind = Kind.Maybe key placeholder.entry;
           help = help.entry;
           hidden = false;
+          required = false;
         } }
     {
         Declared {
@@ -227,6 +236,7 @@ impl<'a, F, V, M, S> Declared<'a, F, V, M, S> {
             kind: Kind::Maybe(key, placeholder),
             help,
             hidden: false,
+            required: false,
         }
     }
 
@@ -242,6 +252,7 @@ impl<'a, F, V, M, S> Declared<'a, F, V, M, S> {
           kind = Kind.Values key placeholder.entry;
           help = help.entry;
           hidden = false;
+          required = false;
         } }
     {
         Declared {
@@ -249,6 +260,7 @@ impl<'a, F, V, M, S> Declared<'a, F, V, M, S> {
             kind: Kind::Values(key, placeholder),
             help,
             hidden: false,
+            required: false,
         }
     }
 
@@ -259,12 +271,14 @@ impl<'a, F, V, M, S> Declared<'a, F, V, M, S> {
         ensures kind { result.kind ≡ Kind.Help }
         ensures help { result.help.now ≡ codes "print this help and exit" }
         ensures hidden { result.hidden ≡ false }
+        ensures required { result.required ≡ false }
     {
         Declared {
             names,
             kind: Kind::Help,
             help: "print this help and exit",
             hidden: false,
+            required: false,
         }
     }
 
@@ -275,12 +289,14 @@ impl<'a, F, V, M, S> Declared<'a, F, V, M, S> {
         ensures kind { result.kind ≡ Kind.Version text.entry }
         ensures help { result.help.now ≡ codes "print the version and exit" }
         ensures hidden { result.hidden ≡ false }
+        ensures required { result.required ≡ false }
     {
         Declared {
             names,
             kind: Kind::Version(text),
             help: "print the version and exit",
             hidden: false,
+            required: false,
         }
     }
 
@@ -290,6 +306,16 @@ impl<'a, F, V, M, S> Declared<'a, F, V, M, S> {
     {
         Declared {
             hidden: true,
+            ..self
+        }
+    }
+
+    /// The same option, which every line has to have.
+    pub fn required(self) -> Declared<'a, F, V, M, S>
+        ensures { result ≡ record self.entry { required = true } }
+    {
+        Declared {
+            required: true,
             ..self
         }
     }
@@ -304,11 +330,15 @@ pub enum Count {
     AtMostOnce,
     /// Any number of times.
     AnyNumber,
+    /// Once at least.
+    AtLeastOnce,
 }
 
 /// A positional argument.
 #[derive(Debug, Clone, Copy)]
-pub struct Positional<'a> {
+pub struct Positional<'a, P> {
+    /// The program's own key for it.
+    pub key: P,
     /// Its placeholder in messages and in the help.
     pub placeholder: &'a str,
     /// How often it may occur.
@@ -317,15 +347,20 @@ pub struct Positional<'a> {
     pub help: &'a str,
 }
 
-impl<'a> Positional<'a> {
+impl<'a, P> Positional<'a, P> {
     ghost use Rattle.std.specs.Prelude.{◌≡◌};
 
     /// One that is required: `FILE`.
-    pub fn once(placeholder: &'a str, help: &'a str) -> Positional<'a>
-        ensures { result
-            ≡ record { placeholder = placeholder.entry; count = Count.Once; help = help.entry } }
+    pub fn once(key: P, placeholder: &'a str, help: &'a str) -> Positional<'a, P>
+        ensures { result ≡ record {
+          key = key;
+          placeholder = placeholder.entry;
+          count = Count.Once;
+          help = help.entry;
+        } }
     {
         Positional {
+            key,
             placeholder,
             count: Count::Once,
             help,
@@ -333,14 +368,16 @@ impl<'a> Positional<'a> {
     }
 
     /// One that may be left out: `[FILE]`.
-    pub fn at_most_once(placeholder: &'a str, help: &'a str) -> Positional<'a>
+    pub fn at_most_once(key: P, placeholder: &'a str, help: &'a str) -> Positional<'a, P>
         ensures { result ≡ record {
+          key = key;
           placeholder = placeholder.entry;
           count = Count.AtMostOnce;
           help = help.entry;
         } }
     {
         Positional {
+            key,
             placeholder,
             count: Count::AtMostOnce,
             help,
@@ -348,16 +385,35 @@ impl<'a> Positional<'a> {
     }
 
     /// Any number of them: `[FILE]...`.
-    pub fn any_number(placeholder: &'a str, help: &'a str) -> Positional<'a>
+    pub fn any_number(key: P, placeholder: &'a str, help: &'a str) -> Positional<'a, P>
         ensures { result ≡ record {
+          key = key;
           placeholder = placeholder.entry;
           count = Count.AnyNumber;
           help = help.entry;
         } }
     {
         Positional {
+            key,
             placeholder,
             count: Count::AnyNumber,
+            help,
+        }
+    }
+
+    /// One at least: `FILE...`.
+    pub fn at_least_once(key: P, placeholder: &'a str, help: &'a str) -> Positional<'a, P>
+        ensures { result ≡ record {
+          key = key;
+          placeholder = placeholder.entry;
+          count = Count.AtLeastOnce;
+          help = help.entry;
+        } }
+    {
+        Positional {
+            key,
+            placeholder,
+            count: Count::AtLeastOnce,
             help,
         }
     }
@@ -374,8 +430,8 @@ pub enum Reason {
     EqualsInName,
     /// Its character or its name has U+FFFD in it, which shows damage in what was typed.
     ReplacementInName,
-    /// Its character, or a byte of its name, is a blank or a control character of ASCII: a shell parts
-    /// words at the one, and a terminal acts on the other.
+    /// Its character, or a byte of its name, is a blank or a control character of ASCII: a shell
+    /// parts words at the one, and a terminal acts on the other.
     BlankOrControlInName,
     /// The placeholder of its value is empty, or begins with `-` or `=`: a form that the help shows
     /// could be illegal with it, or mean another value.
@@ -384,13 +440,18 @@ pub enum Reason {
     SameName,
 }
 
-/// An option that cannot be declared after those before it, and why.
+/// What cannot be declared.
 #[derive(Debug, Clone, Copy, PartialEq, Eq)]
-pub struct DeclarationError<'a> {
-    /// The names of the option.
-    pub option: Names<'a>,
-    /// Why it cannot be declared.
-    pub reason: Reason,
+pub enum DeclarationError<'a> {
+    /// An option that cannot be declared after those before it.
+    Option {
+        /// The names of the option.
+        option: Names<'a>,
+        /// Why it cannot be declared.
+        reason: Reason,
+    },
+    /// A second positional argument that may occur more than once: its placeholder.
+    Positional(&'a str),
 }
 
 impl fmt::Display for Reason {
@@ -423,17 +484,28 @@ impl fmt::Display for DeclarationError<'_> {
     ghost output = { λ error. Some (declaration_error_text error) };
 
     fn fmt<W: fmt::Write>(&self, f: &mut fmt::Formatter<W>) -> fmt::Result {
-        let option = &self.option;
-        let reason = &self.reason;
-        write!(f, "option '{option}': {reason}")
+        match self {
+            DeclarationError::Option { option, reason } => {
+                write!(f, "option '{option}': {reason}")
+            }
+            DeclarationError::Positional(placeholder) => write!(
+                f,
+                "positional argument {placeholder}: one before it may occur more than once too"
+            ),
+        }
     }
 }
 
 impl std::error::Error for DeclarationError<'_> {}
 
 /// What a program declares.
+///
+/// Each option and each positional argument has the program's own key for it. There is a type of
+/// keys for each kind: `F` for flags, `V` for options with a value, `P` for positional arguments,
+/// `M` for options whose value may be left out, and `S` for those with several values. It is
+/// `Infallible` where a program has none of that kind.
 #[derive(Debug, Clone, Copy)]
-pub struct Declaration<'a, F, V = Infallible, M = Infallible, S = Infallible> {
+pub struct Declaration<'a, F, V = Infallible, P = Infallible, M = Infallible, S = Infallible> {
     /// The name of the program.
     pub program: &'a str,
     /// What it does, in a sentence or two. It may be empty.
@@ -441,7 +513,7 @@ pub struct Declaration<'a, F, V = Infallible, M = Infallible, S = Infallible> {
     /// Its options, in the order of the help.
     pub options: &'a [Declared<'a, F, V, M, S>],
     /// Its positional arguments, in order.
-    pub positionals: &'a [Positional<'a>],
+    pub positionals: &'a [Positional<'a, P>],
     /// Paragraphs at the end of the help.
     pub epilogue: &'a [&'a str],
     /// Whether `=` in a cluster separates an option from its value.
@@ -493,11 +565,29 @@ fn short_fault(name: Option<char>) -> Option<Reason>
     }
 }
 
-// What is wrong with a name.
-fn long_fault(name: Option<&str>) -> Option<Reason>
-    ensures { option_map reason_view result ≡ spec.long_fault (option_map (λ n. n.now) name.entry) }
+// Whether a byte of a name may be part of a fault: `=`, a blank or a control character of ASCII, or
+// the first byte of U+FFFD.
+fn is_suspect(byte: u8) -> bool
+    ensures { result ≡ is_suspect byte }
 {
-    let name = name?;
+    // Most bytes of names are letters.
+    if byte > b'=' && byte < 0x7F {
+        return false;
+    }
+    byte < b'!' || byte == b'=' || byte == 0x7F || byte == 0xEF
+}
+
+// Whether such a byte is in a name.
+fn has_suspect(name: &str) -> bool
+    ensures { result ≡ list_any is_suspect name.now }
+{
+    name.as_bytes().iter().any(|byte| is_suspect(*byte))
+}
+
+// What is wrong with a name. Each fault is looked for in turn.
+fn exact_name_fault(name: &str) -> Option<Reason>
+    ensures { option_map reason_view result ≡ spec.long_fault (Some name.now) }
+{
     if name.is_empty() {
         Some(Reason::EmptyName)
     } else if name.as_bytes().contains(&b'=') {
@@ -508,6 +598,26 @@ fn long_fault(name: Option<&str>) -> Option<Reason>
         Some(Reason::BlankOrControlInName)
     } else {
         None
+    }
+}
+
+// What is wrong with a name. Few names have a byte that may be part of a fault.
+fn name_fault(name: &str) -> Option<Reason>
+    ensures { option_map reason_view result ≡ spec.long_fault (Some name.now) }
+{
+    if name.is_empty() || has_suspect(name) {
+        return exact_name_fault(name);
+    }
+    None
+}
+
+// What is wrong with a name, if there is one.
+fn long_fault(name: Option<&str>) -> Option<Reason>
+    ensures { option_map reason_view result ≡ spec.long_fault (option_map (λ n. n.now) name.entry) }
+{
+    match name {
+        Some(name) => name_fault(name),
+        None => None,
     }
 }
 
@@ -613,18 +723,36 @@ pub fn are_text<F, V, M, S>(options: &[Declared<'_, F, V, M, S>])
     }
 }
 
-/// The first of these options that cannot be declared after those before it.
-pub fn first_fault<'a, F, V, M, S>(
+// The names of the first of these options that cannot be declared after those before it, and why.
+fn first_fault<'a, F, V, M, S>(
     options: &'a [Declared<'a, F, V, M, S>],
-) -> Option<DeclarationError<'a>>
+) -> Option<(Names<'a>, Reason)>
     ensures { MatchOption result (is_sound (map option_view options.now) ≡ true)
-        (IsDeclarationError options.now) }
+        (λ fault. IsOptionError options.now fault.0 fault.1) }
 {
     for (index, option) in options.iter().enumerate() {
         if let Some(reason) = fault(&options[..index], option) {
-            let option = option.names;
-            return Some(DeclarationError { option, reason });
+            return Some((option.names, reason));
         }
     }
     None
+}
+
+/// The first option that cannot be declared after those before it, or, if there is none, the second
+/// positional argument that may occur more than once.
+pub fn declaration_fault<'a, F, V, P, M, S>(
+    declaration: &'a Declaration<'a, F, V, P, M, S>,
+) -> Option<DeclarationError<'a>>
+    ensures { MatchOption result
+        ((is_sound (map option_view declaration.now.options.now) ≡ true)
+        × (are_clear (map positional_view declaration.now.positionals.now) ≡ true))
+        (IsDeclarationError declaration.now) }
+{
+    if let Some((option, reason)) = first_fault(declaration.options) {
+        return Some(DeclarationError::Option { option, reason });
+    }
+    match second_repeated(declaration.positionals) {
+        Some(placeholder) => Some(DeclarationError::Positional(placeholder)),
+        None => None,
+    }
 }

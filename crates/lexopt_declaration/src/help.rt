@@ -1,6 +1,6 @@
 //! The help of declared options, in the form that the GNU Coding Standards give `--help`, laid out
 //! as `ls --help` is.
-ghost use Rattle.std.specs.Prelude.{◌≡◌, ◌≤◌, ◌+◌, ◌-◌, ◌∷◌, ◌++◌, [], List, ℕ, IfOk, OnOk, nat_lt};
+ghost use Rattle.std.specs.Prelude.{◌≡◌, ◌≤◌, ◌+◌, ◌-◌, ◌∷◌, ◌++◌, ◌&&◌, [], List, ℕ, IfOk, OnOk, nat_lt};
 ghost use Rattle.std.specs.Prelude.{if◌then◌else◌, codes, length, map, not, string_bytes};
 ghost use Rattle.std.specs.List.{AllZip, concat, flat_map, list_any};
 ghost use Rattle.lexopt_options_spec.specs.Help as spec;
@@ -279,9 +279,9 @@ fn option_entries<F, V, M, S>(
 }
 
 // The entries of the positional arguments whose help has a word.
-fn positional_entries(
+fn positional_entries<P>(
     alloc: Global,
-    positionals: &[Positional<'_>],
+    positionals: &[Positional<'_, P>],
     width: usize,
 ) -> Result<String, AllocError>
     ensures { IfOk result (λ text. (entries : List (List ℕ))
@@ -359,31 +359,93 @@ fn push_epilogue(
     Ok(())
 }
 
-// Whether any of the options is not hidden.
-fn any_visible<F, V, M, S>(options: &[Declared<'_, F, V, M, S>]) -> bool
-    ensures { result ≡ list_any (λ o. not o.hidden) options.now }
+// Whether the help shows an option, and every line may leave it out.
+fn is_voluntary<F, V, M, S>(option: &Declared<'_, F, V, M, S>) -> bool
+    ensures { result ≡ (not option.now.hidden && not option.now.required) }
 {
-    options.iter().any(|option| !option.hidden)
+    !option.hidden && !option.required
 }
 
-// Adds a mark for the options, if there are any that are not hidden.
+// Whether there is such an option.
+fn any_voluntary<F, V, M, S>(options: &[Declared<'_, F, V, M, S>]) -> bool
+    ensures { result ≡ list_any (λ o. not o.hidden && not o.required) options.now }
+{
+    options.iter().any(|option| is_voluntary(option))
+}
+
+// Adds a mark for the options that may be left out, if one of them is not hidden.
 fn add_options_mark<F, V, M, S>(
     alloc: Global,
     marks: &mut Vec<String>,
     options: &[Declared<'_, F, V, M, S>],
 ) -> Result<(), AllocError>
     ensures { OnOk result (map string_bytes marks.new.items ≡ map string_bytes marks.old.items
-        ++ spec.options_mark (spec.visible (map option_view options.now))) }
+        ++ spec.options_mark (spec.voluntary (spec.visible (map option_view options.now)))) }
 {
-    if !any_visible(options) {
+    if !any_voluntary(options) {
         return Ok(());
     }
     marks.push(String::from_str(alloc, "[OPTION]...")?)?;
     Ok(())
 }
 
+// An option with its value.
+fn push_mark(out: &mut String, names: Names<'_>, arity: Arity<'_>) -> Result<(), AllocError>
+    ensures { IfOk result (λ _. string_bytes out.new ≡ string_bytes out.old
+        ++ spec.mark_of (short_name names.entry) (long_name names.entry) (arity_kind arity.entry)
+        (arity_placeholder arity.entry)) }
+{
+    match names {
+        Names::Short(character) => {
+            write!(out, "-{character}")?;
+            push_after_short(out, arity)
+        }
+        Names::Long(name) | Names::Both(_, name) => {
+            write!(out, "--{name}")?;
+            push_after_long(out, arity)
+        }
+    }
+}
+
+// An option in the usage line.
+fn option_mark<F, V, M, S>(
+    alloc: Global,
+    option: &Declared<'_, F, V, M, S>,
+) -> Result<String, AllocError>
+    ensures { IfOk result (λ text. string_bytes text
+        ≡ spec.option_mark (option_view option.now)) }
+{
+    let mut mark = String::new(alloc);
+    push_mark(&mut mark, option.names, option.kind.arity())?;
+    Ok(mark)
+}
+
+// Whether the help shows an option, and every line has to have it.
+fn is_demanded<F, V, M, S>(option: &Declared<'_, F, V, M, S>) -> bool
+    ensures { result ≡ (not option.now.hidden && option.now.required) }
+{
+    !option.hidden && option.required
+}
+
+// Adds the options that are required and not hidden.
+fn add_required_marks<F, V, M, S>(
+    alloc: Global,
+    marks: &mut Vec<String>,
+    options: &[Declared<'_, F, V, M, S>],
+) -> Result<(), AllocError>
+    ensures { OnOk result (map string_bytes marks.new.items ≡ map string_bytes marks.old.items
+        ++ map spec.option_mark (spec.demanded (spec.visible (map option_view options.now)))) }
+{
+    for declared in options {
+        if is_demanded(declared) {
+            marks.push(option_mark(alloc, declared)?)?;
+        }
+    }
+    Ok(())
+}
+
 // A positional argument in the usage line.
-fn positional_mark(alloc: Global, positional: &Positional<'_>) -> Result<String, AllocError>
+fn positional_mark<P>(alloc: Global, positional: &Positional<'_, P>) -> Result<String, AllocError>
     ensures { IfOk result (λ text. string_bytes text
         ≡ spec.positional_mark (positional_view positional.now)) }
 {
@@ -392,23 +454,37 @@ fn positional_mark(alloc: Global, positional: &Positional<'_>) -> Result<String,
         Count::Once => String::from_str(alloc, placeholder),
         Count::AtMostOnce => format!(in alloc; "[{placeholder}]"),
         Count::AnyNumber => format!(in alloc; "[{placeholder}]..."),
+        Count::AtLeastOnce => format!(in alloc; "{placeholder}..."),
     }
 }
 
-// What the program can be called with.
-fn marks_of<F, V, M, S>(
+// Adds the positional arguments.
+fn add_positional_marks<P>(
     alloc: Global,
-    declaration: &Declaration<'_, F, V, M, S>,
+    marks: &mut Vec<String>,
+    positionals: &[Positional<'_, P>],
+) -> Result<(), AllocError>
+    ensures { OnOk result (map string_bytes marks.new.items ≡ map string_bytes marks.old.items
+        ++ map spec.positional_mark (map positional_view positionals.now)) }
+{
+    for positional in positionals {
+        marks.push(positional_mark(alloc, positional)?)?;
+    }
+    Ok(())
+}
+
+// What the program can be called with.
+fn marks_of<F, V, P, M, S>(
+    alloc: Global,
+    declaration: &Declaration<'_, F, V, P, M, S>,
 ) -> Result<Vec<String>, AllocError>
-    ensures { IfOk result (λ marks. map string_bytes marks.items
-        ≡ spec.options_mark (spec.visible (map option_view declaration.now.options.now))
-        ++ map spec.positional_mark (map positional_view declaration.now.positionals.now)) }
+    ensures { IfOk result (λ marks. declaration.now.program.now ∷ map string_bytes marks.items
+        ≡ spec.usage_words (declaration_view declaration.now)) }
 {
     let mut marks = Vec::new(alloc);
     add_options_mark(alloc, &mut marks, declaration.options)?;
-    for positional in declaration.positionals {
-        marks.push(positional_mark(alloc, positional)?)?;
-    }
+    add_required_marks(alloc, &mut marks, declaration.options)?;
+    add_positional_marks(alloc, &mut marks, declaration.positionals)?;
     Ok(marks)
 }
 
@@ -441,10 +517,10 @@ fn push_usage_lines(
 }
 
 // The usage line.
-fn push_usage<F, V, M, S>(
+fn push_usage<F, V, P, M, S>(
     out: &mut String,
     alloc: Global,
-    declaration: &Declaration<'_, F, V, M, S>,
+    declaration: &Declaration<'_, F, V, P, M, S>,
     width: usize,
 ) -> Result<(), AllocError>
     ensures { IfOk result (λ _. (text : List ℕ)
@@ -457,9 +533,9 @@ fn push_usage<F, V, M, S>(
 }
 
 /// The usage line, on lines of at most `width` columns, with the line feed at its end.
-pub fn usage<F, V, M, S>(
+pub fn usage<F, V, P, M, S>(
     alloc: Global,
-    declaration: &Declaration<'_, F, V, M, S>,
+    declaration: &Declaration<'_, F, V, P, M, S>,
     width: usize,
 ) -> Result<String, AllocError>
     ensures { IfOk result (λ text.
@@ -471,10 +547,10 @@ pub fn usage<F, V, M, S>(
 }
 
 // The help.
-fn push_help<F, V, M, S>(
+fn push_help<F, V, P, M, S>(
     out: &mut String,
     alloc: Global,
-    declaration: &Declaration<'_, F, V, M, S>,
+    declaration: &Declaration<'_, F, V, P, M, S>,
     width: usize,
 ) -> Result<(), AllocError>
     ensures { IfOk result (λ _. (text : List ℕ)
@@ -491,9 +567,9 @@ fn push_help<F, V, M, S>(
 }
 
 /// The help, for lines of `width` columns.
-pub fn help<F, V, M, S>(
+pub fn help<F, V, P, M, S>(
     alloc: Global,
-    declaration: &Declaration<'_, F, V, M, S>,
+    declaration: &Declaration<'_, F, V, P, M, S>,
     width: usize,
 ) -> Result<String, AllocError>
     ensures { IfOk result (λ text.

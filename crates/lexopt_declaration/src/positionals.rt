@@ -1,45 +1,45 @@
-//! How many positional arguments there may be.
-ghost use Rattle.std.specs.Prelude.{◌≡◌, filter, length, map};
+//! How many positional arguments there may be, and whether they can be declared.
+ghost use Rattle.std.specs.Prelude.{◌≡◌, filter, length, map, true};
 ghost use Rattle.std.specs.List.{list_any};
-ghost use Rattle.lexopt_options_spec.specs.Legal as legal;
+ghost use Rattle.std.specs.Option.{MatchOption};
+ghost use Rattle.lexopt_options_spec.specs.Declaration as spec;
+ghost use Rattle.lexopt_options_spec.specs.Declaration.{are_clear};
 ghost use Rattle.lexopt_options_spec.specs.Legal.{least, most};
 ghost use Rattle.lexopt_options_spec.specs.Stops.{required_placeholder};
+ghost use Rattle.lexopt_declaration.specs.Faults.{IsPositionalError};
 ghost use Rattle.lexopt_declaration.specs.Models.{count_view, positional_view};
 
 use crate::declaration::{Count, Positional};
 
-// Whether a positional argument may occur any number of times.
-fn is_any_number(positional: &Positional<'_>) -> bool
-    ensures { result ≡ legal.is_any_number (count_view positional.now.count) }
+// Whether a positional argument may occur more than once.
+fn may_repeat<P>(positional: &Positional<'_, P>) -> bool
+    ensures { result ≡ spec.may_repeat (count_view positional.now.count) }
 {
     match positional.count {
-        Count::AnyNumber => true,
+        Count::AnyNumber | Count::AtLeastOnce => true,
         Count::Once | Count::AtMostOnce => false,
     }
 }
 
 // Whether a positional argument is required.
-fn is_required(positional: &Positional<'_>) -> bool
-    ensures { result ≡ legal.is_once (count_view positional.now.count) }
+fn is_required<P>(positional: &Positional<'_, P>) -> bool
+    ensures { result ≡ spec.has_to_occur (count_view positional.now.count) }
 {
     match positional.count {
-        Count::Once => true,
+        Count::Once | Count::AtLeastOnce => true,
         Count::AtMostOnce | Count::AnyNumber => false,
     }
 }
 
-// Whether one of these may occur any number of times.
-fn is_unlimited(positionals: &[Positional<'_>]) -> bool
-    ensures { result
-        ≡ list_any (λ p. legal.is_any_number (count_view p.count)) positionals.now }
+// Whether one of these may occur more than once.
+fn is_unlimited<P>(positionals: &[Positional<'_, P>]) -> bool
+    ensures { result ≡ list_any (λ p. spec.may_repeat (count_view p.count)) positionals.now }
 {
-    positionals
-        .iter()
-        .any(|positional| is_any_number(positional))
+    positionals.iter().any(|positional| may_repeat(positional))
 }
 
 /// How many positional arguments there may be at most, if there is a limit.
-pub fn most_of(positionals: &[Positional<'_>]) -> Option<usize>
+pub fn most_of<P>(positionals: &[Positional<'_, P>]) -> Option<usize>
     ensures { result ≡ most (map positional_view positionals.now) }
 {
     if is_unlimited(positionals) {
@@ -50,9 +50,9 @@ pub fn most_of(positionals: &[Positional<'_>]) -> Option<usize>
 }
 
 // How many of these are required.
-fn required_count(positionals: &[Positional<'_>]) -> usize
+fn required_count<P>(positionals: &[Positional<'_, P>]) -> usize
     ensures { result
-        ≡ length (filter (λ p. legal.is_once (count_view p.count)) positionals.now) }
+        ≡ length (filter (λ p. spec.has_to_occur (count_view p.count)) positionals.now) }
 {
     positionals
         .iter()
@@ -61,14 +61,14 @@ fn required_count(positionals: &[Positional<'_>]) -> usize
 }
 
 /// How many positional arguments are required.
-pub fn least_of(positionals: &[Positional<'_>]) -> usize
+pub fn least_of<P>(positionals: &[Positional<'_, P>]) -> usize
     ensures { result ≡ least (map positional_view positionals.now) }
 {
     required_count(positionals)
 }
 
 /// The placeholder of this one, counted from 0, of the positional arguments that are required.
-pub fn argument_placeholder<'a>(positionals: &'a [Positional<'a>], n: usize) -> &'a str
+pub fn argument_placeholder<'a, P>(positionals: &'a [Positional<'a, P>], n: usize) -> &'a str
     ensures { result.now ≡ required_placeholder (map positional_view positionals.now) n }
 {
     let mut left = n;
@@ -81,4 +81,21 @@ pub fn argument_placeholder<'a>(positionals: &'a [Positional<'a>], n: usize) -> 
         }
     }
     ""
+}
+
+// The placeholder of the second of these that may occur more than once.
+pub(crate) fn second_repeated<'a, P>(positionals: &'a [Positional<'a, P>]) -> Option<&'a str>
+    ensures { MatchOption result (are_clear (map positional_view positionals.now) ≡ true)
+        (IsPositionalError positionals.now) }
+{
+    let mut repeated = false;
+    for positional in positionals {
+        if may_repeat(positional) {
+            if repeated {
+                return Some(positional.placeholder);
+            }
+            repeated = true;
+        }
+    }
+    None
 }

@@ -11,11 +11,11 @@ use Rattle.lexopt_line_spec.proofs.OneReading.{some_reading, no_other_reading}
 use Rattle.lexopt_line_spec.proofs.ReplyKinds.{IsNextReply, next_reply}
 use Rattle.lexopt_options_spec.specs.Asking.{AskFor, all_but_last, asked_by, first_asked, or_asked, said_before}
 use Rattle.lexopt_options_spec.specs.Declaration.{Asked, Declaration, Declared, table}
-use Rattle.lexopt_options_spec.specs.Legal.{Said, Says, said_item, positional_count}
-use Rattle.lexopt_options_spec.specs.Stops.{Mistake, StopsAt, unknown_option, unexpected_value, missing_value, unexpected_argument, missing_argument}
+use Rattle.lexopt_options_spec.specs.Legal.{Said, Says, said_item}
+use Rattle.lexopt_options_spec.specs.Stops.{Mistake, StopsAt, unknown_option, unexpected_value, missing_value, unexpected_argument, missing_argument, missing_option}
 use Rattle.lexopt_options_spec.proofs.Fronts.{front_later}
 use Rattle.lexopt_options_spec.proofs.Lists.{same_somes, split}
-use Rattle.lexopt_laws.proofs.OneStop.{Compared, same, shorter, longer, compared, Left, undeclared_first, flag_value, valueless, no_room, at_end, left_of, not_shorter}
+use Rattle.lexopt_laws.proofs.OneStop.{Compared, same, shorter, longer, compared, IsMissing, lacks_argument, lacks_option, Left, undeclared_first, flag_value, valueless, no_room, at_end, left_of, not_shorter}
 
 -- ---- the first that asks
 
@@ -122,24 +122,30 @@ kept_before (unknown_option name) l s k = (s ∷ k, refl)
 kept_before (missing_value index option) l s k = (s ∷ k, refl)
 kept_before (unexpected_argument word) l s k = (s ∷ k, refl)
 kept_before (missing_argument count) l s k = (s ∷ k, refl)
+kept_before (missing_option index) l s k = (s ∷ k, refl)
 
--- and nothing at all, unless it is a value that an option does not take
-all_before : (d : Declaration) (words : List (List ℕ)) (n : ℕ) (a : Asked) (ask : AskFor d words a) (l : List Said) (m : Mistake) (final : Reply) (ms ns : List Item) → ms ≡ ns
-    → IsReading (table d.options) ask.there final ns → Left d n m final ms → said_before m l ≡ l
-all_before d words n a ask l m final ms ns is reading (undeclared_first name item rest m_is are of none) = ap (λ x. said_before x l) m_is
-all_before d words n a ask l m final ms ns is reading (flag_value option value m_is final_is are) =
+-- and nothing at all, if something is missing at the end
+all_at_end : (d : Declaration) (l : List Said) (m : Mistake) → IsMissing d l m → said_before m l ≡ l
+all_at_end d l m (lacks_argument m_is few) = ap (λ x. said_before x l) m_is
+all_at_end d l m (lacks_option index m_is enough first) = ap (λ x. said_before x l) m_is
+
+-- nor elsewhere, unless it is a value that an option does not take
+all_before : (d : Declaration) (words : List (List ℕ)) (a : Asked) (ask : AskFor d words a) (l : List Said) (m : Mistake) (final : Reply) (ms ns : List Item) → ms ≡ ns
+    → IsReading (table d.options) ask.there final ns → Left d l m final ms → said_before m l ≡ l
+all_before d words a ask l m final ms ns is reading (undeclared_first name item rest m_is are of none) = ap (λ x. said_before x l) m_is
+all_before d words a ask l m final ms ns is reading (flag_value option value m_is final_is are) =
     let found = nothing_given (table d.options) ask.there final ns (sym is ∙ are) reading in
     absurd (ask.no_value option value found.0 (subst (λ r. Next ask.there r found.0) final_is found.1))
-all_before d words n a ask l m final ms ns is reading (valueless name index option m_is final_is are found) = ap (λ x. said_before x l) m_is
-all_before d words n a ask l m final ms ns is reading (no_room word rest m_is are limit) = ap (λ x. said_before x l) m_is
-all_before d words n a ask l m final ms ns is reading (at_end m_is final_is are) = ap (λ x. said_before x l) m_is
+all_before d words a ask l m final ms ns is reading (valueless name index option m_is final_is are found) = ap (λ x. said_before x l) m_is
+all_before d words a ask l m final ms ns is reading (no_room word rest m_is are limit) = ap (λ x. said_before x l) m_is
+all_before d words a ask l m final ms ns is reading (at_end lacks final_is are) = all_at_end d l m lacks
 
 asked_before : (d : Declaration) (words : List (List ℕ)) (l : List Said) (m : Mistake) (a : Asked) (stops : StopsAt d words l m) (ask : AskFor d words a) (final : Reply) (ms ns : List Item)
-    → Left d (positional_count l) m final ms → IsReading (table d.options) ask.there final ns → Compared stops.read.items ask.read.items ms ns
+    → Left d l m final ms → IsReading (table d.options) ask.there final ns → Compared stops.read.items ask.read.items ms ns
     → first_asked d.options (said_before m l) ≡ Some a
 asked_before d words l m a stops ask final ms ns left reading (same front back) =
     let lists : l ≡ asking ask = same_somes l (asking ask) (sym stops.read.said ∙ ap (map (said_item d.options)) front ∙ ask.read.said) in
-    ap (first_asked d.options) (all_before d words (positional_count l) a ask l m final ms ns back reading left ∙ lists) ∙ asked_alone d words a ask
+    ap (first_asked d.options) (all_before d words a ask l m final ms ns back reading left ∙ lists) ∙ asked_alone d words a ask
 asked_before d words l m a stops ask final ms ns left reading (shorter x rest front back) =
     absurd (not_shorter d l (asking ask) m final stops.read.items ms ns x rest stops.read.said (subst (λ s. map (said_item d.options) s ≡ map (λ s. Some s) (asking ask)) front ask.read.said)
     ask.read.within back left (no_missing (table d.options) ask.there final ns reading))
@@ -157,7 +163,7 @@ pub asked_of_stop : (d : Declaration) (words : List (List ℕ)) (l : List Said) 
     → first_asked d.options (said_before m l) ≡ Some a
 asked_of_stop d words l m a stops ask =
     let t = table d.options in
-    let left = left_of d (positional_count l) stops.there m stops.read.line stops.stops in
+    let left = left_of d l stops.there m stops.read.line stops.stops in
     let one = some_reading t ask.there ask.read.line in
     let both = no_other_reading t (start d.short_equals words) left.final one.0 (stops.read.items ++ left.items) (ask.read.items ++ one.1)
     (stops.read.read left.final left.items left.reading) (ask.read.read one.0 one.1 one.2) in

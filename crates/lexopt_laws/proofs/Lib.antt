@@ -10,6 +10,7 @@ pub mod WorkedDamage
 pub mod Cuts
 pub mod Stays
 pub mod OneItem
+pub mod Missing
 pub mod OneStop
 pub mod AskedOnce
 pub mod WorkedAsking
@@ -19,5 +20,6 @@ pub mod WorkedSays
 pub mod WorkedDistances
 pub mod WorkedNames
 pub mod WorkedOpen
+pub mod WorkedRequired
 pub mod WorkedRoles
 pub mod WorkedLines

@@ -1,5 +1,5 @@
 -- The reading of a line under a declaration stops at one mistake.
-use Rattle.std.proofs.Common.{◌≡◌, ℕ, ◌+◌, suc, List, [], ◌∷◌, ◌++◌, map, Option, Some, None, refl, sym, ap, subst, ◌∙◌, arith}
+use Rattle.std.proofs.Common.{◌≡◌, ◌<◌, ◌≤◌, ℕ, ◌+◌, suc, List, [], ◌∷◌, ◌++◌, map, Option, Some, None, refl, sym, ap, subst, ◌∙◌, arith}
 use Rattle.lexopt_spec.specs.UnreadLine.{UnreadLine, IsLine}
 use Rattle.lexopt_spec.specs.Steps as steps
 use Rattle.lexopt_spec.specs.Steps.{Reply}
@@ -12,67 +12,79 @@ use Rattle.lexopt_line_spec.proofs.OneReading.{option_reading, some_reading, no_
 use Rattle.lexopt_line_spec.proofs.ReadingSteps.{says_positional, reads_last, reads_refused}
 use Rattle.lexopt_line_spec.proofs.RunAccounts.{step_line}
 use Rattle.lexopt_options_spec.specs.Declaration.{Declaration, index_of, table}
-use Rattle.lexopt_options_spec.specs.Legal.{Said, said_item, positional, positional_count, most, IsWithin}
-use Rattle.lexopt_options_spec.specs.Stops.{Mistake, unknown_option, unexpected_value, missing_value, unexpected_argument, missing_argument, Stops, not_declared, value_of_flag, no_value, one_too_many, too_few, StopsAt}
+use Rattle.lexopt_options_spec.specs.Legal.{Said, said_item, positional, positional_count, least, most, IsWithin}
+use Rattle.lexopt_options_spec.specs.Stops.{Mistake, unknown_option, unexpected_value, missing_value, unexpected_argument, missing_argument, missing_option, IsFirstMissing, Stops, not_declared, value_of_flag, no_value, one_too_many, too_few, not_complete, StopsAt}
 use Rattle.lexopt_options_spec.proofs.Lists.{split, first_none, first_is, same_somes, count_append}
 use Rattle.lexopt_options_spec.proofs.Fronts.{item_of, undeclared}
+use Rattle.lexopt_laws.proofs.Missing.{one_first_missing}
 
 -- ---- what is left where a reading stops
 
--- with `count` positionals before it, the line that is left is read to this reply, and gives these
--- items, so that this is the mistake
-pub data Left (d : Declaration) (count : ℕ) (m : Mistake) (final : Reply) (items : List Item) : Type 0 where
-  undeclared_first : (name : Name) (item : Item) (rest : List Item) → m ≡ unknown_option name → items ≡ item ∷ rest → IsOf name item → index_of d.options name ≡ None → Left d count m final items
-  flag_value : (option value : List ℕ) → m ≡ unexpected_value option value → final ≡ steps.unexpected option value → items ≡ [] → Left d count m final items
-  valueless : (name : Name) (index : ℕ) (option : List ℕ) → m ≡ missing_value index option → final ≡ steps.missing (Some option) → items ≡ spec.option name None ∷ []
-      → index_of d.options name ≡ Some index → Left d count m final items
-  no_room : (word : List ℕ) (rest : List Item) → m ≡ unexpected_argument word → items ≡ spec.positional word ∷ rest → most d.positionals ≡ Some count → Left d count m final items
-  at_end : m ≡ missing_argument count → final ≡ steps.end → items ≡ [] → Left d count m final items
+-- where this was read to the end, a positional or an option is missing
+pub data IsMissing (d : Declaration) (l : List Said) (m : Mistake) : Type 0 where
+  lacks_argument : m ≡ missing_argument (positional_count l) → positional_count l < least d.positionals → IsMissing d l m
+  lacks_option : (index : ℕ) → m ≡ missing_option index → least d.positionals ≤ positional_count l → IsFirstMissing d.options l index → IsMissing d l m
 
-pub record IsLeft (d : Declaration) (count : ℕ) (u : UnreadLine) (m : Mistake) : Type 0 where
+-- after this was read, the line that is left is read to this reply, and gives these items, so that
+-- this is the mistake
+pub data Left (d : Declaration) (l : List Said) (m : Mistake) (final : Reply) (items : List Item) : Type 0 where
+  undeclared_first : (name : Name) (item : Item) (rest : List Item) → m ≡ unknown_option name → items ≡ item ∷ rest → IsOf name item → index_of d.options name ≡ None → Left d l m final items
+  flag_value : (option value : List ℕ) → m ≡ unexpected_value option value → final ≡ steps.unexpected option value → items ≡ [] → Left d l m final items
+  valueless : (name : Name) (index : ℕ) (option : List ℕ) → m ≡ missing_value index option → final ≡ steps.missing (Some option) → items ≡ spec.option name None ∷ []
+      → index_of d.options name ≡ Some index → Left d l m final items
+  no_room : (word : List ℕ) (rest : List Item) → m ≡ unexpected_argument word → items ≡ spec.positional word ∷ rest → most d.positionals ≡ Some (positional_count l) → Left d l m final items
+  at_end : IsMissing d l m → final ≡ steps.end → items ≡ [] → Left d l m final items
+
+pub record IsLeft (d : Declaration) (l : List Said) (u : UnreadLine) (m : Mistake) : Type 0 where
   pub final : Reply
   pub items : List Item
   pub reading : IsReading (table d.options) u final items
-  pub left : Left d count m final items
+  pub left : Left d l m final items
 
-pub left_of : (d : Declaration) (count : ℕ) (u : UnreadLine) (m : Mistake) → IsLine u → Stops d count u m → IsLeft d count u m
-left_of d count u m line (not_declared name v step none) =
+pub left_of : (d : Declaration) (l : List Said) (u : UnreadLine) (m : Mistake) → IsLine u → Stops d l u m → IsLeft d l u m
+left_of d l u m line (not_declared name v step none) =
     let r = option_reading (table d.options) u v name (step_line next u (option_reply name) v line step) step in record {
       final = r.0;
       items = item_after name r.1 ∷ items_said r.1;
       reading = r.2;
       left = undeclared_first name (item_after name r.1) (items_said r.1) refl refl (item_of name r.1) none;
     }
-left_of d count u m line (value_of_flag option value v step) = record {
+left_of d l u m line (value_of_flag option value v step) = record {
   final = steps.unexpected option value;
   items = [];
   reading = reads_last (table d.options) u v (steps.unexpected option value) tt step;
   left = flag_value option value refl refl refl;
 }
-left_of d count u m line (no_value (short c) index option call v w step found due takes) = record {
+left_of d l u m line (no_value (short c) index option call v w step found due takes) = record {
   final = steps.missing (Some option);
   items = spec.option (short c) None ∷ [];
   reading = reads_refused (table d.options) u v w (short c) (kind (table d.options) (short c)) call (steps.missing (Some option)) refl due tt step takes;
   left = valueless (short c) index option refl refl refl found;
 }
-left_of d count u m line (no_value (long n) index option call v w step found due takes) = record {
+left_of d l u m line (no_value (long n) index option call v w step found due takes) = record {
   final = steps.missing (Some option);
   items = spec.option (long n) None ∷ [];
   reading = reads_refused (table d.options) u v w (long n) (kind (table d.options) (long n)) call (steps.missing (Some option)) refl due tt step takes;
   left = valueless (long n) index option refl refl refl found;
 }
-left_of d count u m line (one_too_many word v step limit) =
+left_of d l u m line (one_too_many word v step limit) =
     let r = some_reading (table d.options) v (step_line next u (steps.positional word) v line step) in record {
       final = r.0;
       items = spec.positional word ∷ r.1;
       reading = says_positional (table d.options) u v word step r.0 r.1 r.2;
       left = no_room word r.1 refl refl limit;
     }
-left_of d count u m line (too_few v step few) = record {
+left_of d l u m line (too_few v step few) = record {
   final = steps.end;
   items = [];
   reading = reads_last (table d.options) u v steps.end tt step;
-  left = at_end refl refl refl;
+  left = at_end (lacks_argument refl few) refl refl;
+}
+left_of d l u m line (not_complete index v step enough first) = record {
+  final = steps.end;
+  items = [];
+  reading = reads_last (table d.options) u v steps.end tt step;
+  left = at_end (lacks_option index refl enough first) refl refl;
 }
 
 -- ---- two lists in two parts
@@ -104,12 +116,12 @@ nothing_more [] ys is = is
 nothing_more (x ∷ xs) ys is = absurd (let e : x ∷ (xs ++ ys) ≡ [] = is in cc)
 
 -- what is left and gives nothing was not stopped by a missing value
-no_missing : (d : Declaration) (count : ℕ) (m : Mistake) (final : Reply) (items : List Item) (option : List ℕ) → final ≡ steps.missing (Some option) → items ≡ [] → Left d count m final items → ⊥
-no_missing d count m final items option is none (undeclared_first name item rest m_is are of undeclared) = let e : [] ≡ item ∷ rest = sym none ∙ are in cc
-no_missing d count m final items option is none (flag_value o value m_is final_is are) = let e : steps.missing (Some option) ≡ steps.unexpected o value = sym is ∙ final_is in cc
-no_missing d count m final items option is none (valueless name index o m_is final_is are found) = let e : [] ≡ spec.option name None ∷ [] = sym none ∙ are in cc
-no_missing d count m final items option is none (no_room word rest m_is are limit) = let e : [] ≡ spec.positional word ∷ rest = sym none ∙ are in cc
-no_missing d count m final items option is none (at_end m_is final_is are) = let e : steps.missing (Some option) ≡ steps.end = sym is ∙ final_is in cc
+no_missing : (d : Declaration) (l : List Said) (m : Mistake) (final : Reply) (items : List Item) (option : List ℕ) → final ≡ steps.missing (Some option) → items ≡ [] → Left d l m final items → ⊥
+no_missing d l m final items option is none (undeclared_first name item rest m_is are of undeclared) = let e : [] ≡ item ∷ rest = sym none ∙ are in cc
+no_missing d l m final items option is none (flag_value o value m_is final_is are) = let e : steps.missing (Some option) ≡ steps.unexpected o value = sym is ∙ final_is in cc
+no_missing d l m final items option is none (valueless name index o m_is final_is are found) = let e : [] ≡ spec.option name None ∷ [] = sym none ∙ are in cc
+no_missing d l m final items option is none (no_room word rest m_is are limit) = let e : [] ≡ spec.positional word ∷ rest = sym none ∙ are in cc
+no_missing d l m final items option is none (at_end lacks final_is are) = let e : steps.missing (Some option) ≡ steps.end = sym is ∙ final_is in cc
 
 above : (n k : ℕ) (limit : Option ℕ) → limit ≡ Some n → IsWithin (n + suc k) limit → ⊥
 above n k None is within = let e : None ≡ Some n = is in cc
@@ -118,7 +130,7 @@ above n k (Some m) is within = let e : m ≡ n = (let f : Some m ≡ Some n = is
 -- nothing is read past a mistake
 pub not_shorter : (d : Declaration) (l k : List Said) (m : Mistake) (final : Reply) (xs ms ns : List Item) (x : Item) (rest : List Item)
     → map (said_item d.options) xs ≡ map (λ s. Some s) l → map (said_item d.options) (xs ++ x ∷ rest) ≡ map (λ s. Some s) k → IsWithin (positional_count k) (most d.positionals)
-    → ms ≡ x ∷ rest ++ ns → Left d (positional_count l) m final ms → ((option : List ℕ) → final ≡ steps.missing (Some option) → ns ≡ [] → ⊥) → ⊥
+    → ms ≡ x ∷ rest ++ ns → Left d l m final ms → ((option : List ℕ) → final ≡ steps.missing (Some option) → ns ≡ [] → ⊥) → ⊥
 not_shorter d l k m final xs ms ns x rest said more within is (undeclared_first name item others m_is are of none) other =
     let later = split (said_item d.options) xs (x ∷ rest) l k said more in
     let first = head_same x item (rest ++ ns) others (sym is ∙ are) in
@@ -134,7 +146,7 @@ not_shorter d l k m final xs ms ns x rest said more within is (no_room word othe
     let count : positional_count k ≡ positional_count l + suc (positional_count one.0) =
     ap positional_count later.all_are ∙ count_append l later.later ∙ ap (λ s. positional_count l + positional_count s) one.1 ∙ ap (λ i. positional_count l + i) (omega arith) in
     above (positional_count l) (positional_count one.0) (most d.positionals) limit (subst (λ i. IsWithin i (most d.positionals)) count within)
-not_shorter d l k m final xs ms ns x rest said more within is (at_end m_is final_is are) other = let e : x ∷ (rest ++ ns) ≡ [] = sym is ∙ are in cc
+not_shorter d l k m final xs ms ns x rest said more within is (at_end lacks final_is are) other = let e : x ∷ (rest ++ ns) ≡ [] = sym is ∙ are in cc
 
 one_name : (name other : Name) (item : Item) → IsOf name item → IsOf other item → name ≡ other
 one_name name other (spec.option n value) is too = sym is ∙ too
@@ -144,76 +156,83 @@ one_name name other (spec.positional word) is too = absurd is
 no_name : (name : Name) (word : List ℕ) (item : Item) → item ≡ spec.positional word → IsOf name item → ⊥
 no_name name word item is of = subst (IsOf name) is of
 
+-- where something is missing there is one mistake
+same_missing : (d : Declaration) (l : List Said) (m n : Mistake) → IsMissing d l m → IsMissing d l n → m ≡ n
+same_missing d l m n (lacks_argument m_is few) (lacks_argument n_is few2) = m_is ∙ sym n_is
+same_missing d l m n (lacks_argument m_is few) (lacks_option index2 n_is enough2 first2) = absurd (omega arith)
+same_missing d l m n (lacks_option index m_is enough first) (lacks_argument n_is few2) = absurd (omega arith)
+same_missing d l m n (lacks_option index m_is enough first) (lacks_option index2 n_is enough2 first2) = m_is ∙ ap missing_option (one_first_missing d.options l index index2 first first2) ∙ sym n_is
+
 -- at one place there is one mistake
-same_left : (d : Declaration) (count : ℕ) (m n : Mistake) (final : Reply) (ms ns : List Item) → ms ≡ ns → Left d count m final ms → Left d count n final ns → m ≡ n
-same_left d count m n final ms ns is (undeclared_first name item rest m_is are of none) (undeclared_first name2 item2 rest2 n_is are2 of2 none2) =
+same_left : (d : Declaration) (l : List Said) (m n : Mistake) (final : Reply) (ms ns : List Item) → ms ≡ ns → Left d l m final ms → Left d l n final ns → m ≡ n
+same_left d l m n final ms ns is (undeclared_first name item rest m_is are of none) (undeclared_first name2 item2 rest2 n_is are2 of2 none2) =
     let first = head_same item item2 rest rest2 (sym are ∙ is ∙ are2) in
     m_is ∙ ap unknown_option (one_name name name2 item2 (subst (IsOf name) first.0 of) of2) ∙ sym n_is
-same_left d count m n final ms ns is (undeclared_first name item rest m_is are of none) (flag_value option2 value2 n_is final_is2 are2) = let e : item ∷ rest ≡ [] = sym are ∙ is ∙ are2 in cc
-same_left d count m n final ms ns is (undeclared_first name item rest m_is are of none) (valueless name2 index2 option2 n_is final_is2 are2 found2) =
+same_left d l m n final ms ns is (undeclared_first name item rest m_is are of none) (flag_value option2 value2 n_is final_is2 are2) = let e : item ∷ rest ≡ [] = sym are ∙ is ∙ are2 in cc
+same_left d l m n final ms ns is (undeclared_first name item rest m_is are of none) (valueless name2 index2 option2 n_is final_is2 are2 found2) =
     let first = head_same item (spec.option name2 None) rest [] (sym are ∙ is ∙ are2) in
     let same_name = one_name name name2 (spec.option name2 None) (subst (IsOf name) first.0 of) refl in
     absurd (let e : None ≡ Some index2 = sym none ∙ ap (index_of d.options) same_name ∙ found2 in cc)
-same_left d count m n final ms ns is (undeclared_first name item rest m_is are of none) (no_room word2 rest2 n_is are2 limit2) =
+same_left d l m n final ms ns is (undeclared_first name item rest m_is are of none) (no_room word2 rest2 n_is are2 limit2) =
     let first = head_same item (spec.positional word2) rest rest2 (sym are ∙ is ∙ are2) in absurd (no_name name word2 item first.0 of)
-same_left d count m n final ms ns is (undeclared_first name item rest m_is are of none) (at_end n_is final_is2 are2) = let e : item ∷ rest ≡ [] = sym are ∙ is ∙ are2 in cc
-same_left d count m n final ms ns is (flag_value option value m_is final_is are) (undeclared_first name2 item2 rest2 n_is are2 of2 none2) = let e : [] ≡ item2 ∷ rest2 = sym are ∙ is ∙ are2 in cc
-same_left d count m n final ms ns is (flag_value option value m_is final_is are) (flag_value option2 value2 n_is final_is2 are2) =
+same_left d l m n final ms ns is (undeclared_first name item rest m_is are of none) (at_end lacks2 final_is2 are2) = let e : item ∷ rest ≡ [] = sym are ∙ is ∙ are2 in cc
+same_left d l m n final ms ns is (flag_value option value m_is final_is are) (undeclared_first name2 item2 rest2 n_is are2 of2 none2) = let e : [] ≡ item2 ∷ rest2 = sym are ∙ is ∙ are2 in cc
+same_left d l m n final ms ns is (flag_value option value m_is final_is are) (flag_value option2 value2 n_is final_is2 are2) =
     let e : steps.unexpected option value ≡ steps.unexpected option2 value2 = sym final_is ∙ final_is2 in cc
-same_left d count m n final ms ns is (flag_value option value m_is final_is are) (valueless name2 index2 option2 n_is final_is2 are2 found2) =
+same_left d l m n final ms ns is (flag_value option value m_is final_is are) (valueless name2 index2 option2 n_is final_is2 are2 found2) =
     let e : [] ≡ spec.option name2 None ∷ [] = sym are ∙ is ∙ are2 in cc
-same_left d count m n final ms ns is (flag_value option value m_is final_is are) (no_room word2 rest2 n_is are2 limit2) = let e : [] ≡ spec.positional word2 ∷ rest2 = sym are ∙ is ∙ are2 in cc
-same_left d count m n final ms ns is (flag_value option value m_is final_is are) (at_end n_is final_is2 are2) = let e : steps.unexpected option value ≡ steps.end = sym final_is ∙ final_is2 in cc
-same_left d count m n final ms ns is (valueless name index option m_is final_is are found) (undeclared_first name2 item2 rest2 n_is are2 of2 none2) =
+same_left d l m n final ms ns is (flag_value option value m_is final_is are) (no_room word2 rest2 n_is are2 limit2) = let e : [] ≡ spec.positional word2 ∷ rest2 = sym are ∙ is ∙ are2 in cc
+same_left d l m n final ms ns is (flag_value option value m_is final_is are) (at_end lacks2 final_is2 are2) = let e : steps.unexpected option value ≡ steps.end = sym final_is ∙ final_is2 in cc
+same_left d l m n final ms ns is (valueless name index option m_is final_is are found) (undeclared_first name2 item2 rest2 n_is are2 of2 none2) =
     let first = head_same (spec.option name None) item2 [] rest2 (sym are ∙ is ∙ are2) in
     let same_name = one_name name2 name (spec.option name None) (subst (IsOf name2) (sym first.0) of2) refl in
     absurd (let e : None ≡ Some index = sym none2 ∙ ap (index_of d.options) same_name ∙ found in cc)
-same_left d count m n final ms ns is (valueless name index option m_is final_is are found) (flag_value option2 value2 n_is final_is2 are2) =
+same_left d l m n final ms ns is (valueless name index option m_is final_is are found) (flag_value option2 value2 n_is final_is2 are2) =
     let e : spec.option name None ∷ [] ≡ [] = sym are ∙ is ∙ are2 in cc
-same_left d count m n final ms ns is (valueless name index option m_is final_is are found) (valueless name2 index2 option2 n_is final_is2 are2 found2) =
+same_left d l m n final ms ns is (valueless name index option m_is final_is are found) (valueless name2 index2 option2 n_is final_is2 are2 found2) =
     let first = head_same (spec.option name None) (spec.option name2 None) [] [] (sym are ∙ is ∙ are2) in
     let same_name : name ≡ name2 = (let e = first.0 in cc) in
     let same_index : index ≡ index2 = (let e : Some index ≡ Some index2 = sym found ∙ ap (index_of d.options) same_name ∙ found2 in cc) in
     let same_option : option ≡ option2 = (let e : steps.missing (Some option) ≡ steps.missing (Some option2) = sym final_is ∙ final_is2 in cc) in
     m_is ∙ ap (λ i. missing_value i option) same_index ∙ ap (missing_value index2) same_option ∙ sym n_is
-same_left d count m n final ms ns is (valueless name index option m_is final_is are found) (no_room word2 rest2 n_is are2 limit2) =
+same_left d l m n final ms ns is (valueless name index option m_is final_is are found) (no_room word2 rest2 n_is are2 limit2) =
     let first = head_same (spec.option name None) (spec.positional word2) [] rest2 (sym are ∙ is ∙ are2) in absurd (let e : spec.option name None ≡ spec.positional word2 = first.0 in cc)
-same_left d count m n final ms ns is (valueless name index option m_is final_is are found) (at_end n_is final_is2 are2) = let e : spec.option name None ∷ [] ≡ [] = sym are ∙ is ∙ are2 in cc
-same_left d count m n final ms ns is (no_room word rest m_is are limit) (undeclared_first name2 item2 rest2 n_is are2 of2 none2) =
+same_left d l m n final ms ns is (valueless name index option m_is final_is are found) (at_end lacks2 final_is2 are2) = let e : spec.option name None ∷ [] ≡ [] = sym are ∙ is ∙ are2 in cc
+same_left d l m n final ms ns is (no_room word rest m_is are limit) (undeclared_first name2 item2 rest2 n_is are2 of2 none2) =
     let first = head_same (spec.positional word) item2 rest rest2 (sym are ∙ is ∙ are2) in absurd (no_name name2 word item2 (sym first.0) of2)
-same_left d count m n final ms ns is (no_room word rest m_is are limit) (flag_value option2 value2 n_is final_is2 are2) = let e : spec.positional word ∷ rest ≡ [] = sym are ∙ is ∙ are2 in cc
-same_left d count m n final ms ns is (no_room word rest m_is are limit) (valueless name2 index2 option2 n_is final_is2 are2 found2) =
+same_left d l m n final ms ns is (no_room word rest m_is are limit) (flag_value option2 value2 n_is final_is2 are2) = let e : spec.positional word ∷ rest ≡ [] = sym are ∙ is ∙ are2 in cc
+same_left d l m n final ms ns is (no_room word rest m_is are limit) (valueless name2 index2 option2 n_is final_is2 are2 found2) =
     let first = head_same (spec.positional word) (spec.option name2 None) rest [] (sym are ∙ is ∙ are2) in absurd (let e : spec.positional word ≡ spec.option name2 None = first.0 in cc)
-same_left d count m n final ms ns is (no_room word rest m_is are limit) (no_room word2 rest2 n_is are2 limit2) =
+same_left d l m n final ms ns is (no_room word rest m_is are limit) (no_room word2 rest2 n_is are2 limit2) =
     let first = head_same (spec.positional word) (spec.positional word2) rest rest2 (sym are ∙ is ∙ are2) in
     let same_word : word ≡ word2 = (let e = first.0 in cc) in
     m_is ∙ ap unexpected_argument same_word ∙ sym n_is
-same_left d count m n final ms ns is (no_room word rest m_is are limit) (at_end n_is final_is2 are2) = let e : spec.positional word ∷ rest ≡ [] = sym are ∙ is ∙ are2 in cc
-same_left d count m n final ms ns is (at_end m_is final_is are) (undeclared_first name2 item2 rest2 n_is are2 of2 none2) = let e : [] ≡ item2 ∷ rest2 = sym are ∙ is ∙ are2 in cc
-same_left d count m n final ms ns is (at_end m_is final_is are) (flag_value option2 value2 n_is final_is2 are2) = let e : steps.end ≡ steps.unexpected option2 value2 = sym final_is ∙ final_is2 in cc
-same_left d count m n final ms ns is (at_end m_is final_is are) (valueless name2 index2 option2 n_is final_is2 are2 found2) = let e : [] ≡ spec.option name2 None ∷ [] = sym are ∙ is ∙ are2 in cc
-same_left d count m n final ms ns is (at_end m_is final_is are) (no_room word2 rest2 n_is are2 limit2) = let e : [] ≡ spec.positional word2 ∷ rest2 = sym are ∙ is ∙ are2 in cc
-same_left d count m n final ms ns is (at_end m_is final_is are) (at_end n_is final_is2 are2) = m_is ∙ sym n_is
+same_left d l m n final ms ns is (no_room word rest m_is are limit) (at_end lacks2 final_is2 are2) = let e : spec.positional word ∷ rest ≡ [] = sym are ∙ is ∙ are2 in cc
+same_left d l m n final ms ns is (at_end lacks final_is are) (undeclared_first name2 item2 rest2 n_is are2 of2 none2) = let e : [] ≡ item2 ∷ rest2 = sym are ∙ is ∙ are2 in cc
+same_left d l m n final ms ns is (at_end lacks final_is are) (flag_value option2 value2 n_is final_is2 are2) = let e : steps.end ≡ steps.unexpected option2 value2 = sym final_is ∙ final_is2 in cc
+same_left d l m n final ms ns is (at_end lacks final_is are) (valueless name2 index2 option2 n_is final_is2 are2 found2) = let e : [] ≡ spec.option name2 None ∷ [] = sym are ∙ is ∙ are2 in cc
+same_left d l m n final ms ns is (at_end lacks final_is are) (no_room word2 rest2 n_is are2 limit2) = let e : [] ≡ spec.positional word2 ∷ rest2 = sym are ∙ is ∙ are2 in cc
+same_left d l m n final ms ns is (at_end lacks final_is are) (at_end lacks2 final_is2 are2) = same_missing d l m n lacks lacks2
 
 -- what was read before a mistake, and what is left
 stops_compared : (d : Declaration) (l k : List Said) (m n : Mistake) (final : Reply) (xs ys ms ns : List Item) → map (said_item d.options) xs ≡ map (λ s. Some s) l
     → map (said_item d.options) ys ≡ map (λ s. Some s) k → IsWithin (positional_count l) (most d.positionals) → IsWithin (positional_count k) (most d.positionals)
-    → Left d (positional_count l) m final ms → Left d (positional_count k) n final ns → Compared xs ys ms ns → (l ≡ k) × (m ≡ n)
+    → Left d l m final ms → Left d k n final ns → Compared xs ys ms ns → (l ≡ k) × (m ≡ n)
 stops_compared d l k m n final xs ys ms ns said too within room left other (same front back) =
     let lists : l ≡ k = same_somes l k (sym said ∙ ap (map (said_item d.options)) front ∙ too) in
-    (lists, same_left d (positional_count k) m n final ms ns back (subst (λ i. Left d i m final ms) (ap positional_count lists) left) other)
+    (lists, same_left d k m n final ms ns back (subst (λ i. Left d i m final ms) lists left) other)
 stops_compared d l k m n final xs ys ms ns said too within room left other (shorter x rest front back) =
     absurd (not_shorter d l k m final xs ms ns x rest said (subst (λ s. map (said_item d.options) s ≡ map (λ s. Some s) k) front too) room back left
-    (λ option is none. no_missing d (positional_count k) n final ns option is none other))
+    (λ option is none. no_missing d k n final ns option is none other))
 stops_compared d l k m n final xs ys ms ns said too within room left other (longer x rest front back) =
     absurd (not_shorter d k l n final ys ns ms x rest too (subst (λ s. map (said_item d.options) s ≡ map (λ s. Some s) l) front said) within back other
-    (λ option is none. no_missing d (positional_count l) m final ms option is none left))
+    (λ option is none. no_missing d l m final ms option is none left))
 
 pub one_stop : (d : Declaration) (words : List (List ℕ)) (l k : List Said) (m n : Mistake) → StopsAt d words l m → StopsAt d words k n → (l ≡ k) × (m ≡ n)
 one_stop d words l k m n stops again =
-    let left = left_of d (positional_count l) stops.there m stops.read.line stops.stops in
-    let other = left_of d (positional_count k) again.there n again.read.line again.stops in
+    let left = left_of d l stops.there m stops.read.line stops.stops in
+    let other = left_of d k again.there n again.read.line again.stops in
     let both = no_other_reading (table d.options) (start d.short_equals words) left.final other.final (stops.read.items ++ left.items) (again.read.items ++ other.items)
     (stops.read.read left.final left.items left.reading) (again.read.read other.final other.items other.reading) in
     stops_compared d l k m n left.final stops.read.items again.read.items left.items other.items stops.read.said again.read.said stops.read.within again.read.within left.left
-    (subst (λ f. Left d (positional_count k) n f other.items) (sym both.0) other.left) (compared stops.read.items again.read.items left.items other.items both.1)
+    (subst (λ f. Left d k n f other.items) (sym both.0) other.left) (compared stops.read.items again.read.items left.items other.items both.1)

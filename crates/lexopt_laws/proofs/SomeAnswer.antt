@@ -20,10 +20,11 @@ use Rattle.lexopt_line_spec.proofs.ReplyKinds.{IsNextReply, next_reply, IsValueR
 use Rattle.lexopt_line_spec.proofs.RunAccounts.{step_line}
 use Rattle.lexopt_line_spec.proofs.Total.{next_answer}
 use Rattle.lexopt_options_spec.specs.Declaration.{Declaration, index_of, is_sound, table}
-use Rattle.lexopt_options_spec.specs.Legal.{Said, option, several, positional, said_item, counts, positional_count, least, most, IsWithin, Says}
-use Rattle.lexopt_options_spec.specs.Stops.{Mistake, unknown_option, unexpected_value, missing_value, unexpected_argument, missing_argument, Stops, not_declared, value_of_flag, no_value, one_too_many, too_few, ReadsUpTo, StopsAt}
+use Rattle.lexopt_options_spec.specs.Legal.{Said, option, several, positional, said_item, counts, positional_count, least, most, IsWithin, is_required, occurs, Says}
+use Rattle.lexopt_options_spec.specs.Stops.{Mistake, unknown_option, unexpected_value, missing_value, unexpected_argument, missing_argument, missing_option, IsFirstMissing, Stops, not_declared, value_of_flag, no_value, one_too_many, too_few, not_complete, ReadsUpTo, StopsAt}
 use Rattle.lexopt_options_spec.proofs.Fronts.{front_said}
 use Rattle.lexopt_options_spec.proofs.Lists.{count_append, joined}
+use Rattle.lexopt_laws.proofs.Missing.{complete_or_missing}
 
 -- ---- what is read as one item
 
@@ -32,7 +33,7 @@ goes_on : (t : Table) (name : Name) (k : Kind) → kind t name ≡ k → GoesOn 
 goes_on t (short c) k is = sym is
 goes_on t (long name) k is = sym is
 
-says_due : (t : Table) (u v w : UnreadLine) (name : Name) (k : Kind) (call : Call) (reply : Reply) (item : Item) → kind t name ≡ k → IsDue k call → IsFull call reply
+pub says_due : (t : Table) (u v w : UnreadLine) (name : Name) (k : Kind) (call : Call) (reply : Reply) (item : Item) → kind t name ≡ k → IsDue k call → IsFull call reply
     → GoesOn t reply flag → ((replies : List Reply) → items_said (option_reply name ∷ reply ∷ replies) ≡ item ∷ items_said replies)
     → Next u (option_reply name) v → Step call v reply w → SaysUpTo t u (item ∷ []) w
 says_due t u v w name k call reply item is due full goes said step takes = λ final m reading. record {
@@ -45,7 +46,7 @@ says_due t u v w name k call reply item is due full goes said step takes = λ fi
   items_are = ap (λ l. item ∷ l) reading.items_are ∙ sym (said reading.replies);
 }
 
-taken_item : (name : Name) (word : List ℕ) (replies : List Reply) → items_said (option_reply name ∷ steps.taken word ∷ replies) ≡ spec.option name (Some word) ∷ items_said replies
+pub taken_item : (name : Name) (word : List ℕ) (replies : List Reply) → items_said (option_reply name ∷ steps.taken word ∷ replies) ≡ spec.option name (Some word) ∷ items_said replies
 taken_item (short c) word replies = refl
 taken_item (long n) word replies = refl
 
@@ -90,8 +91,8 @@ same_within n (Some m) within = omega arith
 
 -- what the line is found to do: to mean something to its end, or to stop
 data Found (d : Declaration) (u : UnreadLine) : Type 0 where
-  to_the_end : (l : List Said) (v w : UnreadLine) → ReadsUpTo d u l v → Next v steps.end w → least d.positionals ≤ positional_count l → Found d u
-  stopped : (l : List Said) (m : Mistake) (v : UnreadLine) → ReadsUpTo d u l v → Stops d (positional_count l) v m → Found d u
+  to_the_end : (l : List Said) (v w : UnreadLine) → ReadsUpTo d u l v → Next v steps.end w → least d.positionals ≤ positional_count l → ((i : ℕ) → is_required d.options i ≡ true → occurs i l ≡ true) → Found d u
+  stopped : (l : List Said) (m : Mistake) (v : UnreadLine) → ReadsUpTo d u l v → Stops d l v m → Found d u
 
 -- the rest of a line of no greater bound is read
 abbrev Later : Declaration → UnreadLine → ℕ → Type 0
@@ -182,7 +183,10 @@ few_or_enough (suc n) (suc m) = ⊎_elim (λ (less : n < m). inl (omega arith)) 
 end_found : (d : Declaration) (u v w : UnreadLine) (l : List Said) → ReadsUpTo d u l v → Next v steps.end w → Found d u
 end_found d u v w l read step = ⊎_elim
     (λ (less : positional_count l < least d.positionals). stopped l (missing_argument (positional_count l)) v read (too_few w step less))
-    (λ (enough : least d.positionals ≤ positional_count l). to_the_end l v w read step enough)
+    (λ (enough : least d.positionals ≤ positional_count l). ⊎_elim
+    (λ (complete : (i : ℕ) → is_required d.options i ≡ true → occurs i l ≡ true). to_the_end l v w read step enough complete)
+    (λ (lacks : (index : ℕ) × IsFirstMissing d.options l index). stopped l (missing_option lacks.0) v read (not_complete lacks.0 w step enough lacks.1))
+    (complete_or_missing d.options l))
     (few_or_enough (positional_count l) (least d.positionals))
 
 reply_found : (d : Declaration) (u v w : UnreadLine) (l : List Said) (n : ℕ) (r : Reply) → ReadsUpTo d u l v → NextStep v r w → IsNextReply r → bound v < suc n → Later d u n → Found d u
@@ -211,7 +215,7 @@ append_nil (x ∷ l) = ap (λ m. x ∷ m) (append_nil l)
 
 answer_of : (d : Declaration) (words : List (List ℕ)) → is_sound d.options ≡ true → Found d (start d.short_equals words)
     → ((l : List Said) × Says d words l) ⊎ ((l : List Said) × (m : Mistake) × StopsAt d words l m)
-answer_of d words sound (to_the_end l v w read ends enough) =
+answer_of d words sound (to_the_end l v w read ends enough complete) =
     inl (
       l,
       record {
@@ -219,6 +223,7 @@ answer_of d words sound (to_the_end l v w read ends enough) =
             (subst (IsReading (table d.options) (start d.short_equals words) steps.end) (append_nil read.items) (read.read steps.end [] (reads_last (table d.options) v w steps.end tt ends)))
             read.said read.within;
         enough = enough;
+        complete = complete;
       },
     )
 answer_of d words sound (stopped l m v read stops) = inr (l, m, record { there = v; read = read; stops = stops })

@@ -19,6 +19,7 @@ use Rattle.lexopt_options_spec.specs.Legal.{Said, option, several, said_item, po
 use Rattle.lexopt_options_spec.specs.Completion.{AreText, CanStand, IsOpen, IsText, spellings}
 use Rattle.lexopt_options_spec.proofs.Offered.{stands_offered}
 use Rattle.lexopt_options_spec.proofs.Sound.{either}
+use Rattle.lexopt_options_spec.proofs.Stands.{AreNamed}
 use Rattle.lexopt_options_spec.proofs.Tables.{pointwise_refl}
 use Rattle.lexopt_laws.specs.Sample.{sample, sample_options, verbose, output, backup, exclude, mode}
 use Rattle.lexopt_laws.proofs.WorkedSays.{front_of}
@@ -26,7 +27,7 @@ use Rattle.lexopt_laws.proofs.WorkedSays.{front_of}
 -- ---- names that are text
 
 -- the names of this option
-record HasText (o : Declared) : Type 0 where
+pub record HasText (o : Declared) : Type 0 where
   short_text : (c : ℕ) → o.short_name ≡ Some c → IsScalar c
   long_text : (name : List ℕ) → o.long_name ≡ Some name → IsUtf8 name
 
@@ -43,16 +44,16 @@ one_text o (short c) text is = text.short_text c (short_is c o.short_name is)
 one_text o (long name) text is = text.long_text name (long_is name o.long_name is)
 
 -- of all of them
-abbrev AllText : List Declared → Type 0
+abbrev pub AllText : List Declared → Type 0
 AllText [] = Unit {0}
 AllText (o ∷ os) = HasText o × AllText os
 
-all_text : (os : List Declared) → AllText os → AreText os
+pub all_text : (os : List Declared) → AllText os → AreText os
 all_text [] text name is = absurd (true≢false (sym is))
 all_text (o ∷ os) text name is =
     either (has_name name o) (list_any (has_name name) os) (IsText name) is (λ here. one_text o name text.0 here) (λ later. all_text os text.1 name later)
 
-text_of : (o : Declared) (c : ℕ) (name : List ℕ) → o.short_name ≡ Some c → o.long_name ≡ Some name → IsScalar c → is_utf8 name ≡ true → HasText o
+pub text_of : (o : Declared) (c : ℕ) (name : List ℕ) → o.short_name ≡ Some c → o.long_name ≡ Some name → IsScalar c → is_utf8 name ≡ true → HasText o
 text_of o c name short_name long_name scalar text = record {
   short_text = λ d is. let e : Some c ≡ Some d = sym short_name ∙ is in let same : c ≡ d = cc in subst IsScalar same scalar;
   long_text = λ n is. let e : Some name ≡ Some n = sym long_name ∙ is in let same : name ≡ n = cc in subst IsUtf8 same (IsUtf8-from_is_utf8 name text);
@@ -67,6 +68,11 @@ sample_text = all_text sample_options (
     (text_of backup 0x62 (codes "backup") refl refl refl refl, (text_of exclude 0x78 (codes "exclude") refl refl refl refl, tt)),
   ),
 )
+
+-- each has a name
+pub sample_named : AreNamed sample_options
+unfolding computing
+sample_named = ((short 0x76, refl), ((short 0x6F, refl), ((short 0x62, refl), ((short 0x78, refl), tt))))
 
 pub no_utf8 : (bs : List ℕ) → is_utf8 bs ≡ false → IsUtf8 bs → ⊥
 no_utf8 bs is text = true≢false (sym (is_utf8-from_IsUtf8 bs text) ∙ is)

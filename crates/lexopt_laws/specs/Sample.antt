@@ -1,9 +1,9 @@
 -- The options of the worked examples, as `docs/behaviour.md` and `docs/formats.md` have them.
-use Rattle.std.specs.Prelude.{Bool, false, List, [], ◌∷◌, ◌++◌, ℕ, Some, None, codes}
+use Rattle.std.specs.Prelude.{Bool, true, false, List, [], ◌∷◌, ◌++◌, ℕ, Some, None, codes}
 use Rattle.lexopt_line_spec.specs.Table.{flag, one, optional, several}
 use Rattle.lexopt_options_spec.specs.Declaration.{Declared, Declaration, Positional, for_help}
 use Rattle.lexopt_options_spec.specs.Declaration.{for_version}
-use Rattle.lexopt_options_spec.specs.Declaration.{once, at_most_once, any_number}
+use Rattle.lexopt_options_spec.specs.Declaration.{once, at_most_once, any_number, at_least_once}
 
 abbrev pub verbose : Declared
 verbose = record {
@@ -14,6 +14,7 @@ verbose = record {
   help = codes "tell more";
   asks = None;
   hidden = false;
+  required = false;
 }
 
 abbrev pub output : Declared
@@ -25,6 +26,7 @@ output = record {
   help = codes "the archive";
   asks = None;
   hidden = false;
+  required = false;
 }
 
 abbrev pub backup : Declared
@@ -36,6 +38,7 @@ backup = record {
   help = codes "keep an archive that is there, with this suffix";
   asks = None;
   hidden = false;
+  required = false;
 }
 
 abbrev pub exclude : Declared
@@ -47,6 +50,7 @@ exclude = record {
   help = codes "leave these out: all words up to the next option";
   asks = None;
   hidden = false;
+  required = false;
 }
 
 abbrev pub sample_options : List Declared
@@ -62,7 +66,21 @@ target = record { placeholder = codes "TARGET"; count = at_most_once; help = [] 
 abbrev pub files : Positional
 files = record { placeholder = codes "FILE"; count = any_number; help = [] }
 
--- the same with a help text
+-- one that has to be there and may be there more than once, and one after it
+abbrev pub sources : Positional
+sources = record { placeholder = codes "SOURCE"; count = at_least_once; help = [] }
+
+abbrev pub dest : Positional
+dest = record { placeholder = codes "DEST"; count = once; help = [] }
+
+-- one that may be left out, and one after it
+abbrev pub old : Positional
+old = record { placeholder = codes "OLD"; count = at_most_once; help = [] }
+
+abbrev pub new : Positional
+new = record { placeholder = codes "NEW"; count = once; help = [] }
+
+-- the same as `files`, with a help text
 abbrev pub described_files : Positional
 described_files = record files { help = codes "a file to read" }
 
@@ -90,6 +108,7 @@ asks_for_help = record {
   help = codes "print this help and exit";
   asks = Some for_help;
   hidden = false;
+  required = false;
 }
 
 abbrev pub asks_for_version : Declared
@@ -104,4 +123,23 @@ asks_for_version = record asks_for_help {
 abbrev pub asking_sample : List Positional → Bool → Declaration
 asking_sample positionals short_equals = record (sample positionals short_equals) {
   options = sample_options ++ asks_for_help ∷ asks_for_version ∷ [];
+}
+
+-- an option that has to occur
+abbrev pub user : Declared
+user = record {
+  short_name = Some 0x75;
+  long_name = Some (codes "user");
+  kind = one;
+  placeholder = codes "NAME";
+  help = codes "the owner of the archive";
+  asks = None;
+  hidden = false;
+  required = true;
+}
+
+-- the sample with it, at the index 4
+abbrev pub demanding_sample : List Positional → Bool → Declaration
+demanding_sample positionals short_equals = record (sample positionals short_equals) {
+  options = sample_options ++ user ∷ [];
 }

@@ -22,4 +22,6 @@ pub use laws::{
     reasons_are_of_the_item_or_of_its_place, replies_are_bounded, some_calls_are_never_refused,
     views_agree, whole_names_are_spelled, words_show_one_list,
 };
-pub use option_laws::{each_line_asks_for_one_thing, each_line_says_something_or_stops};
+pub use option_laws::{
+    each_line_asks_for_one_thing, each_line_says_something_or_stops, words_belong_to_one_positional,
+};

@@ -14,15 +14,21 @@ ghost use Rattle.lexopt_options_spec.specs.Completion.{IsPlainRole, Role, argume
 ghost use Rattle.lexopt_options_spec.specs.Completion.{is_long_with_equals, role_of, spellings};
 ghost use Rattle.lexopt_options_spec.specs.Completion.{value};
 ghost use Rattle.lexopt_options_spec.specs.Declaration.{Asked, Declaration};
-ghost use Rattle.lexopt_options_spec.specs.Declaration.{IsFirstFault, bad_placeholder, dash_name};
+ghost use Rattle.lexopt_options_spec.specs.Declaration.{IsFirstFault, IsSecondRepeated, are_clear};
+ghost use Rattle.lexopt_options_spec.specs.Declaration.{bad_placeholder, dash_name};
 ghost use Rattle.lexopt_options_spec.specs.Declaration.{blank_or_control_in_name};
 ghost use Rattle.lexopt_options_spec.specs.Declaration.{empty_name, equals_in_name, index_of};
 ghost use Rattle.lexopt_options_spec.specs.Declaration.{Reason, is_sound, replacement_in_name};
 ghost use Rattle.lexopt_options_spec.specs.Declaration.{for_help, for_version};
+ghost use Rattle.lexopt_options_spec.specs.Declaration.{any_number, at_least_once, at_most_once};
+ghost use Rattle.lexopt_options_spec.specs.Declaration.{has_to_occur, may_repeat, once};
 ghost use Rattle.lexopt_options_spec.specs.Declaration.{same_name, table};
-ghost use Rattle.lexopt_options_spec.specs.Legal.{Said, Says, SaysFront, least, most, option};
+ghost use Rattle.lexopt_options_spec.specs.Legal.{Said, Says, SaysFront, is_required, least, most};
+ghost use Rattle.lexopt_options_spec.specs.Legal.{occurs, option};
 ghost use Rattle.lexopt_options_spec.specs.Legal.{positional, positional_count, said_item, several};
-ghost use Rattle.lexopt_options_spec.specs.Stops.{Mistake, StopsAt, missing_argument};
+ghost use Rattle.lexopt_options_spec.specs.Places.{ArePlaces, AreShares, CanTake, owners};
+ghost use Rattle.lexopt_options_spec.specs.Stops.{IsFirstMissing, Mistake, StopsAt};
+ghost use Rattle.lexopt_options_spec.specs.Stops.{missing_argument, missing_option};
 ghost use Rattle.lexopt_options_spec.specs.Stops.{missing_value, placeholder_at};
 ghost use Rattle.lexopt_options_spec.specs.Stops.{required_placeholder, unexpected_argument};
 ghost use Rattle.lexopt_options_spec.specs.Stops.{unexpected_value, unknown_option};
@@ -36,6 +42,7 @@ ghost use Rattle.lexopt_laws.specs.Sample.{files, mode, output, sample};
 ghost use Rattle.lexopt_options_spec.specs.Nearest.{IsDistance, IsHint, IsNearest, begins_with};
 ghost use Rattle.lexopt_options_spec.specs.Nearest.{hinted_name, long_name_at, longer_count};
 ghost use Rattle.lexopt_options_spec.specs.Nearest.{only_longer};
+ghost use Rattle.lexopt_laws.specs.Sample.{demanding_sample, dest, new, old, sources, user};
 ghost use Rattle.lexopt_laws.specs.Sample.{named, sample_options, target, verbose};
 
 // The option of a name, by its index: the first one, if two have the name. A name is typed whole.
@@ -174,6 +181,94 @@ fn positionals_are_counted()
     ensures most { most (mode ∷ target ∷ mode ∷ []) ≡ Some 3 }
     ensures no_limit { most (mode ∷ files ∷ target ∷ []) ≡ None }
     ensures nothing_declared { most [] ≡ Some 0 }
+    ensures least_of_repeated { least (sources ∷ dest ∷ files ∷ []) ≡ 2 }
+    ensures no_limit_of_repeated { most (sources ∷ dest ∷ []) ≡ None }
+{}
+
+// How often a positional may occur, and how many words can belong to it.
+fn positionals_occur_by_their_counts()
+    ensures once { (has_to_occur once ≡ true) × (may_repeat once ≡ false) }
+    ensures at_most_once { (has_to_occur at_most_once ≡ false) × (may_repeat at_most_once ≡ false) }
+    ensures any_number { (has_to_occur any_number ≡ false) × (may_repeat any_number ≡ true) }
+    ensures at_least_once { (has_to_occur at_least_once ≡ true) × (may_repeat at_least_once ≡ true) }
+    ensures one { CanTake once 1 }
+    ensures not_none { CanTake once 0 → ⊥ }
+    ensures one_alone { CanTake once 2 → ⊥ }
+    ensures none_of_one { CanTake at_least_once 0 → ⊥ }
+    ensures two { CanTake at_least_once 2 }
+    ensures not_two { CanTake at_most_once 2 → ⊥ }
+{}
+
+// Positionals that can be declared together.
+fn positionals_are_declared()
+    ensures none { are_clear [] ≡ true }
+    ensures one { are_clear (mode ∷ files ∷ target ∷ []) ≡ true }
+    ensures at_least_once { are_clear (sources ∷ dest ∷ []) ≡ true }
+    ensures two { are_clear (files ∷ sources ∷ []) ≡ false }
+    ensures two_apart { are_clear (mode ∷ sources ∷ target ∷ files ∷ []) ≡ false }
+{}
+
+// The second positional that may occur more than once.
+fn positionals_are_refused()
+    ensures last { IsSecondRepeated (mode ∷ files ∷ target ∷ sources ∷ []) 3 }
+    ensures second_of_three { IsSecondRepeated (files ∷ files ∷ files ∷ []) 1 }
+{}
+
+// Positionals that are not the second one that may occur more than once.
+fn no_other_positionals_are_refused()
+    ensures not_the_first { IsSecondRepeated (files ∷ sources ∷ []) 0 → ⊥ }
+    ensures not_the_third { IsSecondRepeated (files ∷ files ∷ files ∷ []) 2 → ⊥ }
+    ensures not_one_that_occurs_once { IsSecondRepeated (files ∷ mode ∷ []) 1 → ⊥ }
+    ensures none_past_the_end { IsSecondRepeated (files ∷ []) 1 → ⊥ }
+{}
+
+// How many words belong to each positional of `[OLD] NEW`, `SOURCE... DEST`, `MODE [TARGET]
+// [FILE]...`, `[FILE]... [TARGET]`, `[OLD] SOURCE...`, and of two that may both occur any number of
+// times.
+fn words_belong_to_positionals()
+    ensures last_first { AreShares (old ∷ new ∷ []) 1 (0 ∷ 1 ∷ []) }
+    ensures both { AreShares (old ∷ new ∷ []) 2 (1 ∷ 1 ∷ []) }
+    ensures all_but_the_last { AreShares (sources ∷ dest ∷ []) 3 (2 ∷ 1 ∷ []) }
+    ensures required_alone { AreShares (mode ∷ target ∷ files ∷ []) 1 (1 ∷ 0 ∷ 0 ∷ []) }
+    ensures every_one { AreShares (mode ∷ target ∷ files ∷ []) 4 (1 ∷ 1 ∷ 2 ∷ []) }
+    ensures first_of_two { AreShares (files ∷ files ∷ []) 2 (2 ∷ 0 ∷ []) }
+    ensures last_left_out { AreShares (files ∷ target ∷ []) 2 (2 ∷ 0 ∷ []) }
+    ensures first_left_out { AreShares (old ∷ sources ∷ []) 1 (0 ∷ 1 ∷ []) }
+    ensures nothing_declared { AreShares [] 0 [] }
+{}
+
+// How many do not.
+fn words_do_not_belong_elsewhere()
+    ensures too_few { (shares : List ℕ) → AreShares (sources ∷ dest ∷ []) 1 shares → ⊥ }
+    ensures too_many { (shares : List ℕ) → AreShares (old ∷ new ∷ []) 3 shares → ⊥ }
+    ensures left_out { AreShares (old ∷ new ∷ []) 1 (1 ∷ 0 ∷ []) → ⊥ }
+    ensures to_the_second { AreShares (mode ∷ target ∷ files ∷ []) 2 (1 ∷ 0 ∷ 1 ∷ []) → ⊥ }
+    ensures to_the_last { AreShares (sources ∷ dest ∷ []) 3 (1 ∷ 2 ∷ []) → ⊥ }
+    ensures to_the_second_of_two { AreShares (files ∷ files ∷ []) 2 (0 ∷ 2 ∷ []) → ⊥ }
+    ensures one_to_each_of_two { AreShares (sources ∷ files ∷ []) 2 (1 ∷ 1 ∷ []) → ⊥ }
+{}
+
+// Which positional each word belongs to, by its index. If `DEST` is missing, the word belongs to
+// what it would belong to with `DEST` after it.
+fn words_have_places()
+    ensures last_first { ArePlaces (old ∷ new ∷ []) 1 (1 ∷ []) }
+    ensures both { ArePlaces (old ∷ new ∷ []) 2 (0 ∷ 1 ∷ []) }
+    ensures none { ArePlaces (old ∷ new ∷ []) 0 [] }
+    ensures all_but_the_last { ArePlaces (sources ∷ dest ∷ []) 3 (0 ∷ 0 ∷ 1 ∷ []) }
+    ensures last_is_missing { ArePlaces (sources ∷ dest ∷ []) 1 (0 ∷ []) }
+    ensures every_one { ArePlaces (mode ∷ target ∷ files ∷ []) 4 (0 ∷ 1 ∷ 2 ∷ 2 ∷ []) }
+{}
+
+// Places that words do not have.
+fn words_have_no_other_places()
+    ensures too_many { (places : List ℕ) → ArePlaces (old ∷ new ∷ []) 3 places → ⊥ }
+    ensures not_the_first { ArePlaces (old ∷ new ∷ []) 1 (0 ∷ []) → ⊥ }
+{}
+
+// The indices of positionals to which these numbers of words belong.
+fn positionals_have_indices()
+    ensures three { owners 0 (1 ∷ 0 ∷ 2 ∷ []) ≡ 0 ∷ 2 ∷ 2 ∷ [] }
+    ensures none { owners 3 [] ≡ [] }
 {}
 
 // The placeholder of the value of an option, and of a positional that cannot be left out.
@@ -184,6 +279,7 @@ fn placeholders_stand_for_values()
         ∷ record mode { placeholder = codes "KEY" } ∷ []) 1 ≡ codes "KEY" }
     ensures first { required_placeholder (target ∷ mode ∷ []) 0 ≡ codes "MODE" }
     ensures no_positional { required_placeholder (target ∷ mode ∷ []) 1 ≡ [] }
+    ensures repeated { required_placeholder (target ∷ sources ∷ dest ∷ []) 0 ≡ codes "SOURCE" }
 {}
 
 // What lines mean.
@@ -204,6 +300,38 @@ fn lines_say_these_lists()
     ensures any_number { Says (sample (files ∷ []) true) (codes "a" ∷ codes "b" ∷ [])
         (positional (codes "a") ∷ positional (codes "b") ∷ []) }
     ensures front { SaysFront (sample (mode ∷ []) true) (codes "-v" ∷ []) (option 0 None ∷ []) }
+{}
+
+// Which options are required, and which occur in a list.
+fn options_are_required()
+    ensures required { is_required (sample_options ++ user ∷ []) 4 ≡ true }
+    ensures not_required { is_required (sample_options ++ user ∷ []) 3 ≡ false }
+    ensures no_option { is_required (sample_options ++ user ∷ []) 5 ≡ false }
+    ensures occurs { occurs 4 (option 0 None ∷ option 4 (Some (codes "me")) ∷ []) ≡ true }
+    ensures several_occur { occurs 3 (several 3 (codes "a" ∷ []) ∷ []) ≡ true }
+    ensures several_of_another { occurs 4 (several 3 (codes "a" ∷ []) ∷ []) ≡ false }
+    ensures does_not_occur { occurs 4 (option 0 None ∷ positional (codes "--user=me") ∷ []) ≡ false }
+    ensures first_missing { IsFirstMissing (user ∷ verbose ∷ user ∷ user ∷ [])
+        (option 0 (Some (codes "me")) ∷ []) 2 }
+    ensures not_the_second { IsFirstMissing (user ∷ verbose ∷ user ∷ user ∷ [])
+        (option 0 (Some (codes "me")) ∷ []) 3 → ⊥ }
+    ensures not_one_that_occurs { IsFirstMissing (user ∷ []) (option 0 (Some (codes "me")) ∷ []) 0
+        → ⊥ }
+    ensures not_one_that_may_be_left_out { IsFirstMissing (verbose ∷ []) [] 0 → ⊥ }
+{}
+
+// What lines mean where an option or a positional is required.
+fn lines_say_what_is_required()
+    ensures character { Says (demanding_sample [] true) (codes "-u" ∷ codes "me" ∷ [])
+        (option 4 (Some (codes "me")) ∷ []) }
+    ensures among_others { Says (demanding_sample (mode ∷ []) true)
+        (codes "-v" ∷ codes "--user=me" ∷ codes "a" ∷ [])
+        (option 0 None ∷ option 4 (Some (codes "me")) ∷ positional (codes "a") ∷ []) }
+    ensures twice { Says (demanding_sample [] true) (codes "-ua" ∷ codes "-ub" ∷ [])
+        (option 4 (Some (codes "a")) ∷ option 4 (Some (codes "b")) ∷ []) }
+    ensures front { SaysFront (demanding_sample [] true) (codes "-v" ∷ []) (option 0 None ∷ []) }
+    ensures at_least_once { Says (sample (sources ∷ []) true) (codes "a" ∷ codes "b" ∷ [])
+        (positional (codes "a") ∷ positional (codes "b") ∷ []) }
 {}
 
 // What they do not mean.
@@ -251,6 +379,36 @@ fn lines_stop_at_these_mistakes()
         (unknown_option (short 0x7A)) }
 {}
 
+// Where it stops if an option or a positional is required.
+fn lines_stop_at_what_is_missing()
+    ensures option { StopsAt (demanding_sample [] true) (codes "-v" ∷ []) (option 0 None ∷ [])
+        (missing_option 4) }
+    ensures no_words { StopsAt (demanding_sample [] true) [] [] (missing_option 4) }
+    ensures after_a_positional { StopsAt (demanding_sample (mode ∷ []) true) (codes "a" ∷ [])
+        (positional (codes "a") ∷ []) (missing_option 4) }
+    ensures after_the_separator { StopsAt (demanding_sample (files ∷ []) true)
+        (codes "--" ∷ codes "--user=me" ∷ []) (positional (codes "--user=me") ∷ [])
+        (missing_option 4) }
+    ensures first_of_two { StopsAt (record (sample [] true) {
+      options = verbose ∷ record output { required = true } ∷ user ∷ [];
+    }) (codes "-v" ∷ []) (option 0 None ∷ []) (missing_option 1) }
+    ensures second_of_two { StopsAt (record (sample [] true) {
+      options = verbose ∷ record output { required = true } ∷ user ∷ [];
+    }) (codes "-o" ∷ codes "f" ∷ []) (option 1 (Some (codes "f")) ∷ []) (missing_option 2) }
+    ensures both { StopsAt (demanding_sample (mode ∷ []) true) (codes "-v" ∷ [])
+        (option 0 None ∷ []) (missing_argument 0) }
+    ensures not_declared { StopsAt (demanding_sample [] true)
+        (codes "-u" ∷ codes "me" ∷ codes "-z" ∷ []) (option 4 (Some (codes "me")) ∷ [])
+        (unknown_option (short 0x7A)) }
+    ensures not_declared_without_it { StopsAt (demanding_sample [] true) (codes "-z" ∷ []) []
+        (unknown_option (short 0x7A)) }
+    ensures no_value { StopsAt (demanding_sample [] true) (codes "--user" ∷ []) []
+        (missing_value 4 (codes "--user")) }
+    ensures none_of_one { StopsAt (sample (sources ∷ []) true) [] [] (missing_argument 0) }
+    ensures one_of_two { StopsAt (sample (sources ∷ dest ∷ []) true) (codes "a" ∷ [])
+        (positional (codes "a") ∷ []) (missing_argument 1) }
+{}
+
 // Where it does not stop.
 fn lines_do_not_stop_elsewhere()
     ensures nowhere { (l : List Said) (m : Mistake)
@@ -261,6 +419,23 @@ fn lines_do_not_stop_elsewhere()
     ensures what_is_missing { (l : List Said) (m : Mistake)
         → StopsAt (sample (mode ∷ mode ∷ []) true) (codes "a" ∷ []) l m
         → (l ≡ positional (codes "a") ∷ []) × (m ≡ missing_argument 1) }
+{}
+
+// A line that lacks what is required means nothing, and its reading stops at that alone. If a line
+// has it, its reading does not stop.
+fn lines_need_what_is_required()
+    ensures without_it { (l : List Said) → Says (demanding_sample [] true) (codes "-v" ∷ []) l
+        → ⊥ }
+    ensures without_words { (l : List Said) → Says (demanding_sample [] true) [] l → ⊥ }
+    ensures with_it { (l : List Said) (m : Mistake)
+        → StopsAt (demanding_sample [] true) (codes "-u" ∷ codes "me" ∷ []) l m → ⊥ }
+    ensures not_the_option { (l : List Said) (m : Mistake)
+        → StopsAt (demanding_sample (mode ∷ []) true) (codes "-v" ∷ []) l m
+        → (l ≡ option 0 None ∷ []) × (m ≡ missing_argument 0) }
+    ensures not_another { (l : List Said) (m : Mistake)
+        → StopsAt (demanding_sample [] true) (codes "-v" ∷ []) l m
+        → (l ≡ option 0 None ∷ []) × (m ≡ missing_option 4) }
+    ensures none_of_one { (l : List Said) → Says (sample (sources ∷ []) true) [] l → ⊥ }
 {}
 
 // What the option of an index asks for, and what the first asks for that asks for anything.
@@ -298,6 +473,8 @@ fn options_are_read_before_mistakes()
         ≡ option 0 None ∷ [] }
     ensures one_too_few { said_before (missing_argument 0) (option 0 None ∷ [])
         ≡ option 0 None ∷ [] }
+    ensures option_missing { said_before (missing_option 4) (option 0 None ∷ [])
+        ≡ option 0 None ∷ [] }
 {}
 
 // Lines that ask for something.
@@ -309,6 +486,9 @@ fn lines_ask()
     ensures in_a_cluster { AskFor (asking_sample (files ∷ []) true) (codes "-vh" ∷ []) for_help }
     ensures where_an_argument_is_missing { AskFor (asking_sample (mode ∷ []) true)
         (codes "--help" ∷ []) for_help }
+    ensures where_an_option_is_missing { AskFor
+        (record (sample [] true) { options = user ∷ asks_for_help ∷ [] }) (codes "--help" ∷ [])
+        for_help }
     ensures before_a_mistake { AskFor (asking_sample [] true) (codes "--help" ∷ codes "a" ∷ [])
         for_help }
     ensures for_the_version { AskFor (asking_sample (files ∷ []) true)
@@ -445,6 +625,15 @@ fn options_can_stand()
     ensures another { CanStand (sample [] true) (codes "-b" ∷ []) (codes "-x") }
     ensures past_values { CanStand (sample [] true) (codes "-x" ∷ codes "a" ∷ [])
         (codes "--verbose") }
+    ensures without_a_required_option { IsOpen (demanding_sample [] true) (codes "-v" ∷ [])
+        (option 0 None ∷ []) }
+    ensures before_a_required_option { CanStand (demanding_sample [] true) (codes "-v" ∷ [])
+        (codes "--output") }
+    ensures required { CanStand (demanding_sample [] true) (codes "-v" ∷ []) (codes "--user") }
+    ensures required_character { CanStand (demanding_sample [] true) (codes "-v" ∷ [])
+        (codes "-u") }
+    ensures required_with_a_positional { CanStand (demanding_sample (mode ∷ []) true) []
+        (codes "--user") }
 {}
 
 // Which are not, and which options cannot come next.
@@ -471,6 +660,8 @@ fn what_is_typed_is_completed()
     ensures front { Completes (sample [] true) [] (codes "--out") (codes "--output") }
     ensures whole { Completes (sample [] true) [] (codes "-v") (codes "-v") }
     ensures nothing { Completes (sample [] true) (codes "-v" ∷ []) [] (codes "--backup") }
+    ensures required { Completes (demanding_sample [] true) (codes "-v" ∷ []) (codes "--us")
+        (codes "--user") }
     ensures another { Completes (sample [] true) [] (codes "--in") (codes "--output") → ⊥ }
     ensures no_option { Completes (sample [] true) [] (codes "-z") (codes "-z") → ⊥ }
     ensures part_of_a_character { (d : Declaration) (words : List (List ℕ))

@@ -1,9 +1,11 @@
 //! Laws of declared options.
-ghost use Rattle.std.specs.Prelude.{◌≡◌, ◌⊎◌, ℕ, List, true};
+ghost use Rattle.std.specs.Prelude.{◌≡◌, ◌≤◌, ◌⊎◌, ℕ, List, true};
 ghost use Rattle.std.specs.Prelude.{Option, Some};
 ghost use Rattle.lexopt_options_spec.specs.Asking.{AskFor, first_asked, said_before};
-ghost use Rattle.lexopt_options_spec.specs.Declaration.{Asked, Declaration, is_sound};
-ghost use Rattle.lexopt_options_spec.specs.Legal.{Said, Says};
+ghost use Rattle.lexopt_options_spec.specs.Declaration.{Asked, Declaration, Positional};
+ghost use Rattle.lexopt_options_spec.specs.Declaration.{is_sound};
+ghost use Rattle.lexopt_options_spec.specs.Legal.{IsWithin, Said, Says, least, most};
+ghost use Rattle.lexopt_options_spec.specs.Places.{ArePlaces, AreShares};
 ghost use Rattle.lexopt_options_spec.specs.Stops.{Mistake, StopsAt};
 
 /// Under a declaration words mean exactly one list, or their reading stops at exactly one mistake,
@@ -34,4 +36,19 @@ pub fn each_line_asks_for_one_thing()
     ensures before_a_mistake { (d : Declaration) (words : List (List ℕ)) (l : List Said)
         (m : Mistake) (a : Asked) → StopsAt d words l m → AskFor d words a
         → first_asked d.options (said_before m l) ≡ Some a }
+{}
+
+/// Words belong to the positionals of a declaration in one way alone. If there are at least as many
+/// words as have to occur, and no more than may, each positional has a share of them, and two lists
+/// of shares are equal. If there are no more words than may occur, each word has a place, also
+/// where some are missing, and two lists of places are equal.
+pub fn words_belong_to_one_positional()
+    ensures some { (ps : List Positional) (n : ℕ) → least ps ≤ n → IsWithin n (most ps)
+        → (shares : List ℕ) × AreShares ps n shares }
+    ensures no_other { (ps : List Positional) (n : ℕ) (shares others : List ℕ)
+        → AreShares ps n shares → AreShares ps n others → shares ≡ others }
+    ensures places { (ps : List Positional) (n : ℕ) → IsWithin n (most ps)
+        → (places : List ℕ) × ArePlaces ps n places }
+    ensures no_other_places { (ps : List Positional) (n : ℕ) (places others : List ℕ)
+        → ArePlaces ps n places → ArePlaces ps n others → places ≡ others }
 {}

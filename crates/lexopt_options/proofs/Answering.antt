@@ -8,7 +8,7 @@ use Rattle.lexopt_declaration.specs.Scripts.{shell_name}
 
 -- ---- what a shell asks for
 
-pub shell_answer : {F V M S : Type 0} (o : Options F V M S) (words more : List (List ℕ)) (width : ℕ) (text : String Global) (found : Option (String Global)) → more ≡ words → found ≡ Some text
+pub shell_answer : {F V P M S : Type 0} (o : Options F V P M S) (words more : List (List ℕ)) (width : ℕ) (text : String Global) (found : Option (String Global)) → more ≡ words → found ≡ Some text
     → MatchOption found (IsOrdinary more) (λ t. IsShellText o more (string_bytes t)) → IsShellText o words (string_bytes text)
 shell_answer o words more width text found same is found_so =
     let P : Option (String Global) → Type 0 = λ f. MatchOption f (IsOrdinary more) (λ t. IsShellText o more (string_bytes t)) in

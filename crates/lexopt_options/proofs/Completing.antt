@@ -5,11 +5,11 @@ use Rattle.std.specs.Global.{Global}
 use Rattle.std.specs.List.{Contains, starts_with}
 use Rattle.std.specs.Str.{IsUtf8}
 use Rattle.std.proofs.Common.{◌<◌, ◌⊎◌, position, ⊎_elim}
-use Rattle.std.proofs.lemmas.Bool.{cases_eq, false≢true}
+use Rattle.std.proofs.lemmas.Bool.{cases_eq, eq-eqb, false≢true}
 use Rattle.std.proofs.lemmas.List.Quantifiers.{position-Some}
 use Rattle.std.proofs.lemmas.List.{get_or-drop, length-map}
 use Rattle.std.specs.declared.alloc.AllocError.{AllocError}
-use Rattle.lexopt_options_spec.specs.Declaration.{Declaration, Declared, has_name, index_of, is_sound}
+use Rattle.lexopt_options_spec.specs.Declaration.{Declaration, Declared, has_name, index_of, is_long, is_short, is_sound}
 use Rattle.lexopt_options_spec.specs.Legal as legal
 use Rattle.lexopt_options_spec.specs.Legal.{SaysFront, said_item}
 use Rattle.lexopt_options_spec.proofs.Lists.{first_same}
@@ -23,7 +23,12 @@ use Rattle.lexopt_options_spec.proofs.LastWords.{no_last, same_last}
 use Rattle.lexopt_options_spec.proofs.OpenLines.{dashes}
 use Rattle.lexopt_options_spec.proofs.OpenWords as open_words
 use Rattle.lexopt_options_spec.proofs.OpenWords.{EndsInOne, OpenOrNot, takes_any_word, open_or_not, open_adds}
-use Rattle.lexopt_options_spec.proofs.Stands.{stands_open}
+use Rattle.lexopt_options_spec.proofs.Stands.{AreNamed, stands_open}
+use Rattle.lexopt_options_spec.proofs.Tables.{pointwise_refl}
+use Rattle.lexopt_declaration.specs.Models.{long_name, option_view, short_name}
+use Rattle.lexopt_declaration.specs.declared.declaration.Declared as rust
+use Rattle.lexopt_declaration.specs.declared.declaration.Names.{Names}
+use Rattle.lexopt_declaration.specs.declared.declaration.Names.TheVariants as names
 use Rattle.lexopt_options_spec.proofs.Offered.{kept, keeps, offered_stands, stands_offered}
 use Rattle.lexopt_options.specs.declared.indexed.Indexed.{Indexed}
 use Rattle.lexopt_options.specs.declared.indexed.Indexed.TheVariants as indexed
@@ -175,12 +180,22 @@ some_joined d words one typed said (Some i) with_equals opens is says (s, are, o
 
 -- ---- spellings
 
-pub offered : (d : Declaration) (words : List (List ℕ)) (typed : List ℕ) (list : List (List ℕ)) → is_sound d.options ≡ true → IsUtf8 typed → Opens d words true → AreText d.options
+-- each option has a name
+pub all_named : {F V M S : Type 0} (options : List (rust.Declared F V M S)) → AreNamed (map option_view options)
+all_named [] = tt
+all_named {F} {V} {M} {S} (o ∷ os) = (one o.names refl, all_named os)
+  where
+    one : (n : Names) → o.names ≡ n → (name : Name) × (has_name name (option_view o) ≡ true)
+    one (names.Short c) is = (table.short c, ap (is_short c) (ap short_name is) ∙ eq-eqb c c refl)
+    one (names.Long name) is = (table.long name.now, ap (is_long name.now) (ap long_name is) ∙ pointwise_refl name.now)
+    one (names.Both c name) is = (table.short c, ap (is_short c) (ap short_name is) ∙ eq-eqb c c refl)
+
+pub offered : (d : Declaration) (words : List (List ℕ)) (typed : List ℕ) (list : List (List ℕ)) → is_sound d.options ≡ true → AreNamed d.options → IsUtf8 typed → Opens d words true → AreText d.options
     → list ≡ filter (λ x. starts_with nat_eq x typed) (spellings d.options) → AreOffered d words typed list
-offered d words typed list sound utf8 opens text is = record {
+offered d words typed list sound named utf8 opens text is = record {
   sound = λ s has.
       let k = kept (λ x. starts_with nat_eq x typed) (spellings d.options) s (subst (λ x. Contains x s) is has) in
-      record { text = utf8; begins = k.1; stands = let there = opens.0 refl in offered_stands d words there.0 s sound text there.1 k.0 };
+      record { text = utf8; begins = k.1; stands = let there = opens.0 refl in offered_stands d words there.0 s sound text named there.1 k.0 };
   complete = λ s completes.
       subst (λ x. Contains x s) (sym is)
       (keeps (λ x. starts_with nat_eq x typed) (spellings d.options) s (stands_offered d words s completes.stands) completes.begins);
@@ -188,13 +203,13 @@ offered d words typed list sound utf8 opens text is = record {
 }
 
 -- the same of what a call returns
-pub offered_all : (d : Declaration) (typed : List ℕ) (r : Result (Vec (String Global) Global) AllocError) (options : List Declared) (bytes : List ℕ) (b : Bool) → is_sound d.options ≡ true → IsUtf8 typed → b ≡ true
+pub offered_all : (d : Declaration) (typed : List ℕ) (r : Result (Vec (String Global) Global) AllocError) (options : List Declared) (bytes : List ℕ) (b : Bool) → is_sound d.options ≡ true → AreNamed d.options → IsUtf8 typed → b ≡ true
     → options ≡ d.options → bytes ≡ typed → OnOk r (AreText options) → IfOk r (λ list. map string_bytes list.items ≡ filter (λ s. starts_with nat_eq s bytes) (spellings options))
     → IfOk r (λ list. (words : List (List ℕ)) → Opens d words b → AreOffered d words typed (map string_bytes list.items))
-offered_all d typed (Ok list) options bytes b sound utf8 can are also text is = λ words is_open.
-    offered d words typed (map string_bytes list.items) sound utf8 (subst (Opens d words) can is_open) (subst AreText are text)
+offered_all d typed (Ok list) options bytes b sound named utf8 can are also text is = λ words is_open.
+    offered d words typed (map string_bytes list.items) sound named utf8 (subst (Opens d words) can is_open) (subst AreText are text)
     (is ∙ ap (λ b. filter (λ s. starts_with nat_eq s b) (spellings options)) also ∙ ap (λ os. filter (λ s. starts_with nat_eq s typed) (spellings os)) are)
-offered_all d typed (Err e) options bytes b sound utf8 can are also text is = tt
+offered_all d typed (Err e) options bytes b sound named utf8 can are also text is = tt
 
 none_there : (s : List ℕ) → Contains [] s → ⊥
 none_there s (k, below, is) = omega (arith, below)

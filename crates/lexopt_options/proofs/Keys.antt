@@ -24,6 +24,8 @@ use Rattle.lexopt_options.specs.declared.said.Asked.TheVariants as asked
 use Rattle.lexopt_options.specs.declared.said.Said.{Said}
 use Rattle.lexopt_options.specs.declared.said.Said.TheVariants as said
 use Rattle.lexopt_options.specs.declared.said.Told.TheVariants as told
+use Rattle.lexopt_options.specs.Declarations.{options_of}
+use Rattle.lexopt_options.specs.declared.options.Options.{Options}
 use Rattle.lexopt_options.specs.Keys.{AreSaid, HasKind, IsSaid, IsTold}
 use Rattle.lexopt_options.specs.Kinds.{kind_at}
 use Rattle.lexopt_options.specs.Reading.{AreAll, IsAtMostOne, IsOne}
@@ -55,29 +57,29 @@ found_within (o ∷ os) name i found =
 
 -- ---- what one tells
 
-pub tells_flag : {F V M S : Type 0} (options : List (Declared F V M S)) (i : ℕ) (o : Declared F V M S) (key : F) → i < length options → o ≡ get_or options i o → o.kind ≡ kind.Flag key
-    → IsTold options (legal.option i None) (told.Said (said.Flag key))
-tells_flag options i o key inside at is = let has = has_kind options i o (kind.Flag key) inside at is in (asked_is options i (kind.Flag key) has, (i, refl, has))
+pub tells_flag : {F V P M S : Type 0} (own : Options F V P M S) (i : ℕ) (o : Declared F V M S) (key : F) → i < length (options_of own) → o ≡ get_or (options_of own) i o → o.kind ≡ kind.Flag key
+    → IsTold {P = P} (options_of own) (legal.option i None) (told.Said (said.Flag key))
+tells_flag own i o key inside at is = let has = has_kind (options_of own) i o (kind.Flag key) inside at is in (asked_is (options_of own) i (kind.Flag key) has, (i, refl, has))
 
-pub tells_value : {F V M S : Type 0} (options : List (Declared F V M S)) (i : ℕ) (o : Declared F V M S) (key : V) (p : _) (word : _) → i < length options → o ≡ get_or options i o → o.kind ≡ kind.Value key p
-    → IsTold options (legal.option i (Some word)) (told.Said (said.Value key word))
-tells_value options i o key p word inside at is = let has = has_kind options i o (kind.Value key p) inside at is in (asked_is options i (kind.Value key p) has, (i, p, refl, has))
+pub tells_value : {F V P M S : Type 0} (own : Options F V P M S) (i : ℕ) (o : Declared F V M S) (key : V) (p : _) (word : _) → i < length (options_of own) → o ≡ get_or (options_of own) i o → o.kind ≡ kind.Value key p
+    → IsTold {P = P} (options_of own) (legal.option i (Some word)) (told.Said (said.Value key word))
+tells_value own i o key p word inside at is = let has = has_kind (options_of own) i o (kind.Value key p) inside at is in (asked_is (options_of own) i (kind.Value key p) has, (i, p, refl, has))
 
-pub tells_maybe : {F V M S : Type 0} (options : List (Declared F V M S)) (i : ℕ) (o : Declared F V M S) (key : M) (p : _) (value : _) → i < length options → o ≡ get_or options i o → o.kind ≡ kind.Maybe key p
-    → IsTold options (legal.option i value) (told.Said (said.Maybe key value))
-tells_maybe options i o key p value inside at is = let has = has_kind options i o (kind.Maybe key p) inside at is in (asked_is options i (kind.Maybe key p) has, (i, p, refl, has))
+pub tells_maybe : {F V P M S : Type 0} (own : Options F V P M S) (i : ℕ) (o : Declared F V M S) (key : M) (p : _) (value : _) → i < length (options_of own) → o ≡ get_or (options_of own) i o → o.kind ≡ kind.Maybe key p
+    → IsTold {P = P} (options_of own) (legal.option i value) (told.Said (said.Maybe key value))
+tells_maybe own i o key p value inside at is = let has = has_kind (options_of own) i o (kind.Maybe key p) inside at is in (asked_is (options_of own) i (kind.Maybe key p) has, (i, p, refl, has))
 
-pub tells_values : {F V M S : Type 0} (options : List (Declared F V M S)) (i : ℕ) (o : Declared F V M S) (key : S) (p : _) (words : Vec _ _) → i < length options → o ≡ get_or options i o → o.kind ≡ kind.Values key p
-    → IsTold options (legal.several i words.items) (told.Said (said.Values key words))
-tells_values options i o key p words inside at is = let has = has_kind options i o (kind.Values key p) inside at is in (asked_is options i (kind.Values key p) has, (i, p, refl, has))
+pub tells_values : {F V P M S : Type 0} (own : Options F V P M S) (i : ℕ) (o : Declared F V M S) (key : S) (p : _) (words : Vec _ _) → i < length (options_of own) → o ≡ get_or (options_of own) i o → o.kind ≡ kind.Values key p
+    → IsTold {P = P} (options_of own) (legal.several i words.items) (told.Said (said.Values key words))
+tells_values own i o key p words inside at is = let has = has_kind (options_of own) i o (kind.Values key p) inside at is in (asked_is (options_of own) i (kind.Values key p) has, (i, p, refl, has))
 
-pub tells_help : {F V M S : Type 0} (options : List (Declared F V M S)) (i : ℕ) (o : Declared F V M S) → i < length options → o ≡ get_or options i o → o.kind ≡ kind.Help
-    → IsTold options (legal.option i None) (told.Asked asked.Help)
-tells_help options i o inside at is = asked_is options i kind.Help (has_kind options i o kind.Help inside at is)
+pub tells_help : {F V P M S : Type 0} (own : Options F V P M S) (i : ℕ) (o : Declared F V M S) → i < length (options_of own) → o ≡ get_or (options_of own) i o → o.kind ≡ kind.Help
+    → IsTold {P = P} (options_of own) (legal.option i None) (told.Asked asked.Help)
+tells_help own i o inside at is = asked_is (options_of own) i kind.Help (has_kind (options_of own) i o kind.Help inside at is)
 
-pub tells_version : {F V M S : Type 0} (options : List (Declared F V M S)) (i : ℕ) (o : Declared F V M S) (text : _) → i < length options → o ≡ get_or options i o → o.kind ≡ kind.Version text
-    → IsTold options (legal.option i None) (told.Asked (asked.Version text))
-tells_version options i o text inside at is = asked_is options i (kind.Version text) (has_kind options i o (kind.Version text) inside at is)
+pub tells_version : {F V P M S : Type 0} (own : Options F V P M S) (i : ℕ) (o : Declared F V M S) (text : _) → i < length (options_of own) → o ≡ get_or (options_of own) i o → o.kind ≡ kind.Version text
+    → IsTold {P = P} (options_of own) (legal.option i None) (told.Asked (asked.Version text))
+tells_version own i o text inside at is = asked_is (options_of own) i (kind.Version text) (has_kind (options_of own) i o (kind.Version text) inside at is)
 
 -- ---- the values of a kind
 
@@ -113,7 +115,7 @@ asked_here options l m s a none is = asked_none options l (s ∷ m) none ∙ ap 
 pub asked_more : (options : List spec.Declared) (l : List legal.Said) (s : legal.Said) → first_asked options l ≡ None → asked_by options s ≡ None → first_asked options (l ++ s ∷ []) ≡ None
 asked_more options l s none is = asked_none options l (s ∷ []) none ∙ ap (λ x. or_asked x None) is
 
-pub said_more : {F V M S : Type 0} (options : List (Declared F V M S)) (l : List legal.Said) (said : List (Said F V M S)) (s : legal.Said) (own : Said F V M S) → AreSaid options l said → IsSaid options s own
+pub said_more : {F V P M S : Type 0} (options : List (Declared F V M S)) (l : List legal.Said) (said : List (Said F V P M S)) (s : legal.Said) (own : Said F V P M S) → AreSaid options l said → IsSaid options s own
     → AreSaid options (l ++ s ∷ []) (said ++ own ∷ [])
 said_more options [] [] s own are is = (is, tt)
 said_more options [] (x ∷ said) s own are is = absurd are
@@ -134,8 +136,9 @@ none_before options (stops.unknown_option name) l none = none
 none_before options (stops.missing_value index option) l none = none
 none_before options (stops.unexpected_argument word) l none = none
 none_before options (stops.missing_argument count) l none = none
+none_before options (stops.missing_option index) l none = none
 
-pub said_length : {F V M S : Type 0} (options : List (Declared F V M S)) (l : List legal.Said) (xs : List (Said F V M S)) → AreSaid options l xs → length l ≡ length xs
+pub said_length : {F V P M S : Type 0} (options : List (Declared F V M S)) (l : List legal.Said) (xs : List (Said F V P M S)) → AreSaid options l xs → length l ≡ length xs
 said_length options [] [] are = refl
 said_length options [] (x ∷ xs) are = absurd are
 said_length options (s ∷ l) [] are = absurd are

@@ -5,3 +5,7 @@ pub mod ReadKeys
 pub mod WholeLines
 pub mod Completing
 pub mod Answering
+pub mod Owners
+pub mod Seen
+pub mod Given
+pub mod KeysGiven

@@ -1,6 +1,6 @@
 -- One step of the reading of a line by keys.
-use Rattle.std.proofs.Common.{◌≡◌, ◌≤◌, ◌+◌, ℕ, Ok, true, List, [], ◌∷◌, ◌++◌, None, Some, length, refl, sym, ap, subst, ◌∙◌, inl, inr, arith}
-use Rattle.lexopt_spec.specs.UnreadLine.{UnreadLine, LastOption, no_option, short_option, long_option, no_tail, joined, rest, equals, BeginsWith}
+use Rattle.std.proofs.Common.{◌≡◌, ◌≤◌, ◌+◌, ◌==◌, ◌||◌, ℕ, suc, Bool, Ok, true, false, add-zero, map, List, [], ◌∷◌, ◌++◌, None, Some, length, refl, sym, ap, subst, ◌∙◌, inl, inr, arith}
+use Rattle.lexopt_spec.specs.UnreadLine.{UnreadLine, IsLine, LastOption, no_option, short_option, long_option, no_tail, joined, rest, equals, BeginsWith}
 use Rattle.lexopt_spec.specs.Steps as steps
 use Rattle.lexopt_spec.specs.Steps.{Reply, Next, NextStep, ReadsPositional, no_word_left, word_left, ReadsWord, no_word, reads_separator, reads_long, reads_cluster, reads_positional, unexpected, joined_value, equals_value, next_in_cluster, after_separator, next_word}
 use Rattle.lexopt_base.specs.Found.{found_as}
@@ -8,14 +8,13 @@ use Rattle.lexopt_base.specs.Replies.{RepliesWith}
 use Rattle.lexopt_base.specs.declared.parser.Found.{Found}
 use Rattle.lexopt_base.specs.declared.parser.Found.TheVariants as found
 use Rattle.lexopt_options_spec.specs.Asking.{asked_by, first_asked}
-use Rattle.lexopt_options_spec.specs.Declaration.{Declaration}
 use Rattle.lexopt_options_spec.specs.Legal as legal
-use Rattle.lexopt_options_spec.specs.Legal.{counts, positional_count}
+use Rattle.lexopt_options_spec.specs.Legal.{IsWithin, counts, is_required, most, occurs, positional_count}
 use Rattle.lexopt_options_spec.specs.Stops.{ReadsUpTo}
 use Rattle.lexopt_declaration.specs.declared.declaration.Declared.{Declared}
 use Rattle.lexopt_line_spec.specs.Readings.{option_reply}
 use Rattle.lexopt_line_spec.specs.Table.{Name}
-use Rattle.lexopt_options_spec.specs.Declaration.{index_of}
+use Rattle.lexopt_options_spec.specs.Declaration.{has, index_of}
 use Rattle.lexopt_items.specs.Items.{ReadsValues, kind_view}
 use Rattle.lexopt_items.specs.declared.kinds.Kind.{Kind}
 use Rattle.lexopt_items.specs.declared.values.Values.{Values}
@@ -23,41 +22,161 @@ use Rattle.lexopt_options.specs.declared.indexed.Indexed.{Indexed}
 use Rattle.lexopt_options.specs.declared.options.Options.{Options}
 use Rattle.lexopt_options.specs.declared.said.Said.{Said}
 use Rattle.lexopt_options.specs.declared.said.Told.{Told}
-use Rattle.lexopt_options.specs.Declarations.{declaration_of, options_of}
+use Rattle.lexopt_options.specs.Declarations.{declaration_of, options_of, positionals_of}
 use Rattle.lexopt_options.specs.Kinds.{kind_at}
-use Rattle.lexopt_options.specs.Keys.{AreSaid, IsSaid, IsTold}
-use Rattle.lexopt_options.specs.Reading.{IsReadByKey, ReadsSaid, indexed_view, said_with}
+use Rattle.lexopt_options.specs.Keys.{AllFirst, AreSaid, HasKey, IsSaid, IsTold, positional_keys}
+use Rattle.lexopt_options.specs.Reading.{AreSeen, IsReadByKey, ReadsSaid, indexed_view, noted, said_with}
+use Rattle.lexopt_options.specs.declared.said.Said.TheVariants as variant
+use Rattle.lexopt_declaration.specs.Models.{positional_view}
+use Rattle.lexopt_declaration.specs.declared.declaration.Positional.{Positional}
+use Rattle.lexopt_options_spec.specs.Completion.{IsOption}
+use Rattle.lexopt_options_spec.specs.Declaration as spec
+use Rattle.std.proofs.lemmas.Bool.{eqb-true, false≢true}
+use Rattle.lexopt_items.specs.declared.values.Values.TheVariants.{AtMostOne, All}
 use Rattle.lexopt_options.proofs.Keys.{asked_more, said_length, said_more}
-use Rattle.lexopt_options.proofs.ReadNext.{count_more, count_small, no_count, one_more, option_said}
+use Rattle.lexopt_options.proofs.ReadNext.{count_more, count_small, no_count, nothing_read, one_more, option_said}
 
 -- the line u was read up to v, and this was read by the keys; nothing was asked for
-pub record HasRead {F V M S : Type 0} (d : Declaration) (options : List (Declared F V M S)) (u v : UnreadLine) (count : ℕ) (said : List (Said F V M S)) : Type 0 where
+pub record HasRead {F V P M S : Type 0} (o : Options F V P M S) (u v : UnreadLine) (count : ℕ) (seen : List ℕ) (said : List (Said F V P M S)) : Type 0 where
   pub l : List legal.Said
-  pub read : ReadsUpTo d u l v
-  pub none : first_asked d.options l ≡ None
-  pub are : AreSaid options l said
+  pub read : ReadsUpTo (declaration_of o) u l v
+  pub none : first_asked (declaration_of o).options l ≡ None
+  pub are : AreSaid (options_of o) l said
   pub counted : count ≡ positional_count l
+  pub are_seen : AreSeen (declaration_of o).options l seen
+  pub firsts : AllFirst (positionals_of o) (positional_keys said)
 
-pub has_more : {F V M S : Type 0} (d : Declaration) (options : List (Declared F V M S)) (u v w : UnreadLine) (count n : ℕ) (said more : List (Said F V M S)) (s : legal.Said) (own : Said F V M S)
-    → HasRead d options u v count said → ReadsSaid d count v s w → asked_by d.options s ≡ None → IsSaid options s own → more ≡ said ++ own ∷ [] → counts s ≡ n → HasRead d options u w (count + n) more
-has_more d options u v w count n said more s own had reads none is more_is counts_is = record {
+pub at_start : {F V P M S : Type 0} (o : Options F V P M S) (u : UnreadLine) {said : List (Said F V P M S)} {seen : List ℕ} → IsLine u → said ≡ [] → seen ≡ [] → HasRead o u u 0 seen said
+at_start {F} {V} {P} {M} {S} o u {said} {seen} line none_said none_seen = subst (λ (xs : List (Said F V P M S)). HasRead o u u 0 seen xs) (sym none_said) (subst (λ (l : List ℕ). HasRead o u u 0 l []) (sym none_seen) (record {
+  l = [];
+  read = nothing_read (declaration_of o) u line;
+  none = refl;
+  are = tt;
+  counted = refl;
+  are_seen = λ i needed. refl;
+  firsts = tt;
+}))
+
+-- ---- which options were seen
+
+is_option_so : (i index : ℕ) (s : legal.Said) → IsOption index s → legal.is_option i s ≡ (index == i)
+is_option_so i index (legal.option j value) is = ap (λ n. n == i) is
+is_option_so i index (legal.several j values) is = ap (λ n. n == i) is
+is_option_so i index (legal.positional word) is = absurd is
+
+or_false : (b : Bool) → (b || false) ≡ b
+or_false true = refl
+or_false false = refl
+
+occurs_last : (i : ℕ) (l : List legal.Said) (s : legal.Said) → occurs i (l ++ s ∷ []) ≡ (occurs i l || legal.is_option i s)
+occurs_last i [] s = or_false (legal.is_option i s)
+occurs_last i (x ∷ l) s = elim (legal.is_option i x) as (λ b. (b || occurs i (l ++ s ∷ [])) ≡ ((b || occurs i l) || legal.is_option i s)) [ true ↦ refl | false ↦ occurs_last i l s ]
+
+has_last : (i : ℕ) (l : List ℕ) (x : ℕ) → has i (l ++ x ∷ []) ≡ (has i l || (x == i))
+has_last i [] x = or_false (x == i)
+has_last i (y ∷ l) x = elim (y == i) as (λ b. (b || has i (l ++ x ∷ [])) ≡ ((b || has i l) || (x == i))) [ true ↦ refl | false ↦ has_last i l x ]
+
+seen_more : (options : List spec.Declared) (l : List legal.Said) (seen : List ℕ) (index : ℕ) (s : legal.Said) → IsOption index s → AreSeen options l seen
+    → AreSeen options (l ++ s ∷ []) (noted (is_required options index) index seen)
+seen_more options l seen index s is are = λ i needed. at (is_required options index) refl i needed
+  where
+    at : (b : Bool) → is_required options index ≡ b → (i : ℕ) → is_required options i ≡ true → has i (noted b index seen) ≡ occurs i (l ++ s ∷ [])
+    at true so i needed = has_last i seen index ∙ ap (λ b. b || (index == i)) (are i needed) ∙ sym (occurs_last i l s ∙ ap (λ b. occurs i l || b) (is_option_so i index s is))
+    at false so i needed = are i needed ∙ sym (or_false (occurs i l)) ∙ ap (λ b. occurs i l || b) (sym other) ∙ sym (occurs_last i l s ∙ ap (λ b. occurs i l || b) (is_option_so i index s is))
+      where
+        differ : (b : Bool) → (index == i) ≡ b → b ≡ false
+        differ true same = absurd (false≢true (sym so ∙ ap (is_required options) (eqb-true index i same) ∙ needed))
+        differ false same = refl
+
+        other : (index == i) ≡ false
+        other = differ (index == i) refl
+
+seen_same : (options : List spec.Declared) (l : List legal.Said) (seen : List ℕ) (word : List ℕ) → AreSeen options l seen → AreSeen options (l ++ legal.positional word ∷ []) seen
+seen_same options l seen word are = λ i needed. are i needed ∙ sym (or_false (occurs i l)) ∙ sym (occurs_last i l (legal.positional word))
+
+-- ---- the keys of positionals
+
+pub keys_append : {F V P M S : Type 0} (xs ys : List (Said F V P M S)) → positional_keys (xs ++ ys) ≡ positional_keys xs ++ positional_keys ys
+keys_append [] ys = refl
+keys_append (variant.Flag key ∷ xs) ys = keys_append xs ys
+keys_append (variant.Value key word ∷ xs) ys = keys_append xs ys
+keys_append (variant.Maybe key value ∷ xs) ys = keys_append xs ys
+keys_append (variant.Values key values ∷ xs) ys = keys_append xs ys
+keys_append (variant.Positional key word ∷ xs) ys = ap (λ l. key ∷ l) (keys_append xs ys)
+
+firsts_append : {P : Type 0} (positionals : List (Positional P)) (ks ls : List P) → AllFirst positionals ks → AllFirst positionals ls → AllFirst positionals (ks ++ ls)
+firsts_append positionals [] ls first others = others
+firsts_append positionals (k ∷ ks) ls first others = (first.0, firsts_append positionals ks ls first.1 others)
+
+no_key : {F V P M S : Type 0} (options : List (Declared F V M S)) (index : ℕ) (s : legal.Said) (own : Said F V P M S) → IsSaid options s own → IsOption index s → positional_keys (own ∷ []) ≡ []
+no_key options index s (variant.Flag key) is option = refl
+no_key options index s (variant.Value key word) is option = refl
+no_key options index s (variant.Maybe key value) is option = refl
+no_key options index s (variant.Values key values) is option = refl
+no_key options index s (variant.Positional key word) is option = absurd (subst (IsOption index) is option)
+
+pub keys_count : {F V P M S : Type 0} (options : List (Declared F V M S)) (l : List legal.Said) (xs : List (Said F V P M S)) → AreSaid options l xs → length (positional_keys xs) ≡ positional_count l
+keys_count options [] [] are = refl
+keys_count options [] (x ∷ xs) are = absurd are
+keys_count options (s ∷ l) [] are = absurd are
+keys_count options (s ∷ l) (x ∷ xs) are = one x are.0 (keys_count options l xs are.1)
+  where
+    one : (x : Said _ _ _ _ _) → IsSaid options s x → length (positional_keys xs) ≡ positional_count l → length (positional_keys (x ∷ xs)) ≡ counts s + positional_count l
+    one (variant.Flag key) is others = others ∙ sym (ap (λ (y : legal.Said). counts y + positional_count l) is.1 ∙ omega arith)
+    one (variant.Value key word) is others = others ∙ sym (ap (λ (y : legal.Said). counts y + positional_count l) is.2 ∙ omega arith)
+    one (variant.Maybe key value) is others = others ∙ sym (ap (λ (y : legal.Said). counts y + positional_count l) is.2 ∙ omega arith)
+    one (variant.Values key values) is others = others ∙ sym (ap (λ (y : legal.Said). counts y + positional_count l) is.2 ∙ omega arith)
+    one (variant.Positional key word) is others = ap suc others ∙ sym (ap (λ (y : legal.Said). counts y + positional_count l) is ∙ omega arith)
+
+-- there is a positional if one is read
+pub some_positional : {P : Type 0} (ps : List (Positional P)) (n : ℕ) → IsWithin (n + 1) (most (map positional_view ps)) → 1 ≤ length ps
+some_positional [] n within = absurd (omega (arith, within))
+some_positional (p ∷ ps) n within = omega arith
+
+-- ---- one more
+
+pub has_option : {F V P M S : Type 0} (o : Options F V P M S) (u v w : UnreadLine) (count index : ℕ) (seen seen_now : List ℕ) (said more : List (Said F V P M S)) (s : legal.Said) (own : Said F V P M S)
+    → HasRead o u v count seen said → ReadsSaid (declaration_of o) count v s w → asked_by (declaration_of o).options s ≡ None → IsSaid (options_of o) s own → counts s ≡ 0 → IsOption index s
+    → seen_now ≡ noted (is_required (declaration_of o).options index) index seen → more ≡ said ++ own ∷ [] → HasRead o u w count seen_now more
+has_option o u v w count index seen seen_now said more s own had reads none is counts_is option seen_is more_is = record {
   l = had.l ++ s ∷ [];
-  read = one_more d u v w had.l count s had.read had.counted reads;
-  none = asked_more d.options had.l s had.none none;
-  are = subst (AreSaid options (had.l ++ s ∷ [])) (sym more_is) (said_more options had.l said s own had.are is);
-  counted = count_more had.l count n s had.counted counts_is;
+  read = one_more (declaration_of o) u v w had.l count s had.read had.counted reads;
+  none = asked_more (declaration_of o).options had.l s had.none none;
+  are = subst (AreSaid (options_of o) (had.l ++ s ∷ [])) (sym more_is) (said_more (options_of o) had.l said s own had.are is);
+  counted = sym (add-zero count) ∙ count_more had.l count 0 s had.counted counts_is;
+  are_seen = subst (AreSeen (declaration_of o).options (had.l ++ s ∷ [])) (sym seen_is) (seen_more (declaration_of o).options had.l seen index s option had.are_seen);
+  firsts = subst (AllFirst (positionals_of o)) (sym (ap positional_keys more_is ∙ keys_append said (own ∷ [])))
+      (firsts_append (positionals_of o) (positional_keys said) (positional_keys (own ∷ [])) had.firsts (subst (AllFirst (positionals_of o)) (sym (no_key (options_of o) index s own is option)) tt));
 }
 
+pub has_positional : {F V P M S : Type 0} (o : Options F V P M S) (u v w : UnreadLine) (count : ℕ) (seen : List ℕ) (said more : List (Said F V P M S)) (word : List ℕ) (key : P)
+    → HasRead o u v count seen said → ReadsSaid (declaration_of o) count v (legal.positional word) w → HasKey (positionals_of o) 0 key → more ≡ said ++ variant.Positional key word ∷ []
+    → HasRead o u w (count + 1) seen more
+has_positional o u v w count seen said more word key had reads first more_is = record {
+  l = had.l ++ legal.positional word ∷ [];
+  read = one_more (declaration_of o) u v w had.l count (legal.positional word) had.read had.counted reads;
+  none = asked_more (declaration_of o).options had.l (legal.positional word) had.none refl;
+  are = subst (AreSaid (options_of o) (had.l ++ legal.positional word ∷ [])) (sym more_is) (said_more (options_of o) had.l said (legal.positional word) (variant.Positional key word) had.are refl);
+  counted = count_more had.l count 1 (legal.positional word) had.counted refl;
+  are_seen = seen_same (declaration_of o).options had.l seen word had.are_seen;
+  firsts = subst (AllFirst (positionals_of o)) (sym (ap positional_keys more_is ∙ keys_append said (variant.Positional key word ∷ [])))
+      (firsts_append (positionals_of o) (positional_keys said) (key ∷ []) had.firsts (first, tt));
+}
+
+option_with : (index : ℕ) (values : Values) → IsOption index (said_with index values)
+option_with index (AtMostOne value) = refl
+option_with index (All values) = refl
+
 -- an option with its values, and what it tells
-pub read_so : {F V M S : Type 0} (o : Options F V M S) (count : ℕ) (u v w : UnreadLine) (name : Name) (k : Kind) (index : ℕ) (values : Values) (s : Indexed) (t : Told F V M S)
+pub read_so : {F V P M S : Type 0} (o : Options F V P M S) (count : ℕ) (u v w : UnreadLine) (name : Name) (k : Kind) (index : ℕ) (values : Values) (s : Indexed) (t : Told F V P M S)
     → kind_view k ≡ kind_at (declaration_of o).options index → Next u (option_reply name) v → index_of (declaration_of o).options name ≡ Some index → indexed_view s ≡ said_with index values
-    → ReadsValues k v values w → IsTold (options_of o) (indexed_view s) t → IsReadByKey (declaration_of o) (options_of o) count u (Ok t) w
+    → ReadsValues k v values w → IsTold (options_of o) (indexed_view s) t → IsReadByKey (declaration_of o) (options_of o) index count u (Ok t) w
 read_so o count u v w name k index values s t k_is step found is reads tells =
-    (indexed_view s, option_said (declaration_of o) count u v w name k index s o.sound k_is step found (values, is, reads), tells, ap counts is ∙ no_count index values)
+    (indexed_view s, option_said (declaration_of o) count u v w name k index s o.sound k_is step found (values, is, reads), tells, ap counts is ∙ no_count index values, subst (IsOption index) (sym is) (option_with index values))
 
 -- there are no more positionals than things that are read
-pub count_within : {F V M S : Type 0} (d : Declaration) (options : List (Declared F V M S)) (u v : UnreadLine) (count : ℕ) (said : List (Said F V M S)) → HasRead d options u v count said → count ≤ length said
-count_within d options u v count said had = omega (arith, had.counted, count_small had.l, said_length options had.l said had.are)
+pub count_within : {F V P M S : Type 0} (o : Options F V P M S) (u v : UnreadLine) (count : ℕ) (seen : List ℕ) (said : List (Said F V P M S)) → HasRead o u v count seen said → count ≤ length said
+count_within o u v count seen said had = omega (arith, had.counted, count_small had.l, said_length (options_of o) had.l said had.are)
 
 -- ---- an option with a value that nobody asked for is read in no other way
 

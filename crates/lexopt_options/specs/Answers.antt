@@ -51,20 +51,20 @@ abbrev pub completion_text : {F V M S : Type 0} → Completion F V M S → List 
 completion_text c = flat_map (λ s. string_bytes s ++ line_feed ∷ []) c.spellings.items
     ++ files_line c.word ++ value_line c.joined
 
-abbrev pub IsCompletionText : {F V M S : Type 0} → Options F V M S → List (List ℕ) → List ℕ → Type 0
+abbrev pub IsCompletionText : {F V P M S : Type 0} → Options F V P M S → List (List ℕ) → List ℕ → Type 0
 IsCompletionText o words text = (before : List (List ℕ)) × (typed : List ℕ)
     × (completion : Completion _ _ _ _) × AsksToComplete words before typed
     × IsCompletion o before typed completion × (text ≡ completion_text completion)
 
 -- the script of this shell for the program, and the end of its last line
-abbrev pub script_lines : {F V M S : Type 0} → Options F V M S → Shell → List ℕ
+abbrev pub script_lines : {F V P M S : Type 0} → Options F V P M S → Shell → List ℕ
 script_lines o shell = shell_script shell (declaration_of o).program ++ line_feed ∷ []
 
-abbrev pub IsScriptText : {F V M S : Type 0} → Options F V M S → List (List ℕ) → List ℕ → Type 0
+abbrev pub IsScriptText : {F V P M S : Type 0} → Options F V P M S → List (List ℕ) → List ℕ → Type 0
 IsScriptText o words text =
     (shell : Shell) × AsksForScript words shell × (text ≡ script_lines o shell)
 
-abbrev pub IsShellText : {F V M S : Type 0} → Options F V M S → List (List ℕ) → List ℕ → Type 0
+abbrev pub IsShellText : {F V P M S : Type 0} → Options F V P M S → List (List ℕ) → List ℕ → Type 0
 IsShellText o words text = IsCompletionText o words text ⊎ IsScriptText o words text
 
 -- ---- the help and the version
@@ -97,7 +97,7 @@ pub record IsWidth (text : List ℕ) (width : ℕ) : Type 0 where
 -- ---- all
 
 -- what is to be done about these words, where the help has this width
-abbrev pub IsAnswer : {F V M S : Type 0} → Options F V M S → List (List ℕ) → ℕ → Answer F V M S
+abbrev pub IsAnswer : {F V P M S : Type 0} → Options F V P M S → List (List ℕ) → ℕ → Answer F V P M S
     → Type 0
 IsAnswer o words width (answer.Said said) = IsOrdinary words × LineSays o words said.items
 IsAnswer o words width (answer.Text text) = IsShellText o words (string_bytes text)

@@ -23,7 +23,7 @@ pub record AreOffered (d : Declaration) (words : List (List ℕ)) (typed : List 
       ⊎ (offered ≡ [])
 
 -- exactly what can come where this was typed after these words
-pub record IsCompletion {F V M S : Type 0} (o : Options F V M S) (words : List (List ℕ))
+pub record IsCompletion {F V P M S : Type 0} (o : Options F V P M S) (words : List (List ℕ))
     (typed : List ℕ) (completion : Completion F V M S) : Type 0 where
   pub spellings : AreOffered (declaration_of o) words typed
       (map string_bytes completion.spellings.items)

@@ -3,11 +3,16 @@ use Rattle.std.specs.Prelude.{List}
 use Rattle.lexopt_options_spec.specs.Declaration.{Declaration}
 use Rattle.lexopt_declaration.specs.Declarations.{declaration_view}
 use Rattle.lexopt_declaration.specs.declared.declaration.Declared.{Declared}
+use Rattle.lexopt_declaration.specs.declared.declaration.Positional.{Positional}
 use Rattle.lexopt_options.specs.declared.options.Options.{Options}
 
-abbrev pub declaration_of : {F V M S : Type 0} → Options F V M S → Declaration
+abbrev pub declaration_of : {F V P M S : Type 0} → Options F V P M S → Declaration
 declaration_of o = declaration_view o.declaration.now
 
 -- the options as they were given
-abbrev pub options_of : {F V M S : Type 0} → Options F V M S → List (Declared F V M S)
+abbrev pub options_of : {F V P M S : Type 0} → Options F V P M S → List (Declared F V M S)
 options_of o = o.declaration.now.options.now
+
+-- and the positionals
+abbrev pub positionals_of : {F V P M S : Type 0} → Options F V P M S → List (Positional P)
+positionals_of o = o.declaration.now.positionals.now

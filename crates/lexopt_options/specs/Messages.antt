@@ -11,7 +11,7 @@ use Rattle.lexopt_options.specs.declared.mistake.Mistake.{Mistake}
 use Rattle.lexopt_options.specs.declared.mistake.Mistake.TheVariants.{UnknownOption}
 use Rattle.lexopt_options.specs.declared.mistake.Mistake.TheVariants.{UnexpectedValue, MissingValue}
 use Rattle.lexopt_options.specs.declared.mistake.Mistake.TheVariants.{UnexpectedArgument}
-use Rattle.lexopt_options.specs.declared.mistake.Mistake.TheVariants.{MissingArgument}
+use Rattle.lexopt_options.specs.declared.mistake.Mistake.TheVariants.{MissingArgument, MissingOption}
 use Rattle.lexopt_options.specs.declared.mistake.OptionName.{OptionName}
 use Rattle.lexopt_options.specs.declared.mistake.OptionName.TheVariants.{Short, Long}
 
@@ -33,6 +33,7 @@ message (MissingValue option placeholder) = codes "missing argument "
     ++ (placeholder.now ++ (codes " for option '" ++ (string_bytes option ++ codes "'")))
 message (UnexpectedArgument word) = unexpected_argument_message word
 message (MissingArgument placeholder) = codes "missing argument " ++ placeholder.now
+message (MissingOption names) = codes "missing option '" ++ (names_text names ++ codes "'")
 
 -- where help is, if an option for it is declared
 abbrev pub help_line : List ℕ → Option Names → List ℕ

@@ -1,15 +1,22 @@
 -- What is wrong with a line, as contracts see it.
-use Rattle.std.specs.Prelude.{◌≡◌, ℕ, option_map, string_bytes}
-use Rattle.lexopt_options_spec.specs.Declaration.{Declaration}
+use Rattle.std.specs.Prelude.{◌≡◌, ℕ, List, Some, option_map, slice_get, string_bytes}
+use Rattle.lexopt_options_spec.specs.Declaration.{Declaration, Declared}
 use Rattle.lexopt_options_spec.specs.Nearest.{IsHint}
 use Rattle.lexopt_options_spec.specs.Stops as stops
 use Rattle.lexopt_options_spec.specs.Stops.{placeholder_at, required_placeholder}
+use Rattle.lexopt_declaration.specs.Models.{long_name, short_name}
+use Rattle.lexopt_declaration.specs.declared.declaration.Names.{Names}
 use Rattle.lexopt_options.specs.Names.{name_view}
 use Rattle.lexopt_options.specs.declared.mistake.Mistake.{Mistake}
 use Rattle.lexopt_options.specs.declared.mistake.Mistake.TheVariants.{UnknownOption}
 use Rattle.lexopt_options.specs.declared.mistake.Mistake.TheVariants.{UnexpectedValue, MissingValue}
 use Rattle.lexopt_options.specs.declared.mistake.Mistake.TheVariants.{UnexpectedArgument}
-use Rattle.lexopt_options.specs.declared.mistake.Mistake.TheVariants.{MissingArgument}
+use Rattle.lexopt_options.specs.declared.mistake.Mistake.TheVariants.{MissingArgument, MissingOption}
+
+-- these are the names of the option of this index
+abbrev pub AreNames : List Declared → ℕ → Names → Type 0
+AreNames options index names = (o : Declared) × (slice_get options index ≡ Some o)
+    × (o.short_name ≡ short_name names) × (o.long_name ≡ long_name names)
 
 -- the mistake is this one of the definitions
 abbrev pub IsMistake : Declaration → Mistake → stops.Mistake → Type 0
@@ -23,3 +30,5 @@ IsMistake d (MissingValue option placeholder) m = (index : ℕ)
 IsMistake d (UnexpectedArgument word) m = m ≡ stops.unexpected_argument word
 IsMistake d (MissingArgument placeholder) m = (count : ℕ) × (m ≡ stops.missing_argument count)
     × (placeholder.now ≡ required_placeholder d.positionals count)
+IsMistake d (MissingOption names) m = (index : ℕ) × (m ≡ stops.missing_option index)
+    × AreNames d.options index names

@@ -1,14 +1,17 @@
 -- What is read from a line, as contracts see it, and what one step of its reading reads.
-use Rattle.std.specs.Prelude.{◌≡◌, ◌≤◌, ◌+◌, ℕ, List, Some, Result, Ok, Err}
+use Rattle.std.specs.Prelude.{◌≡◌, ◌<◌, ◌+◌, ◌++◌, ◌∷◌, ℕ, Bool, true, false, List, [], Some}
+use Rattle.std.specs.Prelude.{Result, Ok, Err}
 use Rattle.lexopt_spec.specs.UnreadLine.{UnreadLine, IsLine}
 use Rattle.lexopt_spec.specs.Steps as steps
 use Rattle.lexopt_spec.specs.Steps.{Next}
 use Rattle.lexopt_line_spec.specs.Readings.{option_reply}
 use Rattle.lexopt_line_spec.specs.Table.{Item, Name}
 use Rattle.lexopt_options_spec.specs.Declaration as declared
-use Rattle.lexopt_options_spec.specs.Declaration.{Declaration, index_of}
+use Rattle.lexopt_options_spec.specs.Declaration.{Declaration, has, index_of}
+use Rattle.lexopt_options_spec.specs.Completion.{IsOption}
 use Rattle.lexopt_options_spec.specs.Legal as spec
-use Rattle.lexopt_options_spec.specs.Legal.{IsWithin, counts, least, most, said_item}
+use Rattle.lexopt_options_spec.specs.Legal.{IsWithin, counts, is_required, most, occurs}
+use Rattle.lexopt_options_spec.specs.Legal.{positional_count, said_item}
 use Rattle.lexopt_options_spec.specs.Stops as stops
 use Rattle.lexopt_options_spec.specs.Stops.{Stops}
 use Rattle.lexopt_items.specs.Items.{ReadsItem}
@@ -43,20 +46,60 @@ pub record ReadsSaid (d : Declaration) (count : ℕ) (u : UnreadLine) (s : spec.
   pub line : IsLine u → IsLine v
   pub within : IsWithin count (most d.positionals) → IsWithin (count + counts s) (most d.positionals)
 
+-- it is a mistake before the end of the line
+abbrev pub IsEarly : stops.Mistake → Type 0
+IsEarly (stops.missing_argument count) = ⊥
+IsEarly (stops.missing_option index) = ⊥
+IsEarly mistake = Unit {0}
+
 -- after `count` positionals the line cannot be read on, and this is why
 pub record StopsBy (d : Declaration) (count : ℕ) (u : UnreadLine) (mistake : Mistake)
     : Type 0 where
   pub why : stops.Mistake
   pub told : IsMistake d mistake why
-  pub stops : Stops d count u why
+  pub early : IsEarly why
+  pub stops : (l : List spec.Said) → count ≡ positional_count l → Stops d l u why
 
 -- after `count` positionals this comes next
 abbrev pub ComesNext : Declaration → ℕ → UnreadLine → Outcome → UnreadLine → Type 0
 ComesNext d count u (outcome.Option index) v = (name : Name) × Next u (option_reply name) v
     × (index_of d.options name ≡ Some index)
 ComesNext d count u (outcome.Positional word) v = ReadsSaid d count u (spec.positional word) v
-ComesNext d count u outcome.End v = Next u steps.end v × (least d.positionals ≤ count)
+ComesNext d count u outcome.End v = Next u steps.end v
 ComesNext d count u (outcome.Mistake mistake) v = StopsBy d count u mistake
+
+-- ---- the end of a line
+
+-- each required option is among these indices
+abbrev pub AllSeen : List declared.Declared → List ℕ → Type 0
+AllSeen options seen = (i : ℕ) → is_required options i ≡ true → has i seen ≡ true
+
+-- the option of this index is the first that is required and not among these
+pub record IsFirstUnseen (options : List declared.Declared) (seen : List ℕ) (index : ℕ)
+    : Type 0 where
+  pub here : is_required options index ≡ true
+  pub absent : has index seen ≡ false
+  pub first : (i : ℕ) → i < index → is_required options i ≡ true → has i seen ≡ true
+
+-- these indices are those of the required options that occur in a list
+abbrev pub AreSeen : List declared.Declared → List spec.Said → List ℕ → Type 0
+AreSeen options l seen = (i : ℕ) → is_required options i ≡ true → has i seen ≡ occurs i l
+
+-- the option of this index is noted if it is required
+abbrev pub noted : Bool → ℕ → List ℕ → List ℕ
+noted true index seen = seen ++ index ∷ []
+noted false index seen = seen
+
+-- at the end of a line with `count` positionals, of whose required options these were seen,
+-- something is missing, and this is what
+pub record IsMissing (d : Declaration) (count : ℕ) (seen : List ℕ) (mistake : Mistake)
+    : Type 0 where
+  pub why : stops.Mistake
+  pub told : IsMistake d mistake why
+  pub stops : (u v : UnreadLine) (l : List spec.Said) → Next u steps.end v
+      → count ≡ positional_count l → AreSeen d.options l seen → Stops d l u why
+
+-- ---- what one option is
 
 -- the option is read with its values, or it is a mistake that it has none
 abbrev pub IsRead : Declaration → ℕ → UnreadLine → Result Indexed Mistake → UnreadLine → Type 0
@@ -64,12 +107,12 @@ IsRead d count u (Ok said) v =
     ReadsSaid d count u (indexed_view said) v × (counts (indexed_view said) ≡ 0)
 IsRead d count u (Err mistake) v = StopsBy d count u mistake
 
--- the same by its key
-abbrev pub IsReadByKey : {F V M S : Type 0} → Declaration → List (Declared F V M S) → ℕ → UnreadLine
-    → Result (Told F V M S) Mistake → UnreadLine → Type 0
-IsReadByKey d options count u (Ok told) v = (s : spec.Said) × ReadsSaid d count u s v
-    × IsTold options s told × (counts s ≡ 0)
-IsReadByKey d options count u (Err mistake) v = StopsBy d count u mistake
+-- the same of the option of this index, by its key
+abbrev pub IsReadByKey : {F V P M S : Type 0} → Declaration → List (Declared F V M S) → ℕ → ℕ
+    → UnreadLine → Result (Told F V P M S) Mistake → UnreadLine → Type 0
+IsReadByKey d options index count u (Ok told) v = (s : spec.Said) × ReadsSaid d count u s v
+    × IsTold options s told × (counts s ≡ 0) × IsOption index s
+IsReadByKey d options index count u (Err mistake) v = StopsBy d count u mistake
 
 -- ---- the values of an option
 

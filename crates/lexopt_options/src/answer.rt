@@ -18,13 +18,13 @@ use std::str;
 
 /// What a program is to do.
 #[derive(Debug, Drop)]
-pub enum Answer<'a, F, V = Infallible, M = Infallible, S = Infallible> {
+pub enum Answer<'a, F, V = Infallible, P = Infallible, M = Infallible, S = Infallible> {
     /// Do its work, by what was read from the line.
-    Said(Vec<Said<F, V, M, S>>),
+    Said(Vec<Said<F, V, P, M, S>>),
     /// Write this to standard output, and end: the help, the version, or what a shell asked for.
     Text(String),
     /// Write this to standard error, and end with the status [`USAGE_ERROR`](crate::USAGE_ERROR).
-    Refused(Refused<'a, F, V, M, S>),
+    Refused(Refused<'a, F, V, P, M, S>),
 }
 
 // What is offered, as the scripts for shells read it: a line for each spelling; a line `files` if a
@@ -93,7 +93,7 @@ fn columns<R: Env>(rt: &R) -> usize {
     }
 }
 
-impl<F, V, M, S> Options<'_, F, V, M, S> {
+impl<F, V, P, M, S> Options<'_, F, V, P, M, S> {
     ghost use Rattle.std.specs.Prelude.{◌≡◌, ℕ, IfOk, List, map, string_bytes};
     ghost use Rattle.std.specs.Option.{MatchOption};
     ghost use Rattle.lexopt_options.specs.Answers.{AsksToComplete, IsAskedText};
@@ -163,7 +163,7 @@ impl<F, V, M, S> Options<'_, F, V, M, S> {
     }
 }
 
-impl<'a, F: Copy, V: Copy, M: Copy, S: Copy> Options<'a, F, V, M, S> {
+impl<'a, F: Copy, V: Copy, P: Copy, M: Copy, S: Copy> Options<'a, F, V, P, M, S> {
     ghost use Rattle.std.specs.Prelude.{ℕ, IfOk, List};
     ghost use Rattle.lexopt_options.specs.Answers.{IsAnswer, IsOrdinary};
 
@@ -173,7 +173,7 @@ impl<'a, F: Copy, V: Copy, M: Copy, S: Copy> Options<'a, F, V, M, S> {
         alloc: Global,
         words: Vec<OsString>,
         width: usize,
-    ) -> Result<Answer<'a, F, V, M, S>, AllocError>
+    ) -> Result<Answer<'a, F, V, P, M, S>, AllocError>
         ensures { IsOrdinary words.items
             → IfOk result (λ answer. IsAnswer self.now words.items width answer) }
     {
@@ -203,7 +203,7 @@ impl<'a, F: Copy, V: Copy, M: Copy, S: Copy> Options<'a, F, V, M, S> {
         alloc: Global,
         words: Vec<OsString>,
         width: usize,
-    ) -> Result<Answer<'a, F, V, M, S>, AllocError>
+    ) -> Result<Answer<'a, F, V, P, M, S>, AllocError>
         ensures { IfOk result (λ answer. IsAnswer self.now words.items width answer) }
     {
         match self.shell_text(alloc, &words)? {
@@ -223,7 +223,7 @@ impl<'a, F: Copy, V: Copy, M: Copy, S: Copy> Options<'a, F, V, M, S> {
     pub fn from_env<R: Env + AllocGlobal>(
         &self,
         rt: &R,
-    ) -> Result<Answer<'a, F, V, M, S>, AllocError>
+    ) -> Result<Answer<'a, F, V, P, M, S>, AllocError>
         ensures { IfOk result (λ answer. (words : List (List ℕ)) × (width : ℕ)
             × IsAnswer self.now words width answer) }
     {

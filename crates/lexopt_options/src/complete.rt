@@ -236,7 +236,7 @@ fn role_of<'a, F, V, M, S>(
     }
 }
 
-impl<'a, F, V, M, S> Options<'a, F, V, M, S> {
+impl<'a, F, V, P, M, S> Options<'a, F, V, P, M, S> {
     ghost use Rattle.std.specs.Prelude.{◌∷◌, ◌++◌, ℕ, [], IfOk, List, map, string_bytes};
     ghost use Rattle.std.specs.Prelude.{Option, option_map};
     ghost use Rattle.lexopt_options_spec.specs.Completion.{HasRole, IsJoined};
@@ -245,8 +245,8 @@ impl<'a, F, V, M, S> Options<'a, F, V, M, S> {
     ghost use Rattle.lexopt_options.specs.Roles.{IsOptionAt, IsRoleAt, place_view};
     ghost use Rattle.lexopt_options.specs.Fronts.{IsPart};
 
-    // What these words mean with this one after them, whether or not positional arguments are
-    // missing; nothing if no line begins so.
+    // What these words mean with this one after them, whether or not something is missing; nothing
+    // if no line begins so.
     fn read_with(
         &self,
         alloc: Global,

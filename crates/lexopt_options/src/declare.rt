@@ -13,23 +13,28 @@
 ///     Output,
 /// }
 ///
-/// static DECLARATION: Declaration<'static, Flag, Value> = declare! {
+/// #[derive(Clone, Copy)]
+/// enum Word {
+///     File,
+/// }
+///
+/// static DECLARATION: Declaration<'static, Flag, Value, Word> = declare! {
 ///     program: "pack",
 ///     about: "Packs files.",
 ///     options: [
 ///         flag(Flag::Verbose, Names::Both('v', "verbose"), "tell more"),
-///         value(Value::Output, Names::Both('o', "output"), "FILE", "the archive"),
+///         value(Value::Output, Names::Both('o', "output"), "FILE", "the archive").required(),
 ///         help(Names::Both('h', "help")),
 ///         version(Names::Long("version"), "pack 1.0"),
 ///     ],
-///     positionals: [any_number("FILE", "what to pack")],
+///     positionals: [at_least_once(Word::File, "FILE", "what to pack")],
 /// };
 /// ```
 ///
-/// A line of `options` is a call of the function of that name of
-/// [`Declared`](crate::Declared), `maybe` and `values` among them; `.hidden()` after it leaves the
-/// option out of the help. A line of `positionals` is `once`, `at_most_once` or `any_number`; its
-/// text may be left out.
+/// A line of `options` is a call of the function of that name of [`Declared`](crate::Declared),
+/// `maybe` and `values` among them; `.hidden()` after it leaves the option out of the help, and
+/// `.required()` makes it one that every line has to have. A line of `positionals` is `once`,
+/// `at_most_once`, `any_number` or `at_least_once`, with the key first; its text may be left out.
 ///
 /// `about` and `positionals` may be left out; so may `epilogue: ["..", ".."]`, paragraphs at the
 /// end of the help, and after it `short_equals: false`, by which `=` in a cluster is a character
@@ -39,9 +44,9 @@ macro_rules! declare {
     (
         program: $program:expr
         $(, about: $about:expr)?
-        , options: [$($option:ident $given:tt $(.$hidden:ident())?),* $(,)?]
+        , options: [$($option:ident $given:tt $(.$mark:ident())*),* $(,)?]
         $(, positionals: [
-            $($count:ident($placeholder:expr $(, $text:expr)? $(,)?)),* $(,)?
+            $($count:ident($key:expr, $placeholder:expr $(, $text:expr)? $(,)?)),* $(,)?
         ])?
         $(, epilogue: [$($paragraph:expr),* $(,)?])?
         $(, short_equals: $short_equals:expr)?
@@ -50,8 +55,9 @@ macro_rules! declare {
         $crate::Declaration {
             program: $program,
             about: $crate::declare!(@or "" $(, $about)?),
-            options: &[$($crate::declare!(@$option $given $(.$hidden)?)),*],
+            options: &[$($crate::declare!(@$option $given $(.$mark)*)),*],
             positionals: &[$($($crate::Positional {
+                key: $key,
                 placeholder: $placeholder,
                 count: $crate::declare!(@$count),
                 help: $crate::declare!(@or "" $(, $text)?),
@@ -60,38 +66,43 @@ macro_rules! declare {
             short_equals: true $(&& $short_equals)?,
         }
     };
-    (@flag($key:expr, $names:expr, $help:expr $(,)?) $($hidden:tt)*) => {
-        $crate::declare!(@option $names, $crate::Kind::Flag($key), $help, $($hidden)*)
+    (@flag($key:expr, $names:expr, $help:expr $(,)?) $($mark:tt)*) => {
+        $crate::declare!(@option $names, $crate::Kind::Flag($key), $help, $($mark)*)
     };
-    (@value($key:expr, $names:expr, $value:expr, $help:expr $(,)?) $($hidden:tt)*) => {
-        $crate::declare!(@option $names, $crate::Kind::Value($key, $value), $help, $($hidden)*)
+    (@value($key:expr, $names:expr, $value:expr, $help:expr $(,)?) $($mark:tt)*) => {
+        $crate::declare!(@option $names, $crate::Kind::Value($key, $value), $help, $($mark)*)
     };
-    (@maybe($key:expr, $names:expr, $value:expr, $help:expr $(,)?) $($hidden:tt)*) => {
-        $crate::declare!(@option $names, $crate::Kind::Maybe($key, $value), $help, $($hidden)*)
+    (@maybe($key:expr, $names:expr, $value:expr, $help:expr $(,)?) $($mark:tt)*) => {
+        $crate::declare!(@option $names, $crate::Kind::Maybe($key, $value), $help, $($mark)*)
     };
-    (@values($key:expr, $names:expr, $value:expr, $help:expr $(,)?) $($hidden:tt)*) => {
-        $crate::declare!(@option $names, $crate::Kind::Values($key, $value), $help, $($hidden)*)
+    (@values($key:expr, $names:expr, $value:expr, $help:expr $(,)?) $($mark:tt)*) => {
+        $crate::declare!(@option $names, $crate::Kind::Values($key, $value), $help, $($mark)*)
     };
-    (@help($names:expr $(,)?) $($hidden:tt)*) => {
-        $crate::declare!(@option $names, $crate::Kind::Help, "print this help and exit", $($hidden)*)
+    (@help($names:expr $(,)?) $($mark:tt)*) => {
+        $crate::declare!(@option $names, $crate::Kind::Help, "print this help and exit", $($mark)*)
     };
-    (@version($names:expr, $version:expr $(,)?) $($hidden:tt)*) => {
+    (@version($names:expr, $version:expr $(,)?) $($mark:tt)*) => {
         $crate::declare!(
-            @option $names, $crate::Kind::Version($version), "print the version and exit", $($hidden)*
+            @option $names, $crate::Kind::Version($version), "print the version and exit", $($mark)*
         )
     };
-    (@option $names:expr, $kind:expr, $help:expr, $(.$hidden:ident)?) => {
+    (@option $names:expr, $kind:expr, $help:expr, $(.$mark:ident)*) => {
         $crate::Declared {
             names: $names,
             kind: $kind,
             help: $help,
-            hidden: false $(|| $crate::declare!(@$hidden))?,
+            hidden: false $(|| $crate::declare!(@is_hidden $mark))*,
+            required: false $(|| $crate::declare!(@is_required $mark))*,
         }
     };
-    (@hidden) => { true };
+    (@is_hidden hidden) => { true };
+    (@is_hidden required) => { false };
+    (@is_required required) => { true };
+    (@is_required hidden) => { false };
     (@once) => { $crate::Count::Once };
     (@at_most_once) => { $crate::Count::AtMostOnce };
     (@any_number) => { $crate::Count::AnyNumber };
+    (@at_least_once) => { $crate::Count::AtLeastOnce };
     (@or $default:expr) => { $default };
     (@or $default:expr, $given:expr) => { $given };
 }

@@ -7,6 +7,7 @@ mod declare;
 mod indexed;
 pub mod mistake;
 pub mod options;
+mod places;
 mod read;
 pub mod refused;
 pub mod said;

@@ -8,7 +8,7 @@ ghost use Rattle.lexopt_options.specs.Messages.{escaped};
 ghost use Rattle.lexopt_options.specs.Names.{name_view};
 ghost use Rattle.lexopt_declaration.specs.Models.{option_view};
 
-use lexopt_declaration::declaration::Declared;
+use lexopt_declaration::declaration::{Declared, Names};
 use lexopt_declaration::lookup::long_name_of;
 use lexopt_declaration::nearest::{nearest, only_longer};
 use lexopt_words::message::write_unexpected_value;
@@ -106,6 +106,9 @@ pub enum Mistake<'a> {
     /// Fewer positional arguments than are required: the placeholder, in the declaration, of the
     /// first that is missing.
     MissingArgument(&'a str),
+    /// A required option does not occur: the names of the first such option of the declaration. No
+    /// positional argument is missing.
+    MissingOption(Names<'a>),
 }
 
 impl fmt::Display for Mistake<'_> {
@@ -131,6 +134,7 @@ impl fmt::Display for Mistake<'_> {
                 write!(f, "unexpected argument {word}")
             }
             Mistake::MissingArgument(placeholder) => write!(f, "missing argument {placeholder}"),
+            Mistake::MissingOption(names) => write!(f, "missing option '{names}'"),
         }
     }
 }

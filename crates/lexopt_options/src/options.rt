@@ -1,39 +1,44 @@
 //! What a program declares, and can declare.
 ghost use Rattle.std.specs.Prelude.{◌≡◌, true, map};
-ghost use Rattle.lexopt_options_spec.specs.Declaration.{is_sound};
-ghost use Rattle.lexopt_declaration.specs.Models.{option_view};
+ghost use Rattle.lexopt_options_spec.specs.Declaration.{are_clear, is_sound};
+ghost use Rattle.lexopt_declaration.specs.Models.{option_view, positional_view};
 
 use lexopt_declaration::declaration::{
-    Declaration, DeclarationError, Declared, Positional, are_text, first_fault,
+    Declaration, DeclarationError, Declared, Positional, are_text, declaration_fault,
 };
 use lexopt_declaration::help;
 use std::alloc::{AllocError, Global};
 use std::convert::Infallible;
 
-/// What a program declares, where all of its options can be declared together.
-pub struct Options<'a, F, V = Infallible, M = Infallible, S = Infallible> {
-    declaration: &'a Declaration<'a, F, V, M, S>,
+/// What a program declares, where all of its options can be declared together, and one positional
+/// argument at most may occur more than once.
+pub struct Options<'a, F, V = Infallible, P = Infallible, M = Infallible, S = Infallible> {
+    declaration: &'a Declaration<'a, F, V, P, M, S>,
     ghost sound: { is_sound (map option_view declaration.now.options.now) ≡ true },
+    ghost clear: { are_clear (map positional_view declaration.now.positionals.now) ≡ true },
 }
 
-impl<'a, F, V, M, S> Options<'a, F, V, M, S> {
+impl<'a, F, V, P, M, S> Options<'a, F, V, P, M, S> {
     ghost use Rattle.std.specs.Prelude.{◌≡◌, IfOk, MatchResult, map, string_bytes, true};
     ghost use Rattle.lexopt_options_spec.specs.Declarable.{can_be_declared};
-    ghost use Rattle.lexopt_options_spec.specs.Declaration.{is_sound};
+    ghost use Rattle.lexopt_options_spec.specs.Declaration.{are_clear, is_sound};
     ghost use Rattle.lexopt_options_spec.specs.Help.{IsHelp, IsUsage};
     ghost use Rattle.lexopt_declaration.specs.Models.{option_view, positional_view};
     ghost use Rattle.lexopt_declaration.specs.Faults.{IsDeclarationError};
     ghost use Rattle.lexopt_declaration.specs.Declarations.{declaration_view};
-    ghost use Rattle.lexopt_options.specs.Declarations.{declaration_of, options_of};
+    ghost use Rattle.lexopt_options.specs.Declarations.{declaration_of, options_of, positionals_of};
 
-    /// What a program declares, where the check computes that all of its options can be declared
-    /// together: so it does for a constant or a static, and nothing is left to go wrong when the
-    /// program runs.
+    /// What a program declares, where the check computes that all of it can be declared together:
+    /// so it does for a constant or a static, and nothing is left to go wrong when the program
+    /// runs.
     #[tactic(auto, using(lexopt_options_spec::proofs::Declarable::declarable_sound))]
-    pub fn new(declaration: &'a Declaration<'a, F, V, M, S>) -> Options<'a, F, V, M, S>
-        requires { can_be_declared (map option_view declaration.now.options.now) ≡ true }
+    pub fn new(declaration: &'a Declaration<'a, F, V, P, M, S>) -> Options<'a, F, V, P, M, S>
+        requires options { can_be_declared (map option_view declaration.now.options.now) ≡ true }
+        requires positionals { are_clear (map positional_view declaration.now.positionals.now)
+            ≡ true }
         ensures declaration { declaration_of result ≡ declaration_view declaration.now }
         ensures options { options_of result ≡ declaration.now.options.now }
+        ensures positionals { positionals_of result ≡ declaration.now.positionals.now }
     {
         are_text(declaration.options);
         Options { declaration }
@@ -41,16 +46,18 @@ impl<'a, F, V, M, S> Options<'a, F, V, M, S> {
 
     /// What a program declares, where that is known only when it runs.
     ///
-    /// The error names the first option that cannot be declared after those before it.
+    /// The error names the first option that cannot be declared after those before it; or, if there
+    /// is none, the second positional argument that may occur more than once.
     pub fn try_new(
-        declaration: &'a Declaration<'a, F, V, M, S>,
-    ) -> Result<Options<'a, F, V, M, S>, DeclarationError<'a>>
+        declaration: &'a Declaration<'a, F, V, P, M, S>,
+    ) -> Result<Options<'a, F, V, P, M, S>, DeclarationError<'a>>
         ensures { MatchResult result
             (λ options. (declaration_of options ≡ declaration_view declaration.now)
-            × (options_of options ≡ declaration.now.options.now))
-            (IsDeclarationError declaration.now.options.now) }
+            × (options_of options ≡ declaration.now.options.now)
+            × (positionals_of options ≡ declaration.now.positionals.now))
+            (IsDeclarationError declaration.now) }
     {
-        if let Some(error) = first_fault(declaration.options) {
+        if let Some(error) = declaration_fault(declaration) {
             return Err(error);
         }
         Ok(Options { declaration })
@@ -87,18 +94,22 @@ impl<'a, F, V, M, S> Options<'a, F, V, M, S> {
     }
 
     /// The positional arguments, in order.
-    pub fn positionals(&self) -> &'a [Positional<'a>]
-        ensures { map positional_view result.now ≡ (declaration_of self.now).positionals }
+    pub fn positionals(&self) -> &'a [Positional<'a, P>]
+        ensures same { result.now ≡ positionals_of self.now }
+        ensures view { map positional_view result.now ≡ (declaration_of self.now).positionals }
+        ensures clear { are_clear (map positional_view result.now) ≡ true }
     {
         self.declaration.positionals
     }
 
-    /// The usage line: the name of the program, `[OPTION]...` if an option is declared that is not
-    /// hidden, and each positional argument by its placeholder: `FILE` for one that is required,
-    /// `[FILE]` for one that may be left out, `[FILE]...` for any number. A line feed is at its end.
+    /// The usage line: the name of the program; `[OPTION]...` if an option that is neither hidden
+    /// nor required is declared; each required option that is not hidden, by its long name if it
+    /// has one, with its value; and each positional argument by its placeholder: `FILE` for one
+    /// that is required, `[FILE]` for one that may be left out, `[FILE]...` for any number,
+    /// `FILE...` for one at least. A line feed is at its end.
     ///
     /// ```text
-    /// Usage: example_archive [OPTION]... [FILE]...
+    /// Usage: example_copy [OPTION]... --owner=USER SOURCE... DEST
     /// ```
     ///
     /// If it has more than `width` columns it goes on at column 7 of the next line, counted from 0.
@@ -114,29 +125,30 @@ impl<'a, F, V, M, S> Options<'a, F, V, M, S> {
     }
 
     /// The help: the usage line; what the program does; one entry for each positional argument that
-    /// has a text; one entry for each option that is not hidden; and the paragraphs of the epilogue.
-    /// All are in the order in which they are declared, with an empty line between these parts. Each
-    /// line ends with a line feed.
+    /// has a text; one entry for each option that is not hidden; and the paragraphs of the
+    /// epilogue. All are in the order in which they are declared, with an empty line between these
+    /// parts. Each line ends with a line feed.
     ///
     /// ```text
-    /// Usage: example_copy [OPTION]... SOURCE DEST
+    /// Usage: example_copy [OPTION]... --owner=USER SOURCE... DEST
     /// Prints what it would copy.
     ///
     ///   SOURCE                what to copy
-    ///   DEST                  the name of the copy
+    ///   DEST                  where to
     ///
     ///   -v, --verbose         tell more; twice, still more
     ///   -j, --jobs=COUNT      how many files at a time, from 1 to 64; 4 if it is left
     ///                         out
+    ///   -o, --owner=USER      who is to own the copies
     ///       --suffix=SUFFIX   what a backup ends with
     ///
     /// A file is never copied onto itself.
     /// ```
     ///
     /// The text of an entry begins at column 24, or at a third of `width` if that is less: on the
-    /// line of its label if at least two blanks are between them, else on the next one. Words are put
-    /// on as few lines as hold them in at most `width` columns; one that is wider is not broken, and
-    /// no label is.
+    /// line of its label if at least two blanks are between them, else on the next one. Words are
+    /// put on as few lines as hold them in at most `width` columns; one that is wider is not
+    /// broken, and no label is.
     ///
     /// A column is a grapheme cluster, what a person sees as one character, and counts once even if
     /// a terminal gives it two cells. [`WIDTH`](crate::WIDTH) is the width if none is known; any
@@ -153,10 +165,10 @@ impl<'a, F, V, M, S> Options<'a, F, V, M, S> {
     }
 }
 
-impl<F, V, M, S> Clone for Options<'_, F, V, M, S> {
+impl<F, V, P, M, S> Clone for Options<'_, F, V, P, M, S> {
     fn clone(&self) -> Result<Self, AllocError> {
         Ok(*self)
     }
 }
 
-impl<F, V, M, S> Copy for Options<'_, F, V, M, S> {}
+impl<F, V, P, M, S> Copy for Options<'_, F, V, P, M, S> {}

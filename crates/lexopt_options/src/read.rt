@@ -1,16 +1,17 @@
 //! Reading a line by a declaration.
-ghost use Rattle.std.specs.Prelude.{◌≡◌, ◌≢◌, ◌↔◌, ◌∷◌, ◌++◌, ℕ, List, [], IfErr, IfOk, OnOk};
+ghost use Rattle.std.specs.Prelude.{◌≡◌, ◌≢◌, ◌≤◌, ◌↔◌, ◌∷◌, ◌++◌, ℕ, List, [], IfOk, OnOk};
 ghost use Rattle.std.specs.Prelude.{IsTrue, None, Some, map};
+ghost use Rattle.std.specs.Option.{MatchOption};
 ghost use Rattle.lexopt_spec.specs.UnreadLine.{IsLine, UnreadLine};
 ghost use Rattle.lexopt_spec.specs.Steps as steps;
 ghost use Rattle.lexopt_spec.specs.Steps.{Next};
 ghost use Rattle.lexopt_line_spec.specs.Readings.{option_reply, start};
 ghost use Rattle.lexopt_line_spec.specs.Table as table;
-ghost use Rattle.lexopt_options_spec.specs.Declaration.{index_of};
+ghost use Rattle.lexopt_options_spec.specs.Declaration.{has, index_of};
 ghost use Rattle.lexopt_options_spec.specs.Asking as asking;
 ghost use Rattle.lexopt_options_spec.specs.Asking.{asked_by, first_asked};
 ghost use Rattle.lexopt_options_spec.specs.Legal as legal;
-ghost use Rattle.lexopt_options_spec.specs.Legal.{most};
+ghost use Rattle.lexopt_options_spec.specs.Legal.{is_required, least, most, positional_count};
 ghost use Rattle.lexopt_options_spec.specs.Stops as stops;
 ghost use Rattle.lexopt_options_spec.specs.Stops.{ReadsUpTo, StopsAt};
 ghost use Rattle.lexopt_declaration.specs.Models.{option_view};
@@ -18,18 +19,23 @@ ghost use Rattle.lexopt_items.specs.Items.{ValuesEndBy, kind_view};
 ghost use Rattle.lexopt_items.specs.declared.kinds.Kind.{Kind};
 ghost use Rattle.lexopt_items.specs.declared.values.Values.{Values};
 ghost use Rattle.lexopt_declaration.specs.declared.declaration.Declared.{Declared};
-ghost use Rattle.lexopt_options.specs.Declarations.{declaration_of, options_of};
-ghost use Rattle.lexopt_options.specs.Keys.{AreSaid, asked_view};
+ghost use Rattle.lexopt_declaration.specs.Lookups.{names_at};
+ghost use Rattle.lexopt_declaration.specs.declared.declaration.Positional.{Positional};
+ghost use Rattle.lexopt_options.specs.Declarations.{declaration_of, options_of, positionals_of};
+ghost use Rattle.lexopt_options.specs.Keys.{AllFirst, AreSaid, asked_view, positional_keys};
 ghost use Rattle.lexopt_options.specs.Kinds as kinds;
 ghost use Rattle.lexopt_options.specs.Mistakes.{IsMistake};
 ghost use Rattle.lexopt_options.specs.Names.{name_view};
-ghost use Rattle.lexopt_options.specs.Lines.{IsLineRead, IsReading, before_mistake};
-ghost use Rattle.lexopt_options.specs.Reading.{AreAll, ComesNext, IsAtMostOne, IsOne, IsRead, IsReadByKey};
-ghost use Rattle.lexopt_options.specs.Reading.{StopsBy, indexed_view};
+ghost use Rattle.lexopt_options.specs.Lines.{IsLineRead, before_mistake};
+ghost use Rattle.lexopt_options.specs.Fronts.{IsPart};
+ghost use Rattle.lexopt_options.specs.Reading.{AllSeen, AreAll, AreSeen, ComesNext, IsAtMostOne};
+ghost use Rattle.lexopt_options.specs.Reading.{IsFirstUnseen, IsMissing, IsOne, IsRead};
+ghost use Rattle.lexopt_options.specs.Reading.{IsReadByKey, StopsBy, indexed_view, noted};
 
 use crate::indexed::Indexed;
 use crate::mistake::{Mistake, OptionName, hint};
 use crate::options::Options;
+use crate::places::{first_key, give_keys};
 use crate::refused::{Line, Refused};
 use crate::said::{Asked, Said, Told};
 use lexopt_base::parser::{Found, Parser};
@@ -52,7 +58,7 @@ enum Outcome<'a> {
     Option(usize),
     // A positional argument.
     Positional(OsString),
-    // Its end. No required positional argument is missing.
+    // Its end.
     End,
     // A mistake, which ends the reading.
     Mistake(Mistake<'a>),
@@ -76,8 +82,8 @@ fn kind_at<F, V, M, S>(options: &[Declared<'_, F, V, M, S>], index: usize) -> Ki
 }
 
 // The mistake that the option of this index, which was just read, has no value.
-fn missing_value<'a, F, V, M, S>(
-    options: &Options<'a, F, V, M, S>,
+fn missing_value<'a, F, V, P, M, S>(
+    options: &Options<'a, F, V, P, M, S>,
     index: usize,
     refused: Refusal,
 ) -> Result<Mistake<'a>, AllocError>
@@ -104,10 +110,10 @@ fn missing_value<'a, F, V, M, S>(
 }
 
 // The option of this index, which was just read, with its values, or the mistake that it has none.
-fn read_option<'a, F, V, M, S>(
+fn read_option<'a, F, V, P, M, S>(
     alloc: Global,
     parser: &mut Parser,
-    options: &Options<'a, F, V, M, S>,
+    options: &Options<'a, F, V, P, M, S>,
     index: usize,
 ) -> Result<Result<Indexed, Mistake<'a>>, AllocError>
     requires { (u : UnreadLine) × (name : table.Name) × Next u (option_reply name) parser.old }
@@ -160,18 +166,18 @@ fn all_of(values: Values) -> Vec<OsString>
 }
 
 // The option of this index, which was just read, by its key, or the mistake that it has no value.
-fn read_told<'a, F: Copy, V: Copy, M: Copy, S: Copy>(
+fn read_told<'a, F: Copy, V: Copy, P: Copy, M: Copy, S: Copy>(
     alloc: Global,
     parser: &mut Parser,
-    options: &Options<'a, F, V, M, S>,
+    options: &Options<'a, F, V, P, M, S>,
     index: usize,
-) -> Result<Result<Told<'a, F, V, M, S>, Mistake<'a>>, AllocError>
+) -> Result<Result<Told<'a, F, V, P, M, S>, Mistake<'a>>, AllocError>
     requires { (u : UnreadLine) × (name : table.Name) × Next u (option_reply name) parser.old
         × (index_of (declaration_of options.now).options name ≡ Some index) }
     ensures { IfOk result (λ read. (count : ℕ) (u : UnreadLine) (name : table.Name)
         → Next u (option_reply name) parser.old
         → index_of (declaration_of options.now).options name ≡ Some index
-        → IsReadByKey (declaration_of options.now) (options_of options.now) count u read
+        → IsReadByKey (declaration_of options.now) (options_of options.now) index count u read
         parser.new) }
 {
     let declared = options.options();
@@ -196,9 +202,9 @@ fn read_told<'a, F: Copy, V: Copy, M: Copy, S: Copy>(
 }
 
 // The mistake that an option with this name is not declared.
-fn unknown_option<'a, F, V, M, S>(
+fn unknown_option<'a, F, V, P, M, S>(
     alloc: Global,
-    options: &Options<'a, F, V, M, S>,
+    options: &Options<'a, F, V, P, M, S>,
     name: OptionName,
 ) -> Result<Mistake<'a>, AllocError>
     ensures { IfOk result (λ mistake. IsMistake (declaration_of options.now) mistake
@@ -218,24 +224,11 @@ fn is_full(limit: Option<usize>, count: usize) -> bool
     }
 }
 
-// The end of a line after `count` positional arguments, or the mistake that one more is required.
-fn finish<'a, F, V, M, S>(options: &Options<'a, F, V, M, S>, count: usize) -> Outcome<'a>
-    ensures { (u v : UnreadLine) → Next u steps.end v
-        → ComesNext (declaration_of options.now) count u result v }
-{
-    if count < least_of(options.positionals()) {
-        let placeholder = argument_placeholder(options.positionals(), count);
-        Outcome::Mistake(Mistake::MissingArgument(placeholder))
-    } else {
-        Outcome::End
-    }
-}
-
 // What comes next in a line after `count` positional arguments, of which there may be `limit`.
-fn read_next<'a, F, V, M, S>(
+fn read_next<'a, F, V, P, M, S>(
     alloc: Global,
     parser: &mut Parser,
-    options: &Options<'a, F, V, M, S>,
+    options: &Options<'a, F, V, P, M, S>,
     limit: Option<usize>,
     count: usize,
 ) -> Result<Outcome<'a>, AllocError>
@@ -265,7 +258,7 @@ fn read_next<'a, F, V, M, S>(
                 Ok(Outcome::Positional(word))
             }
         }
-        Ok(Found::End) => Ok(finish(options, count)),
+        Ok(Found::End) => Ok(Outcome::End),
         Err(refused) => match refused {
             Refusal::UnexpectedValue { option, value } => {
                 Ok(Outcome::Mistake(Mistake::UnexpectedValue { option, value }))
@@ -284,29 +277,21 @@ fn add(said: &mut Vec<Indexed>, item: Indexed) -> Result<(), AllocError>
     Ok(said.push(item)?)
 }
 
-// What is read from a line, by the indices of its options.
-#[derive(Drop)]
-pub enum Reading<'a> {
-    // All of it.
-    Whole(Vec<Indexed>),
-    // What was read before a mistake.
-    Stopped(Vec<Indexed>, Mistake<'a>),
-}
-
 // How many things a longer line may have before their list grows.
 const FIRST_ROOM: usize = 16;
 
-// Reads a line into a list with room for `room` things from the start.
-fn read_line<'a, F, V, M, S>(
+// Reads a line into a list with room for `room` things from the start: what it means, whether or
+// not something is missing; nothing if no line begins so.
+fn read_line<'a, F, V, P, M, S>(
     alloc: Global,
     parser: &mut Parser,
-    options: &Options<'a, F, V, M, S>,
+    options: &Options<'a, F, V, P, M, S>,
     room: usize,
-) -> Result<Reading<'a>, AllocError>
+) -> Result<Option<Vec<Indexed>>, AllocError>
     requires { IsLine parser.old }
     ensures { (words : List (List ℕ))
         → parser.old ≡ start (declaration_of options.now).short_equals words
-        → IfOk result (λ reading. IsReading (declaration_of options.now) words reading) }
+        → IfOk result (λ found. IsPart (declaration_of options.now) words found) }
 {
     let limit = most_of(options.positionals());
     let mut said = Vec::with_capacity(alloc, room)?;
@@ -315,31 +300,95 @@ fn read_line<'a, F, V, M, S>(
         match read_next(alloc, parser, options, limit, count)? {
             Outcome::Option(index) => match read_option(alloc, parser, options, index)? {
                 Ok(option) => add(&mut said, option)?,
-                Err(mistake) => return Ok(Reading::Stopped(said, mistake)),
+                Err(_) => return Ok(None),
             },
             Outcome::Positional(word) => {
                 add(&mut said, Indexed::Positional(word))?;
                 count += 1;
             }
-            Outcome::End => return Ok(Reading::Whole(said)),
-            Outcome::Mistake(mistake) => return Ok(Reading::Stopped(said, mistake)),
+            Outcome::End => return Ok(Some(said)),
+            Outcome::Mistake(_) => return Ok(None),
         }
     }
 }
 
+// ---- the end of a line
+
+// Whether an index is among these.
+fn is_among(index: usize, seen: &[usize]) -> bool
+    ensures { result ≡ has index seen.now }
+{
+    seen.contains(&index)
+}
+
+// The names of the first required option whose index is not among these.
+fn missing_option<'a, F, V, M, S>(
+    options: &'a [Declared<'a, F, V, M, S>],
+    seen: &[usize],
+) -> Option<Names<'a>>
+    ensures { MatchOption result (AllSeen (map option_view options.now) seen.now)
+        (λ names. (index : ℕ) × IsFirstUnseen (map option_view options.now) seen.now index
+        × (names_at options.now (Some index) ≡ Some names)) }
+{
+    for (index, option) in options.iter().enumerate() {
+        if option.required && !is_among(index, seen) {
+            return Some(option.names);
+        }
+    }
+    None
+}
+
+// What is missing at the end of a line with `count` positional arguments, where these are the
+// indices of the required options that occur.
+fn missing<'a, F, V, P, M, S>(
+    options: &Options<'a, F, V, P, M, S>,
+    count: usize,
+    seen: &[usize],
+) -> Option<Mistake<'a>>
+    ensures { MatchOption result ((least (declaration_of options.now).positionals ≤ count)
+        × AllSeen (declaration_of options.now).options seen.now)
+        (IsMissing (declaration_of options.now) count seen.now) }
+{
+    if count < least_of(options.positionals()) {
+        let placeholder = argument_placeholder(options.positionals(), count);
+        return Some(Mistake::MissingArgument(placeholder));
+    }
+    match missing_option(options.options(), seen) {
+        Some(names) => Some(Mistake::MissingOption(names)),
+        None => None,
+    }
+}
+
+// Notes the index of an option that was read, if it is required.
+fn note<F, V, M, S>(
+    options: &[Declared<'_, F, V, M, S>],
+    index: usize,
+    seen: &mut Vec<usize>,
+) -> Result<(), AllocError>
+    ensures { OnOk result (seen.new.items
+        ≡ noted (is_required (map option_view options.now) index) index seen.old.items) }
+{
+    match options.get(index) {
+        Some(option) if option.required => Ok(seen.push(index)?),
+        _ => Ok(()),
+    }
+}
+
 // A refused line.
-fn refuse<'a, F, V, M, S>(
-    options: &Options<'a, F, V, M, S>,
-    before: Vec<Said<F, V, M, S>>,
+fn refuse<'a, F, V, P: Copy, M, S>(
+    options: &Options<'a, F, V, P, M, S>,
+    mut before: Vec<Said<F, V, P, M, S>>,
     mistake: Mistake<'a>,
-) -> Line<'a, F, V, M, S>
+) -> Line<'a, F, V, P, M, S>
     ensures { (words : List (List ℕ)) (why : stops.Mistake) (l : List legal.Said)
         → IsMistake (declaration_of options.now) mistake.entry why
         → StopsAt (declaration_of options.now) words l why
         → first_asked (declaration_of options.now).options (asking.said_before why l) ≡ None
         → AreSaid (options_of options.now) (asking.said_before why l) before.items
+        → AllFirst (positionals_of options.now) (positional_keys before.items)
         → IsLineRead options.now words result }
 {
+    give_keys(options.positionals(), &mut before);
     Line::Refused(Refused {
         program: options.program(),
         help: options.help_names(),
@@ -350,13 +399,16 @@ fn refuse<'a, F, V, M, S>(
 
 // What was read before a mistake, where this was read up to it: without the option that was given a
 // value and takes none, if that is the mistake.
-fn said_before<F: Drop, V: Drop, M: Drop, S: Drop>(
-    mut said: Vec<Said<F, V, M, S>>,
+fn said_before<F: Drop, V: Drop, P: Drop, M: Drop, S: Drop>(
+    mut said: Vec<Said<F, V, P, M, S>>,
     mistake: &Mistake<'_>,
-) -> Vec<Said<F, V, M, S>>
-    ensures { (options : List (Declared F V M S)) (l : List legal.Said)
+) -> Vec<Said<F, V, P, M, S>>
+    ensures same { (options : List (Declared F V M S)) (l : List legal.Said)
         → AreSaid options l said.items
         → AreSaid options (before_mistake mistake.now l) result.items }
+    ensures keys { (positionals : List (Positional P))
+        → AllFirst positionals (positional_keys said.items)
+        → AllFirst positionals (positional_keys result.items) }
 {
     if let Mistake::UnexpectedValue { .. } = mistake {
         let count = said.len().saturating_sub(1);
@@ -366,16 +418,17 @@ fn said_before<F: Drop, V: Drop, M: Drop, S: Drop>(
 }
 
 // A line that stops at a mistake, where all of this was read before it.
-fn stop<'a, F: Drop, V: Drop, M: Drop, S: Drop>(
-    options: &Options<'a, F, V, M, S>,
-    said: Vec<Said<F, V, M, S>>,
+fn stop<'a, F: Drop, V: Drop, P: Copy, M: Drop, S: Drop>(
+    options: &Options<'a, F, V, P, M, S>,
+    said: Vec<Said<F, V, P, M, S>>,
     mistake: Mistake<'a>,
-) -> Line<'a, F, V, M, S>
+) -> Line<'a, F, V, P, M, S>
     ensures { (words : List (List ℕ)) (why : stops.Mistake) (l : List legal.Said)
         → IsMistake (declaration_of options.now) mistake.entry why
         → StopsAt (declaration_of options.now) words l why
         → first_asked (declaration_of options.now).options l ≡ None
         → AreSaid (options_of options.now) l said.items
+        → AllFirst (positionals_of options.now) (positional_keys said.items)
         → IsLineRead options.now words result }
 {
     let before = said_before(said, &mistake);
@@ -383,15 +436,16 @@ fn stop<'a, F: Drop, V: Drop, M: Drop, S: Drop>(
 }
 
 // The line that asks for this by the option that was read last, unless a value is joined to it.
-fn ask<'a, F, V, M, S>(
+fn ask<'a, F, V, P, M, S>(
     parser: &mut Parser,
-    options: &Options<'a, F, V, M, S>,
-    said: Vec<Said<F, V, M, S>>,
+    options: &Options<'a, F, V, P, M, S>,
+    said: Vec<Said<F, V, P, M, S>>,
     asked: Asked<'a>,
-) -> Result<Line<'a, F, V, M, S>, AllocError>
+) -> Result<Line<'a, F, V, P, M, S>, AllocError>
 where
     F: Drop,
     V: Drop,
+    P: Copy,
     M: Drop,
     S: Drop,
     ensures { (words : List (List ℕ)) (l : List legal.Said) (s : legal.Said)
@@ -400,6 +454,7 @@ where
         → first_asked (declaration_of options.now).options l ≡ None
         → asked_by (declaration_of options.now).options s ≡ Some (asked_view asked.entry)
         → AreSaid (options_of options.now) l said.items
+        → AllFirst (positionals_of options.now) (positional_keys said.items)
         → IfOk result (λ line. IsLineRead options.now words line) }
 {
     match parser.advance() {
@@ -414,13 +469,38 @@ where
     }
 }
 
+// A line that was read to its end.
+fn end<'a, F: Drop, V: Drop, P: Copy, M: Drop, S: Drop>(
+    options: &Options<'a, F, V, P, M, S>,
+    mut said: Vec<Said<F, V, P, M, S>>,
+    count: usize,
+    seen: &[usize],
+) -> Line<'a, F, V, P, M, S>
+    ensures { (words : List (List ℕ)) (l : List legal.Said) (u v : UnreadLine)
+        → ReadsUpTo (declaration_of options.now)
+        (start (declaration_of options.now).short_equals words) l u → Next u steps.end v
+        → count ≡ positional_count l → AreSeen (declaration_of options.now).options l seen.now
+        → first_asked (declaration_of options.now).options l ≡ None
+        → AreSaid (options_of options.now) l said.items
+        → AllFirst (positionals_of options.now) (positional_keys said.items)
+        → IsLineRead options.now words result }
+{
+    match missing(options, count, seen) {
+        Some(mistake) => stop(options, said, mistake),
+        None => {
+            give_keys(options.positionals(), &mut said);
+            Line::Said(said)
+        }
+    }
+}
+
 // Reads a line by the keys of its options into a list with room for `room` things from the start.
-fn read_keys<'a, F: Copy, V: Copy, M: Copy, S: Copy>(
+fn read_keys<'a, F: Copy, V: Copy, P: Copy, M: Copy, S: Copy>(
     alloc: Global,
     parser: &mut Parser,
-    options: &Options<'a, F, V, M, S>,
+    options: &Options<'a, F, V, P, M, S>,
     room: usize,
-) -> Result<Line<'a, F, V, M, S>, AllocError>
+) -> Result<Line<'a, F, V, P, M, S>, AllocError>
     requires { IsLine parser.old }
     ensures { (words : List (List ℕ))
         → parser.old ≡ start (declaration_of options.now).short_equals words
@@ -428,31 +508,35 @@ fn read_keys<'a, F: Copy, V: Copy, M: Copy, S: Copy>(
 {
     let limit = most_of(options.positionals());
     let mut said = Vec::with_capacity(alloc, room)?;
+    let mut seen = Vec::new(alloc);
     let mut count = 0usize;
     loop {
         match read_next(alloc, parser, options, limit, count)? {
             Outcome::Option(index) => match read_told(alloc, parser, options, index)? {
-                Ok(Told::Said(own)) => said.push(own)?,
+                Ok(Told::Said(own)) => {
+                    said.push(own)?;
+                    note(options.options(), index, &mut seen)?;
+                }
                 Ok(Told::Asked(asked)) => return ask(parser, options, said, asked),
                 Err(mistake) => return Ok(stop(options, said, mistake)),
             },
             Outcome::Positional(word) => {
-                said.push(Said::Positional(word))?;
+                let key = first_key(options.positionals());
+                said.push(Said::Positional(key, word))?;
                 count += 1;
             }
-            Outcome::End => return Ok(Line::Said(said)),
+            Outcome::End => return Ok(end(options, said, count, &seen)),
             Outcome::Mistake(mistake) => return Ok(stop(options, said, mistake)),
         }
     }
 }
 
-impl<F, V, M, S> Options<'_, F, V, M, S> {
+impl<F, V, P, M, S> Options<'_, F, V, P, M, S> {
     ghost use Rattle.std.specs.Prelude.{IfOk};
     ghost use Rattle.lexopt_options.specs.Declarations.{declaration_of};
     ghost use Rattle.lexopt_options.specs.Fronts.{IsPart};
 
-    // What words mean, whether or not positional arguments are missing; nothing if no line begins
-    // so.
+    // What words mean, whether or not something is missing; nothing if no line begins so.
     pub(crate) fn read_part(
         &self,
         alloc: Global,
@@ -460,22 +544,17 @@ impl<F, V, M, S> Options<'_, F, V, M, S> {
     ) -> Result<Option<Vec<Indexed>>, AllocError>
         ensures { IfOk result (λ found. IsPart (declaration_of self.now) words.items found) }
     {
-        match self.read_indexed(alloc, words)? {
-            Reading::Whole(said) => Ok(Some(said)),
-            Reading::Stopped(said, mistake) => match mistake {
-                Mistake::MissingArgument(_) => Ok(Some(said)),
-                _ => Ok(None),
-            },
-        }
+        let room = words.len().min(FIRST_ROOM);
+        let mut parser = self.parser_of(words);
+        read_line(alloc, &mut parser, self, room)
     }
 }
 
-impl<'a, F, V, M, S> Options<'a, F, V, M, S> {
-    ghost use Rattle.std.specs.Prelude.{◌≡◌, IfOk};
+impl<'a, F, V, P, M, S> Options<'a, F, V, P, M, S> {
+    ghost use Rattle.std.specs.Prelude.{◌≡◌};
     ghost use Rattle.lexopt_line_spec.specs.Readings.{start};
     ghost use Rattle.lexopt_declaration.specs.Lookups.{help_names};
     ghost use Rattle.lexopt_options.specs.Declarations.{declaration_of, options_of};
-    ghost use Rattle.lexopt_options.specs.Lines.{IsReading};
 
     // A parser of these words, of which none is read.
     fn parser_of(&self, words: Vec<OsString>) -> Parser
@@ -486,15 +565,6 @@ impl<'a, F, V, M, S> Options<'a, F, V, M, S> {
         parser
     }
 
-    // Reads a whole line.
-    fn read_indexed(&self, alloc: Global, words: Vec<OsString>) -> Result<Reading<'a>, AllocError>
-        ensures { IfOk result (λ reading. IsReading (declaration_of self.now) words.items reading) }
-    {
-        let room = words.len().min(FIRST_ROOM);
-        let mut parser = self.parser_of(words);
-        read_line(alloc, &mut parser, self, room)
-    }
-
     // The names of the first option that asks for the help.
     pub(crate) fn help_names(&self) -> Option<Names<'a>>
         ensures { result ≡ help_names (options_of self.now) }
@@ -503,7 +573,7 @@ impl<'a, F, V, M, S> Options<'a, F, V, M, S> {
     }
 }
 
-impl<'a, F: Copy, V: Copy, M: Copy, S: Copy> Options<'a, F, V, M, S> {
+impl<'a, F: Copy, V: Copy, P: Copy, M: Copy, S: Copy> Options<'a, F, V, P, M, S> {
     ghost use Rattle.std.specs.Prelude.{◌≡◌, ℕ, List, IfOk, map};
     ghost use Rattle.lexopt_options_spec.specs.Legal as legal;
     ghost use Rattle.lexopt_options_spec.specs.Legal.{Says};
@@ -513,9 +583,9 @@ impl<'a, F: Copy, V: Copy, M: Copy, S: Copy> Options<'a, F, V, M, S> {
     /// Reads a whole line, without the name of the program.
     ///
     /// Under options `v|verbose`, a flag with the key `Verbose`, and `o|output` of one value with
-    /// the key `Output`, and any number of positional arguments, the words
+    /// the key `Output`, and any number of positional arguments with the key `File`, the words
     /// `-vo=x --output y -- file` mean `Flag(Verbose)`, `Value(Output, x)`, `Value(Output, y)` and
-    /// `Positional(file)`.
+    /// `Positional(File, file)`.
     ///
     /// If an option that asks for the help or the version occurs before any mistake, the line is
     /// [`Line::Asked`], whatever comes after it. A refusal has the first mistake, and what was read
@@ -526,7 +596,7 @@ impl<'a, F: Copy, V: Copy, M: Copy, S: Copy> Options<'a, F, V, M, S> {
         &self,
         alloc: Global,
         words: Vec<OsString>,
-    ) -> Result<Line<'a, F, V, M, S>, AllocError>
+    ) -> Result<Line<'a, F, V, P, M, S>, AllocError>
         // The list is the one that the words legally spell, by declared options alone, with as many
         // positional arguments as are declared, and each option by its key; and they ask for
         // nothing. Or they ask for the help or the version before any mistake. Or their reading

@@ -14,13 +14,13 @@ pub const USAGE_ERROR: u8 = 2;
 
 /// A line that was refused.
 #[derive(Debug, Drop)]
-pub struct Refused<'a, F, V = Infallible, M = Infallible, S = Infallible> {
+pub struct Refused<'a, F, V = Infallible, P = Infallible, M = Infallible, S = Infallible> {
     /// The name of the program.
     pub program: &'a str,
     /// The option that asks for the help, if one is declared.
     pub help: Option<Names<'a>>,
     /// What was read before the mistake.
-    pub before: Vec<Said<F, V, M, S>>,
+    pub before: Vec<Said<F, V, P, M, S>>,
     /// What is wrong.
     pub mistake: Mistake<'a>,
 }
@@ -39,7 +39,7 @@ pub(crate) fn write_help<W: fmt::Write>(
     }
 }
 
-impl<F, V, M, S> fmt::Display for Refused<'_, F, V, M, S> {
+impl<F, V, P, M, S> fmt::Display for Refused<'_, F, V, P, M, S> {
     ghost use Rattle.std.specs.Prelude.{Some};
     ghost use Rattle.lexopt_options.specs.Messages.{message, refusal_text};
 
@@ -56,16 +56,21 @@ impl<F, V, M, S> fmt::Display for Refused<'_, F, V, M, S> {
     }
 }
 
-impl<F: Debug + Drop, V: Debug + Drop, M: Debug + Drop, S: Debug + Drop> std::error::Error
-    for Refused<'_, F, V, M, S> {}
+impl<
+    F: Debug + Drop,
+    V: Debug + Drop,
+    P: Debug + Drop,
+    M: Debug + Drop,
+    S: Debug + Drop,
+> std::error::Error for Refused<'_, F, V, P, M, S> {}
 
 /// What a line comes to.
 #[derive(Debug, Drop)]
-pub enum Line<'a, F, V = Infallible, M = Infallible, S = Infallible> {
+pub enum Line<'a, F, V = Infallible, P = Infallible, M = Infallible, S = Infallible> {
     /// It is legal, and this is what it means.
-    Said(Vec<Said<F, V, M, S>>),
+    Said(Vec<Said<F, V, P, M, S>>),
     /// It asks for the help or the version before any mistake.
     Asked(Asked<'a>),
     /// It has a mistake.
-    Refused(Refused<'a, F, V, M, S>),
+    Refused(Refused<'a, F, V, P, M, S>),
 }

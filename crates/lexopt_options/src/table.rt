@@ -57,7 +57,7 @@ fn add_option<F, V, M, S>(
     }
 }
 
-impl<F, V, M, S> Options<'_, F, V, M, S> {
+impl<F, V, P, M, S> Options<'_, F, V, P, M, S> {
     /// The table that `read_items` takes: which of the options have values, and how many.
     ///
     /// The only error is that memory ran out.

@@ -309,7 +309,7 @@ fn place_of_values<F, V, M, S: PartialEq>(
         .position(|option| is_values(&option.kind, key))
 }
 
-impl<'a, F, V: Copy + PartialEq, M, S> Options<'a, F, V, M, S> {
+impl<'a, F, V: Copy + PartialEq, P, M, S> Options<'a, F, V, P, M, S> {
     ghost use Rattle.lexopt_options.specs.Declarations.{options_of};
     ghost use Rattle.lexopt_options.specs.Usage.{ConvertsFor, value_names};
 
@@ -327,7 +327,7 @@ impl<'a, F, V: Copy + PartialEq, M, S> Options<'a, F, V, M, S> {
     }
 }
 
-impl<'a, F, V, M: Copy + PartialEq, S> Options<'a, F, V, M, S> {
+impl<'a, F, V, P, M: Copy + PartialEq, S> Options<'a, F, V, P, M, S> {
     ghost use Rattle.lexopt_options.specs.Declarations.{options_of};
     ghost use Rattle.lexopt_options.specs.Usage.{ConvertsFor, maybe_names};
 
@@ -344,7 +344,7 @@ impl<'a, F, V, M: Copy + PartialEq, S> Options<'a, F, V, M, S> {
     }
 }
 
-impl<'a, F, V, M, S: Copy + PartialEq> Options<'a, F, V, M, S> {
+impl<'a, F, V, P, M, S: Copy + PartialEq> Options<'a, F, V, P, M, S> {
     ghost use Rattle.lexopt_options.specs.Declarations.{options_of};
     ghost use Rattle.lexopt_options.specs.Usage.{ConvertsFor, values_names};
 
@@ -361,7 +361,7 @@ impl<'a, F, V, M, S: Copy + PartialEq> Options<'a, F, V, M, S> {
     }
 }
 
-impl<'a, F, V, M, S> Options<'a, F, V, M, S> {
+impl<'a, F, V, P, M, S> Options<'a, F, V, P, M, S> {
     ghost use Rattle.std.specs.Prelude.{◌≡◌};
     ghost use Rattle.lexopt_declaration.specs.Lookups.{help_names};
     ghost use Rattle.lexopt_options.specs.Declarations.{declaration_of, options_of};

@@ -1,6 +1,7 @@
 -- What words mean, and where their reading stops.
 use Rattle.std.proofs.Common.{◌≡◌, ◌≤◌, ℕ, ◌+◌, suc, true, List, [], ◌∷◌, ◌++◌, map, Option, Some, None, refl, sym, ap, subst, ◌∙◌, arith}
 use Rattle.std.specs.Option.{option_map}
+use Rattle.std.proofs.lemmas.Bool.{false≢true}
 use Rattle.lexopt_spec.specs.UnreadLine.{UnreadLine}
 use Rattle.lexopt_spec.specs.Steps as steps
 use Rattle.lexopt_spec.specs.Steps.{Reply, Next}
@@ -16,8 +17,8 @@ use Rattle.lexopt_line_spec.proofs.ReadingSteps.{says_positional, reads_last, re
 use Rattle.lexopt_line_spec.proofs.RunAccounts.{step_line}
 use Rattle.lexopt_line_spec.proofs.WholeLines.{said_shows, shown_said}
 use Rattle.lexopt_options_spec.specs.Declaration.{Declaration, Declared, index_of, is_sound, table}
-use Rattle.lexopt_options_spec.specs.Legal.{Said, said_item, positional, positional_count, least, most, IsWithin, SaysFront, Says}
-use Rattle.lexopt_options_spec.specs.Stops.{Mistake, ReadsUpTo, Stops, not_declared, value_of_flag, no_value, one_too_many, too_few, StopsAt, missing_argument}
+use Rattle.lexopt_options_spec.specs.Legal.{Said, said_item, positional, positional_count, occurs, least, most, IsWithin, SaysFront, Says}
+use Rattle.lexopt_options_spec.specs.Stops.{Mistake, ReadsUpTo, Stops, not_declared, value_of_flag, no_value, one_too_many, too_few, not_complete, StopsAt, missing_argument, missing_option}
 use Rattle.lexopt_options_spec.proofs.Sound.{whole_names}
 use Rattle.lexopt_options_spec.proofs.Lists.{Later, split, first_none, first_is, same_somes, count_append}
 
@@ -79,21 +80,21 @@ above n k None is within = let e : None ≡ Some n = is in cc
 above n k (Some m) is within = let e : m ≡ n = (let f : Some m ≡ Some n = is in cc) in omega arith
 
 stops_front : (d : Declaration) (words : List (List ℕ)) (before : List Said) (mistake other : Mistake) (there : StopsAt d words before mistake) → mistake ≡ other
-    → ((count : ℕ) → other ≡ missing_argument count → ⊥) → Stops d (positional_count before) there.there other → (l : List Said) → SaysFront d words l → ⊥
-stops_front d words before mistake other there is not (not_declared name v step none) l says =
+    → ((count : ℕ) → other ≡ missing_argument count → ⊥) → ((index : ℕ) → other ≡ missing_option index → ⊥) → Stops d before there.there other → (l : List Said) → SaysFront d words l → ⊥
+stops_front d words before mistake other there is not neither (not_declared name v step none) l says =
     let t = table d.options in
     let r = option_reading t there.there v name (step_line next there.there (option_reply name) v there.read.line step) step in
     let e = ends d words before mistake there l says r.0 (item_after name r.1 ∷ items_said r.1) r.2 in
     let rest = later d words before mistake there l says (item_after name r.1 ∷ items_said r.1) e.items_are in
     first_none (said_item d.options) (item_after name r.1) (items_said r.1) rest.later (undeclared d.options name (item_after name r.1) (item_of name r.1) none) rest.are
-stops_front d words before mistake other there is not (value_of_flag option value v step) l says =
+stops_front d words before mistake other there is not neither (value_of_flag option value v step) l says =
     let e = ends d words before mistake there l says (steps.unexpected option value) _ (reads_last (table d.options) there.there v (steps.unexpected option value) tt step) in
     let f : steps.unexpected option value ≡ steps.end = e.final_is in cc
-stops_front d words before mistake other there is not (no_value name index option call v w step found due takes) l says =
+stops_front d words before mistake other there is not neither (no_value name index option call v w step found due takes) l says =
     let e = ends d words before mistake there l says (steps.missing (Some option)) _
     (reads_refused (table d.options) there.there v w name (kind (table d.options) name) call (steps.missing (Some option)) refl due tt step takes) in
     let f : steps.missing (Some option) ≡ steps.end = e.final_is in cc
-stops_front d words before mistake other there is not (one_too_many word v step limit) l says =
+stops_front d words before mistake other there is not neither (one_too_many word v step limit) l says =
     let t = table d.options in
     let r = some_reading t v (step_line next there.there (steps.positional word) v there.read.line step) in
     let e = ends d words before mistake there l says r.0 _ (says_positional t there.there v word step r.0 r.1 r.2) in
@@ -102,14 +103,15 @@ stops_front d words before mistake other there is not (one_too_many word v step 
     let count : positional_count l ≡ positional_count before + suc (positional_count first.0) =
     ap positional_count rest.all_are ∙ count_append before rest.later ∙ ap (λ m. positional_count before + positional_count m) first.1 ∙ ap (λ n. positional_count before + n) (omega arith) in
     above (positional_count before) (positional_count first.0) (most d.positionals) limit (subst (λ n. IsWithin n (most d.positionals)) count says.within)
-stops_front d words before mistake other there is not (too_few v step few) l says = absurd (not (positional_count before) refl)
+stops_front d words before mistake other there is not neither (too_few v step few) l says = absurd (not (positional_count before) refl)
+stops_front d words before mistake other there is not neither (not_complete index v step enough first) l says = absurd (neither index refl)
 
--- these words mean no front of a line, but where a positional is missing
+-- these words mean no front of a line, but where a positional or an option is missing
 pub no_front : (d : Declaration) (words : List (List ℕ)) (before : List Said) (mistake : Mistake) → StopsAt d words before mistake
-    → ((count : ℕ) → mistake ≡ missing_argument count → ⊥) → (l : List Said) → SaysFront d words l → ⊥
-no_front d words before mistake there not l says = stops_front d words before mistake mistake there refl not there.stops l says
+    → ((count : ℕ) → mistake ≡ missing_argument count → ⊥) → ((index : ℕ) → mistake ≡ missing_option index → ⊥) → (l : List Said) → SaysFront d words l → ⊥
+no_front d words before mistake there not neither l says = stops_front d words before mistake mistake there refl not neither there.stops l says
 
--- where a positional is missing, what was read is all that is read
+-- where something is missing, what was read is all that is read
 front_is : (d : Declaration) (words : List (List ℕ)) (before : List Said) (mistake : Mistake) (there : StopsAt d words before mistake) (v : UnreadLine) → Next there.there steps.end v
     → (l : List Said) → SaysFront d words l → l ≡ before
 front_is d words before mistake there v step l says =
@@ -122,19 +124,22 @@ front_is d words before mistake there v step l says =
     append_nil (s ∷ l) = ap (λ m. s ∷ m) (append_nil l)
 
 stops_whole : (d : Declaration) (words : List (List ℕ)) (before : List Said) (mistake other : Mistake) (there : StopsAt d words before mistake) → mistake ≡ other
-    → Stops d (positional_count before) there.there other → (l : List Said) → Says d words l → ⊥
+    → Stops d before there.there other → (l : List Said) → Says d words l → ⊥
 stops_whole d words before mistake other there is (too_few v step few) l says =
     let same = front_is d words before mistake there v step l says.front in
     let enough : least d.positionals ≤ positional_count before = subst (λ m. least d.positionals ≤ positional_count m) same says.enough in
     omega arith
+stops_whole d words before mistake other there is (not_complete index v step enough first) l says =
+    let same = front_is d words before mistake there v step l says.front in
+    false≢true (sym first.absent ∙ ap (occurs index) (sym same) ∙ says.complete index first.here)
 stops_whole d words before mistake other there is (not_declared name v step none) l says =
-    stops_front d words before mistake other there is (λ count same. cc) (not_declared name v step none) l says.front
+    stops_front d words before mistake other there is (λ count same. cc) (λ index same. cc) (not_declared name v step none) l says.front
 stops_whole d words before mistake other there is (value_of_flag option value v step) l says =
-    stops_front d words before mistake other there is (λ count same. cc) (value_of_flag option value v step) l says.front
+    stops_front d words before mistake other there is (λ count same. cc) (λ index same. cc) (value_of_flag option value v step) l says.front
 stops_whole d words before mistake other there is (no_value name index option call v w step found due takes) l says =
-    stops_front d words before mistake other there is (λ count same. cc) (no_value name index option call v w step found due takes) l says.front
+    stops_front d words before mistake other there is (λ count same. cc) (λ index same. cc) (no_value name index option call v w step found due takes) l says.front
 stops_whole d words before mistake other there is (one_too_many word v step limit) l says =
-    stops_front d words before mistake other there is (λ count same. cc) (one_too_many word v step limit) l says.front
+    stops_front d words before mistake other there is (λ count same. cc) (λ index same. cc) (one_too_many word v step limit) l says.front
 
 -- nothing is read by words whose reading stops
 pub nothing_said : (d : Declaration) (words : List (List ℕ)) (before : List Said) (mistake : Mistake) → StopsAt d words before mistake → (l : List Said) → Says d words l → ⊥

@@ -16,3 +16,4 @@ pub mod Labels
 pub mod LabelTexts
 pub mod Wrapping
 pub mod OneHelp
+pub mod Shares

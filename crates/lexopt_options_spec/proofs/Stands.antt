@@ -1,7 +1,9 @@
 -- Where an option can come.
-use Rattle.std.proofs.Common.{◌≡◌, ◌≢◌, ◌<◌, ◌≤◌, ◌+◌, ◌-◌, ℕ, zero, suc, Bool, true, false, List, [], ◌∷◌, ◌++◌, map, length, filter, slice_index_or, Option, Some, None, if◌then◌else◌, encode_utf8, refl, sym, ap, subst, ◌∙◌, arith, inr, append_assoc, length-append}
+use Rattle.std.proofs.lemmas.Bool.{and_parts, eq-eqb, false≢true}
+use Rattle.std.proofs.lemmas.List.Elements.{Contains-append_right}
+use Rattle.std.proofs.Common.{◌≡◌, ◌≢◌, ◌<◌, ◌≤◌, ◌+◌, ◌-◌, ◌||◌, Contains, is_none, position, ℕ, zero, suc, Bool, true, false, List, [], ◌∷◌, ◌++◌, map, length, filter, slice_index_or, Option, Some, None, if◌then◌else◌, encode_utf8, refl, sym, ap, subst, ◌∙◌, arith, inr, append_assoc, length-append}
 use Rattle.std.specs.Char.{IsScalar}
-use Rattle.std.specs.List.{list_any}
+use Rattle.std.specs.List.{list_all, list_any}
 use Rattle.std.specs.Option.{option_map}
 use Rattle.lexopt_spec.specs.UnreadLine.{dash, IsPlain, IsNormalIn}
 use Rattle.lexopt_line_spec.specs.Table as spec
@@ -13,11 +15,13 @@ use Rattle.lexopt_line_spec.proofs.Existence.{only_one}
 use Rattle.lexopt_line_spec.proofs.Names.{spelled_shows}
 use Rattle.lexopt_line_spec.proofs.SpellerTests.{dash_first, some_bytes}
 use Rattle.lexopt_line_spec.proofs.SpellerSound.{not_plain}
-use Rattle.lexopt_options_spec.specs.Declaration.{Declaration, Declared, Positional, index_of, is_sound, table}
-use Rattle.lexopt_options_spec.specs.Legal.{Said, option, several, positional, said_item, positional_count, least, most, is_once, is_any_number, IsWithin, SaysFront}
-use Rattle.lexopt_options_spec.specs.Completion.{spelling, IsOption, IsOpen, IsText, CanStand}
+use Rattle.lexopt_options_spec.specs.Declaration.{Declaration, Declared, Positional, fault, faults, has_name, has_to_occur, index_of, is_sound, may_repeat, table}
+use Rattle.lexopt_options_spec.specs.Legal.{Said, option, several, positional, said_item, positional_count, least, most, IsWithin, SaysFront, is_required, occurs}
+use Rattle.lexopt_options_spec.specs.Legal as legal
+use Rattle.lexopt_options_spec.specs.Completion.{spelling, AreText, IsOption, IsOpen, IsText, CanStand}
 use Rattle.lexopt_options_spec.proofs.Lists.{count_append, first_same, same_somes}
-use Rattle.lexopt_options_spec.proofs.Sound.{IsGoodName, good}
+use Rattle.lexopt_options_spec.proofs.Sound.{IsGoodName, found, good}
+use Rattle.lexopt_options_spec.proofs.Tables.{kind_of_name, none_before, position_here}
 use Rattle.lexopt_options_spec.proofs.OpenLines.{OpenLine, Parts, open_to_the_end, up_to_separator, dashes, goes_on, parts}
 
 -- ---- words that are not values
@@ -77,12 +81,11 @@ blanks : ℕ → List (List ℕ)
 blanks zero = []
 blanks (suc n) = [] ∷ blanks n
 
--- the option, and then this many positionals after a separator
-spelled_line : (t : Table) (on : Bool) (name : Name) (n : ℕ) → IsText name → IsGoodName name
-    → Line exact t on (spelling name ∷ values_of (kind t name) ++ dashes ∷ blanks n) (item_for (kind t name) name ∷ map spec.positional (blanks n))
-spelled_line t on name n text is =
-    group (spelling name ∷ values_of (kind t name) ++ dashes ∷ blanks n) (dashes ∷ blanks n) (item_for (kind t name) name ∷ []) (map spec.positional (blanks n))
-    (spelled_group t on name (dashes ∷ blanks n) text is (dashes_calm (blanks n))) (separator (blanks n))
+-- the option, and then a line
+spelled_line : (t : Table) (on : Bool) (name : Name) (tail : List (List ℕ)) (items : List Item) → IsText name → IsGoodName name → ¬ IsNormalIn false tail → Line exact t on tail items
+    → Line exact t on (spelling name ∷ values_of (kind t name) ++ tail) (item_for (kind t name) name ∷ items)
+spelled_line t on name tail items text is calm line =
+    group (spelling name ∷ values_of (kind t name) ++ tail) tail (item_for (kind t name) name ∷ []) items (spelled_group t on name tail text is calm) line
 
 -- ---- what is read of it
 
@@ -112,6 +115,147 @@ counts_none i flag l = omega arith
 counts_none i one l = omega arith
 counts_none i optional l = omega arith
 counts_none i several l = omega arith
+
+occurs_once : (i : ℕ) (k : Kind) (l : List Said) → occurs i (said_for i k ∷ l) ≡ true
+unfolding said_for
+occurs_once i flag l = ap (λ b. b || occurs i l) (eq-eqb i i refl)
+occurs_once i one l = ap (λ b. b || occurs i l) (eq-eqb i i refl)
+occurs_once i optional l = ap (λ b. b || occurs i l) (eq-eqb i i refl)
+occurs_once i several l = ap (λ b. b || occurs i l) (eq-eqb i i refl)
+
+or_right : (b : Bool) → (b || true) ≡ true
+or_right true = refl
+or_right false = refl
+
+occurs_later : (i : ℕ) (s : Said) (l : List Said) → occurs i l ≡ true → occurs i (s ∷ l) ≡ true
+occurs_later i s l is = ap (λ b. legal.is_option i s || b) is ∙ or_right (legal.is_option i s)
+
+occurs_after : (i : ℕ) (l m : List Said) → occurs i m ≡ true → occurs i (l ++ m) ≡ true
+occurs_after i [] m is = is
+occurs_after i (s ∷ l) m is = occurs_later i s (l ++ m) (occurs_after i l m is)
+
+-- ---- the options that are required
+
+-- each of these options has a name
+abbrev pub AreNamed : List Declared → Type 0
+AreNamed [] = Unit {0}
+AreNamed (o ∷ os) = ((name : Name) × (has_name name o ≡ true)) × AreNamed os
+
+abbrev with_words : Bool → Name → Kind → List (List ℕ) → List (List ℕ)
+with_words true name k words = spelling name ∷ values_of k ++ words
+with_words false name k words = words
+
+abbrev with_item : Bool → Name → Kind → List Item → List Item
+with_item true name k items = item_for k name ∷ items
+with_item false name k items = items
+
+abbrev with_said : Bool → ℕ → Kind → List Said → List Said
+with_said true i k l = said_for i k ∷ l
+with_said false i k l = l
+
+-- the required ones of these options, and then these words
+abbrev required_words : (os : List Declared) → AreNamed os → List (List ℕ) → List (List ℕ)
+required_words [] named words = words
+required_words (o ∷ os) named words = with_words o.required named.0.0 o.kind (required_words os named.1 words)
+
+abbrev required_items : (os : List Declared) → AreNamed os → List Item → List Item
+required_items [] named items = items
+required_items (o ∷ os) named items = with_item o.required named.0.0 o.kind (required_items os named.1 items)
+
+-- counted from this index
+abbrev required_said : ℕ → List Declared → List Said → List Said
+required_said i [] l = l
+required_said i (o ∷ os) l = with_said o.required i o.kind (required_said (suc i) os l)
+
+-- what holds of the name of an option
+pub record IsNameOf (options : List Declared) (i : ℕ) (o : Declared) (name : Name) : Type 0 where
+  text : IsText name
+  good : IsGoodName name
+  kind_is : kind (table options) name ≡ o.kind
+  index : index_of options name ≡ Some i
+
+abbrev AreNamesOf : List Declared → ℕ → (os : List Declared) → AreNamed os → Type 0
+AreNamesOf options i [] named = Unit {0}
+AreNamesOf options i (o ∷ os) named = IsNameOf options i o named.0.0 × AreNamesOf options (suc i) os named.1
+
+first_such : (p : Declared → Bool) (before os : List Declared) (o : Declared) → list_any p before ≡ false → p o ≡ true → position p (before ++ o ∷ os) ≡ Some (length before)
+first_such p before os o none is = position_here p before os o none is
+
+named_so : (options before os : List Declared) (named : AreNamed os) → is_sound options ≡ true → AreText options → options ≡ before ++ os → list_all is_none (faults before os) ≡ true
+    → AreNamesOf options (length before) os named
+named_so options before [] named sound text are so = tt
+named_so options before (o ∷ os) named sound text are so =
+    let name = named.0.0 in
+    let has = named.0.1 in
+    let parts = and_parts (is_none (fault before o)) (list_all is_none (faults (before ++ o ∷ []) os)) so in
+    let index : index_of options name ≡ Some (length before) =
+    ap (λ (l : List Declared). index_of l name) are ∙ first_such (has_name name) before os o (none_before name before o parts.0 has) has in
+    let rest : AreNamesOf options (length (before ++ o ∷ [])) os named.1 =
+    named_so options (before ++ o ∷ []) os named.1 sound text (are ∙ sym (append_assoc before (o ∷ []) os)) parts.1 in
+    let counted : length (before ++ o ∷ []) ≡ suc (length before) = (let e = length-append before (o ∷ []) in omega (arith, e)) in (
+      record {
+        text = text name (found (has_name name) options (length before) index);
+        good = good options name (length before) sound index;
+        kind_is = kind_of_name options o sound (subst (λ (l : List Declared). Contains l o) (sym are) (Contains-append_right before (o ∷ os) o (zero, omega arith, refl))) name has;
+        index = index;
+      },
+      subst (λ n. AreNamesOf options n os named.1) counted rest,
+    )
+
+required_calm : (options : List Declared) (i : ℕ) (os : List Declared) (named : AreNamed os) (words : List (List ℕ)) → AreNamesOf options i os named → ¬ IsNormalIn false words
+    → ¬ IsNormalIn false (required_words os named words)
+required_calm options i [] named words are calm = calm
+required_calm options i (o ∷ os) named words are calm = go o.required (required_calm options (suc i) os named.1 words are.1 calm)
+  where
+    go : (b : Bool) → ¬ IsNormalIn false (required_words os named.1 words) → ¬ IsNormalIn false (with_words b named.0.0 o.kind (required_words os named.1 words))
+    go true rest = not_normal named.0.0 are.0.text (values_of o.kind ++ required_words os named.1 words)
+    go false rest = rest
+
+required_line : (options : List Declared) (on : Bool) (i : ℕ) (os : List Declared) (named : AreNamed os) (words : List (List ℕ)) (items : List Item) → AreNamesOf options i os named → ¬ IsNormalIn false words
+    → Line exact (table options) on words items → Line exact (table options) on (required_words os named words) (required_items os named items)
+required_line options on i [] named words items are calm line = line
+required_line options on i (o ∷ os) named words items are calm line = go o.required (required_line options on (suc i) os named.1 words items are.1 calm line)
+  where
+    name : Name
+    name = named.0.0
+
+    go : (b : Bool) → Line exact (table options) on (required_words os named.1 words) (required_items os named.1 items)
+        → Line exact (table options) on (with_words b name o.kind (required_words os named.1 words)) (with_item b name o.kind (required_items os named.1 items))
+    go true rest =
+        subst (λ (k : Kind). Line exact (table options) on (spelling name ∷ values_of k ++ required_words os named.1 words) (item_for k name ∷ required_items os named.1 items)) are.0.kind_is
+        (spelled_line (table options) on name (required_words os named.1 words) (required_items os named.1 items) are.0.text are.0.good (required_calm options (suc i) os named.1 words are.1 calm) rest)
+    go false rest = rest
+
+required_are : (options : List Declared) (i : ℕ) (os : List Declared) (named : AreNamed os) (items : List Item) (l : List Said) → AreNamesOf options i os named
+    → map (said_item options) items ≡ map (λ s. Some s) l → map (said_item options) (required_items os named items) ≡ map (λ s. Some s) (required_said i os l)
+required_are options i [] named items l are is = is
+required_are options i (o ∷ os) named items l are is = go o.required (required_are options (suc i) os named.1 items l are.1 is)
+  where
+    go : (b : Bool) → map (said_item options) (required_items os named.1 items) ≡ map (λ s. Some s) (required_said (suc i) os l)
+        → map (said_item options) (with_item b named.0.0 o.kind (required_items os named.1 items)) ≡ map (λ s. Some s) (with_said b i o.kind (required_said (suc i) os l))
+    go true rest = ap (λ z. z ∷ map (said_item options) (required_items os named.1 items)) (is_said options named.0.0 i o.kind are.0.index) ∙ ap (λ zs. Some (said_for i o.kind) ∷ zs) rest
+    go false rest = rest
+
+required_counts : (i : ℕ) (os : List Declared) (l : List Said) → positional_count (required_said i os l) ≡ positional_count l
+required_counts i [] l = refl
+required_counts i (o ∷ os) l = go o.required (required_counts (suc i) os l)
+  where
+    go : (b : Bool) → positional_count (required_said (suc i) os l) ≡ positional_count l → positional_count (with_said b i o.kind (required_said (suc i) os l)) ≡ positional_count l
+    go true rest = counts_none i o.kind (required_said (suc i) os l) ∙ rest
+    go false rest = rest
+
+required_occur : (i : ℕ) (os : List Declared) (l : List Said) (j : ℕ) → is_required os j ≡ true → occurs (i + j) (required_said i os l) ≡ true
+required_occur i [] l j is = absurd (false≢true is)
+required_occur i (o ∷ os) l zero is = go o.required is
+  where
+    go : (b : Bool) → b ≡ true → occurs (i + 0) (with_said b i o.kind (required_said (suc i) os l)) ≡ true
+    go true is = subst (λ n. occurs n (said_for i o.kind ∷ required_said (suc i) os l) ≡ true) (omega arith) (occurs_once i o.kind (required_said (suc i) os l))
+    go false is = absurd (false≢true is)
+required_occur i (o ∷ os) l (suc j) is = go o.required (subst (λ n. occurs n (required_said (suc i) os l) ≡ true) (omega arith) (required_occur (suc i) os l j is))
+  where
+    go : (b : Bool) → occurs (i + suc j) (required_said (suc i) os l) ≡ true → occurs (i + suc j) (with_said b i o.kind (required_said (suc i) os l)) ≡ true
+    go true rest = occurs_later (i + suc j) (said_for i o.kind) (required_said (suc i) os l) rest
+    go false rest = rest
 
 words_said : (options : List Declared) (words : List (List ℕ)) → map (said_item options) (map spec.positional words) ≡ map (λ s. Some s) (map positional words)
 words_said options [] = refl
@@ -143,11 +287,11 @@ filter_small p (x ∷ ps) = small (p x) (filter_small p ps)
     small false le = omega arith
 
 least_within : (ps : List Positional) → IsWithin (least ps) (most ps)
-least_within ps = within (list_any (λ p. is_any_number p.count) ps)
+least_within ps = within (list_any (λ p. may_repeat p.count) ps)
   where
     within : (b : Bool) → IsWithin (least ps) (if b then None else Some (length ps))
     within true = tt
-    within false = filter_small (λ p. is_once p.count) ps
+    within false = filter_small (λ p. has_to_occur p.count) ps
 
 -- as many more as are missing
 enough_within : (ps : List Positional) (n : ℕ) → IsWithin n (most ps) → IsWithin (n + (least ps - n)) (most ps)
@@ -194,17 +338,24 @@ open_line d words l is = go (parts exact (table d.options) d.short_equals words 
     go (up_to_separator before rest front are items_are opens) =
         absurd (longer l (positional dashes) [] (sym (later_positionals d words before rest (dashes ∷ []) front l l is.front are items_are opens is.with_separator)))
 
-pub can_stand : (d : Declaration) (words : List (List ℕ)) (l : List Said) (name : Name) (i : ℕ) → is_sound d.options ≡ true → IsOpen d words l → index_of d.options name ≡ Some i → IsText name
-    → CanStand d words (spelling name)
-can_stand d words l name i sound is found text =
+pub can_stand : (d : Declaration) (words : List (List ℕ)) (l : List Said) (name : Name) (i : ℕ) → is_sound d.options ≡ true → AreText d.options → AreNamed d.options → IsOpen d words l
+    → index_of d.options name ≡ Some i → IsText name → CanStand d words (spelling name)
+can_stand d words l name i sound utf8 names is found text =
     let t = table d.options in
     let k = kind t name in
     let n = least d.positionals - positional_count l in
     let opens = open_line d words l is in
-    let rest = values_of k ++ dashes ∷ blanks n in
     let named = good d.options name i sound found in
-    let counted : positional_count (l ++ said_for i k ∷ map positional (blanks n)) ≡ positional_count l + n =
-    count_append l (said_for i k ∷ map positional (blanks n)) ∙ ap (λ m. positional_count l + m) (counts_none i k (map positional (blanks n)) ∙ blank_count n) in
+    let are = named_so d.options [] d.options names sound utf8 refl sound in
+    let positionals : List Item = map spec.positional (blanks n) in
+    let end : Line exact t d.short_equals (dashes ∷ blanks n) positionals = separator (blanks n) in
+    let more = required_words d.options names (dashes ∷ blanks n) in
+    let more_items = required_items d.options names positionals in
+    let more_said = required_said 0 d.options (map positional (blanks n)) in
+    let calm = required_calm d.options 0 d.options names (dashes ∷ blanks n) are (dashes_calm (blanks n)) in
+    let rest = values_of k ++ more in
+    let counted : positional_count (l ++ said_for i k ∷ more_said) ≡ positional_count l + n =
+    count_append l (said_for i k ∷ more_said) ∙ ap (λ m. positional_count l + m) (counts_none i k more_said ∙ required_counts 0 d.options (map positional (blanks n)) ∙ blank_count n) in
     record {
       name = name;
       index = i;
@@ -212,21 +363,23 @@ can_stand d words l name i sound is found text =
       spelled = refl;
       before = l;
       said = said_for i k;
-      later = map positional (blanks n);
+      later = more_said;
       rest = rest;
       is = is_option i k;
       words_say = is.front;
       line_says = record {
         front = record {
-          items = is.front.items ++ item_for k name ∷ map spec.positional (blanks n);
-          spelled = goes_on exact t d.short_equals words (spelling name ∷ rest) is.front.items (item_for k name ∷ map spec.positional (blanks n)) (not_normal name text rest) opens
-              (spelled_line t d.short_equals name n text named);
-          said = both_said d.options is.front.items (item_for k name ∷ map spec.positional (blanks n)) l (said_for i k ∷ map positional (blanks n)) is.front.said
-              (both_said d.options (item_for k name ∷ []) (map spec.positional (blanks n)) (said_for i k ∷ []) (map positional (blanks n))
-              (ap (λ s. s ∷ []) (is_said d.options name i k found)) (words_said d.options (blanks n)));
+          items = is.front.items ++ item_for k name ∷ more_items;
+          spelled = goes_on exact t d.short_equals words (spelling name ∷ rest) is.front.items (item_for k name ∷ more_items) (not_normal name text rest) opens
+              (spelled_line t d.short_equals name more more_items text named calm (required_line d.options d.short_equals 0 d.options names (dashes ∷ blanks n) positionals are (dashes_calm (blanks n)) end));
+          said = both_said d.options is.front.items (item_for k name ∷ more_items) l (said_for i k ∷ more_said) is.front.said
+              (both_said d.options (item_for k name ∷ []) more_items (said_for i k ∷ []) more_said
+              (ap (λ s. s ∷ []) (is_said d.options name i k found)) (required_are d.options 0 d.options names positionals (map positional (blanks n)) are (words_said d.options (blanks n))));
           within = subst (λ m. IsWithin m (most d.positionals)) (sym counted) (enough_within d.positionals (positional_count l) is.front.within);
         };
         enough = subst (λ m. least d.positionals ≤ m) (sym counted) (omega arith);
+        complete = λ j is_needed. occurs_after j l (said_for i k ∷ more_said) (occurs_later j (said_for i k) more_said
+            (subst (λ m. occurs m more_said ≡ true) (omega arith) (required_occur 0 d.options (map positional (blanks n)) j is_needed)));
       };
     }
 

@@ -1,5 +1,7 @@
 -- In the table of a sound declaration each option has its own kind.
-use Rattle.std.proofs.Common.{◌≡◌, ◌⊎◌, ℕ, ◌==◌, ◌||◌, ◌&&◌, suc, zero, Bool, true, false, cond, List, [], ◌∷◌, ◌++◌, Option, Some, None, refl, sym, ap, subst, ◌∙◌, arith, inl, inr, true≢false}
+use Rattle.std.specs.List.{position_or_len}
+use Rattle.std.proofs.lemmas.Bool.{lt-ltb}
+use Rattle.std.proofs.Common.{position, nat_lt, not, ◌+◌, length, length-append, if◌then◌else◌, ◌≡◌, ◌⊎◌, ℕ, ◌==◌, ◌||◌, ◌&&◌, suc, zero, Bool, true, false, cond, List, [], ◌∷◌, ◌++◌, Option, Some, None, refl, sym, ap, subst, ◌∙◌, arith, inl, inr, true≢false}
 use Rattle.std.proofs.lemmas.Bool.{eq-eqb, eqb-true, and_parts, or_parts}
 use Rattle.std.specs.Prelude.{Contains, is_none}
 use Rattle.std.specs.Option.{option_to_list}
@@ -210,3 +212,24 @@ kind_of_name options o sound there name has =
     ∙ ap (λ b. cond (is_kind one o.kind) one (cond b optional (cond (holds several options name) several flag))) (held optional)
     ∙ ap (λ b. cond (is_kind one o.kind) one (cond (is_kind optional o.kind) optional (cond b several flag))) (held several)
     ∙ chosen o.kind
+
+-- ---- the place of a name
+
+-- none before an option that can be declared has a name of it
+pub none_before : (name : Name) (before : List Declared) (o : Declared) → is_none (fault before o) ≡ true → has_name name o ≡ true → list_any (has_name name) before ≡ false
+none_before name before o sound has =
+    elim (list_any (has_name name) before) as (λ v. list_any (has_name name) before ≡ v → v ≡ false) [
+      | true ↦ λ there. absurd (true≢false (sym has ∙ new_names name before o sound there))
+      | false ↦ λ none. refl
+    ] refl
+
+pub position_here : (p : Declared → Bool) (before os : List Declared) (o : Declared) → list_any p before ≡ false → p o ≡ true → position p (before ++ o ∷ os) ≡ Some (length before)
+position_here p before os o none is =
+    let at = len_here before none in
+    ap (λ n. if nat_lt n (length (before ++ o ∷ os)) then Some n else None) at ∙ ap (λ b. if b then Some (length before) else None) (lt-ltb _ _ (omega (arith, length-append before (o ∷ os))))
+  where
+    len_here : (before : List Declared) → list_any p before ≡ false → position_or_len p (before ++ o ∷ os) ≡ length before
+    len_here [] none = ap (λ b. if not b then 1 + position_or_len p os else 0) is
+    len_here (x ∷ xs) none =
+        let parts = or_parts (p x) (list_any p xs) none in
+        ap (λ b. if not b then 1 + position_or_len p (xs ++ o ∷ os) else 0) parts.0 ∙ ap (λ n. 1 + n) (len_here xs parts.1) ∙ omega arith

@@ -2,7 +2,7 @@
 -- The source is `docs/behaviour.md`. Names are without their dashes, texts are their UTF-8.
 use Rattle.std.specs.Prelude.{◌≡◌, ℕ, Bool, true, false, ◌==◌, ◌||◌, ◌&&◌, not, List, [], ◌∷◌, ◌++◌}
 use Rattle.std.specs.Prelude.{Option, Some, None, is_none, position, slice_get, take, if◌then◌else◌}
-use Rattle.std.specs.Prelude.{nat_lt}
+use Rattle.std.specs.Prelude.{filter, length, nat_lt}
 use Rattle.std.specs.Option.{option_to_list}
 use Rattle.std.specs.List.{flat_map, list_all, list_any}
 use Rattle.std.specs.Cmp.Lexicographic.{pointwise}
@@ -29,12 +29,29 @@ pub record Declared : Type 0 where
   pub asks : Option Asked
   -- the help leaves it out
   pub hidden : Bool
+  -- it has to occur
+  pub required : Bool
 
 -- how often a positional argument may occur
 pub data Count : Type 0 where
   once : Count
   at_most_once : Count
   any_number : Count
+  at_least_once : Count
+
+-- it cannot be left out
+abbrev pub has_to_occur : Count → Bool
+has_to_occur once = true
+has_to_occur at_most_once = false
+has_to_occur any_number = false
+has_to_occur at_least_once = true
+
+-- it may occur more than once
+abbrev pub may_repeat : Count → Bool
+may_repeat once = false
+may_repeat at_most_once = false
+may_repeat any_number = true
+may_repeat at_least_once = true
 
 pub record Positional : Type 0 where
   pub placeholder : List ℕ
@@ -186,7 +203,20 @@ faults before (o ∷ os) = fault before o ∷ faults (before ++ o ∷ []) os
 abbrev pub is_sound : List Declared → Bool
 is_sound options = list_all is_none (faults [] options)
 
+-- these positionals can be declared together: one of them at most may occur more than once
+abbrev pub are_clear : List Positional → Bool
+are_clear [] = true
+are_clear (p ∷ ps) =
+    if may_repeat p.count then not (list_any (λ q. may_repeat q.count) ps) else are_clear ps
+
 -- this option, counted from 0, is the first that cannot be declared after those before it, and why
 pub record IsFirstFault (options : List Declared) (index : ℕ) (reason : Reason) : Type 0 where
   pub here : slice_get (faults [] options) index ≡ Some (Some reason)
   pub before : list_all is_none (take index (faults [] options)) ≡ true
+
+-- this positional, counted from 0, is the second that may occur more than once
+pub record IsSecondRepeated (positionals : List Positional) (index : ℕ) : Type 0 where
+  pub positional : Positional
+  pub here : slice_get positionals index ≡ Some positional
+  pub repeats : may_repeat positional.count ≡ true
+  pub before : length (filter (λ p. may_repeat p.count) (take index positionals)) ≡ 1

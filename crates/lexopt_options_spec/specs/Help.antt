@@ -13,7 +13,7 @@ use Rattle.lexopt_line_spec.specs.Spelling.{After, Completes}
 use Rattle.lexopt_line_spec.specs.Table.{Item, Name, option, many, positional, short, long}
 use Rattle.lexopt_line_spec.specs.Table.{Kind, flag, one, optional, several}
 use Rattle.lexopt_options_spec.specs.Declaration.{Declared, Declaration, Positional, Count, once}
-use Rattle.lexopt_options_spec.specs.Declaration.{at_most_once, any_number, is_empty}
+use Rattle.lexopt_options_spec.specs.Declaration.{at_least_once, at_most_once, any_number, is_empty}
 
 -- ---- columns
 
@@ -226,22 +226,41 @@ pub record IsEntry (width : ℕ) (label help text : List ℕ) : Type 0 where
 abbrev pub visible : List Declared → List Declared
 visible options = filter (λ o. not o.hidden) options
 
--- a mark for the options, if there are any
+-- those that may be left out, and those that are required
+abbrev pub voluntary : List Declared → List Declared
+voluntary options = filter (λ o. not o.required) options
+
+abbrev pub demanded : List Declared → List Declared
+demanded options = filter (λ o. o.required) options
+
+-- a mark for these options, if there are any
 abbrev pub options_mark : List Declared → List (List ℕ)
 options_mark [] = []
 options_mark (o ∷ os) = codes "[OPTION]..." ∷ []
+
+-- an option with its value: by its long name, or by its character if it has no long name
+abbrev pub mark_of : Option ℕ → Option (List ℕ) → Kind → List ℕ → List ℕ
+mark_of None None k value = []
+mark_of (Some c) None k value = codes "-" ++ encode_utf8 c ++ after_short k value
+mark_of c (Some name) k value = codes "--" ++ name ++ after_long k value
+
+abbrev pub option_mark : Declared → List ℕ
+option_mark o = mark_of o.short_name o.long_name o.kind o.placeholder
 
 abbrev pub counted : Count → List ℕ → List ℕ
 counted once placeholder = placeholder
 counted at_most_once placeholder = codes "[" ++ placeholder ++ codes "]"
 counted any_number placeholder = codes "[" ++ placeholder ++ codes "]..."
+counted at_least_once placeholder = placeholder ++ codes "..."
 
 abbrev pub positional_mark : Positional → List ℕ
 positional_mark p = counted p.count p.placeholder
 
--- the name of the program, and what it can be called with
+-- the name of the program, and what it can be called with: a mark for the options that may be left
+-- out, each that is required, and the positionals
 abbrev pub usage_words : Declaration → List (List ℕ)
-usage_words d = d.program ∷ options_mark (visible d.options) ++ map positional_mark d.positionals
+usage_words d = d.program ∷ options_mark (voluntary (visible d.options))
+    ++ map option_mark (demanded (visible d.options)) ++ map positional_mark d.positionals
 
 -- the column where they begin
 abbrev pub usage_column : ℕ

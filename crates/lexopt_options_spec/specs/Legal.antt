@@ -1,14 +1,14 @@
 -- Which words mean what, under a declaration: from items to words, with no call and no state.
 -- The source is `docs/behaviour.md`.
-use Rattle.std.specs.Prelude.{◌≡◌, ◌≤◌, ◌+◌, ℕ, Bool, true, false, List, [], ◌∷◌, length, filter}
-use Rattle.std.specs.Prelude.{map, Option, Some, None, if◌then◌else◌}
+use Rattle.std.specs.Prelude.{◌≡◌, ◌≤◌, ◌+◌, ◌==◌, ℕ, Bool, true, false, List, [], ◌∷◌, length}
+use Rattle.std.specs.Prelude.{filter, map, Option, Some, None, if◌then◌else◌, slice_get, unwrap_or}
 use Rattle.std.specs.List.{list_any}
 use Rattle.std.specs.Option.{option_map}
 use Rattle.lexopt_line_spec.specs.Table as spec
 use Rattle.lexopt_line_spec.specs.Table.{Item}
 use Rattle.lexopt_line_spec.specs.Spelling.{Spells}
-use Rattle.lexopt_options_spec.specs.Declaration.{Declared, Declaration, Positional, Count, once}
-use Rattle.lexopt_options_spec.specs.Declaration.{at_most_once, any_number, index_of, table}
+use Rattle.lexopt_options_spec.specs.Declaration.{Declared, Declaration, Positional, has_to_occur}
+use Rattle.lexopt_options_spec.specs.Declaration.{index_of, may_repeat, table}
 
 -- what is read from a line, in order: an option by its index in the declaration, whichever of its
 -- names was typed, with its value if it has one; an option of several values with all of them; or a
@@ -38,31 +38,37 @@ abbrev pub positional_count : List Said → ℕ
 positional_count [] = 0
 positional_count (s ∷ ss) = counts s + positional_count ss
 
-abbrev pub is_once : Count → Bool
-is_once once = true
-is_once at_most_once = false
-is_once any_number = false
-
-abbrev pub is_any_number : Count → Bool
-is_any_number once = false
-is_any_number at_most_once = false
-is_any_number any_number = true
-
 -- those that cannot be left out
 abbrev pub required : List Positional → List Positional
-required ps = filter (λ p. is_once p.count) ps
+required ps = filter (λ p. has_to_occur p.count) ps
 
 -- at least this many positionals have to occur
 abbrev pub least : List Positional → ℕ
 least ps = length (required ps)
 
--- and at most: there is no limit if one of them may occur any number of times
+-- and at most: there is no limit if one of them may occur more than once
 abbrev pub most : List Positional → Option ℕ
-most ps = if list_any (λ p. is_any_number p.count) ps then None else Some (length ps)
+most ps = if list_any (λ p. may_repeat p.count) ps then None else Some (length ps)
 
 abbrev pub IsWithin : ℕ → Option ℕ → Type 0
 IsWithin n None = Unit {0}
 IsWithin n (Some limit) = n ≤ limit
+
+-- ---- which options there are
+
+-- what is read is the option of this index
+abbrev pub is_option : ℕ → Said → Bool
+is_option i (option j value) = j == i
+is_option i (several j values) = j == i
+is_option i (positional word) = false
+
+-- the option of this index is among these
+abbrev pub occurs : ℕ → List Said → Bool
+occurs i l = list_any (is_option i) l
+
+-- the option of this index has to occur
+abbrev pub is_required : List Declared → ℕ → Bool
+is_required options i = unwrap_or (option_map (λ o. o.required) (slice_get options i)) false
 
 -- ---- a whole line
 
@@ -74,7 +80,8 @@ pub record SaysFront (d : Declaration) (words : List (List ℕ)) (l : List Said)
   pub said : map (said_item d.options) items ≡ map (λ s. Some s) l
   pub within : IsWithin (positional_count l) (most d.positionals)
 
--- and as many positionals as are declared
+-- and as many positionals as are declared, and each option that is required
 pub record Says (d : Declaration) (words : List (List ℕ)) (l : List Said) : Type 0 where
   pub front : SaysFront d words l
   pub enough : least d.positionals ≤ positional_count l
+  pub complete : (i : ℕ) → is_required d.options i ≡ true → occurs i l ≡ true

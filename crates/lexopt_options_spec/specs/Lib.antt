@@ -1,8 +1,10 @@
 pub mod Declaration
 pub mod Declarable
 pub mod Legal
+pub mod Places
 pub mod Stops
 pub mod Asking
 pub mod Nearest
 pub mod Completion
 pub mod Help
+pub mod Examples

@@ -1,6 +1,6 @@
 -- Where the reading of a line that is not legal stops, and why.
 -- The source is `docs/behaviour.md`.
-use Rattle.std.specs.Prelude.{◌≡◌, ◌<◌, ℕ, List, [], map, Some, None, slice_get}
+use Rattle.std.specs.Prelude.{◌≡◌, ◌≤◌, ◌<◌, ℕ, true, false, List, [], map, Some, None, slice_get}
 use Rattle.std.specs.Prelude.{slice_index_or, unwrap_or}
 use Rattle.std.specs.Option.{option_map}
 use Rattle.lexopt_spec.specs.UnreadLine.{UnreadLine, IsLine}
@@ -11,8 +11,8 @@ use Rattle.lexopt_line_spec.specs.Table.{Item, Name, kind}
 use Rattle.lexopt_line_spec.specs.Readings.{IsDue, SaysUpTo, option_reply, start}
 use Rattle.lexopt_options_spec.specs.Declaration.{Declaration, Declared, Positional, index_of}
 use Rattle.lexopt_options_spec.specs.Declaration.{table}
-use Rattle.lexopt_options_spec.specs.Legal.{IsWithin, Said, least, most, positional_count}
-use Rattle.lexopt_options_spec.specs.Legal.{required, said_item}
+use Rattle.lexopt_options_spec.specs.Legal.{IsWithin, Said, is_required, least, most, occurs}
+use Rattle.lexopt_options_spec.specs.Legal.{positional_count, required, said_item}
 
 -- what is wrong with a line
 pub data Mistake : Type 0 where
@@ -26,6 +26,8 @@ pub data Mistake : Type 0 where
   unexpected_argument : List ℕ → Mistake
   -- fewer positionals than are required: this many are there
   missing_argument : ℕ → Mistake
+  -- the option of this index is required and is not there
+  missing_option : ℕ → Mistake
 
 -- the line u was read up to the line v, and what was read means this: options that are declared,
 -- and no more positionals than are declared
@@ -37,28 +39,38 @@ pub record ReadsUpTo (d : Declaration) (u : UnreadLine) (l : List Said) (v : Unr
   pub said : map (said_item d.options) items ≡ map (λ s. Some s) l
   pub within : IsWithin (positional_count l) (most d.positionals)
 
--- With this many positionals before it, the line cannot be read on, and this is why. Of an option
--- that is not declared nothing more is read than its name.
-pub data Stops (d : Declaration) (count : ℕ) (u : UnreadLine) : Mistake → Type 0 where
+-- the option of this index is the first that is required and is not among these
+pub record IsFirstMissing (options : List Declared) (l : List Said) (index : ℕ) : Type 0 where
+  pub here : is_required options index ≡ true
+  pub absent : occurs index l ≡ false
+  pub first : (i : ℕ) → i < index → is_required options i ≡ true → occurs i l ≡ true
+
+-- After this was read, the line cannot be read on, and this is why. Of an option that is not
+-- declared nothing more is read than its name.
+pub data Stops (d : Declaration) (l : List Said) (u : UnreadLine) : Mistake → Type 0 where
   not_declared : (name : Name) (v : UnreadLine) → Next u (option_reply name) v
-      → index_of d.options name ≡ None → Stops d count u (unknown_option name)
+      → index_of d.options name ≡ None → Stops d l u (unknown_option name)
   value_of_flag : (option value : List ℕ) (v : UnreadLine) → Next u (steps.unexpected option value) v
-      → Stops d count u (unexpected_value option value)
+      → Stops d l u (unexpected_value option value)
   no_value : (name : Name) (index : ℕ) (option : List ℕ) (call : Call) (v w : UnreadLine)
       → Next u (option_reply name) v → index_of d.options name ≡ Some index
       → IsDue (kind (table d.options) name) call → Step call v (steps.missing (Some option)) w
-      → Stops d count u (missing_value index option)
+      → Stops d l u (missing_value index option)
   one_too_many : (word : List ℕ) (v : UnreadLine) → Next u (steps.positional word) v
-      → most d.positionals ≡ Some count → Stops d count u (unexpected_argument word)
-  too_few : (v : UnreadLine) → Next u steps.end v → count < least d.positionals
-      → Stops d count u (missing_argument count)
+      → most d.positionals ≡ Some (positional_count l) → Stops d l u (unexpected_argument word)
+  too_few : (v : UnreadLine) → Next u steps.end v → positional_count l < least d.positionals
+      → Stops d l u (missing_argument (positional_count l))
+  -- no positional is missing
+  not_complete : (index : ℕ) (v : UnreadLine) → Next u steps.end v
+      → least d.positionals ≤ positional_count l → IsFirstMissing d.options l index
+      → Stops d l u (missing_option index)
 
 -- These words are read up to this mistake, and mean this before it.
 pub record StopsAt (d : Declaration) (words : List (List ℕ)) (before : List Said)
     (mistake : Mistake) : Type 0 where
   pub there : UnreadLine
   pub read : ReadsUpTo d (start d.short_equals words) before there
-  pub stops : Stops d (positional_count before) there mistake
+  pub stops : Stops d before there mistake
 
 -- the placeholder of the value of the option of this index
 abbrev pub placeholder_at : List Declared → ℕ → List ℕ

@@ -1,10 +1,12 @@
 //! Worked examples of the help, computed by the definitions.
 ghost use Rattle.std.specs.Prelude.{◌≡◌, ◌∷◌, ◌++◌, [], None, Some, codes, false, true};
 ghost use Rattle.lexopt_line_spec.specs.Table.{flag, one, optional, several};
-ghost use Rattle.lexopt_options_spec.specs.Declaration.{any_number, at_most_once, once};
+ghost use Rattle.lexopt_options_spec.specs.Declaration.{any_number, at_least_once, at_most_once};
+ghost use Rattle.lexopt_options_spec.specs.Declaration.{once};
 ghost use Rattle.lexopt_options_spec.specs.Help.{below, columns, described, help_column, label_of};
-ghost use Rattle.lexopt_options_spec.specs.Help.{line_feed, paragraph, set_apart, usage_words};
-ghost use Rattle.lexopt_options_spec.specs.Help.{words_of};
+ghost use Rattle.lexopt_options_spec.specs.Help.{line_feed, mark_of, option_mark, paragraph};
+ghost use Rattle.lexopt_options_spec.specs.Help.{set_apart, usage_words, words_of};
+ghost use Rattle.lexopt_options_spec.specs.Examples.{demanded_option};
 
 /// The labels of options with one name and with both.
 pub fn labels_look_so()
@@ -62,6 +64,7 @@ pub fn usage_lines_have_these_words()
         help = [];
         asks = None;
         hidden = false;
+        required = false;
       } ∷ [];
       positionals = [];
       epilogue = [];
@@ -78,7 +81,49 @@ pub fn usage_lines_have_these_words()
         help = [];
         asks = None;
         hidden = true;
+        required = false;
       } ∷ [];
+      positionals = [];
+      epilogue = [];
+      short_equals = true;
+    }) ≡ codes "pack" ∷ [] }
+{}
+
+/// A required option is shown, by its long name or by its character; the mark is for the others
+/// alone. A hidden option is not shown. A positional that occurs at least once has dots after it.
+pub fn usage_lines_show_what_is_required()
+    ensures long { option_mark (demanded_option (Some 0x75) (Some (codes "user")) one (codes "NAME"))
+        ≡ codes "--user=NAME" }
+    ensures short { option_mark (demanded_option (Some 0x75) None one (codes "NAME"))
+        ≡ codes "-u NAME" }
+    ensures flag { option_mark (demanded_option None (Some (codes "yes")) flag [])
+        ≡ codes "--yes" }
+    ensures several { option_mark (demanded_option (Some 0x78) (Some (codes "exclude")) several
+        (codes "GLOB")) ≡ codes "--exclude=GLOB..." }
+    ensures no_name { mark_of None None flag [] ≡ [] }
+    ensures words { usage_words (record {
+      program = codes "pack";
+      about = [];
+      options = demanded_option (Some 0x75) (Some (codes "user")) one (codes "NAME") ∷ [];
+      positionals = record { placeholder = codes "SOURCE"; count = at_least_once; help = [] }
+          ∷ record { placeholder = codes "DEST"; count = once; help = [] } ∷ [];
+      epilogue = [];
+      short_equals = true;
+    }) ≡ codes "pack" ∷ codes "--user=NAME" ∷ codes "SOURCE..." ∷ codes "DEST" ∷ [] }
+    ensures every_one { usage_words (record {
+      program = codes "pack";
+      about = [];
+      options = demanded_option (Some 0x75) (Some (codes "user")) one (codes "NAME")
+          ∷ record (demanded_option (Some 0x76) None flag []) { required = false }
+          ∷ demanded_option (Some 0x78) None several (codes "GLOB") ∷ [];
+      positionals = [];
+      epilogue = [];
+      short_equals = true;
+    }) ≡ codes "pack" ∷ codes "[OPTION]..." ∷ codes "--user=NAME" ∷ codes "-x GLOB..." ∷ [] }
+    ensures hidden { usage_words (record {
+      program = codes "pack";
+      about = [];
+      options = record (demanded_option None (Some (codes "yes")) flag []) { hidden = true } ∷ [];
       positionals = [];
       epilogue = [];
       short_equals = true;

@@ -24,8 +24,9 @@ use Rattle.test_callers.specs.declared.declared.Flag.{Flag}
 use Rattle.test_callers.specs.declared.declared.Value.{Value}
 use Rattle.test_callers.specs.declared.declared.Maybe.{Maybe}
 use Rattle.test_callers.specs.declared.declared.Values.{Values}
+use Rattle.test_callers.specs.declared.declared.Word.{Word}
 use Rattle.test_callers.specs.Tool.{AreBoth, AreInOrder, IsAskedFor, IsOffer, IsSameRole, IsScript, NoShellAsks, ToolAnswer, line_if, tool}
-use Rattle.test_callers.proofs.Tool.{refused_as, says}
+use Rattle.test_callers.proofs.Tool.{AreOfTool, refused_as, says}
 
 pub same_role : (options : List (Declared Flag Value Maybe Values)) (r : Option completion.Role) (found : Option (Role Flag Value Maybe Values)) → IsRoleAt options r found → IsSameRole r found
 same_role options None None is = is
@@ -65,7 +66,7 @@ value options None (Some o) is = absurd is
 value options (Some i) None is = absurd is
 value options (Some i) (Some o) is = refl
 
-offer : (o : Options Flag Value Maybe Values) (words : List (List ℕ)) (text : List ℕ) → declaration_of o ≡ tool → IsCompletionText o words text → IsOffer words text
+offer : (o : Options Flag Value Word Maybe Values) (words : List (List ℕ)) (text : List ℕ) → declaration_of o ≡ tool → IsCompletionText o words text → IsOffer words text
 offer o words text view is =
     let c : Completion Flag Value Maybe Values = is.2 in
     let done : IsCompletion o is.0 is.1 c = is.4 in
@@ -86,7 +87,7 @@ offer o words text view is =
           ∙ ap (λ x. flat_map (λ (s : List ℕ). s ++ 10 ∷ []) (map string_bytes c.spellings.items) ++ line_if done.role (codes "files\n") ++ x) (value (options_of o) done.index c.joined done.joined);
     }
 
-script : (o : Options Flag Value Maybe Values) (words : List (List ℕ)) (text : List ℕ) → declaration_of o ≡ tool → IsScriptText o words text → IsScript words text
+script : (o : Options Flag Value Word Maybe Values) (words : List (List ℕ)) (text : List ℕ) → declaration_of o ≡ tool → IsScriptText o words text → IsScript words text
 script o words text view (Bash, asks, is) = inl (asks, subst (λ (d : Declaration). text ≡ bash_script d.program ++ 10 ∷ []) view is)
 script o words text view (Zsh, asks, is) = inr (inl (asks, subst (λ (d : Declaration). text ≡ zsh_script d.program ++ 10 ∷ []) view is))
 script o words text view (Fish, asks, is) = inr (inr (asks, subst (λ (d : Declaration). text ≡ fish_script d.program ++ 10 ∷ []) view is))
@@ -98,11 +99,11 @@ asked_for : (words : List (List ℕ)) (width : ℕ) (text : List ℕ) → AskFor
 asked_for words width text (for_help, asks, is) = inl (asks, is)
 asked_for words width text (for_version version, asks, is) = inr (version, asks, is)
 
-pub answered : (o : Options Flag Value Maybe Values) (words : List (List ℕ)) (width : ℕ) (a : Answer Flag Value Maybe Values) → declaration_of o ≡ tool → IsAnswer o words width a
+pub answered : (o : Options Flag Value Word Maybe Values) (words : List (List ℕ)) (width : ℕ) (a : Answer Flag Value Word Maybe Values) → AreOfTool o → IsAnswer o words width a
     → ToolAnswer words width a
-answered o words width (answer.Said own) view is = (ordinary words is.0, says o words own.items view is.1)
-answered o words width (answer.Text text) view (inl (inl is)) = inl (offer o words (string_bytes text) view is)
-answered o words width (answer.Text text) view (inl (inr is)) = inr (inl (script o words (string_bytes text) view is))
-answered o words width (answer.Text text) view (inr is) =
-    inr (inr (ordinary words is.0, asked_for words width (string_bytes text) (subst (λ (d : Declaration). AskForText d words width (string_bytes text)) view is.1)))
-answered o words width (answer.Refused refused) view is = (ordinary words is.0, refused_as o words refused view is.1)
+answered o words width (answer.Said own) its is = (ordinary words is.0, says o words own.items its is.1)
+answered o words width (answer.Text text) its (inl (inl is)) = inl (offer o words (string_bytes text) its.view is)
+answered o words width (answer.Text text) its (inl (inr is)) = inr (inl (script o words (string_bytes text) its.view is))
+answered o words width (answer.Text text) its (inr is) =
+    inr (inr (ordinary words is.0, asked_for words width (string_bytes text) (subst (λ (d : Declaration). AskForText d words width (string_bytes text)) its.view is.1)))
+answered o words width (answer.Refused refused) its is = (ordinary words is.0, refused_as o words refused its is.1)

@@ -85,20 +85,20 @@ values_first eq key options = first (is_values eq key) (has_values eq key) optio
 
 -- ---- keys
 
-one_key : {F V M S : Type 0} (options : List (Declared F V M S)) (s : legal.Said) (own : Said F V M S) → IsSaid options s own → HasKey options s own
+one_key : {F V P M S : Type 0} (options : List (Declared F V M S)) (s : legal.Said) (own : Said F V P M S) → IsSaid options s own → HasKey options s own
 one_key options s (said.Flag key) is = is
 one_key options s (said.Value key word) is = is
 one_key options s (said.Maybe key value) is = is
 one_key options s (said.Values key values) is = is
-one_key options s (said.Positional word) is = is
+one_key options s (said.Positional key word) is = is
 
-keys : {F V M S : Type 0} (options : List (Declared F V M S)) (l : List legal.Said) (own : List (Said F V M S)) → AreSaid options l own → AllZip (HasKey options) l own
+keys : {F V P M S : Type 0} (options : List (Declared F V M S)) (l : List legal.Said) (own : List (Said F V P M S)) → AreSaid options l own → AllZip (HasKey options) l own
 keys options [] [] all = all
 keys options [] (o ∷ os) all = absurd all
 keys options (s ∷ l) [] all = absurd all
 keys options (s ∷ l) (o ∷ os) all = (one_key options s o all.0, keys options l os all.1)
 
-pub line_keys : {F V M S : Type 0} (o : Options F V M S) (words : List (List ℕ)) (l : Line F V M S) → IsLineRead o words l → HaveKeys (options_of o) l
+pub line_keys : {F V P M S : Type 0} (o : Options F V P M S) (words : List (List ℕ)) (l : Line F V P M S) → IsLineRead o words l → HaveKeys (options_of o) l
 line_keys o words (line.Said own) is = (is.0, keys (options_of o) is.0 own.items is.3)
 line_keys o words (line.Asked asked) is = tt
 line_keys o words (line.Refused r) is = (_, keys (options_of o) _ r.before.items is.before, is.help ∙ help_first (options_of o))

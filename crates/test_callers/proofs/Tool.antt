@@ -1,13 +1,17 @@
 -- What the clauses of `read` mean for the tool.
-use Rattle.std.proofs.Common.{◌≡◌, ℕ, List, [], ◌∷◌, Some, None, subst, ap, ◌∙◌}
-use Rattle.lexopt_options_spec.specs.Declaration.{Declaration, for_help, for_version}
+use Rattle.std.proofs.Common.{◌≡◌, ℕ, List, [], ◌∷◌, Some, None, length, map, refl, sym, subst, ap, ◌∙◌}
+use Rattle.std.specs.Prelude.{slice_get}
+use Rattle.std.specs.List.{AllZip}
+use Rattle.std.proofs.lemmas.Option.{slice_get-map}
+use Rattle.lexopt_options_spec.specs.Declaration.{Declaration, Declared as SpecDeclared, for_help, for_version}
 use Rattle.lexopt_options_spec.specs.Asking.{AskFor, first_asked, said_before}
 use Rattle.lexopt_options_spec.specs.Legal as legal
 use Rattle.lexopt_options_spec.specs.Legal.{Says}
+use Rattle.lexopt_options_spec.specs.Places.{ArePlaces}
 use Rattle.lexopt_options_spec.specs.Stops as stops
 use Rattle.lexopt_options_spec.specs.Stops.{StopsAt, placeholder_at, required_placeholder}
-use Rattle.lexopt_options.specs.Declarations.{declaration_of, options_of}
-use Rattle.lexopt_options.specs.Keys.{IsSaid, AreSaid}
+use Rattle.lexopt_options.specs.Declarations.{declaration_of, options_of, positionals_of}
+use Rattle.lexopt_options.specs.Keys.{IsSaid, AreSaid, HasKey, HaveKeys, positional_keys}
 use Rattle.lexopt_options.specs.Lines.{IsLineOf, IsLineRead, IsRefused, LineSays}
 use Rattle.lexopt_options.specs.Mistakes.{IsMistake}
 use Rattle.lexopt_options.specs.declared.mistake.Mistake.{Mistake}
@@ -20,55 +24,101 @@ use Rattle.lexopt_options.specs.declared.refused.Refused.{Refused}
 use Rattle.lexopt_options.specs.declared.said.Asked.TheVariants as asked
 use Rattle.lexopt_options.specs.declared.said.Said.{Said}
 use Rattle.lexopt_options.specs.declared.said.Said.TheVariants as said
+use Rattle.lexopt_declaration.specs.Models.{long_name, short_name}
 use Rattle.lexopt_declaration.specs.declared.declaration.Declared.{Declared}
+use Rattle.lexopt_declaration.specs.declared.declaration.Names.{Names}
+use Rattle.lexopt_declaration.specs.declared.declaration.Names.TheVariants as names
+use Rattle.lexopt_declaration.specs.declared.declaration.Positional.{Positional}
 use Rattle.test_callers.specs.declared.declared.Flag.{Flag}
 use Rattle.test_callers.specs.declared.declared.Value.{Value}
 use Rattle.test_callers.specs.declared.declared.Maybe.{Maybe}
 use Rattle.test_callers.specs.declared.declared.Values.{Values}
-use Rattle.test_callers.specs.Tool.{IsTold, AreTold, LineTells, Stopped, StoppedBy, ToolLine, ToolRefused, ToolSays, tool, tool_options}
+use Rattle.test_callers.specs.declared.declared.Word.{Word}
+use Rattle.test_callers.specs.Tool.{AreKeyed, AreTold, HasNames, IsTold, LineTells, Stopped, StoppedBy, ToolLine, ToolRefused, ToolSays, read_keys, tool, tool_options, word_keys}
 
-told : (options : List (Declared Flag Value Maybe Values)) (s : legal.Said) (own : Said Flag Value Maybe Values) → IsSaid options s own → IsTold s own
+told : (options : List (Declared Flag Value Maybe Values)) (s : legal.Said) (own : Said Flag Value Word Maybe Values) → IsSaid options s own → IsTold s own
 told options s (said.Flag key) is = (is.0, is.1)
 told options s (said.Value key word) is = (is.0, is.2)
 told options s (said.Maybe key value) is = (is.0, is.2)
 told options s (said.Values key values) is = (is.0, is.2)
-told options s (said.Positional word) is = is
+told options s (said.Positional key word) is = is
 
-are_told : (options : List (Declared Flag Value Maybe Values)) (l : List legal.Said) (own : List (Said Flag Value Maybe Values)) → AreSaid options l own → AreTold l own
+are_told : (options : List (Declared Flag Value Maybe Values)) (l : List legal.Said) (own : List (Said Flag Value Word Maybe Values)) → AreSaid options l own → AreTold l own
 are_told options [] [] all = tt
 are_told options [] (o ∷ os) all = absurd all
 are_told options (s ∷ l) [] all = absurd all
 are_told options (s ∷ l) (o ∷ os) all = (told options s o all.0, are_told options l os all.1)
 
-stopped_by : (words : List (List ℕ)) (before : List (Said Flag Value Maybe Values)) (m : Mistake) (why : stops.Mistake) → IsMistake tool m why → Stopped words before why → StoppedBy words before m
+-- ---- the keys of positionals
+
+-- these options are those of the tool
+pub record AreOfTool (o : Options Flag Value Word Maybe Values) : Type 0 where
+  pub view : declaration_of o ≡ tool
+  pub keys : map (λ (p : Positional Word). p.key) (positionals_of o) ≡ word_keys
+
+same_keys : (own : List (Said Flag Value Word Maybe Values)) → positional_keys own ≡ read_keys own
+same_keys [] = refl
+same_keys (said.Flag key ∷ own) = same_keys own
+same_keys (said.Value key word ∷ own) = same_keys own
+same_keys (said.Maybe key value ∷ own) = same_keys own
+same_keys (said.Values key values ∷ own) = same_keys own
+same_keys (said.Positional key word ∷ own) = ap (λ (keys : List Word). key ∷ keys) (same_keys own)
+
+each_key : (ps : List (Positional Word)) (places : List ℕ) (keys : List Word) → map (λ (p : Positional Word). p.key) ps ≡ word_keys
+    → AllZip (HasKey ps) places keys → AllZip (λ (i : ℕ) (key : Word). slice_get word_keys i ≡ Some key) places keys
+each_key ps [] [] own all = tt
+each_key ps [] (key ∷ keys) own all = absurd all
+each_key ps (i ∷ places) [] own all = absurd all
+each_key ps (i ∷ places) (key ∷ keys) own all =
+    (ap (λ (l : List Word). slice_get l i) (sym own) ∙ slice_get-map (λ (p : Positional Word). p.key) ps i ∙ all.0, each_key ps places keys own all.1)
+
+keyed : (o : Options Flag Value Word Maybe Values) (own : List (Said Flag Value Word Maybe Values)) → AreOfTool o → HaveKeys (positionals_of o) own → AreKeyed own
+keyed o own its have = (
+  have.places,
+  subst (λ (keys : List Word). ArePlaces tool.positionals (length keys) have.places) (same_keys own)
+      (subst (λ (d : Declaration). ArePlaces d.positionals (length (positional_keys own)) have.places) its.view have.are_places),
+  subst (λ (keys : List Word). AllZip (λ (i : ℕ) (key : Word). slice_get word_keys i ≡ Some key) have.places keys) (same_keys own)
+      (each_key (positionals_of o) have.places (positional_keys own) its.keys have.have),
+)
+
+-- ---- a line
+
+names_are : (d : SpecDeclared) (n : Names) → d.short_name ≡ short_name n → d.long_name ≡ long_name n → HasNames d n
+names_are d (names.Short c) short long = (short, long)
+names_are d (names.Long own) short long = (short, long)
+names_are d (names.Both c own) short long = (short, long)
+
+stopped_by : (words : List (List ℕ)) (before : List (Said Flag Value Word Maybe Values)) (m : Mistake) (why : stops.Mistake) → IsMistake tool m why → Stopped words before why → StoppedBy words before m
 stopped_by words before (mistake.UnknownOption (name.Short c) hint) why is stopped = (subst (Stopped words before) is.0 stopped, is.1)
 stopped_by words before (mistake.UnknownOption (name.Long own) hint) why is stopped = (subst (Stopped words before) is.0 stopped, is.1)
 stopped_by words before (mistake.UnexpectedValue option value) why is stopped = subst (Stopped words before) is stopped
 stopped_by words before (mistake.MissingValue option placeholder) why is stopped = (is.0, subst (Stopped words before) is.1 stopped, is.2)
 stopped_by words before (mistake.UnexpectedArgument word) why is stopped = subst (Stopped words before) is stopped
 stopped_by words before (mistake.MissingArgument placeholder) why is stopped = (is.0, subst (Stopped words before) is.1 stopped, is.2)
+stopped_by words before (mistake.MissingOption own) why (index, same, (d, here, short, long)) stopped =
+    (index, subst (Stopped words before) same stopped, d, here, names_are d own short long)
 
-pub refused_as : (o : Options Flag Value Maybe Values) (words : List (List ℕ)) (r : Refused Flag Value Maybe Values) → declaration_of o ≡ tool → IsRefused o words r → ToolRefused words r
-refused_as o words r view is =
+pub refused_as : (o : Options Flag Value Word Maybe Values) (words : List (List ℕ)) (r : Refused Flag Value Word Maybe Values) → AreOfTool o → IsRefused o words r → ToolRefused words r
+refused_as o words r its is =
     let before : AreTold (said_before is.why is.read) r.before.items = are_told (options_of o) _ _ is.before in
-    let own : first_asked tool_options (said_before is.why is.read) ≡ None = subst (λ (d : Declaration). first_asked d.options (said_before is.why is.read) ≡ None) view is.own in
-    let stops : StopsAt tool words is.read is.why = subst (λ (d : Declaration). StopsAt d words is.read is.why) view is.stops in (
-      is.program ∙ ap (λ (d : Declaration). d.program) view,
-      stopped_by words r.before.items r.mistake is.why (subst (λ (d : Declaration). IsMistake d r.mistake is.why) view is.told) (is.read, stops, own, before),
+    let own : first_asked tool_options (said_before is.why is.read) ≡ None = subst (λ (d : Declaration). first_asked d.options (said_before is.why is.read) ≡ None) its.view is.own in
+    let stops : StopsAt tool words is.read is.why = subst (λ (d : Declaration). StopsAt d words is.read is.why) its.view is.stops in (
+      is.program ∙ ap (λ (d : Declaration). d.program) its.view,
+      stopped_by words r.before.items r.mistake is.why (subst (λ (d : Declaration). IsMistake d r.mistake is.why) its.view is.told) (is.read, stops, own, before, keyed o r.before.items its is.keys),
     )
 
-pub says : (o : Options Flag Value Maybe Values) (words : List (List ℕ)) (own : List (Said Flag Value Maybe Values)) → declaration_of o ≡ tool → LineSays o words own → ToolSays words own
-says o words own view is =
-    (is.0, subst (λ (d : Declaration). Says d words is.0) view is.1, subst (λ (d : Declaration). first_asked d.options is.0 ≡ None) view is.2, are_told (options_of o) is.0 own is.3)
+pub says : (o : Options Flag Value Word Maybe Values) (words : List (List ℕ)) (own : List (Said Flag Value Word Maybe Values)) → AreOfTool o → LineSays o words own → ToolSays words own
+says o words own its is =
+    (is.0, subst (λ (d : Declaration). Says d words is.0) its.view is.1, subst (λ (d : Declaration). first_asked d.options is.0 ≡ None) its.view is.2, are_told (options_of o) is.0 own is.3, keyed o own its is.4)
 
-pub line_is : (o : Options Flag Value Maybe Values) (words : List (List ℕ)) (l : Line Flag Value Maybe Values) → declaration_of o ≡ tool → IsLineRead o words l → ToolLine words l
-line_is o words (line.Said own) view is = says o words own.items view is
-line_is o words (line.Asked asked.Help) view is = subst (λ (d : Declaration). AskFor d words for_help) view is
-line_is o words (line.Asked (asked.Version text)) view is = subst (λ (d : Declaration). AskFor d words (for_version text.now)) view is
-line_is o words (line.Refused r) view is = refused_as o words r view is
+pub line_is : (o : Options Flag Value Word Maybe Values) (words : List (List ℕ)) (l : Line Flag Value Word Maybe Values) → AreOfTool o → IsLineRead o words l → ToolLine words l
+line_is o words (line.Said own) its is = says o words own.items its is
+line_is o words (line.Asked asked.Help) its is = subst (λ (d : Declaration). AskFor d words for_help) its.view is
+line_is o words (line.Asked (asked.Version text)) its is = subst (λ (d : Declaration). AskFor d words (for_version text.now)) its.view is
+line_is o words (line.Refused r) its is = refused_as o words r its is
 
-pub line_tells : (o : Options Flag Value Maybe Values) (l : List legal.Said) (line : Line Flag Value Maybe Values) → declaration_of o ≡ tool → IsLineOf o l line → LineTells l line
-line_tells o l (line.Said own) view is = (subst (λ (d : Declaration). first_asked d.options l ≡ None) view is.0, are_told (options_of o) l own.items is.1)
-line_tells o l (line.Asked asked.Help) view is = subst (λ (d : Declaration). first_asked d.options l ≡ Some for_help) view is
-line_tells o l (line.Asked (asked.Version text)) view is = subst (λ (d : Declaration). first_asked d.options l ≡ Some (for_version text.now)) view is
-line_tells o l (line.Refused r) view is = is
+pub line_tells : (o : Options Flag Value Word Maybe Values) (l : List legal.Said) (line : Line Flag Value Word Maybe Values) → AreOfTool o → IsLineOf o l line → LineTells l line
+line_tells o l (line.Said own) its is = (subst (λ (d : Declaration). first_asked d.options l ≡ None) its.view is.0, are_told (options_of o) l own.items is.1, keyed o own.items its is.2)
+line_tells o l (line.Asked asked.Help) its is = subst (λ (d : Declaration). first_asked d.options l ≡ Some for_help) its.view is
+line_tells o l (line.Asked (asked.Version text)) its is = subst (λ (d : Declaration). first_asked d.options l ≡ Some (for_version text.now)) its.view is
+line_tells o l (line.Refused r) its is = is

@@ -68,7 +68,7 @@ abbrev pub KindIs : {F V M S : Type 0} → List (Declared F V M S) → ℕ → K
 KindIs options i k = option_map (λ o. o.kind) (slice_get options i) ≡ Some k
 
 -- an option with a key is the option of some index, which was declared with that key
-abbrev pub HasKey : {F V M S : Type 0} → List (Declared F V M S) → legal.Said → Said F V M S
+abbrev pub HasKey : {F V P M S : Type 0} → List (Declared F V M S) → legal.Said → Said F V P M S
     → Type 0
 HasKey options s (said.Flag key) =
     (i : ℕ) × (s ≡ legal.option i None) × KindIs options i (kind.Flag key)
@@ -78,11 +78,11 @@ HasKey options s (said.Maybe key value) = (i : ℕ) × (placeholder : _)
     × (s ≡ legal.option i value) × KindIs options i (kind.Maybe key placeholder)
 HasKey options s (said.Values key values) = (i : ℕ) × (placeholder : _)
     × (s ≡ legal.several i values.items) × KindIs options i (kind.Values key placeholder)
-HasKey options s (said.Positional word) = s ≡ legal.positional word
+HasKey options s (said.Positional key word) = s ≡ legal.positional word
 
 -- So is each option of the line, also before a mistake. A refusal has the names of the first option
 -- that asks for the help.
-abbrev pub HaveKeys : {F V M S : Type 0} → List (Declared F V M S) → Line F V M S → Type 0
+abbrev pub HaveKeys : {F V P M S : Type 0} → List (Declared F V M S) → Line F V P M S → Type 0
 HaveKeys options (line.Said own) = (l : List legal.Said) × AllZip (HasKey options) l own.items
 HaveKeys options (line.Asked asked) = Unit {0}
 HaveKeys options (line.Refused r) = (l : List legal.Said)

@@ -1,5 +1,6 @@
 -- What is printed of declared options, and which of two cannot be declared, in plain data.
-use Rattle.std.specs.Prelude.{◌≡◌, zero, suc, ℕ, List, [], ◌∷◌, ◌++◌, Option, Some, None, codes, encode_utf8, false}
+use Rattle.std.specs.Prelude.{◌≡◌, ◌⊎◌, ◌&&◌, zero, suc, ℕ, Bool, true, false, List, [], ◌∷◌, ◌++◌}
+use Rattle.std.specs.Prelude.{map, Option, Some, None, codes, encode_utf8}
 use Rattle.std.specs.Prelude.{string_bytes, nat_lt, ◌==◌, ◌||◌, if◌then◌else◌}
 use Rattle.anyhow.specs.Error.{error_message}
 use Rattle.std.specs.List.{flat_map}
@@ -10,8 +11,16 @@ use Rattle.lexopt_words.specs.declared.error.Error.{Error}
 use Rattle.lexopt_words.specs.declared.error.Error.TheVariants as error
 use Rattle.lexopt_line_spec.specs.Table.{flag, one}
 use Rattle.lexopt_options_spec.specs.Declaration as spec
-use Rattle.lexopt_options_spec.specs.Declaration.{IsFirstFault}
+use Rattle.lexopt_options_spec.specs.Declaration.{IsFirstFault, are_clear, is_sound}
+use Rattle.lexopt_options_spec.specs.Help.{IsUsage}
+use Rattle.lexopt_declaration.specs.declared.declaration.Count.{Count}
+use Rattle.lexopt_declaration.specs.declared.declaration.Count.TheVariants as count
+use Rattle.lexopt_declaration.specs.Declarations.{declaration_view}
+use Rattle.lexopt_declaration.specs.Faults.{IsDeclarationError}
+use Rattle.lexopt_declaration.specs.Models.{option_view, positional_view}
+use Rattle.lexopt_declaration.specs.declared.declaration.Declaration.{Declaration}
 use Rattle.lexopt_declaration.specs.declared.declaration.DeclarationError.{DeclarationError}
+use Rattle.lexopt_declaration.specs.declared.declaration.DeclarationError.TheVariants as refusal
 use Rattle.lexopt_declaration.specs.declared.declaration.Names.{Names}
 use Rattle.lexopt_declaration.specs.declared.declaration.Names.TheVariants.{Short, Long, Both}
 use Rattle.lexopt_declaration.specs.declared.declaration.Reason.{Reason}
@@ -43,8 +52,10 @@ reason_line reason.BadPlaceholder = codes "its placeholder is empty or begins wi
 reason_line reason.SameName = codes "an option before it has one of its names"
 
 abbrev pub declaration_line : DeclarationError → List ℕ
-declaration_line error = codes "option '"
-    ++ (names_line error.option ++ (codes "': " ++ reason_line error.reason))
+declaration_line (refusal.Option option reason) =
+    codes "option '" ++ (names_line option ++ (codes "': " ++ reason_line reason))
+declaration_line (refusal.Positional placeholder) = codes "positional argument "
+    ++ (placeholder.now ++ codes ": one before it may occur more than once too")
 
 -- ---- a line that is refused
 
@@ -68,6 +79,8 @@ mistake_line (mistake.MissingValue option placeholder) = codes "missing argument
     ++ (placeholder.now ++ (codes " for option '" ++ (string_bytes option ++ codes "'")))
 mistake_line (mistake.UnexpectedArgument word) = codes "unexpected argument " ++ quoted word
 mistake_line (mistake.MissingArgument placeholder) = codes "missing argument " ++ placeholder.now
+mistake_line (mistake.MissingOption names) =
+    codes "missing option '" ++ (names_line names ++ codes "'")
 
 -- where the help is
 abbrev pub try_line : List ℕ → Option Names → List ℕ
@@ -75,7 +88,7 @@ try_line program None = []
 try_line program (Some names) = codes "\nTry '"
     ++ (program ++ (codes " " ++ (names_line names ++ codes "' for more information.")))
 
-abbrev pub refused_line : {F V M S : Type 0} → Refused F V M S → List ℕ
+abbrev pub refused_line : {F V P M S : Type 0} → Refused F V P M S → List ℕ
 refused_line r = r.program.now
     ++ (codes ": " ++ (mistake_line r.mistake ++ try_line r.program.now r.help))
 
@@ -123,6 +136,7 @@ two_options character name placeholder = record {
   help = [];
   asks = None;
   hidden = false;
+  required = false;
 }
     ∷ record {
       short_name = Some 118;
@@ -132,6 +146,7 @@ two_options character name placeholder = record {
       help = [];
       asks = None;
       hidden = false;
+      required = false;
     }
     ∷ []
 
@@ -154,3 +169,75 @@ abbrev pub IsFaultOf : ℕ → List ℕ → List ℕ → ℕ × Reason → Type 
 IsFaultOf character name placeholder fault = (index : ℕ)
     × IsFirstFault (two_options character name placeholder) index (reason_of fault.1)
     × (fault.0 ≡ character_at character index)
+
+-- ---- a declaration that is tried, by the definitions that the clause of `try_new` cites
+
+-- all of it can be declared together, and the text is its usage line in this width
+abbrev pub IsUsageWith : {F V P M S : Type 0} → ℕ → Declaration F V P M S → List ℕ → Type 0
+IsUsageWith width d text = (is_sound (map option_view d.options.now) ≡ true)
+    × (are_clear (map positional_view d.positionals.now) ≡ true)
+    × IsUsage width (declaration_view d) text
+
+-- not all of it can be declared together, and the text is what is printed of the error
+abbrev pub IsErrorWith : {F V P M S : Type 0} → Declaration F V P M S → List ℕ → Type 0
+IsErrorWith d text = (error : DeclarationError) × IsDeclarationError d error
+    × (text ≡ declaration_line error)
+
+-- ---- an option and two positionals, declared together
+
+abbrev pub one_option : ℕ → List spec.Declared
+one_option character = record {
+  short_name = Some character;
+  long_name = None;
+  kind = flag;
+  placeholder = [];
+  help = [];
+  asks = None;
+  hidden = false;
+  required = false;
+}
+    ∷ []
+
+abbrev pub count_of : Count → spec.Count
+count_of count.Once = spec.once
+count_of count.AtMostOnce = spec.at_most_once
+count_of count.AnyNumber = spec.any_number
+count_of count.AtLeastOnce = spec.at_least_once
+
+abbrev pub two_words : Count → Count → List spec.Positional
+two_words first second =
+    record { placeholder = codes "FROM"; count = count_of first; help = [] }
+    ∷ record { placeholder = codes "TO"; count = count_of second; help = [] } ∷ []
+
+abbrev pub small_tool : ℕ → Count → Count → spec.Declaration
+small_tool character first second = record {
+  program = codes "small";
+  about = [];
+  options = one_option character;
+  positionals = two_words first second;
+  epilogue = [];
+  short_equals = true;
+}
+
+-- it may occur more than once
+abbrev pub repeats : Count → Bool
+repeats count.Once = false
+repeats count.AtMostOnce = false
+repeats count.AnyNumber = true
+repeats count.AtLeastOnce = true
+
+-- The option can be declared, and not both positionals may occur more than once. The text is the
+-- usage line in this width.
+abbrev pub IsUsageOf : ℕ → ℕ → Count → Count → List ℕ → Type 0
+IsUsageOf width character first second text = (is_sound (one_option character) ≡ true)
+    × ((repeats first && repeats second) ≡ false)
+    × IsUsage width (small_tool character first second) text
+
+-- The option cannot be declared, for the reason in the text. Or it can be declared, and both
+-- positionals may occur more than once: the text says so of the second.
+abbrev pub IsErrorOf : ℕ → Count → Count → List ℕ → Type 0
+IsErrorOf character first second text = ((reason : Reason)
+    × IsFirstFault (one_option character) 0 (reason_of reason)
+    × (text ≡ codes "option '-" ++ (encode_utf8 character ++ (codes "': " ++ reason_line reason))))
+    ⊎ ((is_sound (one_option character) ≡ true) × ((repeats first && repeats second) ≡ true)
+    × (text ≡ codes "positional argument TO: one before it may occur more than once too"))

@@ -1,7 +1,10 @@
 -- The tool that `declared.rt` declares, by the grammar and by plain data.
 use Rattle.std.specs.Prelude.{◌≡◌, ℕ, List, [], ◌∷◌, Option, Some, None, codes, true, false}
-use Rattle.std.specs.Prelude.{◌⊎◌, ◌++◌, Contains, filter, nat_eq, option_map, string_bytes}
+use Rattle.std.specs.Prelude.{◌⊎◌, ◌++◌, ◌-◌, Contains, filter, length, nat_eq, option_map}
+use Rattle.std.specs.Prelude.{slice_get, string_bytes}
 use Rattle.std.specs.List.{AllZip, flat_map, starts_with}
+use Rattle.lexopt_declaration.specs.declared.declaration.Names.{Names}
+use Rattle.lexopt_declaration.specs.declared.declaration.Names.TheVariants as names
 use Rattle.lexopt_declaration.specs.Scripts.{bash_script, fish_script, zsh_script}
 use Rattle.lexopt_line_spec.specs.Table.{Kind, flag, one, optional, several, short, long}
 use Rattle.lexopt_options_spec.specs.Declaration.{Declaration, Declared, once}
@@ -9,10 +12,11 @@ use Rattle.lexopt_options_spec.specs.Declaration.{at_most_once, any_number, for_
 use Rattle.lexopt_options_spec.specs.Asking.{AskFor, first_asked, said_before}
 use Rattle.lexopt_options_spec.specs.Completion as completion
 use Rattle.lexopt_options_spec.specs.Completion.{Completes, HasRole, IsJoined, spellings}
-use Rattle.lexopt_options_spec.specs.Help.{IsHelp}
+use Rattle.lexopt_options_spec.specs.Help.{IsHelp, Line as HelpLine, Wraps, below}
 use Rattle.lexopt_options_spec.specs.Legal as legal
 use Rattle.lexopt_options_spec.specs.Legal.{Says}
 use Rattle.lexopt_options_spec.specs.Nearest.{IsHint}
+use Rattle.lexopt_options_spec.specs.Places.{ArePlaces}
 use Rattle.lexopt_options_spec.specs.Stops as stops
 use Rattle.lexopt_options_spec.specs.Stops.{StopsAt, placeholder_at, required_placeholder}
 use Rattle.lexopt_options.specs.declared.answer.Answer.{Answer}
@@ -33,6 +37,8 @@ use Rattle.test_callers.specs.declared.declared.Flag.{Flag}
 use Rattle.test_callers.specs.declared.declared.Value.{Value}
 use Rattle.test_callers.specs.declared.declared.Maybe.{Maybe}
 use Rattle.test_callers.specs.declared.declared.Values.{Values}
+use Rattle.test_callers.specs.declared.declared.Word.{Word}
+use Rattle.test_callers.specs.declared.declared.Word.TheVariants.{From, To, More}
 
 -- an option with no value of its own
 abbrev pub plain : Option ℕ → Option (List ℕ) → Kind → List ℕ → List ℕ → Declared
@@ -44,6 +50,7 @@ plain c name kind placeholder help = record {
   help = help;
   asks = None;
   hidden = false;
+  required = false;
 }
 
 abbrev pub tool_options : List Declared
@@ -57,6 +64,9 @@ tool_options = plain (Some 118) (Some (codes "verbose")) flag [] (codes "tell mo
     }
     ∷ record (plain None (Some (codes "version")) flag [] (codes "version")) {
       asks = Some (for_version (codes "tool 1"));
+    }
+    ∷ record (plain (Some 117) (Some (codes "user")) one (codes "NAME") (codes "for whom")) {
+      required = true;
     }
     ∷ []
 
@@ -75,21 +85,39 @@ tool = record {
 -- ---- what a line means
 
 -- An option with a key is the option of some index, with the same values; a positional is the word.
--- Which key each index has is in `Keyed`.
-abbrev pub IsTold : legal.Said → Said Flag Value Maybe Values → Type 0
+-- Which key each index has is in `Keyed`. `AreKeyed` has the keys of the positionals.
+abbrev pub IsTold : legal.Said → Said Flag Value Word Maybe Values → Type 0
 IsTold s (said.Flag key) = (i : ℕ) × (s ≡ legal.option i None)
 IsTold s (said.Value key word) = (i : ℕ) × (s ≡ legal.option i (Some word))
 IsTold s (said.Maybe key value) = (i : ℕ) × (s ≡ legal.option i value)
 IsTold s (said.Values key values) = (i : ℕ) × (s ≡ legal.several i values.items)
-IsTold s (said.Positional word) = s ≡ legal.positional word
+IsTold s (said.Positional key word) = s ≡ legal.positional word
 
-abbrev pub AreTold : List legal.Said → List (Said Flag Value Maybe Values) → Type 0
+abbrev pub AreTold : List legal.Said → List (Said Flag Value Word Maybe Values) → Type 0
 AreTold l own = AllZip IsTold l own
 
+-- the key of each positional, by its index
+abbrev pub word_keys : List Word
+word_keys = From ∷ To ∷ More ∷ []
+
+-- the keys of the positionals that were read, in order
+abbrev pub read_keys : List (Said Flag Value Word Maybe Values) → List Word
+read_keys [] = []
+read_keys (said.Flag key ∷ own) = read_keys own
+read_keys (said.Value key word ∷ own) = read_keys own
+read_keys (said.Maybe key value ∷ own) = read_keys own
+read_keys (said.Values key values ∷ own) = read_keys own
+read_keys (said.Positional key word ∷ own) = key ∷ read_keys own
+
+-- each of these is the key of the positional of the tool to which the word belongs
+abbrev pub AreKeyed : List (Said Flag Value Word Maybe Values) → Type 0
+AreKeyed own = (places : List ℕ) × ArePlaces tool.positionals (length (read_keys own)) places
+    × AllZip (λ i key. slice_get word_keys i ≡ Some key) places (read_keys own)
+
 -- the words legally spell a list that asks for nothing, and this is the list by the keys
-abbrev pub ToolSays : List (List ℕ) → List (Said Flag Value Maybe Values) → Type 0
+abbrev pub ToolSays : List (List ℕ) → List (Said Flag Value Word Maybe Values) → Type 0
 ToolSays words own = (l : List legal.Said) × Says tool words l
-    × (first_asked tool_options l ≡ None) × AreTold l own
+    × (first_asked tool_options l ≡ None) × AreTold l own × AreKeyed own
 
 -- they ask for this before any mistake
 abbrev pub ToolAsked : List (List ℕ) → Asked → Type 0
@@ -97,12 +125,19 @@ ToolAsked words asked.Help = AskFor tool words for_help
 ToolAsked words (asked.Version text) = AskFor tool words (for_version text.now)
 
 -- their reading ends at this mistake; before it they ask for nothing, and this is the list
-abbrev pub Stopped : List (List ℕ) → List (Said Flag Value Maybe Values) → stops.Mistake → Type 0
+abbrev pub Stopped : List (List ℕ) → List (Said Flag Value Word Maybe Values) → stops.Mistake
+    → Type 0
 Stopped words before why = (read : List legal.Said) × StopsAt tool words read why
     × (first_asked tool_options (said_before why read) ≡ None)
-    × AreTold (said_before why read) before
+    × AreTold (said_before why read) before × AreKeyed before
 
-abbrev pub StoppedBy : List (List ℕ) → List (Said Flag Value Maybe Values) → Mistake → Type 0
+-- these are the names of the option
+abbrev pub HasNames : Declared → Names → Type 0
+HasNames o (names.Short c) = (o.short_name ≡ Some c) × (o.long_name ≡ None)
+HasNames o (names.Long own) = (o.short_name ≡ None) × (o.long_name ≡ Some own.now)
+HasNames o (names.Both c own) = (o.short_name ≡ Some c) × (o.long_name ≡ Some own.now)
+
+abbrev pub StoppedBy : List (List ℕ) → List (Said Flag Value Word Maybe Values) → Mistake → Type 0
 StoppedBy words before (mistake.UnknownOption (name.Short c) hint) =
     Stopped words before (stops.unknown_option (short c))
     × IsHint tool_options (short c) (option_map (λ text. text.now) hint)
@@ -119,19 +154,23 @@ StoppedBy words before (mistake.UnexpectedArgument word) =
 StoppedBy words before (mistake.MissingArgument placeholder) = (count : ℕ)
     × Stopped words before (stops.missing_argument count)
     × (placeholder.now ≡ required_placeholder tool.positionals count)
+StoppedBy words before (mistake.MissingOption own) = (index : ℕ)
+    × Stopped words before (stops.missing_option index)
+    × (o : Declared) × (slice_get tool_options index ≡ Some o) × HasNames o own
 
-abbrev pub ToolRefused : List (List ℕ) → Refused Flag Value Maybe Values → Type 0
+abbrev pub ToolRefused : List (List ℕ) → Refused Flag Value Word Maybe Values → Type 0
 ToolRefused words r = (r.program.now ≡ codes "tool")
     × StoppedBy words r.before.items r.mistake
 
-abbrev pub ToolLine : List (List ℕ) → Line Flag Value Maybe Values → Type 0
+abbrev pub ToolLine : List (List ℕ) → Line Flag Value Word Maybe Values → Type 0
 ToolLine words (line.Said own) = ToolSays words own.items
 ToolLine words (line.Asked asked) = ToolAsked words asked
 ToolLine words (line.Refused refused) = ToolRefused words refused
 
 -- the line is this list by the keys, or what the list asks for first
-abbrev pub LineTells : List legal.Said → Line Flag Value Maybe Values → Type 0
+abbrev pub LineTells : List legal.Said → Line Flag Value Word Maybe Values → Type 0
 LineTells l (line.Said own) = (first_asked tool_options l ≡ None) × AreTold l own.items
+    × AreKeyed own.items
 LineTells l (line.Asked asked.Help) = first_asked tool_options l ≡ Some for_help
 LineTells l (line.Asked (asked.Version text)) =
     first_asked tool_options l ≡ Some (for_version text.now)
@@ -156,6 +195,17 @@ IsSameRole None None = Unit {0}
 IsSameRole (Some (completion.value i)) (Some (role.Value option)) = Unit {0}
 IsSameRole (Some completion.argument) (Some role.Argument) = Unit {0}
 IsSameRole r found = ⊥
+
+-- ---- the usage line
+
+abbrev pub tool_usage : List (List ℕ)
+tool_usage = codes "tool" ∷ codes "[OPTION]..." ∷ codes "--user=NAME" ∷ codes "FROM" ∷ codes "[TO]"
+    ∷ codes "[MORE]..." ∷ []
+
+-- the text has these words on lines
+abbrev pub IsToolUsage : ℕ → List ℕ → Type 0
+IsToolUsage width text = (lines : List HelpLine) × Wraps (width - 7) tool_usage lines
+    × (text ≡ codes "Usage: " ++ below 7 lines ++ 10 ∷ [])
 
 -- ---- what the tool is to do
 
@@ -202,7 +252,7 @@ abbrev pub IsAskedFor : List (List ℕ) → ℕ → List ℕ → Type 0
 IsAskedFor words width text = (AskFor tool words for_help × IsHelp tool width text)
     ⊎ ((version : List ℕ) × AskFor tool words (for_version version) × (text ≡ version ++ 10 ∷ []))
 
-abbrev pub ToolAnswer : List (List ℕ) → ℕ → Answer Flag Value Maybe Values → Type 0
+abbrev pub ToolAnswer : List (List ℕ) → ℕ → Answer Flag Value Word Maybe Values → Type 0
 ToolAnswer words width (answer.Said own) = NoShellAsks words × ToolSays words own.items
 ToolAnswer words width (answer.Text text) = IsOffer words (string_bytes text)
     ⊎ IsScript words (string_bytes text)

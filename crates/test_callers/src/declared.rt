@@ -1,16 +1,17 @@
 //! Callers of declared options, with clauses of their own about one tool. The clauses of the public
-//! functions cite definitions over the types of Rust; these restate them by the grammar and by plain
-//! data, so that no such definition can become weaker unnoticed.
+//! functions cite definitions over the types of Rust; these restate them by the grammar and by
+//! plain data, so that no such definition can become weaker unnoticed.
 ghost use Rattle.std.specs.Prelude.{◌≡◌, ℕ, Contains, IfOk, List, Option, map, string_bytes};
 ghost use Rattle.lexopt_options_spec.specs.Completion as completion;
 ghost use Rattle.lexopt_options_spec.specs.Completion.{Completes, HasRole, IsJoined};
 ghost use Rattle.lexopt_options_spec.specs.Declaration as spec;
-ghost use Rattle.lexopt_options_spec.specs.Help.{IsHelp, IsUsage};
+ghost use Rattle.lexopt_options_spec.specs.Help.{IsHelp};
 ghost use Rattle.lexopt_options_spec.specs.Legal as legal;
 ghost use Rattle.lexopt_options_spec.specs.Legal.{Says};
 ghost use Rattle.lexopt_items.specs.Items.{table_view};
 ghost use Rattle.test_callers.specs.Tool.{AreBoth, AreInOrder, IsSameRole, LineTells};
-ghost use Rattle.test_callers.specs.Tool.{ToolAnswer, ToolLine, tool, tool_options};
+ghost use Rattle.test_callers.specs.Tool.{IsToolUsage, ToolAnswer, ToolLine, tool};
+ghost use Rattle.test_callers.specs.Tool.{tool_options};
 
 use lexopt_items::items::Table;
 use lexopt_options::{
@@ -33,6 +34,19 @@ pub enum Flag {
 pub enum Value {
     /// `-o`, `--output`.
     Output,
+    /// `-u`, `--user`.
+    User,
+}
+
+/// Its positional arguments.
+#[derive(Clone, Copy)]
+pub enum Word {
+    /// `FROM`.
+    From,
+    /// `TO`.
+    To,
+    /// `MORE`.
+    More,
 }
 
 /// Its options whose value may be left out.
@@ -50,7 +64,7 @@ pub enum Values {
 }
 
 // What the tool declares.
-static TOOL: Declaration<'static, Flag, Value, Maybe, Values> = Declaration {
+static TOOL: Declaration<'static, Flag, Value, Word, Maybe, Values> = Declaration {
     program: "tool",
     about: "Works.",
     options: &[
@@ -59,56 +73,73 @@ static TOOL: Declaration<'static, Flag, Value, Maybe, Values> = Declaration {
             kind: Kind::Flag(Flag::Verbose),
             help: "tell more",
             hidden: false,
+            required: false,
         },
         Declared {
             names: Names::Short('f'),
             kind: Kind::Flag(Flag::Force),
             help: "by force",
             hidden: true,
+            required: false,
         },
         Declared {
             names: Names::Both('o', "output"),
             kind: Kind::Value(Value::Output, "FILE"),
             help: "write there",
             hidden: false,
+            required: false,
         },
         Declared {
             names: Names::Long("color"),
             kind: Kind::Maybe(Maybe::Color, "WHEN"),
             help: "paint",
             hidden: false,
+            required: false,
         },
         Declared {
             names: Names::Short('x'),
             kind: Kind::Values(Values::Exclude, "GLOB"),
             help: "leave out",
             hidden: false,
+            required: false,
         },
         Declared {
             names: Names::Both('h', "help"),
             kind: Kind::Help,
             help: "help",
             hidden: false,
+            required: false,
         },
         Declared {
             names: Names::Long("version"),
             kind: Kind::Version("tool 1"),
             help: "version",
             hidden: false,
+            required: false,
+        },
+        Declared {
+            names: Names::Both('u', "user"),
+            kind: Kind::Value(Value::User, "NAME"),
+            help: "for whom",
+            hidden: false,
+            required: true,
         },
     ],
     positionals: &[
         Positional {
+            key: Word::From,
             placeholder: "FROM",
             count: Count::Once,
             help: "one",
         },
         Positional {
+            key: Word::To,
             placeholder: "TO",
             count: Count::AtMostOnce,
             help: "two",
         },
         Positional {
+            key: Word::More,
             placeholder: "MORE",
             count: Count::AnyNumber,
             help: "",
@@ -122,7 +153,7 @@ static TOOL: Declaration<'static, Flag, Value, Maybe, Values> = Declaration {
 pub fn read_line(
     alloc: Global,
     words: Vec<OsString>,
-) -> Result<Line<'static, Flag, Value, Maybe, Values>, AllocError>
+) -> Result<Line<'static, Flag, Value, Word, Maybe, Values>, AllocError>
     ensures line { IfOk result (λ line. ToolLine words.items line) }
     ensures answered { (l : List legal.Said) → Says tool words.items l
         → IfOk result (λ line. LineTells l line) }
@@ -155,7 +186,7 @@ pub fn answer(
     alloc: Global,
     words: Vec<OsString>,
     width: usize,
-) -> Result<Answer<'static, Flag, Value, Maybe, Values>, AllocError>
+) -> Result<Answer<'static, Flag, Value, Word, Maybe, Values>, AllocError>
     ensures { IfOk result (λ answer. ToolAnswer words.items width answer) }
 {
     Options::new(&TOOL).answer(alloc, words, width)
@@ -163,7 +194,7 @@ pub fn answer(
 
 /// The usage line of the tool, and its help.
 pub fn usage_and_help(alloc: Global, width: usize) -> Result<(String, String), AllocError>
-    ensures usage { IfOk result (λ texts. IsUsage width tool (string_bytes texts.0)) }
+    ensures usage { IfOk result (λ texts. IsToolUsage width (string_bytes texts.0)) }
     ensures help { IfOk result (λ texts. IsHelp tool width (string_bytes texts.1)) }
 {
     let options = Options::new(&TOOL);

@@ -10,20 +10,20 @@ use std::alloc::{AllocError, Global};
 use std::str::FromStr;
 
 /// Reads a line.
-pub fn read_line<'a, F: Copy, V: Copy, M: Copy, S: Copy>(
+pub fn read_line<'a, F: Copy, V: Copy, P: Copy, M: Copy, S: Copy>(
     alloc: Global,
-    options: &Options<'a, F, V, M, S>,
+    options: &Options<'a, F, V, P, M, S>,
     words: Vec<OsString>,
-) -> Result<Line<'a, F, V, M, S>, AllocError>
+) -> Result<Line<'a, F, V, P, M, S>, AllocError>
     ensures { IfOk result (λ line. HaveKeys options.now.declaration.now.options.now line) }
 {
     options.read(alloc, words)
 }
 
 /// What can be typed.
-pub fn complete<'a, F, V, M, S>(
+pub fn complete<'a, F, V, P, M, S>(
     alloc: Global,
-    options: &Options<'a, F, V, M, S>,
+    options: &Options<'a, F, V, P, M, S>,
     words: &[OsString],
     typed: &OsString,
 ) -> Result<Completion<'a, F, V, M, S>, AllocError>
@@ -36,8 +36,8 @@ pub fn complete<'a, F, V, M, S>(
 }
 
 /// Converts a value of an option.
-pub fn parse_value<'a, F, V: Copy + PartialEq, M, S, T: FromStr>(
-    options: &Options<'a, F, V, M, S>,
+pub fn parse_value<'a, F, V: Copy + PartialEq, P, M, S, T: FromStr>(
+    options: &Options<'a, F, V, P, M, S>,
     key: V,
     word: &OsString,
 ) -> Result<T, UsageError<'a>>
@@ -51,8 +51,8 @@ where
 }
 
 /// Converts a value that may be left out.
-pub fn parse_maybe<'a, F, V, M: Copy + PartialEq, S, T: FromStr>(
-    options: &Options<'a, F, V, M, S>,
+pub fn parse_maybe<'a, F, V, P, M: Copy + PartialEq, S, T: FromStr>(
+    options: &Options<'a, F, V, P, M, S>,
     key: M,
     word: &OsString,
 ) -> Result<T, UsageError<'a>>
@@ -66,8 +66,8 @@ where
 }
 
 /// Converts one of several values.
-pub fn parse_values<'a, F, V, M, S: Copy + PartialEq, T: FromStr>(
-    options: &Options<'a, F, V, M, S>,
+pub fn parse_values<'a, F, V, P, M, S: Copy + PartialEq, T: FromStr>(
+    options: &Options<'a, F, V, P, M, S>,
     key: S,
     word: &OsString,
 ) -> Result<T, UsageError<'a>>
@@ -81,8 +81,8 @@ where
 }
 
 /// A mistake that the program found, with what is printed around it.
-pub fn report<'a, F, V, M, S>(
-    options: &Options<'a, F, V, M, S>,
+pub fn report<'a, F, V, P, M, S>(
+    options: &Options<'a, F, V, P, M, S>,
     error: UsageError<'a>,
 ) -> Report<'a>
     ensures program { result.program.now ≡ options.now.declaration.now.program.now }

@@ -1,14 +1,16 @@
-//! Callers of what prints names and errors, and of what refuses a declaration, with clauses of their
-//! own in plain data.
-ghost use Rattle.std.specs.Prelude.{◌≡◌, ◌≢◌, IfOk, string_bytes, true};
+//! Callers of what prints names and errors, and of what refuses a declaration, with clauses of
+//! their own in plain data.
+ghost use Rattle.std.specs.Prelude.{◌≡◌, ◌≢◌, IfOk, MatchResult, codes, string_bytes, true};
 ghost use Rattle.std.specs.Option.{MatchOption};
 ghost use Rattle.lexopt_options_spec.specs.Declaration.{is_sound};
-ghost use Rattle.test_callers.specs.Printed.{IsFaultOf, declaration_line, names_line, refused_line};
+ghost use Rattle.test_callers.specs.Printed.{IsErrorOf, IsFaultOf, IsUsageOf, declaration_line};
+ghost use Rattle.test_callers.specs.Printed.{IsErrorWith, IsUsageWith, names_line, refused_line};
 ghost use Rattle.test_callers.specs.Printed.{report_line, two_options};
 
-use crate::declared::{Flag, Value};
+use crate::declared::{Flag, Value, Word};
 use lexopt_options::{
-    Declaration, DeclarationError, Declared, Names, Options, Reason, Refused, Report, UsageError,
+    Count, Declaration, DeclarationError, Declared, Mistake, Names, Options, Positional, Reason,
+    Refused, Report, UsageError,
 };
 use std::alloc::{AllocError, Global};
 
@@ -27,13 +29,21 @@ pub fn declaration_text(alloc: Global, error: &DeclarationError<'_>) -> Result<S
 }
 
 /// Prints why a line is refused.
-pub fn refused_text<F, V, M, S>(
+pub fn refused_text<F, V, P, M, S>(
     alloc: Global,
-    refused: &Refused<'_, F, V, M, S>,
+    refused: &Refused<'_, F, V, P, M, S>,
 ) -> Result<String, AllocError>
     ensures { IfOk result (λ text. string_bytes text ≡ refused_line refused.now) }
 {
     format!(in alloc; "{refused}")
+}
+
+/// Prints that an option is missing.
+pub fn missing_option_text(alloc: Global) -> Result<String, AllocError>
+    ensures { IfOk result (λ text. string_bytes text ≡ codes "missing option '--user'") }
+{
+    let mistake = Mistake::MissingOption(Names::Both('u', "user"));
+    format!(in alloc; "{mistake}")
 }
 
 /// Prints a mistake that a program finds itself.
@@ -51,8 +61,8 @@ pub fn report_status(report: &Report<'_>) -> u8
     report.status()
 }
 
-/// Declares two options, and returns the character of the first of them that cannot be declared, and
-/// why; `None` if both can be declared together.
+/// Declares two options, and returns the character of the first of them that cannot be declared,
+/// and why; `None` if both can be declared together.
 pub fn fault_of_two(character: char, name: &str, placeholder: &str) -> Option<(char, Reason)>
     ensures { MatchOption result (is_sound (two_options character name.now placeholder.now) ≡ true)
         (IsFaultOf character name.now placeholder.now) }
@@ -71,9 +81,67 @@ pub fn fault_of_two(character: char, name: &str, placeholder: &str) -> Option<(c
     };
     match Options::try_new(&declaration) {
         Ok(_) => None,
-        Err(error) => match error.option {
-            Names::Both(character, _) => Some((character, error.reason)),
-            Names::Short(_) | Names::Long(_) => None,
-        },
+        Err(
+            DeclarationError::Option {
+                option: Names::Both(character, _),
+                reason,
+            },
+        ) => Some((character, reason)),
+        Err(_) => None,
     }
+}
+
+// The usage line of what is declared, or what is printed of the error.
+fn usage_or_error_of<'a>(
+    alloc: Global,
+    width: usize,
+    declaration: &'a Declaration<'a, Flag, Value, Word>,
+) -> Result<Result<String, String>, AllocError>
+    ensures { IfOk result (λ told. MatchResult told
+        (λ text. IsUsageWith width declaration.now (string_bytes text))
+        (λ text. IsErrorWith declaration.now (string_bytes text))) }
+{
+    match Options::try_new(declaration) {
+        Ok(options) => Ok(Ok(options.usage(alloc, width)?)),
+        Err(error) => Ok(Err(format!(in alloc; "{error}")?)),
+    }
+}
+
+/// Declares an option and two positional arguments. Returns the usage line if they can be declared
+/// together, and what is printed of the error if they cannot.
+pub fn usage_or_error(
+    alloc: Global,
+    width: usize,
+    character: char,
+    first: Count,
+    second: Count,
+) -> Result<Result<String, String>, AllocError>
+    ensures { IfOk result (λ told. MatchResult told
+        (λ text. IsUsageOf width character first second (string_bytes text))
+        (λ text. IsErrorOf character first second (string_bytes text))) }
+{
+    let options = [Declared::flag(Flag::Verbose, Names::Short(character), "")];
+    let positionals = [
+        Positional {
+            key: Word::From,
+            placeholder: "FROM",
+            count: first,
+            help: "",
+        },
+        Positional {
+            key: Word::To,
+            placeholder: "TO",
+            count: second,
+            help: "",
+        },
+    ];
+    let declaration: Declaration<'_, Flag, Value, Word> = Declaration {
+        program: "small",
+        about: "",
+        options: &options,
+        positionals: &positionals,
+        epilogue: &[],
+        short_equals: true,
+    };
+    usage_or_error_of(alloc, width, &declaration)
 }

@@ -826,10 +826,17 @@ enum Flag {
 #[derive(Debug, Clone, Copy)]
 enum Value {
     Output,
+    User,
+}
+
+#[derive(Debug, Clone, Copy)]
+enum Word {
+    File,
+    Target,
 }
 
 // A flag, an option with a value, the help and the version.
-static PACK: Declaration<'static, Flag, Value> = declare! {
+static PACK: Declaration<'static, Flag, Value, Word> = declare! {
     program: "pack",
     about: "Packs.",
     options: [
@@ -838,11 +845,25 @@ static PACK: Declaration<'static, Flag, Value> = declare! {
         help(Names::Both('h', "help")),
         version(Names::Long("version"), "pack 1.0"),
     ],
-    positionals: [any_number("FILE")],
+    positionals: [any_number(Word::File, "FILE")],
+};
+
+// An option that is required, and two arguments, of which the first may occur more than once.
+static OWN: Declaration<'static, Flag, Value, Word> = declare! {
+    program: "own",
+    options: [
+        flag(Flag::Verbose, Names::Both('v', "verbose"), "tell more"),
+        value(Value::User, Names::Both('u', "user"), "NAME", "whose it is").required(),
+        help(Names::Both('h', "help")),
+    ],
+    positionals: [at_least_once(Word::File, "FILE"), once(Word::Target, "TARGET")],
 };
 
 // Adds the answer.
-fn write_answer(answer: &Answer<'_, Flag, Value>, text: &mut String) -> Result<(), AllocError> {
+fn write_answer(
+    answer: &Answer<'_, Flag, Value, Word>,
+    text: &mut String,
+) -> Result<(), AllocError> {
     match answer {
         Answer::Said(said) => write!(text, "{said:?}"),
         Answer::Text(given) => text.push_str(given),
@@ -853,7 +874,7 @@ fn write_answer(answer: &Answer<'_, Flag, Value>, text: &mut String) -> Result<(
 // Whether the answer is this text.
 fn is_answer(
     alloc: Global,
-    answer: &Answer<'_, Flag, Value>,
+    answer: &Answer<'_, Flag, Value, Word>,
     wanted: &str,
 ) -> Result<bool, AllocError> {
     let mut text = String::with_capacity(alloc, 300)?;
@@ -862,8 +883,12 @@ fn is_answer(
 }
 
 // What a program with declared options is to do about these words, or that it was refused memory.
-fn answers_so(alloc: Global, lines: &[u8], wanted: &str) -> Result<(), Fail> {
-    let options = Options::new(&PACK);
+fn answers_so(
+    alloc: Global,
+    options: Options<'static, Flag, Value, Word>,
+    lines: &[u8],
+    wanted: &str,
+) -> Result<(), Fail> {
     let Ok(words) = split_words(alloc, lines) else {
         return told(true, "the list");
     };
@@ -880,8 +905,9 @@ fn answers_so(alloc: Global, lines: &[u8], wanted: &str) -> Result<(), Fail> {
 fn declared_line(rt: HostRuntime) -> Result<(), Fail> {
     answers_so(
         rt.alloc(),
+        Options::new(&PACK),
         b"-vo=x\n--output\ny\n--\n-f",
-        "[Flag(Verbose), Value(Output, \"x\"), Value(Output, \"y\"), Positional(\"-f\")]",
+        "[Flag(Verbose), Value(Output, \"x\"), Value(Output, \"y\"), Positional(File, \"-f\")]",
     )
 }
 
@@ -890,6 +916,7 @@ fn declared_line(rt: HostRuntime) -> Result<(), Fail> {
 fn declared_mistake(rt: HostRuntime) -> Result<(), Fail> {
     answers_so(
         rt.alloc(),
+        Options::new(&PACK),
         b"-v\na\n--verbsoe",
         "pack: invalid option '--verbsoe'; did you mean '--verbose'?\n\
         Try 'pack --help' for more information.",
@@ -900,6 +927,7 @@ fn declared_mistake(rt: HostRuntime) -> Result<(), Fail> {
 fn declared_help(rt: HostRuntime) -> Result<(), Fail> {
     answers_so(
         rt.alloc(),
+        Options::new(&PACK),
         b"-h\n--verbsoe",
         "Usage: pack [OPTION]... [FILE]...\nPacks.\n\n  \
         -v, --verbose\n             tell more\n  \
@@ -911,14 +939,43 @@ fn declared_help(rt: HostRuntime) -> Result<(), Fail> {
 
 #[test]
 fn declared_version(rt: HostRuntime) -> Result<(), Fail> {
-    answers_so(rt.alloc(), b"-v\n--version\n--verbsoe", "pack 1.0\n")
+    answers_so(
+        rt.alloc(),
+        Options::new(&PACK),
+        b"-v\n--version\n--verbsoe",
+        "pack 1.0\n",
+    )
 }
 
 #[test]
 fn declared_completion(rt: HostRuntime) -> Result<(), Fail> {
     answers_so(
         rt.alloc(),
+        Options::new(&PACK),
         b"__complete\n-v\n-o\nx\n--",
         "--verbose\n--output\n--help\n--version\n",
+    )
+}
+
+// A required option with its value, and the keys of the arguments.
+#[test]
+fn declared_required(rt: HostRuntime) -> Result<(), Fail> {
+    answers_so(
+        rt.alloc(),
+        Options::new(&OWN),
+        b"a\n-vu\nx\nb\n--\n-c",
+        "[Positional(File, \"a\"), Flag(Verbose), Value(User, \"x\"), Positional(File, \"b\"), \
+        Positional(Target, \"-c\")]",
+    )
+}
+
+// The option is missing.
+#[test]
+fn declared_missing(rt: HostRuntime) -> Result<(), Fail> {
+    answers_so(
+        rt.alloc(),
+        Options::new(&OWN),
+        b"a\n-v\nb",
+        "own: missing option '--user'\nTry 'own --help' for more information.",
     )
 }

@@ -1,6 +1,7 @@
 //! What a program is to do about its words.
 use crate::options::archive::{
-    ArchiveOption, ArchiveOptions, Flag, archive, archive_of_files, debug_of, words_of,
+    ArchiveOption, ArchiveOptions, ArchivePositional, Flag, Word, archive, archive_of_files,
+    debug_of, words_of,
 };
 use crate::options::texts::HELP_AT_80;
 use lexopt_options::{Answer, Declared, Names, Options, Positional};
@@ -38,7 +39,7 @@ Packs files.
 // Lines, what is to be done, and what is read or printed.
 static LINES: [(&[u8], Do, &str); 16] = [
     (b"", Work, "[]"),
-    (b"-v a", Work, "[Flag(Verbose), Positional(\"a\")]"),
+    (b"-v a", Work, "[Flag(Verbose), Positional(File, \"a\")]"),
     (b"-h", Print, HELP_AT_40),
     // What comes after it does not matter.
     (b"a --help --bogus", Print, HELP_AT_40),
@@ -49,24 +50,24 @@ static LINES: [(&[u8], Do, &str); 16] = [
     ),
     // It is a value here, and an argument.
     (b"-o --help", Work, "[Value(Output, \"--help\")]"),
-    (b"-- --help", Work, "[Positional(\"--help\")]"),
+    (b"-- --help", Work, "[Positional(File, \"--help\")]"),
     (b"__complete --verb", Print, "--verbose\n"),
     (b"__complete -o ", Print, "files\n"),
     (b"__complete -- a -", Print, "files\n"),
     (b"__complete -z ", Print, ""),
     // A word that was typed is missing, or the hidden word is not the first.
-    (b"__complete", Work, "[Positional(\"__complete\")]"),
+    (b"__complete", Work, "[Positional(File, \"__complete\")]"),
     (
         b"-v __complete a",
         Work,
-        "[Flag(Verbose), Positional(\"__complete\"), Positional(\"a\")]",
+        "[Flag(Verbose), Positional(File, \"__complete\"), Positional(File, \"a\")]",
     ),
     (b"__complete --output=x", Print, "value\n"),
     (b"__complete --verbose=x", Print, ""),
     (
         b"__script sh",
         Work,
-        "[Positional(\"__script\"), Positional(\"sh\")]",
+        "[Positional(File, \"__script\"), Positional(File, \"sh\")]",
     ),
 ];
 
@@ -163,7 +164,7 @@ fn scripts(rt: HostRuntime) {
 fn is_answered_by(
     alloc: Global,
     declared: &[ArchiveOption<'_>],
-    positionals: &[Positional<'_>],
+    positionals: &[ArchivePositional<'_>],
     wanted: Do,
     text: &str,
 ) -> Result<bool, AllocError> {
@@ -185,7 +186,7 @@ Packs files.
 #[test]
 fn help(rt: HostRuntime) {
     let help = [Declared::help(Names::Both('h', "help"))];
-    let source = [Positional::once("SOURCE", "")];
+    let source = [Positional::once(Word::Source, "SOURCE", "")];
     assert!(rt;
         is_answered_by(rt.alloc(), &help, &source, Print, HELP_OF_SOURCE).expect(&rt, "success")
     );
@@ -210,8 +211,8 @@ fn is_help_of_columns(
     }
 }
 
-// The width of the help, for each value of `COLUMNS`: 80 if that is not a number, or is 0, or has no
-// room in 64 bits.
+// The width of the help, for each value of `COLUMNS`: 80 if that is not a number, or is 0, or has
+// no room in 64 bits.
 const COLUMNS: [(Option<&[u8]>, &str); 10] = [
     (Some(b"40"), HELP_AT_40),
     (Some(b"+40"), HELP_AT_40),

@@ -12,6 +12,14 @@ pub enum Flag {
 #[derive(Debug, Clone, Copy, PartialEq, Eq)]
 pub enum Value {
     Output,
+    User,
+}
+
+#[derive(Debug, Clone, Copy, PartialEq, Eq)]
+pub enum Word {
+    File,
+    Source,
+    Target,
 }
 
 #[derive(Debug, Clone, Copy, PartialEq, Eq)]
@@ -28,13 +36,15 @@ pub type ArchiveOption<'a> = Declared<'a, Flag, Value, Maybe, Values>;
 
 pub type ArchiveKind<'a> = Kind<'a, Flag, Value, Maybe, Values>;
 
-pub type Archive<'a> = Declaration<'a, Flag, Value, Maybe, Values>;
+pub type ArchivePositional<'a> = Positional<'a, Word>;
 
-pub type ArchiveOptions<'a> = Options<'a, Flag, Value, Maybe, Values>;
+pub type Archive<'a> = Declaration<'a, Flag, Value, Word, Maybe, Values>;
 
-pub type ArchiveLine<'a> = Line<'a, Flag, Value, Maybe, Values>;
+pub type ArchiveOptions<'a> = Options<'a, Flag, Value, Word, Maybe, Values>;
 
-pub type ArchiveSaid = Said<Flag, Value, Maybe, Values>;
+pub type ArchiveLine<'a> = Line<'a, Flag, Value, Word, Maybe, Values>;
+
+pub type ArchiveSaid = Said<Flag, Value, Word, Maybe, Values>;
 
 /// The program with one option of each kind, that of the help, and any number of files.
 pub static ARCHIVE: Archive<'static> = declare! {
@@ -57,7 +67,7 @@ pub static ARCHIVE: Archive<'static> = declare! {
         ),
         help(Names::Both('h', "help")),
     ],
-    positionals: [any_number("FILE")],
+    positionals: [any_number(Word::File, "FILE")],
 };
 
 /// These words, between blanks. Two blanks have an empty word between them.
@@ -74,7 +84,7 @@ pub fn words_of(alloc: Global, line: &[u8]) -> Result<Vec<OsString>, AllocError>
 /// A program with these options and arguments.
 pub fn archive<'a>(
     options: &'a [ArchiveOption<'a>],
-    positionals: &'a [Positional<'a>],
+    positionals: &'a [ArchivePositional<'a>],
 ) -> Archive<'a> {
     Declaration {
         program: "archive",
@@ -120,7 +130,7 @@ pub fn text_of_words(
 // What is read before the mistake, and then what is printed for it.
 fn text_of_refused(
     alloc: Global,
-    refused: &Refused<'_, Flag, Value, Maybe, Values>,
+    refused: &Refused<'_, Flag, Value, Word, Maybe, Values>,
 ) -> Result<String, AllocError> {
     let mut text = debug_of(alloc, &refused.before)?;
     text.push_str(refused.to_string(alloc)?.as_str())?;

@@ -1,7 +1,7 @@
 //! Requests for the help and the version, and where help is in what is printed of a refused line.
 use crate::options::answers::Do::{self, Print, Refuse, Work};
 use crate::options::answers::first_wrong;
-use crate::options::archive::{Archive, Flag};
+use crate::options::archive::{Archive, Flag, Word};
 use lexopt_options::{Names, Options, declare};
 
 // An option that the help does not mention, a version, a help with a character alone, and an
@@ -13,7 +13,7 @@ static COPY: Archive<'static> = declare! {
         version(Names::Both('V', "version"), "copy 1.0"),
         help(Names::Short('h')),
     ],
-    positionals: [once("SOURCE", "what to copy")],
+    positionals: [once(Word::Source, "SOURCE", "what to copy")],
 };
 
 const COPY_HELP_AT_40: &str = "Usage: copy [OPTION]... SOURCE
@@ -33,7 +33,11 @@ static COPY_LINES: [(&[u8], Do, &str); 10] = [
     (b"--version -h", Print, "copy 1.0\n"),
     (b"-hV", Print, COPY_HELP_AT_40),
     (b"-Vz", Print, "copy 1.0\n"),
-    (b"--debug a", Work, "[Flag(Verbose), Positional(\"a\")]"),
+    (
+        b"--debug a",
+        Work,
+        "[Flag(Verbose), Positional(Source, \"a\")]",
+    ),
     // A mistake comes first.
     (
         b"-V=1",
@@ -51,7 +55,7 @@ static COPY_LINES: [(&[u8], Do, &str); 10] = [
         "copy: missing argument SOURCE\nTry 'copy -h' for more information.",
     ),
     // An argument after the separator is not a request.
-    (b"-- -h", Work, "[Positional(\"-h\")]"),
+    (b"-- -h", Work, "[Positional(Source, \"-h\")]"),
 ];
 
 #[test]

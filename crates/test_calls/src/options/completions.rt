@@ -149,8 +149,12 @@ static ROWS: [Row; 20] = [
     },
 ];
 
-// Whether these are the spellings, with blanks between them.
-fn are_spellings(alloc: Global, spellings: &[String], wanted: &str) -> Result<bool, AllocError> {
+/// Whether these are the spellings, with blanks between them.
+pub fn are_spellings(
+    alloc: Global,
+    spellings: &[String],
+    wanted: &str,
+) -> Result<bool, AllocError> {
     let mut text = String::new(alloc);
     for spelling in spellings {
         if !text.is_empty() {

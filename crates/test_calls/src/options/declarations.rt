@@ -1,6 +1,11 @@
-//! Which options can be declared, and the table of those that can.
-use crate::options::archive::{ArchiveKind, Flag, Maybe, Value, Values, archive, archive_of_files};
-use lexopt_options::{DeclarationError, Declared, Kind, Names, Options, Reason};
+//! What can be declared, as by the macro and by calls, and the table of the options.
+use crate::options::archive::{
+    ARCHIVE, Archive, ArchiveKind, ArchivePositional, Flag, Maybe, Value, Values, Word, archive,
+    archive_of_files,
+};
+use lexopt_options::{
+    Count, DeclarationError, Declared, Kind, Names, Options, Positional, Reason, declare,
+};
 use std::alloc::{AllocError, Global};
 
 // Whether an option that is declared after the help is refused for this reason, or is not refused
@@ -11,11 +16,12 @@ fn is_refused_for(names: Names<'_>, kind: ArchiveKind<'_>, reason: Option<Reason
         kind,
         help: "",
         hidden: false,
+        required: false,
     };
     let options = [Declared::help(Names::Both('h', "help")), option];
     let declaration = archive(&options, &[]);
     let wanted = match reason {
-        Some(reason) => Some(DeclarationError {
+        Some(reason) => Some(DeclarationError::Option {
             option: names,
             reason,
         }),
@@ -135,9 +141,122 @@ fn tables(rt: HostRuntime) {
     assert!(rt; has_each_kind(rt.alloc()).expect(&rt, "success"));
 }
 
+// Whether the second of these positional arguments that may occur more than once has this
+// placeholder, or no second one may if there is none.
+fn is_refused_at(positionals: &[ArchivePositional<'_>], placeholder: Option<&'static str>) -> bool {
+    let declaration = archive(ARCHIVE.options, positionals);
+    let wanted = match placeholder {
+        Some(placeholder) => Some(DeclarationError::Positional(placeholder)),
+        None => None,
+    };
+    Options::try_new(&declaration).err() == wanted
+}
+
 #[test]
-fn error_text(rt: HostRuntime) {
-    let error = DeclarationError {
+fn repeated(rt: HostRuntime) {
+    let file = Positional::any_number(Word::File, "FILE", "");
+    let more = Positional::any_number(Word::File, "MORE", "");
+    let source = Positional::at_least_once(Word::Source, "SOURCE", "");
+    let target = Positional::once(Word::Target, "TARGET", "");
+    let last = Positional::at_most_once(Word::Target, "LAST", "");
+    assert!(rt; is_refused_at(&[file, source], Some("SOURCE")));
+    assert!(rt; is_refused_at(&[source, target, file, more], Some("FILE")));
+    assert!(rt; is_refused_at(&[last, target, source, more], Some("MORE")));
+    assert!(rt; is_refused_at(&[target, source, last, target], None));
+    assert!(rt; is_refused_at(&[last, last, file, target], None));
+}
+
+// An option at fault comes first.
+#[test]
+fn option_first(rt: HostRuntime) {
+    let dash = [Declared::flag(Flag::Verbose, Names::Short('-'), "")];
+    let source = Positional::at_least_once(Word::Source, "SOURCE", "");
+    assert_eq!(rt;
+        Options::try_new(&archive(&dash, &[source, source])).err(),
+        Some(DeclarationError::Option {
+            option: Names::Short('-'),
+            reason: Reason::DashName,
+        })
+    );
+}
+
+// Each mark and each count, as the macro declares them.
+static MARKED: Archive<'static> = declare! {
+    program: "archive",
+    about: "Packs files.",
+    options: [
+        flag(Flag::Verbose, Names::Both('v', "verbose"), "tell more"),
+        value(Value::User, Names::Both('u', "user"), "NAME", "whose it is").required(),
+        maybe(Maybe::Backup, Names::Long("backup"), "SUFFIX", "keep a copy").hidden(),
+        values(Values::Exclude, Names::Short('x'), "PATTERN", "not these").hidden().required(),
+        help(Names::Long("help")).hidden(),
+        version(Names::Long("version"), "archive 1.0").required(),
+    ],
+    positionals: [
+        once(Word::Source, "SOURCE", "what to pack"),
+        at_most_once(Word::Target, "TARGET"),
+        any_number(Word::File, "FILE", "more of them"),
+        at_least_once(Word::File, "LAST", "the last ones"),
+    ],
+};
+
+// Whether the constructors make the same of them.
+fn is_made_by_calls(alloc: Global) -> Result<bool, AllocError> {
+    let pattern = Declared::values(Values::Exclude, Names::Short('x'), "PATTERN", "not these");
+    let options = [
+        Declared::flag(Flag::Verbose, Names::Both('v', "verbose"), "tell more"),
+        Declared::value(Value::User, Names::Both('u', "user"), "NAME", "whose it is").required(),
+        Declared::maybe(
+            Maybe::Backup,
+            Names::Long("backup"),
+            "SUFFIX",
+            "keep a copy",
+        )
+        .hidden(),
+        pattern.hidden().required(),
+        Declared::help(Names::Long("help")).hidden(),
+        Declared::version(Names::Long("version"), "archive 1.0").required(),
+    ];
+    let positionals = [
+        Positional::once(Word::Source, "SOURCE", "what to pack"),
+        Positional::at_most_once(Word::Target, "TARGET", ""),
+        Positional::any_number(Word::File, "FILE", "more of them"),
+        Positional::at_least_once(Word::File, "LAST", "the last ones"),
+    ];
+    let made = archive(&options, &positionals);
+    Ok(format!(in alloc; "{MARKED:?}")? == format!(in alloc; "{made:?}")?)
+}
+
+#[test]
+fn marks(rt: HostRuntime) {
+    let marks = [
+        (false, false),
+        (false, true),
+        (true, false),
+        (true, true),
+        (true, false),
+        (false, true),
+    ];
+    assert_eq!(rt; MARKED.options.len(), marks.len());
+    for (option, mark) in MARKED.options.iter().zip(marks) {
+        assert!(rt; (option.hidden, option.required) == mark);
+    }
+    let counts = [
+        Count::Once,
+        Count::AtMostOnce,
+        Count::AnyNumber,
+        Count::AtLeastOnce,
+    ];
+    assert_eq!(rt; MARKED.positionals.len(), counts.len());
+    for (positional, count) in MARKED.positionals.iter().zip(counts) {
+        assert!(rt; positional.count == count);
+    }
+    assert!(rt; is_made_by_calls(rt.alloc()).expect(&rt, "memory"));
+}
+
+#[test]
+fn error_texts(rt: HostRuntime) {
+    let error = DeclarationError::Option {
         option: Names::Both('h', "host"),
         reason: Reason::SameName,
     };
@@ -145,5 +264,11 @@ fn error_text(rt: HostRuntime) {
     assert_eq!(rt;
         text.as_str(),
         "option '--host': an option before it has one of its names"
+    );
+    let error = DeclarationError::Positional("FILE");
+    let text = error.to_string(rt.alloc()).expect(&rt, "memory");
+    assert_eq!(rt;
+        text.as_str(),
+        "positional argument FILE: one before it may occur more than once too"
     );
 }

@@ -20,7 +20,7 @@ static LINES: [(&[u8], &str); 11] = [
     (
         b"-vo=x --output y -bz --exclude a b -- -f",
         "[Flag(Verbose), Value(Output, \"x\"), Value(Output, \"y\"), Maybe(Backup, Some(\"z\")), \
-        Values(Exclude, [\"a\", \"b\"]), Positional(\"-f\")]",
+        Values(Exclude, [\"a\", \"b\"]), Positional(File, \"-f\")]",
     ),
     // What comes after the request for the help does not matter.
     (b"-h --backup z --backup=", "Help"),
@@ -28,7 +28,7 @@ static LINES: [(&[u8], &str); 11] = [
     (b"-h --verbose=x -o", "Help"),
     (
         b"--backup z --backup=",
-        "[Maybe(Backup, None), Positional(\"z\"), Maybe(Backup, Some(\"\"))]",
+        "[Maybe(Backup, None), Positional(File, \"z\"), Maybe(Backup, Some(\"\"))]",
     ),
     (
         b"-o -- --output=--",
@@ -40,17 +40,17 @@ static LINES: [(&[u8], &str); 11] = [
     ),
     (
         b"-- -- --help",
-        "[Positional(\"--\"), Positional(\"--help\")]",
+        "[Positional(File, \"--\"), Positional(File, \"--help\")]",
     ),
     (
         b"-  -",
-        "[Positional(\"-\"), Positional(\"\"), Positional(\"-\")]",
+        "[Positional(File, \"-\"), Positional(File, \"\"), Positional(File, \"-\")]",
     ),
     (b"-o\xFF", "[Value(Output, \"\\xFF\")]"),
 ];
 
-// The first of these rows that does not hold, or none.
-fn first_wrong(
+/// The first of these rows that does not hold, or none.
+pub fn first_wrong(
     alloc: Global,
     options: &ArchiveOptions<'_>,
     rows: &[(&[u8], &'static str)],

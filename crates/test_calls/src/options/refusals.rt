@@ -1,7 +1,7 @@
 //! What is printed for lines that are refused, and what is read from them before the mistake.
 use crate::options::archive::{
-    ARCHIVE, Archive, ArchiveKind, ArchiveOptions, Maybe, Value, Values, archive, archive_of_files,
-    tells, text_of_words, words_of,
+    ARCHIVE, Archive, ArchiveKind, ArchiveOptions, Maybe, Value, Values, Word, archive,
+    archive_of_files, tells, text_of_words, words_of,
 };
 use lexopt_options::{
     Error, Kind, Names, Options, OsString, Positional, USAGE_ERROR, UsageError, ValueExt, declare,
@@ -53,7 +53,7 @@ static MISTAKES: [(&[u8], &str, &str); 19] = [
     ),
     (
         b"a --colour always",
-        "[Positional(\"a\")]",
+        "[Positional(Source, \"a\")]",
         "invalid option '--colour'",
     ),
     (b"--colour=always", "[]", "invalid option '--colour'"),
@@ -72,7 +72,7 @@ static MISTAKES: [(&[u8], &str, &str); 19] = [
     // A request for the help that has a value is not a request.
     (
         b"a --help=1",
-        "[Positional(\"a\")]",
+        "[Positional(Source, \"a\")]",
         "unexpected argument for option '--help': \"1\"",
     ),
     (
@@ -82,7 +82,7 @@ static MISTAKES: [(&[u8], &str, &str); 19] = [
     ),
     (
         b"a -v -o",
-        "[Positional(\"a\"), Flag(Verbose)]",
+        "[Positional(Source, \"a\"), Flag(Verbose)]",
         "missing argument FILE for option '-o'",
     ),
     (
@@ -92,15 +92,15 @@ static MISTAKES: [(&[u8], &str, &str); 19] = [
     ),
     (
         b"a b c d",
-        "[Positional(\"a\"), Positional(\"b\")]",
+        "[Positional(Source, \"a\"), Positional(Target, \"b\")]",
         "unexpected argument \"c\"",
     ),
     (b"", "[]", "missing argument SOURCE"),
     (b"-v --", "[Flag(Verbose)]", "missing argument SOURCE"),
 ];
 
-// The first of these rows that does not hold, or none. With no options the first one does not.
-fn first_wrong(
+/// The first of these rows that does not hold, or none. With no options the first one does not.
+pub fn first_wrong(
     alloc: Global,
     options: Option<ArchiveOptions<'_>>,
     rows: &[(&[u8], &'static str, &'static str)],
@@ -119,8 +119,8 @@ fn first_wrong(
 #[test]
 fn mistakes(rt: HostRuntime) {
     let positionals = [
-        Positional::once("SOURCE", ""),
-        Positional::at_most_once("TARGET", ""),
+        Positional::once(Word::Source, "SOURCE", ""),
+        Positional::at_most_once(Word::Target, "TARGET", ""),
     ];
     let declaration = archive(ARCHIVE.options, &positionals);
     let options = Options::try_new(&declaration).ok();

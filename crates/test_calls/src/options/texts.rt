@@ -1,5 +1,7 @@
 //! The help and the usage line.
-use crate::options::archive::{ARCHIVE, ArchiveOption, Flag, Maybe, Value, Values, archive};
+use crate::options::archive::{
+    ARCHIVE, ArchiveOption, ArchivePositional, Flag, Maybe, Value, Values, Word, archive,
+};
 use lexopt_options::{Declared, Names, Options, Positional, WIDTH};
 use std::alloc::{AllocError, Global};
 
@@ -69,7 +71,7 @@ exit
 fn is_help(
     alloc: Global,
     declared: &[ArchiveOption<'_>],
-    positionals: &[Positional<'_>],
+    positionals: &[ArchivePositional<'_>],
     width: usize,
     wanted: &str,
 ) -> Result<bool, AllocError> {
@@ -172,8 +174,8 @@ fn is_usage(
     wanted: &str,
 ) -> Result<bool, AllocError> {
     let positionals = [
-        Positional::once("SOURCE", ""),
-        Positional::at_most_once("TARGET", ""),
+        Positional::once(Word::Source, "SOURCE", ""),
+        Positional::at_most_once(Word::Target, "TARGET", ""),
     ];
     match Options::try_new(&archive(declared, &positionals)) {
         Ok(options) => Ok(options.usage(alloc, width)?.as_str() == wanted),

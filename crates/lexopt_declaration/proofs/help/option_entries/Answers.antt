@@ -1,12 +1,17 @@
-use Rattle.std.proofs.Common.{◌≡◌, ◌<◌, not, true, ap, length, subst, sym, take, map, ◌∙◌, arith}
+use Rattle.std.proofs.Common.{◌≡◌, ◌<◌, not, true, false, ap, length, subst, sym, take, map, ◌∙◌, arith}
 use Rattle.std.proofs.lemmas.List.Concat.{concat_is}
 use Rattle.std.proofs.lemmas.Grind.{common_steps}
 use Rattle.std.specs.List.{AllZip}
 use Rattle.lexopt_options_spec.specs.Declaration.{Declared}
 use Rattle.lexopt_options_spec.specs.Help.{IsEntry, label, visible}
 use Rattle.lexopt_declaration.specs.Models.{option_view}
-use Rattle.lexopt_options_spec.proofs.Wrapping.{listed_kept}
+use Rattle.lexopt_options_spec.proofs.Wrapping.{listed_kept, listed_left_out}
 use Rattle.lexopt_declaration.proofs.help.option_entries.Goals as goal
+
+pub loop-option-preserved-then-option : goal.loop-option-preserved-then-option
+loop-option-preserved-then-option g c =
+    listed_left_out option_view _ _ _ c.args.options.now c.loop-option.option-index _ _ c.loop-option-test.true (λ o. not o.hidden)
+    (subst (λ o. not o.hidden ≡ false) c.option-item.is (ap not c.if-option.true)) c.loop-option.invariant
 
 pub loop-option-preserved : goal.loop-option-preserved
 loop-option-preserved g c =

@@ -6,5 +6,5 @@ use Rattle.lexopt_options_spec.proofs.Wrapping.{Listed}
 use Rattle.lexopt_declaration.proofs.help.positional_entries.Given as goal
 
 abbrev pub invariant-loop-positional : goal.invariant-loop-positional
-invariant-loop-positional l =
+invariant-loop-positional g l =
     Listed (λ (p : Positional). IsEntry l.width p.placeholder p.help) (λ (entry : List ℕ). entry) [] (described (map positional_view (take l.positional-index l.positionals))) (string_bytes l.text)

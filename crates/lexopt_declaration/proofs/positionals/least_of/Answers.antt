@@ -3,4 +3,4 @@ use Rattle.lexopt_declaration.proofs.Counting.{required_are}
 use Rattle.lexopt_declaration.proofs.positionals.least_of.Goals as goal
 
 pub returns : goal.returns
-returns c = c.required_count.ensures ∙ required_are c.args.positionals.now
+returns g c = c.required_count.ensures ∙ required_are c.args.positionals.now

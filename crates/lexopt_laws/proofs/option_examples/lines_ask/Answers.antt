@@ -30,6 +30,11 @@ unfolding kind computing
 returns-clause-where_an_argument_is_missing c = asks_first (long (codes "help")) 4 _ _ _ refl refl refl (lit≤ tt) (reads_name _ 0x68 (codes "elp") [] refl refl refl refl)
     (next_word refl refl (no_word refl refl refl)) (λ o x is. cc)
 
+pub returns-clause-where_an_option_is_missing : goal.returns-clause-where_an_option_is_missing
+unfolding kind computing
+returns-clause-where_an_option_is_missing c = asks_first (long (codes "help")) 1 _ _ _ refl refl refl (lit≤ tt) (reads_name _ 0x68 (codes "elp") [] refl refl refl refl)
+    (next_word refl refl (no_word refl refl refl)) (λ o x is. cc)
+
 -- `--help a`
 pub returns-clause-before_a_mistake : goal.returns-clause-before_a_mistake
 unfolding kind computing

@@ -6,7 +6,7 @@ use Rattle.lexopt_line_spec.specs.Spelling.{separator}
 use Rattle.lexopt_line_spec.proofs.Computing.{computing}
 use Rattle.lexopt_line_spec.proofs.Worked.{reads_first, misses_values}
 use Rattle.lexopt_options_spec.specs.Legal.{SaysFront, positional}
-use Rattle.lexopt_options_spec.specs.Stops.{StopsAt, unknown_option, missing_value, missing_argument, not_declared, no_value}
+use Rattle.lexopt_options_spec.specs.Stops.{StopsAt, unknown_option, missing_value, missing_argument, missing_option, not_declared, no_value}
 use Rattle.lexopt_options_spec.proofs.Fronts.{no_front, one_front}
 use Rattle.lexopt_options_spec.proofs.Stands.{stands_open}
 use Rattle.lexopt_laws.specs.Sample.{sample, files}
@@ -45,7 +45,7 @@ unfolding kind computing
 returns-clause-first_value_due c s stands =
     let stops : StopsAt (sample [] true) (codes "-x" ∷ []) [] (missing_value 3 (codes "-x")) =
     at_first (no_value (short 0x78) 3 (codes "-x") (values 1) _ _ (inl (reads_first _ 0x78 [] [] refl refl refl refl)) refl (1, refl) (inl (misses_values 1 _ refl refl))) in
-    no_front _ _ [] (missing_value 3 (codes "-x")) stops (λ count same. let e : missing_value 3 (codes "-x") ≡ missing_argument count = same in cc) stands.before stands.words_say
+    no_front _ _ [] (missing_value 3 (codes "-x")) stops (λ count same. let e : missing_value 3 (codes "-x") ≡ missing_argument count = same in cc) (λ index same. let e : missing_value 3 (codes "-x") ≡ missing_option index = same in cc) stands.before stands.words_say
 
 -- `-z`
 pub returns-clause-after_a_mistake : goal.returns-clause-after_a_mistake
@@ -53,7 +53,7 @@ unfolding kind computing
 returns-clause-after_a_mistake c s stands =
     let stops : StopsAt (sample [] true) (codes "-z" ∷ []) [] (unknown_option (short 0x7A)) =
     at_first (not_declared (short 0x7A) _ (inl (reads_first _ 0x7A [] [] refl refl refl refl)) refl) in
-    no_front _ _ [] (unknown_option (short 0x7A)) stops (λ count same. let e : unknown_option (short 0x7A) ≡ missing_argument count = same in cc) stands.before stands.words_say
+    no_front _ _ [] (unknown_option (short 0x7A)) stops (λ count same. let e : unknown_option (short 0x7A) ≡ missing_argument count = same in cc) (λ index same. let e : unknown_option (short 0x7A) ≡ missing_option index = same in cc) stands.before stands.words_say
 
 -- `--`, and with another one
 pub returns-clause-not_open : goal.returns-clause-not_open

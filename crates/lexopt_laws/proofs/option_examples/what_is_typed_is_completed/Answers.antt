@@ -3,7 +3,8 @@ use Rattle.std.proofs.lemmas.Str.{IsUtf8-from_is_utf8}
 use Rattle.lexopt_line_spec.proofs.Computing.{computing}
 use Rattle.lexopt_options_spec.proofs.Offered.{offered_stands}
 use Rattle.lexopt_laws.proofs.WorkedOpen as worked
-use Rattle.lexopt_laws.proofs.WorkedOpen.{sample_text, not_offered, no_utf8}
+use Rattle.lexopt_laws.proofs.WorkedOpen.{sample_named, sample_text, not_offered, no_utf8}
+use Rattle.lexopt_laws.proofs.WorkedRequired.{demanding_named, demanding_text, open_without_user}
 use Rattle.lexopt_laws.proofs.option_examples.what_is_typed_is_completed.Goals as goal
 
 pub returns-clause-front : goal.returns-clause-front
@@ -11,7 +12,7 @@ unfolding computing
 returns-clause-front c = record {
   text = IsUtf8-from_is_utf8 (codes "--out") refl;
   begins = refl;
-  stands = offered_stands _ _ _ _ refl sample_text worked.at_the_start (3, lit< tt, refl);
+  stands = offered_stands _ _ _ _ refl sample_text sample_named worked.at_the_start (3, lit< tt, refl);
 }
 
 pub returns-clause-whole : goal.returns-clause-whole
@@ -19,7 +20,7 @@ unfolding computing
 returns-clause-whole c = record {
   text = IsUtf8-from_is_utf8 (codes "-v") refl;
   begins = refl;
-  stands = offered_stands _ _ _ _ refl sample_text worked.at_the_start (0, lit< tt, refl);
+  stands = offered_stands _ _ _ _ refl sample_text sample_named worked.at_the_start (0, lit< tt, refl);
 }
 
 pub returns-clause-nothing : goal.returns-clause-nothing
@@ -27,7 +28,15 @@ unfolding computing
 returns-clause-nothing c = record {
   text = IsUtf8-from_is_utf8 [] refl;
   begins = refl;
-  stands = offered_stands _ _ _ _ refl sample_text worked.after_a_flag (5, lit< tt, refl);
+  stands = offered_stands _ _ _ _ refl sample_text sample_named worked.after_a_flag (5, lit< tt, refl);
+}
+
+pub returns-clause-required : goal.returns-clause-required
+unfolding computing
+returns-clause-required c = record {
+  text = IsUtf8-from_is_utf8 (codes "--us") refl;
+  begins = refl;
+  stands = offered_stands _ _ _ _ refl demanding_text demanding_named open_without_user (9, lit< tt, refl);
 }
 
 pub returns-clause-another : goal.returns-clause-another

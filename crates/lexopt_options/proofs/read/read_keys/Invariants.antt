@@ -1,10 +1,9 @@
 use Rattle.lexopt_line_spec.specs.Bound.{bound}
-use Rattle.lexopt_options.specs.Declarations.{declaration_of, options_of}
 use Rattle.lexopt_options.proofs.ReadKeys.{HasRead}
 use Rattle.lexopt_options.proofs.read.read_keys.Given as goal
 
-abbrev pub invariant-loop-said : goal.invariant-loop-said
-invariant-loop-said g l = HasRead (declaration_of l.options) (options_of l.options) l.initial.parser l.parser l.count l.said.items
+abbrev pub invariant-loop-seen : goal.invariant-loop-seen
+invariant-loop-seen g l = HasRead l.options l.initial.parser l.parser l.count l.seen.items l.said.items
 
-abbrev pub decreases-loop-said : goal.decreases-loop-said
-decreases-loop-said g l = bound l.parser
+abbrev pub decreases-loop-seen : goal.decreases-loop-seen
+decreases-loop-seen g l = bound l.parser

@@ -6,7 +6,7 @@ use Rattle.lexopt_options_spec.specs.Stops.{ReadsUpTo}
 use Rattle.lexopt_options.specs.Declarations.{declaration_of}
 use Rattle.lexopt_options.specs.Reading.{indexed_view}
 use Rattle.lexopt_options.proofs.ReadNext.{count_more, count_small, one_more}
-use Rattle.lexopt_options.proofs.WholeLines.{line_said, line_stopped}
+use Rattle.lexopt_options.proofs.WholeLines.{front_of, line_stopped, nothing_part}
 use Rattle.lexopt_options.proofs.read.read_line.Goals as goal
 
 pub overflow_add-count : goal.overflow_add-count
@@ -49,22 +49,22 @@ loop-said-preserved g c =
 
 pub returns-in-Err : goal.returns-in-Err
 returns-in-Err g c = λ words is.
+    let d = declaration_of c.args.options.now in
+    let l = map indexed_view c.loop-said.said.items in
     let next = rw c.in-Option.is at c.in_ok-index.ensures in
-    let stops = rw c.in-Err.is at c.in_ok-option-in-Option.ensures c.loop-said.count c.loop-said.parser next.0 next.1 next.2 in (
-      stops.why,
-      stops.told,
-      line_stopped (declaration_of c.args.options.now) words (map indexed_view c.loop-said.said.items) c.args.parser.now c.loop-said.parser c.loop-said.count stops.why is c.loop-said.invariant.read c.loop-said.invariant.counted stops.stops,
-    )
+    let stops = rw c.in-Err.is at c.in_ok-option-in-Option.ensures c.loop-said.count c.loop-said.parser next.0 next.1 next.2 in
+    nothing_part d words l stops.why stops.early
+    (line_stopped d words l c.args.parser.now c.loop-said.parser c.loop-said.count stops.why is c.loop-said.invariant.read c.loop-said.invariant.counted stops.stops)
 
 pub returns-in-End : goal.returns-in-End
 returns-in-End g c = λ words is.
     let ends = rw c.in-End.is at c.in_ok-index.ensures in
-    line_said (declaration_of c.args.options.now) words (map indexed_view c.loop-said.said.items) c.args.parser.now c.loop-said.parser c.read_next.new.parser c.loop-said.count c.args.options.now.sound is c.loop-said.invariant.read c.loop-said.invariant.counted ends.0 ends.1
+    front_of (declaration_of c.args.options.now) words (map indexed_view c.loop-said.said.items) c.args.parser.now c.loop-said.parser c.read_next.new.parser c.args.options.now.sound is c.loop-said.invariant.read ends
 
 pub returns-in-Mistake : goal.returns-in-Mistake
 returns-in-Mistake g c = λ words is.
-    let stops = rw c.in-Mistake.is at c.in_ok-index.ensures in (
-      stops.why,
-      stops.told,
-      line_stopped (declaration_of c.args.options.now) words (map indexed_view c.loop-said.said.items) c.args.parser.now c.loop-said.parser c.loop-said.count stops.why is c.loop-said.invariant.read c.loop-said.invariant.counted stops.stops,
-    )
+    let d = declaration_of c.args.options.now in
+    let l = map indexed_view c.loop-said.said.items in
+    let stops = rw c.in-Mistake.is at c.in_ok-index.ensures in
+    nothing_part d words l stops.why stops.early
+    (line_stopped d words l c.args.parser.now c.loop-said.parser c.loop-said.count stops.why is c.loop-said.invariant.read c.loop-said.invariant.counted stops.stops)

@@ -1,4 +1,4 @@
-use Rattle.std.proofs.Common.{◌≡◌, ◌∙◌, Ok, Err, List, ℕ, string_bytes, refl, subst, sym, ap}
+use Rattle.std.proofs.Common.{◌≡◌, ◌∙◌, Ok, Err, List, Some, ℕ, string_bytes, refl, subst, sym, ap}
 use Rattle.std.proofs.lemmas.Bool.{false≢true}
 use Rattle.lexopt_line_spec.specs.Table.{long, short}
 use Rattle.lexopt_options_spec.specs.Declaration.{index_of}
@@ -28,7 +28,8 @@ returns-in_ok-unknown_option-in-None g c =
     record {
       why = stops.unknown_option (short c.in-Ok-Short.option);
       told = c.in_ok-unknown_option-in-None.ensures;
-      stops = stops.not_declared (short c.in-Ok-Short.option) c.advance.new.self (answered _ _ _ _ c.advance.ensures is)
+      early = tt;
+      stops = λ l counted. stops.not_declared (short c.in-Ok-Short.option) c.advance.new.self (answered _ _ _ _ c.advance.ensures is)
           (sym (ap (λ os. index_of os (short c.in-Ok-Short.option)) c.options.ensures.view) ∙ sym c.index_of_short.ensures ∙ c.in-None.is);
     }
 
@@ -41,7 +42,8 @@ returns-in_ok-unknown_option-in-None-index_of_long g c =
     record {
       why = stops.unknown_option (long (string_bytes name));
       told = c.in_ok-unknown_option-in-None-index_of_long.ensures;
-      stops = subst (λ (n : List ℕ). Stops (declaration_of c.args.options.now) c.args.count c.args.parser.now (stops.unknown_option (long n))) same
+      early = tt;
+      stops = λ l counted. subst (λ (n : List ℕ). Stops (declaration_of c.args.options.now) l c.args.parser.now (stops.unknown_option (long n))) same
           (stops.not_declared (long c.long_name.result.now) c.advance.new.self step
           (sym (ap (λ os. index_of os (long c.long_name.result.now)) c.options-in-Ok-Long.ensures.view) ∙ sym c.index_of_long.ensures ∙ c.in-None-index_of_long.is));
     }
@@ -52,7 +54,8 @@ returns-then-is_full g c =
     record {
       why = stops.unexpected_argument c.in-Ok-Value.word;
       told = refl;
-      stops = stops.one_too_many c.in-Ok-Value.word c.advance.new.self (answered _ _ _ _ c.advance.ensures is) (sym c.requires.limit ∙ c.is_full.ensures.0 c.if-is_full.true);
+      early = tt;
+      stops = λ l counted. stops.one_too_many c.in-Ok-Value.word c.advance.new.self (answered _ _ _ _ c.advance.ensures is) (sym c.requires.limit ∙ c.is_full.ensures.0 c.if-is_full.true ∙ ap Some counted);
     }
 
 pub returns-else-is_full : goal.returns-else-is_full
@@ -64,7 +67,7 @@ returns-else-is_full g c =
 pub returns-in-Ok-End : goal.returns-in-Ok-End
 returns-in-Ok-End g c =
     let is : c.advance.result ≡ Ok found.End = cc in
-    c.finish.ensures c.args.parser.now c.advance.new.self (answered _ _ _ _ c.advance.ensures is)
+    answered _ _ _ _ c.advance.ensures is
 
 pub returns-in-UnexpectedValue : goal.returns-in-UnexpectedValue
 returns-in-UnexpectedValue g c =
@@ -72,7 +75,8 @@ returns-in-UnexpectedValue g c =
     record {
       why = stops.unexpected_value (string_bytes c.in-UnexpectedValue.option) c.in-UnexpectedValue.value;
       told = refl;
-      stops = stops.value_of_flag (string_bytes c.in-UnexpectedValue.option) c.in-UnexpectedValue.value c.advance.new.self (answered _ _ _ _ c.advance.ensures is);
+      early = tt;
+      stops = λ l counted. stops.value_of_flag (string_bytes c.in-UnexpectedValue.option) c.in-UnexpectedValue.value c.advance.new.self (answered _ _ _ _ c.advance.ensures is);
     }
 
 pub unreachable-requires : goal.unreachable-requires

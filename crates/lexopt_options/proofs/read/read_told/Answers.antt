@@ -20,7 +20,7 @@ returns-in-Flag g c = λ count u name step found.
     let inside = found_within (options_of o) name c.args.index found in
     let at = subst (λ (os : List (Declared _ _ _ _)). r ≡ get_or os c.args.index r) c.options-declared.ensures.same c.index-declared-index.is in
     read_so o count u c.args.parser.now c.args.parser.now name arity.Flag c.args.index (values.AtMostOne None) (indexed.Option c.args.index None) (told.Said (said.Flag c.in-Flag.key))
-    (kind_is (options_of o) c.args.index r (kind.Flag c.in-Flag.key) inside at c.in-Flag.is) step found (refl) (refl) (tells_flag (options_of o) c.args.index r c.in-Flag.key inside at c.in-Flag.is)
+    (kind_is (options_of o) c.args.index r (kind.Flag c.in-Flag.key) inside at c.in-Flag.is) step found (refl) (refl) (tells_flag o c.args.index r c.in-Flag.key inside at c.in-Flag.is)
 
 pub returns-in-Help : goal.returns-in-Help
 returns-in-Help g c = λ count u name step found.
@@ -29,7 +29,7 @@ returns-in-Help g c = λ count u name step found.
     let inside = found_within (options_of o) name c.args.index found in
     let at = subst (λ (os : List (Declared _ _ _ _)). r ≡ get_or os c.args.index r) c.options-declared.ensures.same c.index-declared-index.is in
     read_so o count u c.args.parser.now c.args.parser.now name arity.Flag c.args.index (values.AtMostOne None) (indexed.Option c.args.index None) (told.Asked asked.Help)
-    (kind_is (options_of o) c.args.index r (kind.Help) inside at c.in-Help.is) step found (refl) (refl) (tells_help (options_of o) c.args.index r inside at c.in-Help.is)
+    (kind_is (options_of o) c.args.index r (kind.Help) inside at c.in-Help.is) step found (refl) (refl) (tells_help o c.args.index r inside at c.in-Help.is)
 
 pub returns-in-Version : goal.returns-in-Version
 returns-in-Version g c = λ count u name step found.
@@ -38,7 +38,7 @@ returns-in-Version g c = λ count u name step found.
     let inside = found_within (options_of o) name c.args.index found in
     let at = subst (λ (os : List (Declared _ _ _ _)). r ≡ get_or os c.args.index r) c.options-declared.ensures.same c.index-declared-index.is in
     read_so o count u c.args.parser.now c.args.parser.now name arity.Flag c.args.index (values.AtMostOne None) (indexed.Option c.args.index None) (told.Asked (asked.Version c.in-Version.text))
-    (kind_is (options_of o) c.args.index r (kind.Version c.in-Version.text) inside at c.in-Version.is) step found (refl) (refl) (tells_version (options_of o) c.args.index r c.in-Version.text inside at c.in-Version.is)
+    (kind_is (options_of o) c.args.index r (kind.Version c.in-Version.text) inside at c.in-Version.is) step found (refl) (refl) (tells_version o c.args.index r c.in-Version.text inside at c.in-Version.is)
 
 pub returns-in-Ok : goal.returns-in-Ok
 returns-in-Ok g c = λ count u name step found.
@@ -47,7 +47,7 @@ returns-in-Ok g c = λ count u name step found.
     let inside = found_within (options_of o) name c.args.index found in
     let at = subst (λ (os : List (Declared _ _ _ _)). r ≡ get_or os c.args.index r) c.options-declared.ensures.same c.index-declared-index.is in
     read_so o count u c.args.parser.now c.read_values.new.parser name arity.One c.args.index (c.in-Ok.values) (indexed.Option c.args.index (Some c.one_of.result)) (told.Said (said.Value c.in-Value.key c.one_of.result))
-    (kind_is (options_of o) c.args.index r (kind.Value c.in-Value.key c.in-Value.field-1) inside at c.in-Value.is) step found (ap (said_with c.args.index) (sym c.one_of.ensures)) (c.in-Ok.ensures.ok) (tells_value (options_of o) c.args.index r c.in-Value.key c.in-Value.field-1 c.one_of.result inside at c.in-Value.is)
+    (kind_is (options_of o) c.args.index r (kind.Value c.in-Value.key c.in-Value.field-1) inside at c.in-Value.is) step found (ap (said_with c.args.index) (sym c.one_of.ensures)) (c.in-Ok.ensures.ok) (tells_value o c.args.index r c.in-Value.key c.in-Value.field-1 c.one_of.result inside at c.in-Value.is)
 
 pub returns-in_ok-missing_value-in-Err : goal.returns-in_ok-missing_value-in-Err
 returns-in_ok-missing_value-in-Err g c = λ count u name step found.
@@ -64,7 +64,7 @@ returns-in-Ok-read_values g c = λ count u name step found.
     let inside = found_within (options_of o) name c.args.index found in
     let at = subst (λ (os : List (Declared _ _ _ _)). r ≡ get_or os c.args.index r) c.options-declared.ensures.same c.index-declared-index.is in
     read_so o count u c.args.parser.now c.read_values-in-Maybe.new.parser name arity.Optional c.args.index (c.in-Ok-read_values.values) (indexed.Option c.args.index c.at_most_one_of.result) (told.Said (said.Maybe c.in-Maybe.key c.at_most_one_of.result))
-    (kind_is (options_of o) c.args.index r (kind.Maybe c.in-Maybe.key c.in-Maybe.field-1) inside at c.in-Maybe.is) step found (ap (said_with c.args.index) (sym c.at_most_one_of.ensures)) (c.in-Ok-read_values.ensures.ok) (tells_maybe (options_of o) c.args.index r c.in-Maybe.key c.in-Maybe.field-1 c.at_most_one_of.result inside at c.in-Maybe.is)
+    (kind_is (options_of o) c.args.index r (kind.Maybe c.in-Maybe.key c.in-Maybe.field-1) inside at c.in-Maybe.is) step found (ap (said_with c.args.index) (sym c.at_most_one_of.ensures)) (c.in-Ok-read_values.ensures.ok) (tells_maybe o c.args.index r c.in-Maybe.key c.in-Maybe.field-1 c.at_most_one_of.result inside at c.in-Maybe.is)
 
 pub returns-in_ok-missing_value-in-Err-read_values : goal.returns-in_ok-missing_value-in-Err-read_values
 returns-in_ok-missing_value-in-Err-read_values g c = λ count u name step found.
@@ -81,7 +81,7 @@ returns-in-Ok-read_values-2 g c = λ count u name step found.
     let inside = found_within (options_of o) name c.args.index found in
     let at = subst (λ (os : List (Declared _ _ _ _)). r ≡ get_or os c.args.index r) c.options-declared.ensures.same c.index-declared-index.is in
     read_so o count u c.args.parser.now c.read_values-in-Values.new.parser name arity.Several c.args.index (c.in-Ok-read_values-2.values) (indexed.Several c.args.index c.all_of.result) (told.Said (said.Values c.in-Values.key c.all_of.result))
-    (kind_is (options_of o) c.args.index r (kind.Values c.in-Values.key c.in-Values.field-1) inside at c.in-Values.is) step found (ap (said_with c.args.index) (sym c.all_of.ensures)) (c.in-Ok-read_values-2.ensures.ok) (tells_values (options_of o) c.args.index r c.in-Values.key c.in-Values.field-1 c.all_of.result inside at c.in-Values.is)
+    (kind_is (options_of o) c.args.index r (kind.Values c.in-Values.key c.in-Values.field-1) inside at c.in-Values.is) step found (ap (said_with c.args.index) (sym c.all_of.ensures)) (c.in-Ok-read_values-2.ensures.ok) (tells_values o c.args.index r c.in-Values.key c.in-Values.field-1 c.all_of.result inside at c.in-Values.is)
 
 pub returns-in_ok-missing_value-in-Err-read_values-2 : goal.returns-in_ok-missing_value-in-Err-read_values-2
 returns-in_ok-missing_value-in-Err-read_values-2 g c = λ count u name step found.

@@ -1,13 +1,22 @@
+use Rattle.std.proofs.Common.{subst, sym}
+use Rattle.lexopt_options_spec.specs.Asking.{said_before}
+use Rattle.lexopt_options.specs.Declarations.{options_of}
+use Rattle.lexopt_options.specs.Keys.{CanHaveKeys, HaveKeys}
+use Rattle.lexopt_options.proofs.KeysGiven.{can_have_before}
 use Rattle.lexopt_options.proofs.read.refuse.Goals as goal
 
 pub returns : goal.returns
-returns g c = λ words why l told stops none are. record {
-  program = c.program.ensures;
-  help = c.help_names.ensures;
-  why = why;
-  told = told;
-  read = l;
-  stops = stops;
-  own = none;
-  before = are;
-}
+returns g c = λ words why l told stops none are first.
+    let o = c.args.options.now in
+    record {
+      program = c.program.ensures;
+      help = c.help_names.ensures;
+      why = why;
+      told = told;
+      read = l;
+      stops = stops;
+      own = none;
+      before = c.give_keys.ensures.same (options_of o) (said_before why l) are;
+      keys = subst (λ ps. HaveKeys ps c.give_keys.new.said.items) c.positionals.ensures.same
+          (c.give_keys.ensures.keys (subst (λ ps. CanHaveKeys ps c.args.before.items) (sym c.positionals.ensures.same) (can_have_before o l why c.args.before.items stops.read.within are first)));
+    }

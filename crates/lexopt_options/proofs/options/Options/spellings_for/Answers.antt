@@ -2,8 +2,8 @@ use Rattle.std.proofs.Common.{List, String, map, refl, string_bytes, subst, sym}
 use Rattle.std.specs.Global.{Global}
 use Rattle.std.specs.Option.{IsSome}
 use Rattle.lexopt_options.specs.Completions.{AreOffered, Opens}
-use Rattle.lexopt_options.specs.Declarations.{declaration_of}
-use Rattle.lexopt_options.proofs.Completing.{none_stands, offered_all}
+use Rattle.lexopt_options.specs.Declarations.{declaration_of, options_of}
+use Rattle.lexopt_options.proofs.Completing.{all_named, none_stands, offered_all}
 use Rattle.lexopt_options.proofs.options.Options.spellings_for.Goals as goal
 
 pub returns-then-not-opens : goal.returns-then-not-opens
@@ -13,5 +13,5 @@ returns-then-not-opens g c = λ words opens.
 
 pub returns-in-Some : goal.returns-in-Some
 returns-in-Some g c =
-    offered_all (declaration_of c.args.self.now) c.args.typed.now c.spellings_of.result _ c.as_bytes.result.now c.args.opens c.args.self.now.sound (c.to_str.ensures.exactly_on_utf8.0 (subst IsSome (sym c.in-Some.is) refl)) c.if-not-opens.false
+    offered_all (declaration_of c.args.self.now) c.args.typed.now c.spellings_of.result _ c.as_bytes.result.now c.args.opens c.args.self.now.sound (all_named (options_of c.args.self.now)) (c.to_str.ensures.exactly_on_utf8.0 (subst IsSome (sym c.in-Some.is) refl)) c.if-not-opens.false
     c.options.ensures.view c.as_bytes.ensures c.spellings_of.ensures.text c.spellings_of.ensures.spellings

@@ -1,0 +1,170 @@
+-- Which positional each word of a line belongs to, word by word.
+use Rattle.std.proofs.Common.{◌≡◌, ◌≤◌, ◌<◌, ◌+◌, ◌-◌, ℕ, zero, suc, List, [], ◌∷◌, ◌++◌, length, take, drop, map, get_or, replicate, Some, None, slice_get, refl, sym, ap, subst, ◌∙◌, arith}
+use Rattle.std.specs.List.{AllZip, sum_by}
+use Rattle.std.specs.Option.{option_map}
+use Rattle.std.proofs.lemmas.List.{drop_more}
+use Rattle.std.proofs.lemmas.List.Sums.{sum_by-cons}
+use Rattle.std.proofs.lemmas.Option.{slice_get-get_or, slice_get_within}
+use Rattle.lexopt_options_spec.specs.Declaration as spec
+use Rattle.lexopt_options_spec.specs.Legal.{IsWithin, least, most}
+use Rattle.lexopt_options_spec.specs.Places.{ArePlaces, AreShares, CanTake, needs, owners}
+use Rattle.lexopt_options_spec.proofs.Shares.{extra, greedy, shares_are_greedy, some_places}
+use Rattle.lexopt_declaration.specs.Models.{positional_view}
+use Rattle.lexopt_declaration.specs.declared.declaration.Positional.{Positional}
+use Rattle.lexopt_options.specs.Keys.{AllFirst, HasKey}
+
+abbrev pub total : List ℕ → ℕ
+total shares = sum_by (λ n. n) shares
+
+total_cons : (n : ℕ) (ns : List ℕ) → total (n ∷ ns) ≡ n + total ns
+total_cons n ns = sum_by-cons (λ m. m) n ns
+
+-- ---- the word of an index
+
+in_first : (k m left : ℕ) (rest : List ℕ) → left < m → slice_get (replicate m k ++ rest) left ≡ Some k
+in_first k zero left rest inside = absurd (omega (arith, inside))
+in_first k (suc m) zero rest inside = refl
+in_first k (suc m) (suc left) rest inside = in_first k m left rest (omega (arith, inside))
+
+past_first : (k m left : ℕ) (rest : List ℕ) → m ≤ left → slice_get (replicate m k ++ rest) left ≡ slice_get rest (left - m)
+past_first k zero left rest past = ap (slice_get rest) (omega arith)
+past_first k (suc m) zero rest past = absurd (omega (arith, past))
+past_first k (suc m) (suc left) rest past = past_first k m left rest (omega (arith, past)) ∙ ap (slice_get rest) (omega arith)
+
+-- the word of this index belongs to a positional after the first ones, of which the shares are
+-- these
+pub record IsLeft (ps : List spec.Positional) (spare word k left spare_now : ℕ) : Type 0 where
+  pub same : slice_get (owners 0 (greedy ps spare)) word ≡ slice_get (owners k (greedy (drop k ps) spare_now)) left
+  pub inside : word < total (greedy ps spare) → left < total (greedy (drop k ps) spare_now)
+
+pub at_start : (ps : List spec.Positional) (spare word : ℕ) → IsLeft ps spare word 0 word spare
+at_start ps spare word = record { same = refl; inside = λ inside. inside }
+
+next : (ps : List spec.Positional) (spare_now k : ℕ) (p : spec.Positional) → k < length ps → p ≡ get_or ps k p
+    → greedy (drop k ps) spare_now ≡ (needs p.count + extra p.count spare_now) ∷ greedy (drop (k + 1) ps) (spare_now - extra p.count spare_now)
+next ps spare_now k p within is = ap (λ l. greedy l spare_now) (drop_more ps k p within ∙ ap (λ x. x ∷ drop (k + 1) ps) (sym is))
+
+-- it belongs to this one
+pub found_here : (ps : List spec.Positional) (spare word k left spare_now : ℕ) (p : spec.Positional) → IsLeft ps spare word k left spare_now → k < length ps → p ≡ get_or ps k p
+    → left < needs p.count + extra p.count spare_now → slice_get (owners 0 (greedy ps spare)) word ≡ Some k
+found_here ps spare word k left spare_now p before within is inside =
+    before.same ∙ ap (λ l. slice_get (owners k l) left) (next ps spare_now k p within is)
+    ∙ in_first k (needs p.count + extra p.count spare_now) left (owners (suc k) (greedy (drop (k + 1) ps) (spare_now - extra p.count spare_now))) inside
+
+-- it belongs to one after it
+pub found_later : (ps : List spec.Positional) (spare word k left spare_now left_next spare_next : ℕ) (p : spec.Positional) → IsLeft ps spare word k left spare_now → k < length ps → p ≡ get_or ps k p
+    → needs p.count + extra p.count spare_now ≤ left → left_next ≡ left - (needs p.count + extra p.count spare_now) → spare_next ≡ spare_now - extra p.count spare_now
+    → IsLeft ps spare word (k + 1) left_next spare_next
+found_later ps spare word k left spare_now left_next spare_next p before within is past left_is spare_is =
+    let m = needs p.count + extra p.count spare_now in
+    let rest = greedy (drop (k + 1) ps) (spare_now - extra p.count spare_now) in
+    let step = next ps spare_now k p within is in
+    let rest_is : rest ≡ greedy (drop (k + 1) ps) spare_next = ap (greedy (drop (k + 1) ps)) (sym spare_is) in
+    record {
+      same = before.same ∙ ap (λ l. slice_get (owners k l) left) step ∙ past_first k m left (owners (suc k) rest) past
+          ∙ ap (λ n. slice_get (owners (suc k) rest) n) (sym left_is) ∙ ap (λ l. slice_get (owners (suc k) l) left_next) rest_is
+          ∙ ap (λ n. slice_get (owners n (greedy (drop (k + 1) ps) spare_next)) left_next) (omega arith);
+      inside = λ inside.
+          let h : left < total (m ∷ rest) = subst (λ l. left < total l) step (before.inside inside) in
+          subst (λ l. left_next < total l) rest_is (omega (arith, h, total_cons m rest, left_is, past));
+    }
+
+-- there is no other
+pub none_left : (ps : List spec.Positional) (spare word left spare_now k : ℕ) → length ps ≤ k → IsLeft ps spare word k left spare_now → word < total (greedy ps spare) → ⊥
+none_left ps spare word left spare_now k past before inside =
+    let h = subst (λ l. left < total (greedy l spare_now)) (drop_all ps k past) (before.inside inside) in omega (arith, h)
+  where
+    drop_all : (ps : List spec.Positional) (k : ℕ) → length ps ≤ k → drop k ps ≡ []
+    drop_all [] zero past = refl
+    drop_all [] (suc k) past = refl
+    drop_all (p ∷ ps) zero past = absurd (omega (arith, past))
+    drop_all (p ∷ ps) (suc k) past = drop_all ps k (omega (arith, past))
+
+-- ---- places
+
+owners_length : (k : ℕ) (shares : List ℕ) → length (owners k shares) ≡ total shares
+owners_length k [] = refl
+owners_length k (n ∷ ns) = replicated n k (owners (suc k) ns) ∙ ap (λ m. n + m) (owners_length (suc k) ns) ∙ sym (total_cons n ns)
+  where
+    replicated : (n k : ℕ) (rest : List ℕ) → length (replicate n k ++ rest) ≡ n + length rest
+    replicated zero k rest = omega arith
+    replicated (suc n) k rest = ap suc (replicated n k rest) ∙ omega arith
+
+take_get : (n : ℕ) (l : List ℕ) (i : ℕ) → i < n → slice_get (take n l) i ≡ slice_get l i
+take_get zero l i below = absurd (omega (arith, below))
+take_get (suc n) [] i below = refl
+take_get (suc n) (x ∷ l) zero below = refl
+take_get (suc n) (x ∷ l) (suc i) below = take_get n l i (omega (arith, below))
+
+take_length : (n : ℕ) (l : List ℕ) → n ≤ length l → length (take n l) ≡ n
+take_length zero l enough = refl
+take_length (suc n) [] enough = absurd (omega (arith, enough))
+take_length (suc n) (x ∷ l) enough = ap suc (take_length n l (omega (arith, enough)))
+
+pub places_length : (ps : List spec.Positional) (count : ℕ) (places : List ℕ) → ArePlaces ps count places → length places ≡ count
+places_length ps count places are =
+    ap length are.placed ∙ take_length count (owners 0 are.shares) (omega (arith, owners_length 0 are.shares, are.are_shares.all))
+
+shares_so : (ps : List spec.Positional) (count : ℕ) (places : List ℕ) (are : ArePlaces ps count places) → are.shares ≡ greedy ps (count - least ps)
+shares_so ps count places are =
+    shares_are_greedy ps (count - least ps) are.shares (subst (λ n. AreShares ps n are.shares) (omega arith) are.are_shares)
+
+-- the positional of each word is the one that is found for it
+pub place_is : (ps : List spec.Positional) (count : ℕ) (places : List ℕ) (word i : ℕ) → ArePlaces ps count places → word < count
+    → slice_get (owners 0 (greedy ps (count - least ps))) word ≡ Some i → slice_get places word ≡ Some i
+place_is ps count places word i are below is =
+    ap (λ l. slice_get l word) are.placed ∙ take_get count (owners 0 are.shares) word below ∙ ap (λ l. slice_get (owners 0 l) word) (shares_so ps count places are) ∙ is
+
+pub word_inside : (ps : List spec.Positional) (count : ℕ) (places : List ℕ) (word : ℕ) → ArePlaces ps count places → word < count → word < total (greedy ps (count - least ps))
+word_inside ps count places word are below =
+    subst (λ l. word < total l) (shares_so ps count places are) (omega (arith, below, are.are_shares.all))
+
+-- ---- the positionals of a declaration
+
+pub viewed : {P : Type 0} (ps : List (Positional P)) (k : ℕ) (x : Positional P) → k < length ps → x ≡ get_or ps k x → positional_view x ≡ get_or (map positional_view ps) k (positional_view x)
+viewed [] k x within is = absurd (omega (arith, within))
+viewed (p ∷ ps) zero x within is = ap positional_view is
+viewed (p ∷ ps) (suc k) x within is = viewed ps k x (omega (arith, within)) is
+
+pub viewed_length : {P : Type 0} (ps : List (Positional P)) → length (map positional_view ps) ≡ length ps
+viewed_length [] = refl
+viewed_length (p ∷ ps) = ap suc (viewed_length ps)
+
+pub has_its_key : {P : Type 0} (ps : List (Positional P)) (k : ℕ) (x : Positional P) → k < length ps → x ≡ get_or ps k x → HasKey ps k x.key
+has_its_key ps k x within is = ap (option_map (λ p. p.key)) (slice_get-get_or ps k x within) ∙ ap (λ p. Some p.key) (sym is)
+
+-- ---- one positional, or none
+
+all_first : (ps : List spec.Positional) (shares : List ℕ) → length ps < 2 → AllZip (λ p n. CanTake p.count n) ps shares → (i x : ℕ) → slice_get (owners 0 shares) i ≡ Some x → x ≡ 0
+all_first [] [] few each i x is = absurd (let e : None ≡ Some x = is in cc)
+all_first [] (n ∷ shares) few each i x is = absurd each
+all_first (p ∷ []) [] few each i x is = absurd each
+all_first (p ∷ []) (n ∷ []) few each i x is = zeros n i is
+  where
+    zeros : (n i : ℕ) → slice_get (replicate n 0 ++ []) i ≡ Some x → x ≡ 0
+    zeros zero i is = absurd (let e : None ≡ Some x = is in cc)
+    zeros (suc n) zero is = let e : Some 0 ≡ Some x = is in cc
+    zeros (suc n) (suc i) is = zeros n i is
+all_first (p ∷ []) (n ∷ m ∷ shares) few each i x is = absurd each.1
+all_first (p ∷ q ∷ ps) shares few each i x is = absurd (omega (arith, few))
+
+places_zero : (ps : List spec.Positional) (count : ℕ) (places : List ℕ) → length ps < 2 → ArePlaces ps count places → (i x : ℕ) → slice_get places i ≡ Some x → x ≡ 0
+places_zero ps count places few are i x is =
+    let below : i < count = subst (λ n. i < n) (places_length ps count places are) (slice_get_within places i x is) in
+    all_first ps are.shares few are.are_shares.each i x (sym (take_get count (owners 0 are.shares) i below) ∙ ap (λ l. slice_get l i) (sym are.placed) ∙ is)
+
+zip_first : {P : Type 0} (positionals : List (Positional P)) (places : List ℕ) (keys : List P) → ((i x : ℕ) → slice_get places i ≡ Some x → x ≡ 0) → AllFirst positionals keys → length places ≡ length keys
+    → AllZip (HasKey positionals) places keys
+zip_first positionals [] [] zero_all first same = tt
+zip_first positionals [] (k ∷ keys) zero_all first same = absurd (omega (arith, same))
+zip_first positionals (x ∷ places) [] zero_all first same = absurd (omega (arith, same))
+zip_first positionals (x ∷ places) (k ∷ keys) zero_all first same =
+    (subst (λ n. HasKey positionals n k) (sym (zero_all 0 x refl)) first.0, zip_first positionals places keys (λ i. zero_all (suc i)) first.1 (omega (arith, same)))
+
+-- where there are not two positionals, each word belongs to the first
+pub first_keys : {P : Type 0} (positionals : List (Positional P)) (keys : List P) → length positionals < 2 → IsWithin (length keys) (most (map positional_view positionals)) → AllFirst positionals keys
+    → (places : List ℕ) × ArePlaces (map positional_view positionals) (length keys) places × AllZip (HasKey positionals) places keys
+first_keys positionals keys few within first =
+    let ps = map positional_view positionals in
+    let some = some_places ps (length keys) within in
+    (some.0, some.1, zip_first positionals some.0 keys (places_zero ps (length keys) some.0 (subst (λ n. n < 2) (sym (viewed_length positionals)) few) some.1) first (places_length ps (length keys) some.0 some.1))

@@ -1,0 +1,33 @@
+-- Which required options were read.
+use Rattle.std.proofs.Common.{◌≡◌, ◌<◌, ℕ, zero, suc, true, List, [], ◌∷◌, length, map, get_or, Some, refl, sym, ap, ◌∙◌, arith}
+use Rattle.std.specs.Option.{option_map}
+use Rattle.std.proofs.lemmas.Bool.{false≢true}
+use Rattle.std.proofs.lemmas.Option.{slice_get-get_or}
+use Rattle.lexopt_options_spec.specs.Legal.{is_required}
+use Rattle.lexopt_declaration.specs.Lookups.{names_at}
+use Rattle.lexopt_declaration.specs.Models.{long_name, option_view, short_name}
+use Rattle.lexopt_declaration.specs.declared.declaration.Declared.{Declared}
+use Rattle.lexopt_declaration.specs.declared.declaration.Names.{Names}
+use Rattle.lexopt_options.specs.Mistakes.{AreNames}
+
+pub required_here : {F V M S : Type 0} (options : List (Declared F V M S)) (i : ℕ) (x : Declared F V M S) → i < length options → x ≡ get_or options i x → is_required (map option_view options) i ≡ x.required
+required_here [] i x within is = absurd (omega (arith, within))
+required_here (o ∷ os) zero x within is = ap (λ p. p.required) (sym is)
+required_here (o ∷ os) (suc i) x within is = required_here os i x (omega (arith, within)) is
+
+pub required_within : {F V M S : Type 0} (options : List (Declared F V M S)) (i : ℕ) → is_required (map option_view options) i ≡ true → i < length options
+required_within [] i is = absurd (false≢true is)
+required_within (o ∷ os) zero is = omega arith
+required_within (o ∷ os) (suc i) is = let rest = required_within os i is in omega (arith, rest)
+
+pub names_here : {F V M S : Type 0} (options : List (Declared F V M S)) (i : ℕ) (x : Declared F V M S) → i < length options → x ≡ get_or options i x → names_at options (Some i) ≡ Some x.names
+names_here options i x within is = ap (option_map (λ p. p.names)) (slice_get-get_or options i x within) ∙ ap (λ p. Some p.names) (sym is)
+
+-- the names of the option of an index
+pub are_names : {F V M S : Type 0} (options : List (Declared F V M S)) (i : ℕ) (names : Names) → is_required (map option_view options) i ≡ true → names_at options (Some i) ≡ Some names → AreNames (map option_view options) i names
+are_names [] i names needed is = absurd (false≢true needed)
+are_names (o ∷ os) zero names needed is =
+    let e : Some o.names ≡ Some names = is in
+    let same : o.names ≡ names = cc in
+    (option_view o, refl, ap short_name same, ap long_name same)
+are_names (o ∷ os) (suc i) names needed is = are_names os i names needed is

@@ -1,0 +1,34 @@
+use Rattle.std.proofs.Common.{arith, ap, sym, ◌∙◌}
+use Rattle.lexopt_options.proofs.Given.{after, all_given, all_same, counted, done_item, done_none, said_still, item_below}
+use Rattle.lexopt_options.proofs.Owners.{first_keys}
+use Rattle.lexopt_options.proofs.places.give_all.Goals.{then-give_key, else-give_key}
+use Rattle.lexopt_options.proofs.places.give_all.Goals as goal
+
+pub returns-then-positionals-lt2-clause-keys : goal.returns-then-positionals-lt2-clause-keys
+returns-then-positionals-lt2-clause-keys g c = λ can.
+    let found = first_keys c.args.positionals.now _ c.if-positionals-lt2.true can.within can.firsts in
+    record { places = found.0; are_places = found.1; have = found.2 }
+
+pub loop-own-init : goal.loop-own-init
+loop-own-init g c = done_none c.args.positionals.now c.count_of-count.result c.args.said.now
+
+pub overflow_add-word : goal.overflow_add-word
+overflow_add-word g c =
+    let below = item_below c.args.positionals.now c.count_of-count.result c.args.said.now c.loop-own.said c.loop-own.own-index c.loop-own.word c.own-item.result c.loop-own.invariant c.loop-own-test.true c.own-item.is
+    (sym c.give_key.ensures.kind ∙ c.if-give_key.true) in
+    omega (arith, below, c.count_of-count.ensures, counted c.args.said.now, c.count_of-count.type_inv)
+
+pub loop-own-preserved : goal.loop-own-preserved
+loop-own-preserved g c =
+    done_item c.args.positionals.now c.count_of-count.result c.args.said.now c.loop-own.said c.loop-own.own-index c.loop-own.word c.if-give_key.word c.own-item.result c.give_key.new.own c.give_key.result
+    c.loop-own.invariant c.loop-own-test.true c.loop-own.auto.said c.own-item.is (c.count_of-count.ensures ∙ counted c.args.said.now) c.give_key.ensures.kind c.give_key.ensures.same c.give_key.ensures.given
+    (elim c.if-give_key.branch [ then-give_key w ↦ w.word-is ∙ ap (λ b. after b c.loop-own.word) (sym w.if-give_key.true) | else-give_key w ↦ w.word-is ∙ ap (λ b. after b c.loop-own.word) (sym w.if-give_key.false) ])
+
+pub returns-clause-same : goal.returns-clause-same
+returns-clause-same g c = λ options l are.
+    said_still options l c.args.said.now c.loop-own.said (all_same c.args.positionals.now c.count_of-count.result c.args.said.now c.loop-own.said c.loop-own.own-index c.loop-own.word c.loop-own.invariant c.loop-own.auto.said c.loop-own-test.false) are
+
+pub returns-clause-keys : goal.returns-clause-keys
+returns-clause-keys g c = λ can.
+    all_given c.args.positionals.now c.count_of-count.result c.args.said.now c.loop-own.said c.loop-own.own-index c.loop-own.word c.loop-own.invariant c.loop-own.auto.said c.loop-own-test.false
+    (c.count_of-count.ensures ∙ counted c.args.said.now) can.within
