@@ -22,6 +22,8 @@ enum Flag {
 #[derive(Clone, Copy)]
 enum Value {
     Output,
+    Directory,
+    Format,
 }
 
 #[derive(Clone, Copy)]
@@ -45,12 +47,17 @@ static DECLARATION: Declaration<'static, Flag, Value, Word, Maybe, Values> = dec
     options: [
         flag(Flag::Verbose, Names::Both('v', "verbose"), "tell more"),
         value(Value::Output, Names::Both('o', "output"), "FILE", "the archive"),
+        value(Value::Directory, Names::Both('C', "directory"), "DIR", "where the files are")
+            .directories(),
+        value(Value::Format, Names::Both('f', "format"), "FORMAT", "what the archive is to be")
+            .one_of(&["tar", "tar:gz", "zip"]),
         maybe(
             Maybe::Backup,
             Names::Both('b', "backup"),
             "SUFFIX",
             "keep an archive that is there, with this suffix",
-        ),
+        )
+        .text(),
         values(
             Values::Exclude,
             Names::Both('x', "exclude"),
@@ -71,6 +78,8 @@ fn print_said(rt: &impl Print, said: &Said<Flag, Value, Word, Maybe, Values>) ->
     match said {
         Said::Flag(Flag::Verbose) => rt.println("verbose"),
         Said::Value(Value::Output, file) => print_word(rt, "output", file),
+        Said::Value(Value::Directory, folder) => print_word(rt, "directory", folder),
+        Said::Value(Value::Format, format) => print_word(rt, "format", format),
         Said::Maybe(Maybe::Backup, Some(suffix)) => print_word(rt, "backup", suffix),
         Said::Maybe(Maybe::Backup, None) => rt.println("backup"),
         Said::Values(Values::Exclude, patterns) => {

@@ -1,9 +1,11 @@
 -- What is wrong with an option among others.
-use Rattle.std.proofs.Common.{◌≡◌, ℕ, ◌+◌, ◌<◌, ◌≤◌, true, List, [], map, length, take, get_or, Option, Some, None, option_map, is_none, sym, ap, ◌∙◌, arith}
+use Rattle.std.proofs.Common.{◌≡◌, ℕ, ◌+◌, ◌<◌, ◌≤◌, Bool, true, false, true≢false, ◌==◌, cond, Bor, List, ◌∷◌, [], map, length, take, get_or, Option, Some, None, option_map, is_none, refl, sym, ap, ◌∙◌, arith}
 use Rattle.std.specs.List.{list_all}
 use Rattle.std.proofs.lemmas.List.{take-map, get_or-map, length-map}
 use Rattle.std.proofs.lemmas.Option.{slice_get-get_or}
-use Rattle.lexopt_options_spec.specs.Declaration.{fault, faults, is_sound, IsFirstFault}
+use Rattle.std.proofs.lemmas.Bool.{eqb-true}
+use Rattle.std.proofs.lemmas.List.Folds.{list_all-map}
+use Rattle.lexopt_options_spec.specs.Declaration.{listed, bad_list, is_listable, list_fault, fault, faults, is_sound, IsFirstFault}
 use Rattle.lexopt_options_spec.proofs.FaultLemmas.{faults_length, fault_at, sound_more, sound_all}
 use Rattle.lexopt_declaration.specs.declared.declaration.Declared.{Declared}
 use Rattle.lexopt_declaration.specs.declared.declaration.Reason.{Reason}
@@ -35,3 +37,14 @@ no_fault os i d f within is none so =
 
 pub none_at_fault : {F V M S : Type 0} (os : List (Declared F V M S)) (i : ℕ) → length os ≤ i → list_all is_none (take i (faults [] (map option_view os))) ≡ true → is_sound (map option_view os) ≡ true
 none_at_fault os i all so = sound_all (map option_view os) i (omega (arith, length-map os option_view)) so
+
+-- the list of an option, if it is empty
+pub empty_list_fault : (values : List (Bor (List ℕ))) (none : Bool) → none ≡ (length values == 0) → none ≡ true → list_fault (listed (map (λ (value : Bor (List ℕ)). value.now) values)) ≡ Some bad_list
+empty_list_fault [] none is so = refl
+empty_list_fault (v ∷ vs) none is so = absurd (let e : length (v ∷ vs) ≡ 0 = eqb-true (length (v ∷ vs)) 0 (sym is ∙ so) in omega arith)
+
+-- and if there is a value in it
+pub list_fault_is : (values : List (Bor (List ℕ))) (none good : Bool) → none ≡ (length values == 0) → none ≡ false → good ≡ list_all (λ (value : Bor (List ℕ)). is_listable value.now) values
+    → list_fault (listed (map (λ (value : Bor (List ℕ)). value.now) values)) ≡ cond good None (Some bad_list)
+list_fault_is [] none good is so all = absurd (true≢false (sym is ∙ so))
+list_fault_is (v ∷ vs) none good is so all = ap (λ b. cond b None (Some bad_list)) (list_all-map is_listable (λ (value : Bor (List ℕ)). value.now) (v ∷ vs) ∙ sym all)

@@ -1,5 +1,5 @@
 -- A declaration as contracts see it.
-use Rattle.std.specs.Prelude.{ℕ, List, [], Option, Some, None}
+use Rattle.std.specs.Prelude.{ℕ, List, [], Option, Some, None, map}
 use Rattle.lexopt_line_spec.specs.Table.{Kind as SpecKind, flag, one, optional, several}
 use Rattle.lexopt_options_spec.specs.Declaration as spec
 use Rattle.lexopt_options_spec.specs.Declaration.{Asked, for_help, for_version}
@@ -20,7 +20,10 @@ use Rattle.lexopt_declaration.specs.declared.declaration.Reason.TheVariants.{Das
 use Rattle.lexopt_declaration.specs.declared.declaration.Reason.TheVariants.{EqualsInName}
 use Rattle.lexopt_declaration.specs.declared.declaration.Reason.TheVariants.{ReplacementInName, BadPlaceholder}
 use Rattle.lexopt_declaration.specs.declared.declaration.Reason.TheVariants.{BlankOrControlInName}
-use Rattle.lexopt_declaration.specs.declared.declaration.Reason.TheVariants.{SameName}
+use Rattle.lexopt_declaration.specs.declared.declaration.Reason.TheVariants.{BadList, SameName}
+use Rattle.lexopt_declaration.specs.declared.declaration.Words.{Words}
+use Rattle.lexopt_declaration.specs.declared.declaration.Words.TheVariants.{Files, Directories}
+use Rattle.lexopt_declaration.specs.declared.declaration.Words.TheVariants.{Listed, Text}
 
 abbrev pub short_name : Names → Option ℕ
 short_name (Short c) = Some c
@@ -63,6 +66,12 @@ asked_of Help = Some for_help
 asked_of (Version text) = Some (for_version text.now)
 asked_of kind = None
 
+abbrev pub words_view : Words → spec.Words
+words_view Files = spec.files
+words_view Directories = spec.directories
+words_view Text = spec.text
+words_view (Listed values) = spec.listed (map (λ value. value.now) values.now)
+
 abbrev pub option_view : {F V M S : Type 0} → Declared F V M S → spec.Declared
 option_view o = record {
   short_name = short_name o.names;
@@ -73,6 +82,7 @@ option_view o = record {
   asks = asked_of o.kind;
   hidden = o.hidden;
   required = o.required;
+  words = words_view o.words;
 }
 
 abbrev pub count_view : Count → spec.Count
@@ -92,4 +102,5 @@ reason_view EqualsInName = spec.equals_in_name
 reason_view ReplacementInName = spec.replacement_in_name
 reason_view BlankOrControlInName = spec.blank_or_control_in_name
 reason_view BadPlaceholder = spec.bad_placeholder
+reason_view BadList = spec.bad_list
 reason_view SameName = spec.same_name

@@ -15,7 +15,7 @@ abbrev pub bash_body : List ℕ
 bash_body =
     codes "() {\n"
     ++ codes "    local program=${1//[\\\"\\'\\\\]/} line=$COMP_LINE words=() last=$2 piece\n"
-    ++ codes "    local start='' answer\n\n"
+    ++ codes "    local start='' answer names\n\n"
     ++ codes "    program=${program/#\\~\\//$HOME/}\n"
     ++ codes "    # An alias is no command: then ask the program itself.\n"
     ++ codes "    type -P -- \"$program\" >/dev/null || program=${FUNCNAME[0]#_complete_}\n\n"
@@ -43,19 +43,24 @@ bash_body =
     ++ codes "    COMPREPLY=()\n"
     ++ codes "    while IFS= read -r answer; do\n"
     ++ codes "        case $answer in\n"
-    ++ codes "            files)\n"
+    ++ codes "            files | directories)\n"
+    ++ codes "                [[ $answer == files ]] && names=-f || names=-d\n"
     ++ codes "                compopt -o filenames\n"
     ++ codes "                while IFS= read -r answer; do\n"
     ++ codes "                    COMPREPLY+=(\"${answer#\"$piece\"}\")\n"
-    ++ codes "                done < <(compgen -f -- \"$piece$2\")\n"
+    ++ codes "                done < <(compgen $names -- \"$piece$2\")\n"
     ++ codes "                ;;\n"
-    ++ codes "            value)\n"
+    ++ codes "            'value files' | 'value directories')\n"
+    ++ codes "                [[ $answer == 'value files' ]] && names=-f || names=-d\n"
     ++ codes "                compopt -o filenames\n"
     ++ codes "                mapfile -t -O ${#COMPREPLY[@]} COMPREPLY < <(\n"
-    ++ codes "                    compgen -P \"$start\" -f -- \"${2#\"$start\"}\"\n"
+    ++ codes "                    compgen -P \"$start\" $names -- \"${2#\"$start\"}\"\n"
     ++ codes "                )\n"
     ++ codes "                ;;\n"
-    ++ codes "            *) COMPREPLY+=(\"${answer#\"$piece\"}\") ;;\n"
+    ++ codes "            *)\n"
+    ++ codes "                answer=${answer#+}\n"
+    ++ codes "                COMPREPLY+=(\"${answer#\"$piece\"}\")\n"
+    ++ codes "                ;;\n"
     ++ codes "        esac\n"
     ++ codes "    done < <(\"$program\" __complete \"${words[@]}\" \"$last\" 2>/dev/null)\n"
     ++ codes "}\n"
@@ -74,9 +79,12 @@ zsh_body =
     ++ codes "    words_before=(\"${(@Q)words[2,CURRENT-1]}\")\n"
     ++ codes "    answers=(\"${(@f)$(\"${(Q)words[1]/#\\~\\//$HOME/}\" __complete \\\n"
     ++ codes "        \"${(@)words_before}\" \"${(Q)PREFIX}\" 2>/dev/null)}\")\n\n"
-    ++ codes "    compadd -- ${(M)answers:#-*} && ret=0\n"
+    ++ codes "    compadd -- ${(M)answers:#-*} ${${(M)answers:#+*}#+} && ret=0\n"
     ++ codes "    (( $answers[(Ie)files] )) && _files && ret=0\n"
-    ++ codes "    (( $answers[(Ie)value] )) && compset -P 1 '--*=' && _files && ret=0\n"
+    ++ codes "    (( $answers[(Ie)directories] )) && _path_files -/ && ret=0\n"
+    ++ codes "    (( $answers[(Ie)value files] )) && compset -P 1 '--*=' && _files && ret=0\n"
+    ++ codes "    (( $answers[(Ie)value directories] )) && compset -P 1 '--*=' && _path_files -/ "
+    ++ codes "&& ret=0\n"
     ++ codes "    return ret\n"
     ++ codes "}\n"
 
@@ -116,12 +124,20 @@ fish_head program =
 unfoldable pub fish_rest : List ℕ → List ℕ
 fish_rest program = fish_body ++ (codes "complete --command "
     ++ (program ++ (codes " --no-files --arguments '(__complete_"
-    ++ (program ++ (codes " | string match -- \"-*\")'\ncomplete --command "
+    ++ (program ++ (codes " | string replace --filter --regex "
+    ++ codes "\"^[+]|^(?=-)\" \"\")'\n")))))
+
+-- the names of files, or of directories
+unfoldable pub fish_names : List ℕ → List ℕ
+fish_names program = codes "complete --command "
     ++ (program ++ (codes " --force-files --condition '__complete_"
-    ++ (program ++ codes " | string match --quiet --regex \"^files|^value\"'"))))))))
+    ++ (program ++ (codes " | string match --quiet --regex \"^files|^value files\"'\ncomplete "
+    ++ (codes "--command " ++ (program ++ (codes " --no-files --condition '__complete_"
+    ++ (program ++ (codes " | string match --quiet --regex \"^directories|^value directories\"' "
+    ++ codes "--arguments '(__fish_complete_directories)'")))))))))
 
 abbrev pub fish_script : List ℕ → List ℕ
-fish_script program = fish_head program ++ fish_rest program
+fish_script program = fish_head program ++ (fish_rest program ++ fish_names program)
 
 -- ---- all
 

@@ -8,7 +8,7 @@ use Rattle.lexopt_declaration.specs.declared.declaration.Reason.TheVariants.{Equ
 use Rattle.lexopt_declaration.specs.declared.declaration.Reason.TheVariants.{ReplacementInName}
 use Rattle.lexopt_declaration.specs.declared.declaration.Reason.TheVariants.{BlankOrControlInName}
 use Rattle.lexopt_declaration.specs.declared.declaration.Reason.TheVariants.{BadPlaceholder}
-use Rattle.lexopt_declaration.specs.declared.declaration.Reason.TheVariants.{SameName}
+use Rattle.lexopt_declaration.specs.declared.declaration.Reason.TheVariants.{BadList, SameName}
 use Rattle.lexopt_declaration.specs.declared.declaration.Names.{Names}
 use Rattle.lexopt_declaration.specs.declared.declaration.Names.TheVariants.{Short, Long, Both}
 
@@ -26,6 +26,9 @@ reason_text EqualsInName = codes "its name has '=' in it"
 reason_text ReplacementInName = codes "its name has U+FFFD in it"
 reason_text BlankOrControlInName = codes "its name has a blank or a control character in it"
 reason_text BadPlaceholder = codes "its placeholder is empty or begins with '-' or '='"
+reason_text BadList =
+    codes "the list of its values is empty, or one of them is empty, begins with '-' or '=', "
+    ++ codes "or has a blank or a control character in it"
 reason_text SameName = codes "an option before it has one of its names"
 
 -- which option or positional argument, and why

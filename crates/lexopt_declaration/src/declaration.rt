@@ -1,7 +1,7 @@
 //! What a program declares: its options and its positional arguments.
 ghost use Rattle.std.specs.Prelude.{◌≡◌, ◌==◌, ◌∷◌, [], true, map, option_map};
 ghost use Rattle.std.specs.Option.{MatchOption};
-ghost use Rattle.std.specs.List.{list_any};
+ghost use Rattle.std.specs.List.{list_all, list_any};
 ghost use Rattle.std.specs.Char.{IsScalar};
 ghost use Rattle.std.specs.Str.{IsUtf8, chars};
 ghost use Rattle.lexopt_spec.specs.Pieces.{lossy_characters, replacement};
@@ -10,7 +10,7 @@ ghost use Rattle.lexopt_options_spec.specs.Declaration as spec;
 ghost use Rattle.lexopt_options_spec.specs.Declaration.{are_clear, has, is_sound};
 ghost use Rattle.lexopt_declaration.specs.Faults.{IsDeclarationError, IsOptionError, is_suspect};
 ghost use Rattle.lexopt_declaration.specs.Models.{arity_kind, arity_placeholder, option_view};
-ghost use Rattle.lexopt_declaration.specs.Models.{positional_view, reason_view};
+ghost use Rattle.lexopt_declaration.specs.Models.{positional_view, reason_view, words_view};
 
 use crate::positionals::second_repeated;
 use std::convert::Infallible;
@@ -155,6 +155,19 @@ impl<'a, F, V, M, S> Kind<'a, F, V, M, S> {
     }
 }
 
+/// What the values of an option may be, and what a shell completes them by.
+#[derive(Debug, Clone, Copy)]
+pub enum Words<'a> {
+    /// Any; by the names of files.
+    Files,
+    /// Any; by the names of directories.
+    Directories,
+    /// Any; by nothing.
+    Text,
+    /// These and no others; by these.
+    Listed(&'a [&'a str]),
+}
+
 /// An option.
 #[derive(Debug, Clone, Copy)]
 pub struct Declared<'a, F, V = Infallible, M = Infallible, S = Infallible> {
@@ -168,6 +181,8 @@ pub struct Declared<'a, F, V = Infallible, M = Infallible, S = Infallible> {
     pub hidden: bool,
     /// Whether every line has to have it.
     pub required: bool,
+    /// What its values may be. The help tells of a list, even of a flag, which has no values.
+    pub words: Words<'a>,
 }
 
 impl<'a, F, V, M, S> Declared<'a, F, V, M, S> {
@@ -181,6 +196,7 @@ impl<'a, F, V, M, S> Declared<'a, F, V, M, S> {
           help = help.entry;
           hidden = false;
           required = false;
+          words = Words.Files;
         } }
     {
         Declared {
@@ -189,6 +205,7 @@ impl<'a, F, V, M, S> Declared<'a, F, V, M, S> {
             help,
             hidden: false,
             required: false,
+            words: Words::Files,
         }
     }
 
@@ -205,6 +222,7 @@ impl<'a, F, V, M, S> Declared<'a, F, V, M, S> {
           help = help.entry;
           hidden = false;
           required = false;
+          words = Words.Files;
         } }
     {
         Declared {
@@ -213,6 +231,7 @@ impl<'a, F, V, M, S> Declared<'a, F, V, M, S> {
             help,
             hidden: false,
             required: false,
+            words: Words::Files,
         }
     }
 
@@ -229,6 +248,7 @@ impl<'a, F, V, M, S> Declared<'a, F, V, M, S> {
           help = help.entry;
           hidden = false;
           required = false;
+          words = Words.Files;
         } }
     {
         Declared {
@@ -237,6 +257,7 @@ impl<'a, F, V, M, S> Declared<'a, F, V, M, S> {
             help,
             hidden: false,
             required: false,
+            words: Words::Files,
         }
     }
 
@@ -253,6 +274,7 @@ impl<'a, F, V, M, S> Declared<'a, F, V, M, S> {
           help = help.entry;
           hidden = false;
           required = false;
+          words = Words.Files;
         } }
     {
         Declared {
@@ -261,6 +283,7 @@ impl<'a, F, V, M, S> Declared<'a, F, V, M, S> {
             help,
             hidden: false,
             required: false,
+            words: Words::Files,
         }
     }
 
@@ -272,6 +295,7 @@ impl<'a, F, V, M, S> Declared<'a, F, V, M, S> {
         ensures help { result.help.now ≡ codes "print this help and exit" }
         ensures hidden { result.hidden ≡ false }
         ensures required { result.required ≡ false }
+        ensures words { result.words ≡ Words.Files }
     {
         Declared {
             names,
@@ -279,6 +303,7 @@ impl<'a, F, V, M, S> Declared<'a, F, V, M, S> {
             help: "print this help and exit",
             hidden: false,
             required: false,
+            words: Words::Files,
         }
     }
 
@@ -290,6 +315,7 @@ impl<'a, F, V, M, S> Declared<'a, F, V, M, S> {
         ensures help { result.help.now ≡ codes "print the version and exit" }
         ensures hidden { result.hidden ≡ false }
         ensures required { result.required ≡ false }
+        ensures words { result.words ≡ Words.Files }
     {
         Declared {
             names,
@@ -297,6 +323,7 @@ impl<'a, F, V, M, S> Declared<'a, F, V, M, S> {
             help: "print the version and exit",
             hidden: false,
             required: false,
+            words: Words::Files,
         }
     }
 
@@ -316,6 +343,36 @@ impl<'a, F, V, M, S> Declared<'a, F, V, M, S> {
     {
         Declared {
             required: true,
+            ..self
+        }
+    }
+
+    /// The same option, whose values a shell completes by the names of directories.
+    pub fn directories(self) -> Declared<'a, F, V, M, S>
+        ensures { result ≡ record self.entry { words = Words.Directories } }
+    {
+        Declared {
+            words: Words::Directories,
+            ..self
+        }
+    }
+
+    /// The same option, whose values no shell completes.
+    pub fn text(self) -> Declared<'a, F, V, M, S>
+        ensures { result ≡ record self.entry { words = Words.Text } }
+    {
+        Declared {
+            words: Words::Text,
+            ..self
+        }
+    }
+
+    /// The same option, which accepts no other value than these.
+    pub fn one_of(self, values: &'a [&'a str]) -> Declared<'a, F, V, M, S>
+        ensures { result ≡ record self.entry { words = Words.Listed values.entry } }
+    {
+        Declared {
+            words: Words::Listed(values),
             ..self
         }
     }
@@ -436,6 +493,9 @@ pub enum Reason {
     /// The placeholder of its value is empty, or begins with `-` or `=`: a form that the help shows
     /// could be illegal with it, or mean another value.
     BadPlaceholder,
+    /// The list of its values is empty; or one of them is empty, or begins with `-` or `=`, or has
+    /// a blank or a control character of ASCII in it.
+    BadList,
     /// An option before it has one of its names.
     SameName,
 }
@@ -472,6 +532,10 @@ impl fmt::Display for Reason {
             Reason::BadPlaceholder => {
                 f.write_str("its placeholder is empty or begins with '-' or '='")
             }
+            Reason::BadList => f.write_str(
+                "the list of its values is empty, or one of them is empty, begins with '-' or '=', \
+                 or has a blank or a control character in it",
+            ),
             Reason::SameName => f.write_str("an option before it has one of its names"),
         }
     }
@@ -638,6 +702,42 @@ fn placeholder_fault(arity: Arity<'_>) -> Option<Reason>
     }
 }
 
+// Whether this can be one of the values in a list.
+fn is_listable(value: &str) -> bool
+    ensures { result ≡ spec.is_listable value.now }
+{
+    match value.as_bytes() {
+        [] | [b'-' | b'=', ..] => false,
+        _ => !has_blank_or_control(value),
+    }
+}
+
+// Whether each of these can be.
+fn are_listable(values: &[&str]) -> bool
+    ensures { result ≡ list_all (λ value. spec.is_listable value.now) values.now }
+{
+    values.iter().all(|value| is_listable(value))
+}
+
+// What is wrong with what the values of an option may be.
+fn list_fault(words: Words<'_>) -> Option<Reason>
+    ensures { option_map reason_view result ≡ spec.list_fault (words_view words.entry) }
+{
+    match words {
+        Words::Files | Words::Directories | Words::Text => None,
+        Words::Listed(values) => {
+            if values.is_empty() {
+                return Some(Reason::BadList);
+            }
+            if are_listable(values) {
+                None
+            } else {
+                Some(Reason::BadList)
+            }
+        }
+    }
+}
+
 // Whether an option has a name of another.
 fn shares_name<F, V, M, S>(
     option: &Declared<'_, F, V, M, S>,
@@ -682,6 +782,9 @@ fn fault<F, V, M, S>(
         return Some(reason);
     }
     if let Some(reason) = placeholder_fault(option.kind.arity()) {
+        return Some(reason);
+    }
+    if let Some(reason) = list_fault(option.words) {
         return Some(reason);
     }
     if any_shares_name(option, before) {

@@ -3,13 +3,14 @@
 ghost use Rattle.std.specs.Prelude.{◌≡◌, ◌≤◌, ◌+◌, ◌-◌, ◌∷◌, ◌++◌, ◌&&◌, [], List, ℕ, IfOk, OnOk, nat_lt};
 ghost use Rattle.std.specs.Prelude.{if◌then◌else◌, codes, length, map, not, string_bytes};
 ghost use Rattle.std.specs.List.{AllZip, concat, flat_map, list_any};
+ghost use Rattle.lexopt_options_spec.specs.Declaration.{listed};
 ghost use Rattle.lexopt_options_spec.specs.Help as spec;
 ghost use Rattle.lexopt_options_spec.specs.Help.{IsEntry, IsHelp, IsParagraph, IsUsage, Wraps};
 ghost use Rattle.lexopt_declaration.specs.Models.{arity_kind, arity_placeholder, long_name, option_view};
-ghost use Rattle.lexopt_declaration.specs.Models.{positional_view, short_name};
+ghost use Rattle.lexopt_declaration.specs.Models.{positional_view, short_name, words_view};
 ghost use Rattle.lexopt_declaration.specs.Declarations.{declaration_view};
 
-use crate::declaration::{Arity, Count, Declaration, Declared, Names, Positional};
+use crate::declaration::{Arity, Count, Declaration, Declared, Names, Positional, Words};
 use bstr::ByteSlice;
 use std::alloc::{AllocError, Global};
 use std::fmt::Write;
@@ -240,6 +241,82 @@ fn push_labelled(
     out.push('\n')
 }
 
+// Values, each after a comma and a blank.
+fn push_others(out: &mut String, others: &[&str]) -> Result<(), AllocError>
+    ensures { IfOk result (λ _. string_bytes out.new ≡ string_bytes out.old
+        ++ flat_map (λ other. codes ", " ++ other) (map (λ o. o.now) others.now)) }
+{
+    for other in others {
+        write!(out, ", {other}")?;
+    }
+    Ok(())
+}
+
+// Values with a comma and a blank between them.
+fn push_list(out: &mut String, values: &[&str]) -> Result<(), AllocError>
+    ensures { IfOk result (λ _. string_bytes out.new
+        ≡ string_bytes out.old ++ spec.list_text (map (λ v. v.now) values.now)) }
+{
+    let [first, others @ ..] = values else {
+        return Ok(());
+    };
+    out.push_str(first)?;
+    push_others(out, others)
+}
+
+// What is told of an option: its help, and the values in its list.
+fn push_told(out: &mut String, help: &str, values: &[&str]) -> Result<(), AllocError>
+    ensures { IfOk result (λ _. string_bytes out.new ≡ string_bytes out.old
+        ++ spec.told_of help.now (listed (map (λ v. v.now) values.now))) }
+{
+    if help.is_empty() {
+        out.push_str("one of ")?;
+        return push_list(out, values);
+    }
+    write!(out, "{help}: one of ")?;
+    push_list(out, values)
+}
+
+// A label, and this text beside it.
+fn push_described(
+    out: &mut String,
+    alloc: Global,
+    label: &str,
+    help: &str,
+    width: usize,
+) -> Result<(), AllocError>
+    ensures { IfOk result (λ _. (text : List ℕ) × IsEntry width label.now help.now text
+        × (string_bytes out.new ≡ string_bytes out.old ++ text)) }
+{
+    let words = words_of(alloc, help)?;
+    push_labelled(out, label, words.as_slice(), width)
+}
+
+// A label, and beside it this text and the list of values, if there is one.
+fn push_told_entry(
+    out: &mut String,
+    alloc: Global,
+    label: &str,
+    help: &str,
+    words: Words<'_>,
+    width: usize,
+) -> Result<(), AllocError>
+    ensures { IfOk result (λ _. (text : List ℕ)
+        × IsEntry width label.now (spec.told_of help.now (words_view words.entry)) text
+        × (string_bytes out.new ≡ string_bytes out.old ++ text)) }
+{
+    match words {
+        Words::Files | Words::Directories | Words::Text => {
+            push_described(out, alloc, label, help, width)
+        }
+        Words::Listed(values) => {
+            let mut told = String::new(alloc);
+            push_told(&mut told, help, values)?;
+            push_described(out, alloc, label, told.as_str(), width)
+        }
+    }
+}
+
 // The entry of an option.
 fn push_entry<F, V, M, S>(
     out: &mut String,
@@ -248,13 +325,12 @@ fn push_entry<F, V, M, S>(
     width: usize,
 ) -> Result<(), AllocError>
     ensures { let o = option_view option.now in IfOk result (λ _. (text : List ℕ)
-        × IsEntry width (spec.label o) o.help text
+        × IsEntry width (spec.label o) (spec.told_of o.help o.words) text
         × (string_bytes out.new ≡ string_bytes out.old ++ text)) }
 {
     let mut label = String::new(alloc);
     push_label(&mut label, option.names, option.kind.arity())?;
-    let words = words_of(alloc, option.help)?;
-    push_labelled(out, label.as_str(), words.as_slice(), width)
+    push_told_entry(out, alloc, label.as_str(), option.help, option.words, width)
 }
 
 // The entries of the options that are not hidden.
@@ -264,7 +340,7 @@ fn option_entries<F, V, M, S>(
     width: usize,
 ) -> Result<String, AllocError>
     ensures { IfOk result (λ text. (entries : List (List ℕ))
-        × AllZip (λ o. IsEntry width (spec.label o) o.help)
+        × AllZip (λ o. IsEntry width (spec.label o) (spec.told_of o.help o.words))
         (spec.visible (map option_view options.now)) entries
         × (string_bytes text ≡ concat entries)) }
 {

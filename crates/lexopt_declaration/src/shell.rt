@@ -1,8 +1,9 @@
 //! Scripts by which a shell completes the lines of a program.
 ghost use Rattle.std.specs.Prelude.{◌≡◌, ◌↔◌};
 ghost use Rattle.std.specs.Fmt.{WritesOnOk};
-ghost use Rattle.lexopt_declaration.specs.Scripts.{bash_script, fish_head, fish_rest, fish_script};
-ghost use Rattle.lexopt_declaration.specs.Scripts.{shell_name, zsh_head, zsh_rest, zsh_script};
+ghost use Rattle.lexopt_declaration.specs.Scripts.{bash_script, fish_head, fish_names};
+ghost use Rattle.lexopt_declaration.specs.Scripts.{fish_rest, fish_script, shell_name};
+ghost use Rattle.lexopt_declaration.specs.Scripts.{zsh_head, zsh_rest, zsh_script};
 
 use std::fmt;
 
@@ -36,8 +37,10 @@ impl Shell {
 ///
 /// A shell that has read it calls the program with the hidden first word `__complete`, the words
 /// before the one that is typed, and what is typed of that one. `Options::answer` replies to
-/// that. The script offers each line that begins with a dash; for a line `files` the names of
-/// files; and for a line `value` the names of files after the `=` of the word.
+/// that. The script offers each line that begins with a dash; of a line that begins with `+` what
+/// follows; for a line `files` the names of files, and for a line `directories` those of
+/// directories; for a line `value files` or `value directories` these after the `=` of the word;
+/// and nothing else.
 #[derive(Clone, Copy, PartialEq, Eq, Debug)]
 pub struct Script<'a> {
     /// The shell that reads the script.
@@ -50,7 +53,7 @@ pub struct Script<'a> {
 // What comes in each script after the name of its function.
 const BASH_BODY: &str = r#"() {
     local program=${1//[\"\'\\]/} line=$COMP_LINE words=() last=$2 piece
-    local start='' answer
+    local start='' answer names
 
     program=${program/#\~\//$HOME/}
     # An alias is no command: then ask the program itself.
@@ -82,19 +85,24 @@ const BASH_BODY: &str = r#"() {
     COMPREPLY=()
     while IFS= read -r answer; do
         case $answer in
-            files)
+            files | directories)
+                [[ $answer == files ]] && names=-f || names=-d
                 compopt -o filenames
                 while IFS= read -r answer; do
                     COMPREPLY+=("${answer#"$piece"}")
-                done < <(compgen -f -- "$piece$2")
+                done < <(compgen $names -- "$piece$2")
                 ;;
-            value)
+            'value files' | 'value directories')
+                [[ $answer == 'value files' ]] && names=-f || names=-d
                 compopt -o filenames
                 mapfile -t -O ${#COMPREPLY[@]} COMPREPLY < <(
-                    compgen -P "$start" -f -- "${2#"$start"}"
+                    compgen -P "$start" $names -- "${2#"$start"}"
                 )
                 ;;
-            *) COMPREPLY+=("${answer#"$piece"}") ;;
+            *)
+                answer=${answer#+}
+                COMPREPLY+=("${answer#"$piece"}")
+                ;;
         esac
     done < <("$program" __complete "${words[@]}" "$last" 2>/dev/null)
 }
@@ -108,9 +116,11 @@ const ZSH_BODY: &str = r#"() {
     answers=("${(@f)$("${(Q)words[1]/#\~\//$HOME/}" __complete \
         "${(@)words_before}" "${(Q)PREFIX}" 2>/dev/null)}")
 
-    compadd -- ${(M)answers:#-*} && ret=0
+    compadd -- ${(M)answers:#-*} ${${(M)answers:#+*}#+} && ret=0
     (( $answers[(Ie)files] )) && _files && ret=0
-    (( $answers[(Ie)value] )) && compset -P 1 '--*=' && _files && ret=0
+    (( $answers[(Ie)directories] )) && _path_files -/ && ret=0
+    (( $answers[(Ie)value files] )) && compset -P 1 '--*=' && _files && ret=0
+    (( $answers[(Ie)value directories] )) && compset -P 1 '--*=' && _path_files -/ && ret=0
     return ret
 }
 "#;
@@ -183,9 +193,21 @@ fn write_fish_rest<W: fmt::Write>(program: &str, f: &mut fmt::Formatter<W>) -> f
     write!(
         f,
         "{FISH_BODY}complete --command {program} --no-files --arguments \
-        '(__complete_{program} | string match -- \"-*\")'\n\
-        complete --command {program} --force-files --condition \
-        '__complete_{program} | string match --quiet --regex \"^files|^value\"'"
+        '(__complete_{program} | string replace --filter --regex \"^[+]|^(?=-)\" \"\")'\n"
+    )
+}
+
+#[tactic(auto, unfolding(crate::specs::Scripts::fish_names))]
+fn write_fish_names<W: fmt::Write>(program: &str, f: &mut fmt::Formatter<W>) -> fmt::Result
+    ensures { WritesOnOk W.write_str_gives f.old result (fish_names program.now) f.new }
+{
+    write!(
+        f,
+        "complete --command {program} --force-files --condition \
+        '__complete_{program} | string match --quiet --regex \"^files|^value files\"'\n\
+        complete --command {program} --no-files --condition \
+        '__complete_{program} | string match --quiet --regex \
+        \"^directories|^value directories\"' --arguments '(__fish_complete_directories)'"
     )
 }
 
@@ -193,7 +215,8 @@ fn write_fish<W: fmt::Write>(program: &str, f: &mut fmt::Formatter<W>) -> fmt::R
     ensures { WritesOnOk W.write_str_gives f.old result (fish_script program.now) f.new }
 {
     write_fish_head(program, f)?;
-    write_fish_rest(program, f)
+    write_fish_rest(program, f)?;
+    write_fish_names(program, f)
 }
 
 impl fmt::Display for Script<'_> {

@@ -1,5 +1,5 @@
 -- What a line asks for is one thing, whatever else is found of the line.
-use Rattle.std.proofs.Common.{◌≡◌, ℕ, List, [], ◌∷◌, ◌++◌, map, Option, Some, None, refl, sym, ap, subst, ◌∙◌, inl, inr}
+use Rattle.std.proofs.Common.{◌≡◌, ℕ, true, List, [], ◌∷◌, ◌++◌, map, Option, Some, None, refl, sym, ap, subst, ◌∙◌, inl, inr}
 use Rattle.lexopt_spec.specs.UnreadLine.{UnreadLine}
 use Rattle.lexopt_spec.specs.Steps as steps
 use Rattle.lexopt_spec.specs.Steps.{Reply, Next}
@@ -7,15 +7,16 @@ use Rattle.lexopt_spec.specs.Runs.{Call, Run, Step}
 use Rattle.lexopt_line_spec.specs.Table as spec
 use Rattle.lexopt_line_spec.specs.Table.{Item, Kind, Table, flag}
 use Rattle.lexopt_line_spec.specs.Readings.{AskedAfter, last, more, GoesOn, IsDue, IsReading, items_said, start}
+use Rattle.lexopt_line_spec.proofs.ItemsRead.{says_items}
 use Rattle.lexopt_line_spec.proofs.OneReading.{some_reading, no_other_reading}
 use Rattle.lexopt_line_spec.proofs.ReplyKinds.{IsNextReply, next_reply}
 use Rattle.lexopt_options_spec.specs.Asking.{AskFor, all_but_last, asked_by, first_asked, or_asked, said_before}
 use Rattle.lexopt_options_spec.specs.Declaration.{Asked, Declaration, Declared, table}
-use Rattle.lexopt_options_spec.specs.Legal.{Said, Says, said_item}
-use Rattle.lexopt_options_spec.specs.Stops.{Mistake, StopsAt, unknown_option, unexpected_value, missing_value, unexpected_argument, missing_argument, missing_option}
+use Rattle.lexopt_options_spec.specs.Legal.{Said, Says, said_item, are_accepted}
+use Rattle.lexopt_options_spec.specs.Stops.{Mistake, StopsAt, unknown_option, unexpected_value, missing_value, invalid_value, unexpected_argument, missing_argument, missing_option}
 use Rattle.lexopt_options_spec.proofs.Fronts.{front_later}
 use Rattle.lexopt_options_spec.proofs.Lists.{same_somes, split}
-use Rattle.lexopt_laws.proofs.OneStop.{Compared, same, shorter, longer, compared, IsMissing, lacks_argument, lacks_option, Left, undeclared_first, flag_value, valueless, no_room, at_end, left_of, not_shorter}
+use Rattle.lexopt_laws.proofs.OneStop.{Compared, same, shorter, longer, compared, IsMissing, lacks_argument, lacks_option, Left, undeclared_first, flag_value, valueless, refused_first, no_room, at_end, left_of, not_shorter}
 
 -- ---- the first that asks
 
@@ -75,7 +76,8 @@ one_asked d words a b ask again =
     let one = some_reading t ask.there ask.read.line in
     let other = some_reading t again.there again.read.line in
     let both = no_other_reading t (start d.short_equals words) one.0 other.0 (ask.read.items ++ one.1) (again.read.items ++ other.1)
-    (ask.read.read one.0 one.1 one.2) (again.read.read other.0 other.1 other.2) in
+    (says_items t (start d.short_equals words) ask.there ask.read.items ask.read.read one.0 one.1 one.2)
+    (says_items t (start d.short_equals words) again.there again.read.items again.read.read other.0 other.1 other.2) in
     same_asked d words a b ask again one.1 other.1 (compared ask.read.items again.read.items one.1 other.1 both.1)
 
 -- ---- a reading that gives nothing
@@ -118,8 +120,9 @@ all_but_last_of (a ∷ b ∷ l) s k = ap (λ m. a ∷ m) (all_but_last_of (b ∷
 -- a mistake takes nothing away but the last
 kept_before : (m : Mistake) (l : List Said) (s : Said) (k : List Said) → (later : List Said) × (said_before m (l ++ s ∷ k) ≡ l ++ later)
 kept_before (unexpected_value name value) l s k = (all_but_last (s ∷ k), all_but_last_of l s k)
-kept_before (unknown_option name) l s k = (s ∷ k, refl)
+kept_before (unknown_option name tail) l s k = (s ∷ k, refl)
 kept_before (missing_value index option) l s k = (s ∷ k, refl)
+kept_before (invalid_value index value) l s k = (s ∷ k, refl)
 kept_before (unexpected_argument word) l s k = (s ∷ k, refl)
 kept_before (missing_argument count) l s k = (s ∷ k, refl)
 kept_before (missing_option index) l s k = (s ∷ k, refl)
@@ -132,24 +135,25 @@ all_at_end d l m (lacks_option index m_is enough first) = ap (λ x. said_before 
 -- nor elsewhere, unless it is a value that an option does not take
 all_before : (d : Declaration) (words : List (List ℕ)) (a : Asked) (ask : AskFor d words a) (l : List Said) (m : Mistake) (final : Reply) (ms ns : List Item) → ms ≡ ns
     → IsReading (table d.options) ask.there final ns → Left d l m final ms → said_before m l ≡ l
-all_before d words a ask l m final ms ns is reading (undeclared_first name item rest m_is are of none) = ap (λ x. said_before x l) m_is
+all_before d words a ask l m final ms ns is reading (undeclared_first name tail item rest m_is are of none) = ap (λ x. said_before x l) m_is
 all_before d words a ask l m final ms ns is reading (flag_value option value m_is final_is are) =
     let found = nothing_given (table d.options) ask.there final ns (sym is ∙ are) reading in
     absurd (ask.no_value option value found.0 (subst (λ r. Next ask.there r found.0) final_is found.1))
 all_before d words a ask l m final ms ns is reading (valueless name index option m_is final_is are found) = ap (λ x. said_before x l) m_is
+all_before d words a ask l m final ms ns is reading (refused_first item s index value rest m_is are said of refused) = ap (λ x. said_before x l) m_is
 all_before d words a ask l m final ms ns is reading (no_room word rest m_is are limit) = ap (λ x. said_before x l) m_is
 all_before d words a ask l m final ms ns is reading (at_end lacks final_is are) = all_at_end d l m lacks
 
 asked_before : (d : Declaration) (words : List (List ℕ)) (l : List Said) (m : Mistake) (a : Asked) (stops : StopsAt d words l m) (ask : AskFor d words a) (final : Reply) (ms ns : List Item)
-    → Left d l m final ms → IsReading (table d.options) ask.there final ns → Compared stops.read.items ask.read.items ms ns
+    → are_accepted d.options (asking ask) ≡ true → Left d l m final ms → IsReading (table d.options) ask.there final ns → Compared stops.read.items ask.read.items ms ns
     → first_asked d.options (said_before m l) ≡ Some a
-asked_before d words l m a stops ask final ms ns left reading (same front back) =
+asked_before d words l m a stops ask final ms ns accepted left reading (same front back) =
     let lists : l ≡ asking ask = same_somes l (asking ask) (sym stops.read.said ∙ ap (map (said_item d.options)) front ∙ ask.read.said) in
     ap (first_asked d.options) (all_before d words a ask l m final ms ns back reading left ∙ lists) ∙ asked_alone d words a ask
-asked_before d words l m a stops ask final ms ns left reading (shorter x rest front back) =
+asked_before d words l m a stops ask final ms ns accepted left reading (shorter x rest front back) =
     absurd (not_shorter d l (asking ask) m final stops.read.items ms ns x rest stops.read.said (subst (λ s. map (said_item d.options) s ≡ map (λ s. Some s) (asking ask)) front ask.read.said)
-    ask.read.within back left (no_missing (table d.options) ask.there final ns reading))
-asked_before d words l m a stops ask final ms ns left reading (longer x rest front back) =
+    ask.read.within accepted back left (no_missing (table d.options) ask.there final ns reading))
+asked_before d words l m a stops ask final ms ns accepted left reading (longer x rest front back) =
     let later = split (said_item d.options) ask.read.items (x ∷ rest) (asking ask) l ask.read.said (sym (ap (map (said_item d.options)) front) ∙ stops.read.said) in
     more_before later.later later.are later.all_are
   where
@@ -166,6 +170,7 @@ asked_of_stop d words l m a stops ask =
     let left = left_of d l stops.there m stops.read.line stops.stops in
     let one = some_reading t ask.there ask.read.line in
     let both = no_other_reading t (start d.short_equals words) left.final one.0 (stops.read.items ++ left.items) (ask.read.items ++ one.1)
-    (stops.read.read left.final left.items left.reading) (ask.read.read one.0 one.1 one.2) in
-    asked_before d words l m a stops ask left.final left.items one.1 left.left (subst (λ f. IsReading t ask.there f one.1) (sym both.0) one.2)
+    (says_items t (start d.short_equals words) stops.there stops.read.items stops.read.read left.final left.items left.reading)
+    (says_items t (start d.short_equals words) ask.there ask.read.items ask.read.read one.0 one.1 one.2) in
+    asked_before d words l m a stops ask left.final left.items one.1 ask.accepted left.left (subst (λ f. IsReading t ask.there f one.1) (sym both.0) one.2)
     (compared stops.read.items ask.read.items left.items one.1 both.1)

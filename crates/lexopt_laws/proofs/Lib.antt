@@ -13,9 +13,12 @@ pub mod OneItem
 pub mod Missing
 pub mod OneStop
 pub mod AskedOnce
+pub mod Occurs
+pub mod Refused
 pub mod WorkedAsking
 pub mod SomeAnswer
 pub mod WorkedStops
+pub mod WorkedValues
 pub mod WorkedSays
 pub mod WorkedDistances
 pub mod WorkedNames

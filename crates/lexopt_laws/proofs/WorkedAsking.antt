@@ -1,19 +1,19 @@
 -- Short lines that ask for the help or the version.
-use Rattle.std.proofs.Common.{◌≡◌, ℕ, List, [], ◌∷◌, Some, None, refl, ap, inl, inr}
+use Rattle.std.proofs.Common.{◌≡◌, ◌+◌, ℕ, true, List, [], ◌∷◌, Some, None, refl, ap, inl, inr}
 use Rattle.lexopt_spec.specs.UnreadLine.{UnreadLine}
 use Rattle.lexopt_spec.specs.Steps as steps
 use Rattle.lexopt_spec.specs.Steps.{Reply, Next, NextStep}
 use Rattle.lexopt_spec.specs.Runs.{next}
 use Rattle.lexopt_line_spec.specs.Table as spec
 use Rattle.lexopt_line_spec.specs.Table.{Name, flag, kind}
-use Rattle.lexopt_line_spec.specs.Readings.{option_reply, start}
+use Rattle.lexopt_line_spec.specs.Readings.{first_flag, option_reply, start}
 use Rattle.lexopt_line_spec.proofs.Calls.{call_same}
-use Rattle.lexopt_line_spec.proofs.ReadingSteps.{says_flag}
 use Rattle.lexopt_line_spec.proofs.RunAccounts.{step_line}
-use Rattle.lexopt_options_spec.specs.Asking.{AskFor, asked_by, or_asked}
+use Rattle.lexopt_options_spec.specs.Asking.{AskFor, asked_by, first_asked, or_asked}
 use Rattle.lexopt_options_spec.specs.Declaration.{Asked, Declaration, table}
-use Rattle.lexopt_options_spec.specs.Legal.{option, said_item, most, IsWithin}
+use Rattle.lexopt_options_spec.specs.Legal.{Said, option, said_item, most, IsWithin, are_accepted, positional_count}
 use Rattle.lexopt_options_spec.specs.Stops.{ReadsUpTo}
+use Rattle.lexopt_options_spec.proofs.Listed.{accepted_append}
 use Rattle.lexopt_laws.proofs.SomeAnswer.{nothing_read, one_more}
 
 -- where `next` returns this, it does not return a value that an option does not take
@@ -31,10 +31,29 @@ asks_first {d = d} {words = words} name i v w r k said asks within step after ot
       before = [];
       said = option i None;
       there = v;
-      read = one_more d u u v [] (spec.option name None) (option i None) (nothing_read d u tt) (says_flag (table d.options) u v name k (inl step)) (step_line next u (option_reply name) v tt (inl step)) said within;
+      read = one_more d u u v [] (spec.option name None) (option i None) (nothing_read d u tt) (first_flag name v k (inl step)) (step_line next u (option_reply name) v tt (inl step)) said within;
       none_before = refl;
+      accepted = refl;
       asks = asks;
       no_value = no_value_there v w r after other;
+    }
+
+-- an option after others, of which none asks for anything, and which have values that they accept
+pub asks_then : {d : Declaration} {words : List (List ℕ)} {a : Asked} (before : List Said) (name : Name) (i : ℕ) (v w x : UnreadLine) (r : Reply) → ReadsUpTo d (start d.short_equals words) before v
+    → first_asked d.options before ≡ None → are_accepted d.options before ≡ true → kind (table d.options) name ≡ flag → said_item d.options (spec.option name None) ≡ Some (option i None)
+    → asked_by d.options (option i None) ≡ Some a → IsWithin (positional_count before + 0) (most d.positionals) → NextStep v (option_reply name) w → NextStep w r x
+    → ((o x : List ℕ) → r ≡ steps.unexpected o x → ⊥) → AskFor d words a
+asks_then {d = d} {words = words} before name i v w x r read none accepted k said asks within step after other =
+    record {
+      before = before;
+      said = option i None;
+      there = w;
+      read = one_more d (start d.short_equals words) v w before (spec.option name None) (option i None) read (first_flag name w k (inl step))
+          (step_line next v (option_reply name) w read.line (inl step)) said within;
+      none_before = none;
+      accepted = accepted_append d.options before (option i None ∷ []) accepted refl;
+      asks = asks;
+      no_value = no_value_there w x r after other;
     }
 
 -- the second option, after a flag that asks for nothing
@@ -46,13 +65,5 @@ asks_second {d = d} {words = words} first name j i v w x r k1 said1 none k said 
     let u = start d.short_equals words in
     let line1 = step_line next u (option_reply first) v tt (inl step1) in
     let one : ReadsUpTo d u (option j None ∷ []) v =
-    one_more d u u v [] (spec.option first None) (option j None) (nothing_read d u tt) (says_flag (table d.options) u v first k1 (inl step1)) line1 said1 within in
-    record {
-      before = option j None ∷ [];
-      said = option i None;
-      there = w;
-      read = one_more d u v w (option j None ∷ []) (spec.option name None) (option i None) one (says_flag (table d.options) v w name k (inl step)) (step_line next v (option_reply name) w line1 (inl step)) said within;
-      none_before = ap (λ o. or_asked o None) none;
-      asks = asks;
-      no_value = no_value_there w x r after other;
-    }
+    one_more d u u v [] (spec.option first None) (option j None) (nothing_read d u tt) (first_flag first v k1 (inl step1)) line1 said1 within in
+    asks_then (option j None ∷ []) name i v w x r one (ap (λ o. or_asked o None) none) refl k said asks within step after other

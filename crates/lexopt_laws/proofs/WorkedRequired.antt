@@ -34,7 +34,7 @@ pub has_user : Says (demanding_sample [] true) (codes "-u" ∷ codes "me" ∷ []
 unfolding kind computing
 has_user = whole_of (spec.option (short 0x75) (Some (codes "me")) ∷ [])
     (cluster_line (codes "u") _ refl (last_of 0x75 [] nothing _ refl (nothing_more refl refl) (lines.next_word (codes "me") refl refl refl)) no_words)
-    refl (lit≤ tt) (lit≤ tt) refl
+    refl (lit≤ tt) (lit≤ tt) refl refl
 
 -- ---- what can come
 

@@ -3,6 +3,7 @@ use Rattle.std.proofs.Common.{◌≡◌, ℕ, true, List, [], ◌∷◌, ◌++�
 use Rattle.lexopt_spec.specs.UnreadLine.{dash}
 use Rattle.lexopt_spec.specs.Steps.{nothing_to_take, joined_value}
 use Rattle.lexopt_spec.specs.Runs.{value, values}
+use Rattle.lexopt_spec.specs.UnreadLine.{no_tail}
 use Rattle.lexopt_line_spec.specs.Table as spec
 use Rattle.lexopt_line_spec.specs.Table.{Item, short, long, kind}
 use Rattle.lexopt_line_spec.specs.Spelling as lines
@@ -11,10 +12,10 @@ use Rattle.lexopt_line_spec.proofs.Computing.{computing}
 use Rattle.lexopt_line_spec.proofs.Worked.{last_of, cluster_line, joined_line, plain_line, plain_front_is, some, reads_first, reads_joined, reads_plain, misses_values}
 use Rattle.lexopt_options_spec.specs.Declaration.{Declaration, Positional}
 use Rattle.lexopt_options_spec.specs.Legal.{Said, SaysFront, IsWithin, most, option, several, positional}
-use Rattle.lexopt_options_spec.specs.Stops.{Mistake, StopsAt, unknown_option, missing_value, unexpected_value, unexpected_argument, missing_argument, missing_option, not_declared, value_of_flag, one_too_many}
+use Rattle.lexopt_options_spec.specs.Stops.{Mistake, StopsAt, unknown_option, missing_value, unexpected_value, unexpected_argument, missing_argument, missing_option, invalid_value, not_declared, value_of_flag, one_too_many}
 use Rattle.lexopt_options_spec.specs.Stops as stop
 use Rattle.lexopt_options_spec.specs.Completion.{IsOpen, IsPlainRole, IsDashedRole, Role, role_of}
-use Rattle.lexopt_options_spec.proofs.Fronts.{no_front, one_front}
+use Rattle.lexopt_options_spec.proofs.Fronts.{comes_to, no_front, one_front}
 use Rattle.lexopt_laws.specs.Sample.{sample, files}
 use Rattle.lexopt_laws.proofs.WorkedSays.{front_of}
 use Rattle.lexopt_laws.proofs.WorkedOpen.{open_of}
@@ -64,7 +65,7 @@ unfolding kind computing
 no_flag_empty l says =
     let stops : StopsAt (sample [] true) (codes "-v" ∷ [] ∷ []) (option 0 None ∷ []) (unexpected_argument []) =
     after_flag (short 0x76) 0 _ refl refl (lit≤ tt) (inl (reads_first _ 0x76 [] ([] ∷ []) refl refl refl refl)) (one_too_many [] _ (inl (reads_plain _ [] [] refl refl refl refl)) refl) in
-    no_front _ _ (option 0 None ∷ []) (unexpected_argument []) stops (λ count same. let e : unexpected_argument [] ≡ missing_argument count = same in cc) (λ index same. let e : unexpected_argument [] ≡ missing_option index = same in cc) l says
+    no_front _ _ (option 0 None ∷ []) (unexpected_argument []) (comes_to stops) (λ count same. let e : unexpected_argument [] ≡ missing_argument count = same in cc) (λ index same. let e : unexpected_argument [] ≡ missing_option index = same in cc) (λ index value same. let e : unexpected_argument [] ≡ invalid_value index value = same in cc) l says
 
 -- `-b`
 pub optional_empty : SaysFront (sample (files ∷ []) true) (codes "-b" ∷ [] ∷ []) (option 2 None ∷ positional [] ∷ [])
@@ -101,9 +102,9 @@ separator_empty = front_of (spec.positional [] ∷ []) (separator ([] ∷ [])) r
 pub no_unknown : (more : List (List ℕ)) (l : List Said) → SaysFront (sample (files ∷ []) true) (codes "-z" ∷ more) l → ⊥
 unfolding kind computing
 no_unknown more l says =
-    let stops : StopsAt (sample (files ∷ []) true) (codes "-z" ∷ more) [] (unknown_option (short 0x7A)) =
+    let stops : StopsAt (sample (files ∷ []) true) (codes "-z" ∷ more) [] (unknown_option (short 0x7A) no_tail) =
     at_first (not_declared (short 0x7A) _ (inl (reads_first _ 0x7A [] more refl refl refl refl)) refl) in
-    no_front _ _ [] (unknown_option (short 0x7A)) stops (λ count same. let e : unknown_option (short 0x7A) ≡ missing_argument count = same in cc) (λ index same. let e : unknown_option (short 0x7A) ≡ missing_option index = same in cc) l says
+    no_front _ _ [] (unknown_option (short 0x7A) no_tail) (comes_to stops) (λ count same. let e : unknown_option (short 0x7A) no_tail ≡ missing_argument count = same in cc) (λ index same. let e : unknown_option (short 0x7A) no_tail ≡ missing_option index = same in cc) (λ index value same. let e : unknown_option (short 0x7A) no_tail ≡ invalid_value index value = same in cc) l says
 
 -- ---- lines with a separator
 
@@ -125,7 +126,7 @@ unfolding kind computing
 says_no_value l says =
     let stops : StopsAt (sample [] true) (codes "-o" ∷ []) [] (missing_value 1 (codes "-o")) =
     at_first (stop.no_value (short 0x6F) 1 (codes "-o") value _ _ (inl (reads_first _ 0x6F [] [] refl refl refl refl)) refl refl (inl (nothing_to_take refl refl refl refl))) in
-    no_front _ _ [] (missing_value 1 (codes "-o")) stops (λ count same. let e : missing_value 1 (codes "-o") ≡ missing_argument count = same in cc) (λ index same. let e : missing_value 1 (codes "-o") ≡ missing_option index = same in cc) l says
+    no_front _ _ [] (missing_value 1 (codes "-o")) (comes_to stops) (λ count same. let e : missing_value 1 (codes "-o") ≡ missing_argument count = same in cc) (λ index same. let e : missing_value 1 (codes "-o") ≡ missing_option index = same in cc) (λ index value same. let e : missing_value 1 (codes "-o") ≡ invalid_value index value = same in cc) l says
 
 pub value_dashes : SaysFront (sample [] true) (codes "-o" ∷ codes "--" ∷ []) (option 1 (Some (codes "--")) ∷ [])
 unfolding kind computing
@@ -138,7 +139,7 @@ unfolding kind computing
 no_several_dashes l says =
     let stops : StopsAt (sample [] true) (codes "-x" ∷ codes "--" ∷ []) [] (missing_value 3 (codes "-x")) =
     at_first (stop.no_value (short 0x78) 3 (codes "-x") (values 1) _ _ (inl (reads_first _ 0x78 [] (codes "--" ∷ []) refl refl refl refl)) refl (1, refl) (inl (misses_values 1 _ refl refl))) in
-    no_front _ _ [] (missing_value 3 (codes "-x")) stops (λ count same. let e : missing_value 3 (codes "-x") ≡ missing_argument count = same in cc) (λ index same. let e : missing_value 3 (codes "-x") ≡ missing_option index = same in cc) l says
+    no_front _ _ [] (missing_value 3 (codes "-x")) (comes_to stops) (λ count same. let e : missing_value 3 (codes "-x") ≡ missing_argument count = same in cc) (λ index same. let e : missing_value 3 (codes "-x") ≡ missing_option index = same in cc) (λ index value same. let e : missing_value 3 (codes "-x") ≡ invalid_value index value = same in cc) l says
 
 -- `--`, and with another one
 pub separator_says : SaysFront (sample (files ∷ []) true) (codes "--" ∷ []) []
@@ -167,5 +168,5 @@ verbose_says_nothing l says =
     let stops : StopsAt (sample [] true) (codes "--verbose=fi" ∷ []) (option 0 None ∷ []) (unexpected_value (codes "--verbose") (codes "fi")) =
     after_flag (long (codes "verbose")) 0 _ refl refl (lit≤ tt) (inl (reads_joined _ (codes "verbose") (codes "fi") [] refl refl refl refl))
     (value_of_flag (codes "--verbose") (codes "fi") _ (inl (joined_value (codes "fi") (codes "--verbose") refl refl refl refl))) in
-    no_front _ _ (option 0 None ∷ []) (unexpected_value (codes "--verbose") (codes "fi")) stops
-    (λ count same. let e : unexpected_value (codes "--verbose") (codes "fi") ≡ missing_argument count = same in cc) (λ index same. let e : unexpected_value (codes "--verbose") (codes "fi") ≡ missing_option index = same in cc) l says
+    no_front _ _ (option 0 None ∷ []) (unexpected_value (codes "--verbose") (codes "fi")) (comes_to stops)
+    (λ count same. let e : unexpected_value (codes "--verbose") (codes "fi") ≡ missing_argument count = same in cc) (λ index same. let e : unexpected_value (codes "--verbose") (codes "fi") ≡ missing_option index = same in cc) (λ index value same. let e : unexpected_value (codes "--verbose") (codes "fi") ≡ invalid_value index value = same in cc) l says

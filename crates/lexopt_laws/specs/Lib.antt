@@ -1,2 +1,3 @@
 pub mod OneValueSpelling
 pub mod Sample
+pub mod ListedValues

@@ -1,6 +1,7 @@
 -- The options of the worked examples, as `docs/behaviour.md` and `docs/formats.md` have them.
 use Rattle.std.specs.Prelude.{Bool, true, false, List, [], ◌∷◌, ◌++◌, ℕ, Some, None, codes}
 use Rattle.lexopt_line_spec.specs.Table.{flag, one, optional, several}
+use Rattle.lexopt_options_spec.specs.Declaration as spec
 use Rattle.lexopt_options_spec.specs.Declaration.{Declared, Declaration, Positional, for_help}
 use Rattle.lexopt_options_spec.specs.Declaration.{for_version}
 use Rattle.lexopt_options_spec.specs.Declaration.{once, at_most_once, any_number, at_least_once}
@@ -15,6 +16,7 @@ verbose = record {
   asks = None;
   hidden = false;
   required = false;
+  words = spec.files;
 }
 
 abbrev pub output : Declared
@@ -27,6 +29,7 @@ output = record {
   asks = None;
   hidden = false;
   required = false;
+  words = spec.files;
 }
 
 abbrev pub backup : Declared
@@ -39,6 +42,7 @@ backup = record {
   asks = None;
   hidden = false;
   required = false;
+  words = spec.files;
 }
 
 abbrev pub exclude : Declared
@@ -51,6 +55,7 @@ exclude = record {
   asks = None;
   hidden = false;
   required = false;
+  words = spec.files;
 }
 
 abbrev pub sample_options : List Declared
@@ -109,6 +114,7 @@ asks_for_help = record {
   asks = Some for_help;
   hidden = false;
   required = false;
+  words = spec.files;
 }
 
 abbrev pub asks_for_version : Declared
@@ -136,10 +142,46 @@ user = record {
   asks = None;
   hidden = false;
   required = true;
+  words = spec.files;
 }
 
 -- the sample with it, at the index 4
 abbrev pub demanding_sample : List Positional → Bool → Declaration
 demanding_sample positionals short_equals = record (sample positionals short_equals) {
   options = sample_options ++ user ∷ [];
+}
+
+-- options that accept the values in a list alone
+abbrev pub listed_mode : Declared
+listed_mode = record {
+  short_name = Some 0x6D;
+  long_name = Some (codes "mode");
+  kind = one;
+  placeholder = codes "MODE";
+  help = codes "how to pack";
+  asks = None;
+  hidden = false;
+  required = false;
+  words = spec.listed (codes "fast" ∷ codes "slow" ∷ []);
+}
+
+abbrev pub listed_backup : Declared
+listed_backup = record backup { words = spec.listed (codes "old" ∷ codes "bak" ∷ []) }
+
+abbrev pub listed_exclude : Declared
+listed_exclude = record exclude { words = spec.listed (codes "a" ∷ codes "c" ∷ []) }
+
+-- `-m` has the index 1; `-v`, `-b` and `-x` have those of the sample; `--help` has the index 4
+abbrev pub listed_options : List Declared
+listed_options = verbose ∷ listed_mode ∷ listed_backup ∷ listed_exclude ∷ asks_for_help ∷ []
+
+abbrev pub listed_sample : List Positional → Bool → Declaration
+listed_sample positionals short_equals = record (sample positionals short_equals) {
+  options = listed_options;
+}
+
+-- a flag, `-m`, which has to occur here, and `--help`
+abbrev pub demanding_listed : List Positional → Bool → Declaration
+demanding_listed positionals short_equals = record (sample positionals short_equals) {
+  options = verbose ∷ record listed_mode { required = true } ∷ asks_for_help ∷ [];
 }

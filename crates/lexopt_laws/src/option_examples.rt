@@ -1,8 +1,10 @@
 //! Worked examples of declared options: what the definitions mean for short lines and small
 //! declarations, and what they rule out. Most are about the options of `Sample`: v|verbose is a
-//! flag, o|output has one value, b|backup has one or none, and x|exclude has several.
+//! flag, o|output has one value, b|backup has one or none, and x|exclude has several. With lists,
+//! m|mode accepts fast and slow alone, b|backup old and bak, and x|exclude a and c.
 ghost use Rattle.std.specs.Prelude.{◌≡◌, ◌++◌, [], ◌∷◌, ℕ, List, Option, Some, None, true, false};
 ghost use Rattle.std.specs.Prelude.{codes};
+ghost use Rattle.lexopt_spec.specs.UnreadLine.{joined, no_tail, rest};
 ghost use Rattle.lexopt_line_spec.specs.Table as spec;
 ghost use Rattle.lexopt_line_spec.specs.Table.{flag, long, many, one, optional, short};
 ghost use Rattle.lexopt_options_spec.specs.Asking.{AskFor, all_but_last, asked_at, asked_by};
@@ -15,7 +17,9 @@ ghost use Rattle.lexopt_options_spec.specs.Completion.{is_long_with_equals, role
 ghost use Rattle.lexopt_options_spec.specs.Completion.{value};
 ghost use Rattle.lexopt_options_spec.specs.Declaration.{Asked, Declaration};
 ghost use Rattle.lexopt_options_spec.specs.Declaration.{IsFirstFault, IsSecondRepeated, are_clear};
-ghost use Rattle.lexopt_options_spec.specs.Declaration.{bad_placeholder, dash_name};
+ghost use Rattle.lexopt_options_spec.specs.Declaration as declared;
+ghost use Rattle.lexopt_options_spec.specs.Declaration.{accepts, bad_list, bad_placeholder};
+ghost use Rattle.lexopt_options_spec.specs.Declaration.{dash_name, directories, listed, text};
 ghost use Rattle.lexopt_options_spec.specs.Declaration.{blank_or_control_in_name};
 ghost use Rattle.lexopt_options_spec.specs.Declaration.{empty_name, equals_in_name, index_of};
 ghost use Rattle.lexopt_options_spec.specs.Declaration.{Reason, is_sound, replacement_in_name};
@@ -23,12 +27,14 @@ ghost use Rattle.lexopt_options_spec.specs.Declaration.{for_help, for_version};
 ghost use Rattle.lexopt_options_spec.specs.Declaration.{any_number, at_least_once, at_most_once};
 ghost use Rattle.lexopt_options_spec.specs.Declaration.{has_to_occur, may_repeat, once};
 ghost use Rattle.lexopt_options_spec.specs.Declaration.{same_name, table};
-ghost use Rattle.lexopt_options_spec.specs.Legal.{Said, Says, SaysFront, is_required, least, most};
+ghost use Rattle.lexopt_options_spec.specs.Legal.{Said, Says, SaysFront, accepts_at};
+ghost use Rattle.lexopt_options_spec.specs.Legal.{are_accepted, is_required, least, most};
+ghost use Rattle.lexopt_options_spec.specs.Legal.{refused_value};
 ghost use Rattle.lexopt_options_spec.specs.Legal.{occurs, option};
 ghost use Rattle.lexopt_options_spec.specs.Legal.{positional, positional_count, said_item, several};
 ghost use Rattle.lexopt_options_spec.specs.Places.{ArePlaces, AreShares, CanTake, owners};
 ghost use Rattle.lexopt_options_spec.specs.Stops.{IsFirstMissing, Mistake, StopsAt};
-ghost use Rattle.lexopt_options_spec.specs.Stops.{missing_argument, missing_option};
+ghost use Rattle.lexopt_options_spec.specs.Stops.{invalid_value, missing_argument, missing_option};
 ghost use Rattle.lexopt_options_spec.specs.Stops.{missing_value, placeholder_at};
 ghost use Rattle.lexopt_options_spec.specs.Stops.{required_placeholder, unexpected_argument};
 ghost use Rattle.lexopt_options_spec.specs.Stops.{unexpected_value, unknown_option};
@@ -39,10 +45,12 @@ ghost use Rattle.lexopt_options_spec.specs.Help.{line_columns, line_text};
 ghost use Rattle.lexopt_laws.specs.Sample.{asking_sample, asks_for_help, asks_for_version};
 ghost use Rattle.lexopt_laws.specs.Sample.{backup, described_files, exclude};
 ghost use Rattle.lexopt_laws.specs.Sample.{files, mode, output, sample};
-ghost use Rattle.lexopt_options_spec.specs.Nearest.{IsDistance, IsHint, IsNearest, begins_with};
-ghost use Rattle.lexopt_options_spec.specs.Nearest.{hinted_name, long_name_at, longer_count};
-ghost use Rattle.lexopt_options_spec.specs.Nearest.{only_longer};
+ghost use Rattle.lexopt_options_spec.specs.Nearest.{IsDistance, IsHint, IsNearest, hinted_name};
+ghost use Rattle.lexopt_options_spec.specs.Nearest.{long_name_at, only_ending, only_longer};
+ghost use Rattle.lexopt_options_spec.specs.Nearest.{only_passing, passes, passing_count};
 ghost use Rattle.lexopt_laws.specs.Sample.{demanding_sample, dest, new, old, sources, user};
+ghost use Rattle.lexopt_laws.specs.Sample.{demanding_listed, listed_mode, listed_options};
+ghost use Rattle.lexopt_laws.specs.Sample.{listed_sample};
 ghost use Rattle.lexopt_laws.specs.Sample.{named, sample_options, target, verbose};
 
 // The option of a name, by its index: the first one, if two have the name. A name is typed whole.
@@ -116,6 +124,18 @@ fn options_are_refused()
         (verbose ∷ backup ∷ record output { long_name = Some (codes "verbose") } ∷ []) 2 same_name }
     ensures same_as_the_second { IsFirstFault
         (output ∷ verbose ∷ record backup { short_name = Some 0x76 } ∷ []) 2 same_name }
+    ensures no_values { IsFirstFault (record listed_mode { words = listed [] } ∷ []) 0 bad_list }
+    ensures empty_value { IsFirstFault (record listed_mode { words = listed ([] ∷ []) } ∷ []) 0
+        bad_list }
+    ensures value_with_dash { IsFirstFault
+        (record listed_mode { words = listed (codes "fast" ∷ codes "-1" ∷ []) } ∷ []) 0 bad_list }
+    ensures value_with_equals { IsFirstFault
+        (record listed_mode { words = listed (codes "=1" ∷ []) } ∷ []) 0 bad_list }
+    ensures value_with_blank { IsFirstFault
+        (record listed_mode { words = listed (codes "very fast" ∷ []) } ∷ []) 0 bad_list }
+    ensures value_with_control { IsFirstFault
+        (record listed_mode { words = listed (codes "a\n" ∷ []) } ∷ []) 0 bad_list }
+    ensures list_of_a_flag { IsFirstFault (record verbose { words = listed [] } ∷ []) 0 bad_list }
     ensures first_reason { IsFirstFault (verbose ∷ record output {
       short_name = Some 0x2D;
       long_name = Some [];
@@ -129,7 +149,12 @@ fn options_are_refused()
     ensures third_reason { IsFirstFault (verbose ∷ record output {
       short_name = Some 0x76;
       placeholder = [];
+      words = listed [];
     } ∷ []) 1 bad_placeholder }
+    ensures fourth_reason { IsFirstFault (verbose ∷ record output {
+      short_name = Some 0x76;
+      words = listed [];
+    } ∷ []) 1 bad_list }
     ensures not_the_second { (reason : Reason)
         → IsFirstFault (record verbose { short_name = Some 0x2D }
         ∷ record output { placeholder = [] } ∷ []) 1 reason → ⊥ }
@@ -155,6 +180,13 @@ fn options_are_declared()
         ∷ record output { long_name = None } ∷ []) ≡ true }
     ensures a_character_is_no_long_name { is_sound (verbose
         ∷ record output { long_name = Some (codes "v") } ∷ []) ≡ true }
+    ensures lists { is_sound listed_options ≡ true }
+    ensures any_value { is_sound (record output { words = directories }
+        ∷ record backup { words = text } ∷ []) ≡ true }
+    ensures dash_in_a_value { is_sound
+        (record output { words = listed (codes "a-b=c" ∷ codes "1" ∷ []) } ∷ []) ≡ true }
+    ensures one_value_twice { is_sound
+        (record output { words = listed (codes "a" ∷ codes "a" ∷ []) } ∷ []) ≡ true }
     ensures not_the_last { is_sound (verbose ∷ output ∷ verbose ∷ []) ≡ false }
 {}
 
@@ -334,6 +366,65 @@ fn lines_say_what_is_required()
         (positional (codes "a") ∷ positional (codes "b") ∷ []) }
 {}
 
+// Which values an option with a list accepts: those in the list, typed whole.
+fn values_are_accepted()
+    ensures in_the_list { accepts (listed (codes "fast" ∷ codes "slow" ∷ [])) (codes "slow")
+        ≡ true }
+    ensures not_in_the_list { accepts (listed (codes "fast" ∷ codes "slow" ∷ [])) (codes "medium")
+        ≡ false }
+    ensures not_a_front { accepts (listed (codes "fast" ∷ [])) (codes "fas") ≡ false }
+    ensures no_more_than_one { accepts (listed (codes "fast" ∷ [])) (codes "faster") ≡ false }
+    ensures not_in_capitals { accepts (listed (codes "fast" ∷ [])) (codes "Fast") ≡ false }
+    ensures not_the_empty_word { accepts (listed (codes "fast" ∷ [])) [] ≡ false }
+    ensures any { (value : List ℕ) → (accepts declared.files value ≡ true)
+        × (accepts directories value ≡ true) × (accepts text value ≡ true) }
+    ensures by_index { accepts_at listed_options 1 (codes "slow") ≡ true }
+    ensures not_by_index { accepts_at listed_options 1 (codes "medium") ≡ false }
+    ensures of_another_option { accepts_at listed_options 3 (codes "slow") ≡ false }
+    ensures without_a_list { accepts_at sample_options 1 (codes "medium") ≡ true }
+    ensures no_option { accepts_at listed_options 5 (codes "medium") ≡ true }
+{}
+
+// The first value that an option does not accept.
+fn values_are_refused()
+    ensures one_value { refused_value listed_options (option 1 (Some (codes "medium")))
+        ≡ Some (codes "medium") }
+    ensures accepted { refused_value listed_options (option 1 (Some (codes "fast"))) ≡ None }
+    ensures optional_value { refused_value listed_options (option 2 (Some (codes "~")))
+        ≡ Some (codes "~") }
+    ensures left_out { refused_value listed_options (option 2 None) ≡ None }
+    ensures first_of_several { refused_value listed_options
+        (several 3 (codes "a" ∷ codes "b" ∷ codes "d" ∷ [])) ≡ Some (codes "b") }
+    ensures none_of_several { refused_value listed_options
+        (several 3 (codes "c" ∷ codes "a" ∷ codes "c" ∷ [])) ≡ None }
+    ensures positional { refused_value listed_options (positional (codes "medium")) ≡ None }
+    ensures each { are_accepted listed_options (option 0 None ∷ option 1 (Some (codes "slow"))
+        ∷ option 2 None ∷ several 3 (codes "a" ∷ []) ∷ positional (codes "medium") ∷ []) ≡ true }
+    ensures not_the_second { are_accepted listed_options (option 1 (Some (codes "slow"))
+        ∷ option 1 (Some (codes "medium")) ∷ []) ≡ false }
+    ensures not_one_of_several { are_accepted listed_options
+        (several 3 (codes "a" ∷ codes "b" ∷ []) ∷ []) ≡ false }
+    ensures nothing { are_accepted listed_options [] ≡ true }
+{}
+
+// What lines mean where options have lists. The front of a line may have any value.
+fn lines_say_values_in_lists()
+    ensures joined { Says (listed_sample [] true) (codes "--mode=fast" ∷ [])
+        (option 1 (Some (codes "fast")) ∷ []) }
+    ensures attached { Says (listed_sample [] true) (codes "-mslow" ∷ [])
+        (option 1 (Some (codes "slow")) ∷ []) }
+    ensures left_out { Says (listed_sample [] true) (codes "-b" ∷ codes "--backup=bak" ∷ [])
+        (option 2 None ∷ option 2 (Some (codes "bak")) ∷ []) }
+    ensures several_values { Says (listed_sample [] true) (codes "-x" ∷ codes "c" ∷ codes "a" ∷ [])
+        (several 3 (codes "c" ∷ codes "a" ∷ []) ∷ []) }
+    ensures positional { Says (listed_sample (files ∷ []) true) (codes "medium" ∷ [])
+        (positional (codes "medium") ∷ []) }
+    ensures required { Says (demanding_listed [] true) (codes "--mode=fast" ∷ [])
+        (option 1 (Some (codes "fast")) ∷ []) }
+    ensures front { SaysFront (listed_sample [] true) (codes "-mmedium" ∷ [])
+        (option 1 (Some (codes "medium")) ∷ []) }
+{}
+
 // What they do not mean.
 fn lines_do_not_say_these()
     ensures not_declared { (l : List Said) → SaysFront (sample (files ∷ []) true)
@@ -352,17 +443,20 @@ fn lines_do_not_say_these()
 // Where the reading of lines stops.
 fn lines_stop_at_these_mistakes()
     ensures unknown { StopsAt (sample (files ∷ []) true) (codes "-z" ∷ []) []
-        (unknown_option (short 0x7A)) }
+        (unknown_option (short 0x7A) no_tail) }
     ensures unknown_with_a_value { StopsAt (sample (files ∷ []) true)
-        (codes "--colour=always" ∷ []) [] (unknown_option (long (codes "colour"))) }
+        (codes "--colour=always" ∷ []) []
+        (unknown_option (long (codes "colour")) (joined (codes "always"))) }
+    ensures in_a_cluster { StopsAt (sample (files ∷ []) true) (codes "-verbose" ∷ [])
+        (option 0 None ∷ []) (unknown_option (short 0x65) (rest (codes "rbose"))) }
     ensures damaged { StopsAt (sample (files ∷ []) true) ((0x2D ∷ 0xFF ∷ []) ∷ []) []
-        (unknown_option (short 0xFFFD)) }
+        (unknown_option (short 0xFFFD) no_tail) }
     ensures value_of_a_flag { StopsAt (sample (files ∷ []) true) (codes "--verbose=1" ∷ [])
         (option 0 None ∷ []) (unexpected_value (codes "--verbose") (codes "1")) }
     ensures value_of_a_character { StopsAt (sample (files ∷ []) true) (codes "-v=1" ∷ [])
         (option 0 None ∷ []) (unexpected_value (codes "-v") (codes "1")) }
     ensures under_its_setting { StopsAt (sample (files ∷ []) false) (codes "-v=1" ∷ [])
-        (option 0 None ∷ []) (unknown_option (short 0x3D)) }
+        (option 0 None ∷ []) (unknown_option (short 0x3D) (rest (codes "1"))) }
     ensures no_value { StopsAt (sample (files ∷ []) true) (codes "-o" ∷ []) []
         (missing_value 1 (codes "-o")) }
     ensures none_of_several { StopsAt (sample (files ∷ []) true) (codes "-x" ∷ codes "-v" ∷ []) []
@@ -376,7 +470,7 @@ fn lines_stop_at_these_mistakes()
     ensures one_too_few { StopsAt (sample (mode ∷ mode ∷ []) true) (codes "a" ∷ [])
         (positional (codes "a") ∷ []) (missing_argument 1) }
     ensures another_mistake_first { StopsAt (sample (mode ∷ []) true) (codes "-z" ∷ []) []
-        (unknown_option (short 0x7A)) }
+        (unknown_option (short 0x7A) no_tail) }
 {}
 
 // Where it stops if an option or a positional is required.
@@ -399,14 +493,47 @@ fn lines_stop_at_what_is_missing()
         (option 0 None ∷ []) (missing_argument 0) }
     ensures not_declared { StopsAt (demanding_sample [] true)
         (codes "-u" ∷ codes "me" ∷ codes "-z" ∷ []) (option 4 (Some (codes "me")) ∷ [])
-        (unknown_option (short 0x7A)) }
+        (unknown_option (short 0x7A) no_tail) }
     ensures not_declared_without_it { StopsAt (demanding_sample [] true) (codes "-z" ∷ []) []
-        (unknown_option (short 0x7A)) }
+        (unknown_option (short 0x7A) no_tail) }
     ensures no_value { StopsAt (demanding_sample [] true) (codes "--user" ∷ []) []
         (missing_value 4 (codes "--user")) }
     ensures none_of_one { StopsAt (sample (sources ∷ []) true) [] [] (missing_argument 0) }
     ensures one_of_two { StopsAt (sample (sources ∷ dest ∷ []) true) (codes "a" ∷ [])
         (positional (codes "a") ∷ []) (missing_argument 1) }
+{}
+
+// Where it stops at a value that an option does not accept. This mistake comes before what is
+// missing at the end of the line.
+fn lines_stop_at_values()
+    ensures attached { StopsAt (listed_sample [] true) (codes "-mmedium" ∷ []) []
+        (invalid_value 1 (codes "medium")) }
+    ensures after_a_flag { StopsAt (listed_sample [] true) (codes "-v" ∷ codes "--mode=medium" ∷ [])
+        (option 0 None ∷ []) (invalid_value 1 (codes "medium")) }
+    ensures after_a_value { StopsAt (listed_sample [] true) (codes "-mfast" ∷ codes "-mmedium" ∷ [])
+        (option 1 (Some (codes "fast")) ∷ []) (invalid_value 1 (codes "medium")) }
+    ensures front_of_one { StopsAt (listed_sample [] true) (codes "--mode=fas" ∷ []) []
+        (invalid_value 1 (codes "fas")) }
+    ensures optional_value { StopsAt (listed_sample [] true) (codes "-b~" ∷ []) []
+        (invalid_value 2 (codes "~")) }
+    ensures first_of_several { StopsAt (listed_sample [] true)
+        (codes "-x" ∷ codes "a" ∷ codes "b" ∷ codes "d" ∷ []) [] (invalid_value 3 (codes "b")) }
+    ensures before_the_help { StopsAt (listed_sample [] true)
+        (codes "--mode=medium" ∷ codes "--help" ∷ []) [] (invalid_value 1 (codes "medium")) }
+    ensures after_the_help { StopsAt (listed_sample [] true)
+        (codes "--help" ∷ codes "--mode=medium" ∷ []) (option 4 None ∷ [])
+        (invalid_value 1 (codes "medium")) }
+    ensures before_another_mistake { StopsAt (listed_sample [] true)
+        (codes "--mode=medium" ∷ codes "-z" ∷ []) [] (invalid_value 1 (codes "medium")) }
+    ensures after_another_mistake { StopsAt (listed_sample [] true)
+        (codes "-z" ∷ codes "--mode=medium" ∷ []) [] (unknown_option (short 0x7A) no_tail) }
+    ensures required { StopsAt (demanding_listed [] true) (codes "--mode=medium" ∷ []) []
+        (invalid_value 1 (codes "medium")) }
+    ensures option_missing { StopsAt (record (sample [] true) {
+      options = listed_mode ∷ user ∷ [];
+    }) (codes "--mode=medium" ∷ []) [] (invalid_value 0 (codes "medium")) }
+    ensures argument_missing { StopsAt (listed_sample (mode ∷ []) true)
+        (codes "--mode=medium" ∷ []) [] (invalid_value 1 (codes "medium")) }
 {}
 
 // Where it does not stop.
@@ -415,10 +542,35 @@ fn lines_do_not_stop_elsewhere()
         → StopsAt (sample (mode ∷ target ∷ []) true) (codes "a" ∷ codes "b" ∷ []) l m → ⊥ }
     ensures at_the_first_mistake { (l : List Said) (m : Mistake)
         → StopsAt (sample (mode ∷ []) true) (codes "-z" ∷ codes "--verbose=1" ∷ []) l m
-        → (l ≡ []) × (m ≡ unknown_option (short 0x7A)) }
+        → (l ≡ []) × (m ≡ unknown_option (short 0x7A) no_tail) }
+    ensures in_a_cluster { (l : List Said) (m : Mistake)
+        → StopsAt (sample (mode ∷ []) true) (codes "-zv" ∷ []) l m
+        → (l ≡ []) × (m ≡ unknown_option (short 0x7A) (rest (codes "v"))) }
     ensures what_is_missing { (l : List Said) (m : Mistake)
         → StopsAt (sample (mode ∷ mode ∷ []) true) (codes "a" ∷ []) l m
         → (l ≡ positional (codes "a") ∷ []) × (m ≡ missing_argument 1) }
+{}
+
+// A line with a value that an option does not accept means nothing, and its reading stops at that
+// alone.
+fn lines_need_values_in_lists()
+    ensures attached { (l : List Said) → Says (listed_sample [] true) (codes "-mmedium" ∷ []) l
+        → ⊥ }
+    ensures front_of_one { (l : List Said) → Says (listed_sample [] true) (codes "--mode=fas" ∷ [])
+        l → ⊥ }
+    ensures one_of_several { (l : List Said) → Says (listed_sample [] true)
+        (codes "-x" ∷ codes "a" ∷ codes "b" ∷ codes "d" ∷ []) l → ⊥ }
+    ensures not_the_last { (l : List Said) (m : Mistake) → StopsAt (listed_sample [] true)
+        (codes "-x" ∷ codes "a" ∷ codes "b" ∷ codes "d" ∷ []) l m
+        → (l ≡ []) × (m ≡ invalid_value 3 (codes "b")) }
+    ensures not_what_is_missing { (l : List Said) (m : Mistake)
+        → StopsAt (record (sample [] true) { options = listed_mode ∷ user ∷ [] })
+        (codes "--mode=medium" ∷ []) l m → (l ≡ []) × (m ≡ invalid_value 0 (codes "medium")) }
+    ensures not_the_argument { (l : List Said) (m : Mistake)
+        → StopsAt (listed_sample (mode ∷ []) true) (codes "--mode=medium" ∷ []) l m
+        → (l ≡ []) × (m ≡ invalid_value 1 (codes "medium")) }
+    ensures nowhere { (l : List Said) (m : Mistake)
+        → StopsAt (listed_sample [] true) (codes "--mode=fast" ∷ []) l m → ⊥ }
 {}
 
 // A line that lacks what is required means nothing, and its reading stops at that alone. If a line
@@ -465,9 +617,11 @@ fn options_are_read_before_mistakes()
         ≡ option 0 None ∷ option 1 None ∷ [] }
     ensures given_a_value { said_before (unexpected_value (codes "-v") (codes "1"))
         (option 1 None ∷ option 0 None ∷ []) ≡ option 1 None ∷ [] }
-    ensures not_declared { said_before (unknown_option (short 0x7A)) (option 0 None ∷ [])
+    ensures not_declared { said_before (unknown_option (short 0x7A) no_tail) (option 0 None ∷ [])
         ≡ option 0 None ∷ [] }
     ensures no_value { said_before (missing_value 1 (codes "-o")) (option 0 None ∷ [])
+        ≡ option 0 None ∷ [] }
+    ensures not_accepted { said_before (invalid_value 1 (codes "medium")) (option 0 None ∷ [])
         ≡ option 0 None ∷ [] }
     ensures one_too_many { said_before (unexpected_argument (codes "a")) (option 0 None ∷ [])
         ≡ option 0 None ∷ [] }
@@ -491,6 +645,10 @@ fn lines_ask()
         for_help }
     ensures before_a_mistake { AskFor (asking_sample [] true) (codes "--help" ∷ codes "a" ∷ [])
         for_help }
+    ensures before_a_value { AskFor (listed_sample [] true)
+        (codes "--help" ∷ codes "--mode=medium" ∷ []) for_help }
+    ensures after_a_value { AskFor (listed_sample [] true)
+        (codes "--mode=fast" ∷ codes "--help" ∷ []) for_help }
     ensures for_the_version { AskFor (asking_sample (files ∷ []) true)
         (codes "--version" ∷ codes "-h" ∷ []) (for_version (codes "1.0")) }
     ensures under_its_setting { AskFor (asking_sample (files ∷ []) false)
@@ -507,6 +665,11 @@ fn lines_do_not_ask()
         (codes "--version" ∷ codes "-h" ∷ []) a → a ≡ for_version (codes "1.0") }
     ensures after_a_mistake { (a : Asked) → AskFor (asking_sample [] true)
         (codes "-z" ∷ codes "--help" ∷ []) a → ⊥ }
+    ensures after_a_value { (a : Asked) → AskFor (listed_sample [] true)
+        (codes "--mode=medium" ∷ codes "--help" ∷ []) a → ⊥ }
+    ensures by_a_refused_value { (a : Asked) → AskFor (record (sample [] true) {
+      options = record listed_mode { asks = Some for_help } ∷ [];
+    }) (codes "-mmedium" ∷ []) a → ⊥ }
     ensures after_the_separator { (a : Asked) → AskFor (asking_sample (files ∷ []) true)
         (codes "--" ∷ codes "--help" ∷ []) a → ⊥ }
 {}
@@ -547,33 +710,55 @@ fn names_are_near()
     ensures not_none { IsNearest sample_options (codes "verbsoe") None → ⊥ }
 {}
 
-// The long name that begins with what was typed, if exactly one does.
+// The long name that begins or ends with what was typed, if exactly one does.
 fn names_are_longer()
-    ensures begins { begins_with (codes "verb") (Some (codes "verbose")) ≡ true }
-    ensures inside { begins_with (codes "put") (Some (codes "output")) ≡ false }
-    ensures shorter { begins_with (codes "verbose") (Some (codes "verb")) ≡ false }
-    ensures no_name { begins_with (codes "v") None ≡ false }
-    ensures none { longer_count sample_options (codes "put") ≡ 0 }
-    ensures two { longer_count (named (codes "outer") ∷ sample_options) (codes "out") ≡ 2 }
+    ensures passes { passes (λ name. true) (Some (codes "verbose")) ≡ true }
+    ensures fails { passes (λ name. false) (Some (codes "verbose")) ≡ false }
+    ensures no_name { passes (λ name. true) None ≡ false }
+    ensures none { passing_count (λ name. false) sample_options ≡ 0 }
+    ensures four { passing_count (λ name. true) sample_options ≡ 4 }
+    ensures none_of_two { only_passing (λ name. true) (named (codes "a") ∷ named (codes "b") ∷ [])
+        ≡ None }
     ensures third { only_longer sample_options (codes "back") ≡ Some (codes "backup") }
-    ensures none_of_two { only_longer (named (codes "outer") ∷ sample_options) (codes "out") ≡ None }
-    ensures none_at_all { only_longer sample_options (codes "put") ≡ None }
+    ensures inside { only_longer sample_options (codes "put") ≡ None }
+    ensures shorter { only_longer (named (codes "verb") ∷ []) (codes "verbose") ≡ None }
+    ensures two { only_longer (named (codes "outer") ∷ sample_options) (codes "out") ≡ None }
+    ensures ends { only_ending sample_options (codes "put") ≡ Some (codes "output") }
+    ensures begins { only_ending sample_options (codes "out") ≡ None }
+    ensures ends_shorter { only_ending (named (codes "bose") ∷ []) (codes "verbose") ≡ None }
+    ensures two_end { only_ending (named (codes "input") ∷ sample_options) (codes "put") ≡ None }
     ensures near { hinted_name sample_options (codes "back") (Some 0) ≡ Some (codes "verbose") }
     ensures not_near { hinted_name sample_options (codes "back") None ≡ Some (codes "backup") }
 {}
 
 // The long name that is hinted at.
 fn names_are_hinted_at()
-    ensures near { IsHint sample_options (long (codes "verbsoe")) (Some (codes "verbose")) }
-    ensures far { IsHint sample_options (long (codes "colour")) None }
-    ensures character { IsHint sample_options (short 0x77) None }
-    ensures no_character { IsHint sample_options (short 0x77) (Some (codes "verbose")) → ⊥ }
-    ensures not_far { IsHint sample_options (long (codes "colour")) (Some (codes "output")) → ⊥ }
-    ensures longer { IsHint sample_options (long (codes "verb")) (Some (codes "verbose")) }
-    ensures one_of_two { IsHint (named (codes "outer") ∷ sample_options) (long (codes "out"))
+    ensures near { IsHint sample_options (long (codes "verbsoe")) no_tail
+        (Some (codes "verbose")) }
+    ensures far { IsHint sample_options (long (codes "colour")) no_tail None }
+    ensures character { IsHint sample_options (short 0x65) no_tail None }
+    ensures no_character { IsHint sample_options (short 0x65) no_tail (Some (codes "verbose"))
+        → ⊥ }
+    ensures cluster { IsHint sample_options (short 0x76) (rest (codes "erbose"))
+        (Some (codes "verbose")) }
+    ensures cluster_later { IsHint sample_options (short 0x65) (rest (codes "rbose"))
+        (Some (codes "verbose")) }
+    ensures cluster_of_the_rest { IsHint sample_options (short 0x7A) (rest (codes "erbose")) None }
+    ensures cluster_of_two_bytes { IsHint (named (0xC3 ∷ 0xA9 ∷ codes "t") ∷ []) (short 0xE9)
+        (rest (codes "t")) (Some (0xC3 ∷ 0xA9 ∷ codes "t")) }
+    ensures cluster_with_a_value { IsHint sample_options (short 0x65) (rest (codes "=rbose"))
+        None }
+    ensures damaged_cluster { IsHint sample_options (short 0x65) (rest (0xFF ∷ codes "rbose"))
+        None }
+    ensures cluster_of_two { IsHint (named (codes "re-verbose") ∷ sample_options) (short 0x76)
+        (rest (codes "erbose")) None }
+    ensures not_far { IsHint sample_options (long (codes "colour")) no_tail
         (Some (codes "output")) → ⊥ }
+    ensures longer { IsHint sample_options (long (codes "verb")) no_tail (Some (codes "verbose")) }
+    ensures one_of_two { IsHint (named (codes "outer") ∷ sample_options) (long (codes "out"))
+        no_tail (Some (codes "output")) → ⊥ }
     ensures near_and_longer { IsHint (named (codes "outputs") ∷ sample_options)
-        (long (codes "outpu")) (Some (codes "output")) }
+        (long (codes "outpu")) no_tail (Some (codes "output")) }
     ensures at { long_name_at sample_options (Some 1) ≡ Some (codes "output") }
     ensures at_none { long_name_at sample_options None ≡ None }
     ensures at_no_option { long_name_at sample_options (Some 4) ≡ None }
@@ -649,6 +834,8 @@ fn options_cannot_stand()
     ensures past_the_separator { (s : List ℕ)
         → CanStand (sample (files ∷ []) true) (codes "--" ∷ codes "a" ∷ []) s → ⊥ }
     ensures after_a_mistake { (s : List ℕ) → CanStand (sample [] true) (codes "-z" ∷ []) s → ⊥ }
+    ensures after_a_refused_value { (s : List ℕ)
+        → CanStand (listed_sample [] true) (codes "-mmedium" ∷ []) s → ⊥ }
     ensures not_open { (l : List Said) → IsOpen (sample (files ∷ []) true) (codes "--" ∷ []) l
         → ⊥ }
     ensures not_open_to_an_option { (l : List Said) → IsOpen (sample [] true) (codes "-o" ∷ []) l
@@ -905,4 +1092,7 @@ fn helps_are_written()
     ensures hidden_option { IsHelp
         (record (sample [] true) { options = record output { hidden = true } ∷ []; about = [] }) 80
         (codes "Usage: example_archive\n") }
+    ensures list { IsHelp
+        (record (sample [] true) { options = listed_mode ∷ []; about = [] }) 80
+        (codes "Usage: example_archive [OPTION]...\n\n  -m, --mode=MODE       how to pack: one of fast, slow\n") }
 {}

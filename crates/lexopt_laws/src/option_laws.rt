@@ -1,12 +1,18 @@
 //! Laws of declared options.
-ghost use Rattle.std.specs.Prelude.{◌≡◌, ◌≤◌, ◌⊎◌, ℕ, List, true};
-ghost use Rattle.std.specs.Prelude.{Option, Some};
+ghost use Rattle.std.specs.Prelude.{◌≡◌, ◌≢◌, ◌≤◌, ◌⊎◌, ℕ, List, Contains, slice_get};
+ghost use Rattle.std.specs.Prelude.{Option, None, Some, true};
+ghost use Rattle.std.specs.List.{All};
+ghost use Rattle.lexopt_line_spec.specs.Table.{Name};
 ghost use Rattle.lexopt_options_spec.specs.Asking.{AskFor, first_asked, said_before};
-ghost use Rattle.lexopt_options_spec.specs.Declaration.{Asked, Declaration, Positional};
-ghost use Rattle.lexopt_options_spec.specs.Declaration.{is_sound};
-ghost use Rattle.lexopt_options_spec.specs.Legal.{IsWithin, Said, Says, least, most};
+ghost use Rattle.lexopt_options_spec.specs.Completion.{AreText};
+ghost use Rattle.lexopt_options_spec.specs.Declaration.{Asked, Declaration, Declared, Positional};
+ghost use Rattle.lexopt_options_spec.specs.Declaration.{accepts, has_name, index_of, is_sound};
+ghost use Rattle.lexopt_options_spec.specs.Declaration.{listed};
+ghost use Rattle.lexopt_options_spec.specs.Legal.{IsWithin, Said, Says, is_option};
+ghost use Rattle.lexopt_options_spec.specs.Legal.{least, most, occurs, refused_value};
 ghost use Rattle.lexopt_options_spec.specs.Places.{ArePlaces, AreShares};
 ghost use Rattle.lexopt_options_spec.specs.Stops.{Mistake, StopsAt};
+ghost use Rattle.lexopt_laws.specs.ListedValues.{IsFirstOutside, values_of};
 
 /// Under a declaration words mean exactly one list, or their reading stops at exactly one mistake,
 /// and never both. That one of the two holds needs options that can be declared together. The rest
@@ -36,6 +42,40 @@ pub fn each_line_asks_for_one_thing()
     ensures before_a_mistake { (d : Declaration) (words : List (List ℕ)) (l : List Said)
         (m : Mistake) (a : Asked) → StopsAt d words l m → AskFor d words a
         → first_asked d.options (said_before m l) ≡ Some a }
+{}
+
+/// Among options that can be declared together each accepts some value, whatever list it has. So
+/// each can occur in a legal line, whichever of them are required, if each has a name, and names
+/// are text.
+pub fn each_option_can_occur()
+    ensures value { (options : List Declared) (o : Declared) → is_sound options ≡ true
+        → Contains options o → (value : List ℕ) × (accepts o.words value ≡ true) }
+    ensures line { (d : Declaration) (name : Name) (i : ℕ) → is_sound d.options ≡ true
+        → AreText d.options → ((o : Declared) → Contains d.options o → (n : Name)
+        × (has_name n o ≡ true)) → index_of d.options name ≡ Some i
+        → (words : List (List ℕ)) × (l : List Said) × Says d words l × (occurs i l ≡ true) }
+{}
+
+/// An option with a list refuses the first of its values that is not in the list, and refuses none
+/// exactly if each is in the list. An option without a list refuses none.
+pub fn the_first_value_outside_a_list_is_refused()
+    ensures refused { (options : List Declared) (o : Declared) (i : ℕ) (list : List (List ℕ))
+        (s : Said) (value : List ℕ) → slice_get options i ≡ Some o → o.words ≡ listed list
+        → is_option i s ≡ true → refused_value options s ≡ Some value
+        → IsFirstOutside list (values_of s) value }
+    ensures no_other { (options : List Declared) (o : Declared) (i : ℕ) (list : List (List ℕ))
+        (s : Said) (value : List ℕ) → slice_get options i ≡ Some o → o.words ≡ listed list
+        → is_option i s ≡ true → IsFirstOutside list (values_of s) value
+        → refused_value options s ≡ Some value }
+    ensures none { (options : List Declared) (o : Declared) (i : ℕ) (list : List (List ℕ))
+        (s : Said) → slice_get options i ≡ Some o → o.words ≡ listed list → is_option i s ≡ true
+        → refused_value options s ≡ None → All (Contains list) (values_of s) }
+    ensures each { (options : List Declared) (o : Declared) (i : ℕ) (list : List (List ℕ))
+        (s : Said) → slice_get options i ≡ Some o → o.words ≡ listed list → is_option i s ≡ true
+        → All (Contains list) (values_of s) → refused_value options s ≡ None }
+    ensures no_list { (options : List Declared) (o : Declared) (i : ℕ) (s : Said)
+        → slice_get options i ≡ Some o → ((list : List (List ℕ)) → o.words ≢ listed list)
+        → is_option i s ≡ true → refused_value options s ≡ None }
 {}
 
 /// Words belong to the positionals of a declaration in one way alone. If there are at least as many

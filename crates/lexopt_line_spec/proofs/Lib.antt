@@ -25,6 +25,7 @@ pub mod Existence
 pub mod WholeLines
 pub mod ReadingSteps
 pub mod OneReading
+pub mod ItemsRead
 pub mod LastOption
 pub mod Names
 pub mod SpellerTests

@@ -177,7 +177,7 @@ full_same n m u v w r s full other (some_values some r_is v_is) (some_values too
     all_came n (available u) (subst (IsFull (calls.values n)) r_is full) ∙ sym (all_came m (available u) (subst (IsFull (calls.values m)) s_is other)) in
     (r_is ∙ ap steps.items all ∙ sym s_is, v_is ∙ ap (λ l. without (pending u) (length l) u) all ∙ sym w_is)
 
-due_same : (k : Kind) (call other : Call) (u v w : UnreadLine) (r s : Reply) → IsDue k call → IsDue k other → IsFull call r → IsFull other s
+pub due_same : (k : Kind) (call other : Call) (u v w : UnreadLine) (r s : Reply) → IsDue k call → IsDue k other → IsFull call r → IsFull other s
     → StepWithMemory call u r v → StepWithMemory other u s w → (r ≡ s) × (v ≡ w)
 due_same flag call other u v w r s due too full all step again =
     call_same next u r s v w (subst (λ c. StepWithMemory c u r v) due step) (subst (λ c. StepWithMemory c u s w) too again)
@@ -189,7 +189,7 @@ due_same several call other u v w r s due too full all step again =
     full_same due.0 too.0 u v w r s (subst (λ c. IsFull c r) due.1 full) (subst (λ c. IsFull c s) too.1 all)
     (subst (λ c. StepWithMemory c u r v) due.1 step) (subst (λ c. StepWithMemory c u s w) too.1 again)
 
-with_memory : (call : Call) (u v : UnreadLine) (r : Reply) → r ≢ steps.no_memory → Step call u r v → StepWithMemory call u r v
+pub with_memory : (call : Call) (u v : UnreadLine) (r : Reply) → r ≢ steps.no_memory → Step call u r v → StepWithMemory call u r v
 with_memory call u v r some (inl step) = step
 with_memory call u v r some (inr refused) = absurd (some refused.reply_is)
 

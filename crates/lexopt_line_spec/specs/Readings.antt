@@ -1,11 +1,11 @@
 -- How a line is read by a table: which calls are made, and what their replies mean.
 -- The source is `docs/behaviour.md`.
-use Rattle.std.specs.Prelude.{◌≡◌, ◌<◌, ℕ, length, Bool, List, [], ◌∷◌, ◌++◌, Some, None}
+use Rattle.std.specs.Prelude.{◌≡◌, ◌<◌, ℕ, length, Bool, List, [], ◌∷◌, ◌++◌, Option, Some, None}
 use Rattle.lexopt_spec.specs.UnreadLine.{UnreadLine, fresh}
 use Rattle.lexopt_spec.specs.Steps as steps
-use Rattle.lexopt_spec.specs.Steps.{Reply}
+use Rattle.lexopt_spec.specs.Steps.{Reply, Next, Value}
 use Rattle.lexopt_spec.specs.Runs as calls
-use Rattle.lexopt_spec.specs.Runs.{Call, next, value, Run}
+use Rattle.lexopt_spec.specs.Runs.{Call, next, value, Run, Step}
 use Rattle.lexopt_line_spec.specs.Table.{Name, short, long, Item, option, positional, Kind, flag}
 use Rattle.lexopt_line_spec.specs.Table.{one, optional, several, many, kind, Table}
 
@@ -93,3 +93,25 @@ pub record IsReading (t : Table) (u : UnreadLine) (final : Reply) (l : List Item
 abbrev pub SaysUpTo : Table → UnreadLine → List Item → UnreadLine → Type 0
 SaysUpTo t u l v = (final : Reply) (m : List Item) → IsReading t v final m
     → IsReading t u final (l ++ m)
+
+-- this item is read first from the line u: the calls for it leave the line w
+pub data ReadsFirst (t : Table) (u : UnreadLine) : Item → UnreadLine → Type 0 where
+  first_positional : (word : List ℕ) (w : UnreadLine) → Next u (steps.positional word) w
+      → ReadsFirst t u (positional word) w
+  first_flag : (name : Name) (w : UnreadLine) → kind t name ≡ flag → Next u (option_reply name) w
+      → ReadsFirst t u (option name None) w
+  first_one : (name : Name) (word : List ℕ) (v w : UnreadLine) → kind t name ≡ one
+      → Next u (option_reply name) v → Value v (steps.taken word) w
+      → ReadsFirst t u (option name (Some word)) w
+  first_optional : (name : Name) (word : Option (List ℕ)) (v w : UnreadLine)
+      → kind t name ≡ optional → Next u (option_reply name) v
+      → Step calls.optional v (steps.maybe word) w → ReadsFirst t u (option name word) w
+  -- all values were given
+  first_several : (name : Name) (n : ℕ) (words : List (List ℕ)) (v w : UnreadLine)
+      → kind t name ≡ several → Next u (option_reply name) v → length words < n
+      → Step (calls.values n) v (steps.items words) w → ReadsFirst t u (many name words) w
+
+-- these items are read from the line u, and the line w is left
+abbrev pub ReadsItems : Table → UnreadLine → List Item → UnreadLine → Type 0
+ReadsItems t u [] w = w ≡ u
+ReadsItems t u (item ∷ items) w = (v : UnreadLine) × ReadsFirst t u item v × ReadsItems t v items w

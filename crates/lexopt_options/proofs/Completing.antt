@@ -1,5 +1,5 @@
 -- What is offered after some words.
-use Rattle.std.proofs.Common.{◌≡◌, ◌≢◌, ◌↔◌, ◌≤◌, ◌-◌, ◌+◌, ℕ, Bool, IsTrue, not, true, false, List, [], ◌∷◌, ◌++◌, map, filter, get_or, length, MatchOption, Option, Some, None, Vec, nat_eq, option_map, refl, sym, ap, subst, ◌∙◌, inl, inr, arith}
+use Rattle.std.proofs.Common.{◌≡◌, ◌≢◌, ◌↔◌, ◌≤◌, ◌-◌, ◌+◌, ◌&&◌, ℕ, Bool, IsTrue, not, true, false, List, [], ◌∷◌, ◌++◌, map, filter, get_or, length, slice_get, MatchOption, Option, Some, None, Vec, nat_eq, option_map, refl, sym, ap, subst, ◌∙◌, inl, inr, arith}
 use Rattle.std.proofs.Common.{Result, Ok, Err, String, IfOk, OnOk, string_bytes}
 use Rattle.std.specs.Global.{Global}
 use Rattle.std.specs.List.{Contains, starts_with}
@@ -8,6 +8,8 @@ use Rattle.std.proofs.Common.{◌<◌, ◌⊎◌, position, ⊎_elim}
 use Rattle.std.proofs.lemmas.Bool.{cases_eq, eq-eqb, false≢true}
 use Rattle.std.proofs.lemmas.List.Quantifiers.{position-Some}
 use Rattle.std.proofs.lemmas.List.{get_or-drop, length-map}
+use Rattle.std.proofs.lemmas.Option.{slice_get-map}
+use Rattle.std.specs.Borrow.{Bor}
 use Rattle.std.specs.declared.alloc.AllocError.{AllocError}
 use Rattle.lexopt_options_spec.specs.Declaration.{Declaration, Declared, has_name, index_of, is_long, is_short, is_sound}
 use Rattle.lexopt_options_spec.specs.Legal as legal
@@ -17,13 +19,13 @@ use Rattle.lexopt_line_spec.specs.Table as table
 use Rattle.lexopt_line_spec.specs.Table.{Item, Name}
 use Rattle.lexopt_spec.specs.UnreadLine.{BeginsWith, dash}
 use Rattle.lexopt_options_spec.specs.Completion as spec
-use Rattle.lexopt_options_spec.specs.Completion.{AreText, Completes, HasRole, IsDashedRole, IsJoined, IsOpen, IsOption, IsPlainRole, is_long_with_equals, spellings}
+use Rattle.lexopt_options_spec.specs.Completion.{AreText, Completes, HasRole, IsDashedRole, IsJoined, IsOpen, IsOption, IsPlainRole, is_long_with_equals, joined_at, joined_by, listed_by, offered_values, spellings, values_at}
 use Rattle.lexopt_options_spec.proofs.Fronts.{one_front}
 use Rattle.lexopt_options_spec.proofs.LastWords.{no_last, same_last}
 use Rattle.lexopt_options_spec.proofs.OpenLines.{dashes}
 use Rattle.lexopt_options_spec.proofs.OpenWords as open_words
 use Rattle.lexopt_options_spec.proofs.OpenWords.{EndsInOne, OpenOrNot, takes_any_word, open_or_not, open_adds}
-use Rattle.lexopt_options_spec.proofs.Stands.{AreNamed, stands_open}
+use Rattle.lexopt_options_spec.proofs.Stands.{AreNamed, stands_accepted, stands_open}
 use Rattle.lexopt_options_spec.proofs.Tables.{pointwise_refl}
 use Rattle.lexopt_declaration.specs.Models.{long_name, option_view, short_name}
 use Rattle.lexopt_declaration.specs.declared.declaration.Declared as rust
@@ -32,11 +34,13 @@ use Rattle.lexopt_declaration.specs.declared.declaration.Names.TheVariants as na
 use Rattle.lexopt_options_spec.proofs.Offered.{kept, keeps, offered_stands, stands_offered}
 use Rattle.lexopt_options.specs.declared.indexed.Indexed.{Indexed}
 use Rattle.lexopt_options.specs.declared.indexed.Indexed.TheVariants as indexed
-use Rattle.lexopt_options.specs.Completions.{AreOffered, Opens, TakeAnyWord, ends_in_one, is_one}
+use Rattle.lexopt_options.specs.Completions.{AreOffered, CanCome, Opens, TakeAnyWord, ends_in_one, is_one, joined_values, values_so, word_values}
 use Rattle.lexopt_options.specs.Fronts.{IsPart}
 use Rattle.lexopt_options.specs.declared.complete.Place.{Place}
+use Rattle.lexopt_options.specs.declared.complete.Role.{Role}
+use Rattle.lexopt_options.specs.declared.complete.Role.TheVariants as role
 use Rattle.lexopt_options.specs.Reading.{indexed_view}
-use Rattle.lexopt_options.specs.Roles.{IsDeclared, place_view}
+use Rattle.lexopt_options.specs.Roles.{IsDeclared, IsOptionAt, IsRoleAt, place_view}
 
 -- ---- the last that is read
 
@@ -190,12 +194,12 @@ all_named {F} {V} {M} {S} (o ∷ os) = (one o.names refl, all_named os)
     one (names.Long name) is = (table.long name.now, ap (is_long name.now) (ap long_name is) ∙ pointwise_refl name.now)
     one (names.Both c name) is = (table.short c, ap (is_short c) (ap short_name is) ∙ eq-eqb c c refl)
 
-pub offered : (d : Declaration) (words : List (List ℕ)) (typed : List ℕ) (list : List (List ℕ)) → is_sound d.options ≡ true → AreNamed d.options → IsUtf8 typed → Opens d words true → AreText d.options
+pub offered : (d : Declaration) (words : List (List ℕ)) (typed : List ℕ) (list : List (List ℕ)) → is_sound d.options ≡ true → AreNamed d.options → IsUtf8 typed → CanCome d words true → AreText d.options
     → list ≡ filter (λ x. starts_with nat_eq x typed) (spellings d.options) → AreOffered d words typed list
 offered d words typed list sound named utf8 opens text is = record {
   sound = λ s has.
       let k = kept (λ x. starts_with nat_eq x typed) (spellings d.options) s (subst (λ x. Contains x s) is has) in
-      record { text = utf8; begins = k.1; stands = let there = opens.0 refl in offered_stands d words there.0 s sound text named there.1 k.0 };
+      record { text = utf8; begins = k.1; stands = let there = opens.0 refl in offered_stands d words there.0 s sound text named there.1 there.2 k.0 };
   complete = λ s completes.
       subst (λ x. Contains x s) (sym is)
       (keeps (λ x. starts_with nat_eq x typed) (spellings d.options) s (stands_offered d words s completes.stands) completes.begins);
@@ -205,20 +209,40 @@ offered d words typed list sound named utf8 opens text is = record {
 -- the same of what a call returns
 pub offered_all : (d : Declaration) (typed : List ℕ) (r : Result (Vec (String Global) Global) AllocError) (options : List Declared) (bytes : List ℕ) (b : Bool) → is_sound d.options ≡ true → AreNamed d.options → IsUtf8 typed → b ≡ true
     → options ≡ d.options → bytes ≡ typed → OnOk r (AreText options) → IfOk r (λ list. map string_bytes list.items ≡ filter (λ s. starts_with nat_eq s bytes) (spellings options))
-    → IfOk r (λ list. (words : List (List ℕ)) → Opens d words b → AreOffered d words typed (map string_bytes list.items))
+    → IfOk r (λ list. (words : List (List ℕ)) → CanCome d words b → AreOffered d words typed (map string_bytes list.items))
 offered_all d typed (Ok list) options bytes b sound named utf8 can are also text is = λ words is_open.
-    offered d words typed (map string_bytes list.items) sound named utf8 (subst (Opens d words) can is_open) (subst AreText are text)
+    offered d words typed (map string_bytes list.items) sound named utf8 (subst (CanCome d words) can is_open) (subst AreText are text)
     (is ∙ ap (λ b. filter (λ s. starts_with nat_eq s b) (spellings options)) also ∙ ap (λ os. filter (λ s. starts_with nat_eq s typed) (spellings os)) are)
 offered_all d typed (Err e) options bytes b sound named utf8 can are also text is = tt
 
 none_there : (s : List ℕ) → Contains [] s → ⊥
 none_there s (k, below, is) = omega (arith, below)
 
+-- one can come where one could, and what was read is accepted
+pub comes_so : (d : Declaration) (words : List (List ℕ)) (said : List legal.Said) (opens accepted : Bool) → Opens d words opens → SaysFront d (words ++ dashes ∷ []) said
+    → accepted ≡ legal.are_accepted d.options said → CanCome d words (opens && accepted)
+comes_so d words said true accepted opens front is = (
+  (λ yes.
+      let there = opens.0 refl in
+      let same = one_front d (words ++ dashes ∷ []) there.0 said there.1.with_separator front in
+      (there.0, there.1, ap (legal.are_accepted d.options) same ∙ sym is ∙ yes)),
+  (λ there.
+      let same = one_front d (words ++ dashes ∷ []) there.0 said there.1.with_separator front in
+      is ∙ sym (ap (legal.are_accepted d.options) same) ∙ there.2),
+)
+comes_so d words said false accepted opens front is = (
+  (λ yes. absurd (false≢true yes)),
+  (λ there. opens.1 (there.0, there.1)),
+)
+
+pub comes_never : (d : Declaration) (words : List (List ℕ)) → IsPart d (words ++ dashes ∷ []) None → CanCome d words false
+comes_never d words dashed = ((λ yes. absurd (false≢true yes)), (λ there. absurd (dashed there.0 there.1.with_separator)))
+
 -- nothing is offered where no option can come
-pub none_stands : (d : Declaration) (words : List (List ℕ)) (typed : List ℕ) → Opens d words false → AreOffered d words typed []
+pub none_stands : (d : Declaration) (words : List (List ℕ)) (typed : List ℕ) → CanCome d words false → AreOffered d words typed []
 none_stands d words typed closed = record {
   sound = λ s has. absurd (none_there s has);
-  complete = λ s completes. absurd (false≢true (closed.1 (completes.stands.before, stands_open d words s completes.stands)));
+  complete = λ s completes. absurd (false≢true (closed.1 (completes.stands.before, stands_open d words s completes.stands, stands_accepted d words s completes.stands)));
   in_order = inr refl;
 }
 
@@ -277,3 +301,31 @@ joined_declared d words typed i (l, s, with_equals, opens, front, option) = of s
     of (legal.option j value) same within = subst (λ n. n < length d.options) same within
     of (legal.several j values) same within = subst (λ n. n < length d.options) same within
     of (legal.positional word) same within = absurd same
+
+-- ---- values in lists
+
+view_at : {F V M S : Type 0} (options : List (rust.Declared F V M S)) (i : ℕ) (o : rust.Declared F V M S) → slice_get options i ≡ Some o → slice_get (map option_view options) i ≡ Some (option_view o)
+view_at options i o at = slice_get-map option_view options i ∙ ap (option_map option_view) at
+
+word_so : {F V M S : Type 0} (options : List (rust.Declared F V M S)) (r : Option spec.Role) (word : Option (Role F V M S)) → IsRoleAt options r word → word_values word ≡ values_at (map option_view options) r
+word_so options None None is = refl
+word_so options None (Some w) is = absurd is
+word_so options (Some (spec.value i)) None is = absurd is
+word_so options (Some spec.argument) None is = absurd is
+word_so options (Some (spec.value i)) (Some (role.Value o)) is = ap listed_by (sym (view_at options i o.now is))
+word_so options (Some (spec.value i)) (Some role.Argument) is = absurd is
+word_so options (Some spec.argument) (Some role.Argument) is = refl
+word_so options (Some spec.argument) (Some (role.Value o)) is = absurd is
+
+joined_so : {F V M S : Type 0} (options : List (rust.Declared F V M S)) (i : Option ℕ) (joined : Option (Bor (rust.Declared F V M S))) → IsOptionAt options i joined → joined_values joined ≡ joined_at (map option_view options) i
+joined_so options None None is = refl
+joined_so options None (Some o) is = absurd is
+joined_so options (Some i) None is = absurd is
+joined_so options (Some i) (Some o) is = ap joined_by (sym (view_at options i o.now is))
+
+-- the values of the options that are found are those of the options at the indices
+pub values_are : {F V M S : Type 0} (options : List (rust.Declared F V M S)) (typed : List ℕ) (r : Option spec.Role) (i : Option ℕ) (word : Option (Role F V M S)) (joined : Option (Bor (rust.Declared F V M S)))
+    → IsRoleAt options r word → IsOptionAt options i joined → values_so typed word joined ≡ offered_values (map option_view options) typed r i
+values_are options typed r i word joined is at =
+    ap (λ l. filter (λ v. starts_with nat_eq v typed) l ++ filter (λ v. starts_with nat_eq v typed) (joined_values joined)) (word_so options r word is)
+    ∙ ap (λ l. filter (λ v. starts_with nat_eq v typed) (values_at (map option_view options) r) ++ filter (λ v. starts_with nat_eq v typed) l) (joined_so options i joined at)

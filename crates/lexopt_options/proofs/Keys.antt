@@ -132,8 +132,9 @@ none_of_all options s (t ∷ l) none =
 pub none_before : (options : List spec.Declared) (why : stops.Mistake) (l : List legal.Said) → first_asked options l ≡ None → first_asked options (said_before why l) ≡ None
 none_before options (stops.unexpected_value option value) [] none = refl
 none_before options (stops.unexpected_value option value) (s ∷ l) none = none_of_all options s l none
-none_before options (stops.unknown_option name) l none = none
+none_before options (stops.unknown_option name left) l none = none
 none_before options (stops.missing_value index option) l none = none
+none_before options (stops.invalid_value index value) l none = none
 none_before options (stops.unexpected_argument word) l none = none
 none_before options (stops.missing_argument count) l none = none
 none_before options (stops.missing_option index) l none = none

@@ -24,8 +24,9 @@ no_more (s ∷ t ∷ l) = let rest = no_more (t ∷ l) in omega (arith, rest)
 
 before_fewer : (why : stops.Mistake) (l : List legal.Said) → positional_count (said_before why l) ≤ positional_count l
 before_fewer (stops.unexpected_value option value) l = no_more l
-before_fewer (stops.unknown_option name) l = omega arith
+before_fewer (stops.unknown_option name left) l = omega arith
 before_fewer (stops.missing_value index option) l = omega arith
+before_fewer (stops.invalid_value index value) l = omega arith
 before_fewer (stops.unexpected_argument word) l = omega arith
 before_fewer (stops.missing_argument count) l = omega arith
 before_fewer (stops.missing_option index) l = omega arith

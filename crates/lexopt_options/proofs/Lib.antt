@@ -7,5 +7,7 @@ pub mod Completing
 pub mod Answering
 pub mod Owners
 pub mod Seen
+pub mod Accepted
+pub mod Tables
 pub mod Given
 pub mod KeysGiven

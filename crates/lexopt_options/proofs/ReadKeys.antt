@@ -1,5 +1,5 @@
 -- One step of the reading of a line by keys.
-use Rattle.std.proofs.Common.{◌≡◌, ◌≤◌, ◌+◌, ◌==◌, ◌||◌, ℕ, suc, Bool, Ok, true, false, add-zero, map, List, [], ◌∷◌, ◌++◌, None, Some, length, refl, sym, ap, subst, ◌∙◌, inl, inr, arith}
+use Rattle.std.proofs.Common.{◌≡◌, ◌≤◌, ◌+◌, ◌==◌, ◌||◌, ◌&&◌, ℕ, suc, Bool, Ok, Option, is_none, true, false, add-zero, map, List, [], ◌∷◌, ◌++◌, None, Some, length, refl, sym, ap, subst, ◌∙◌, inl, inr, arith}
 use Rattle.lexopt_spec.specs.UnreadLine.{UnreadLine, IsLine, LastOption, no_option, short_option, long_option, no_tail, joined, rest, equals, BeginsWith}
 use Rattle.lexopt_spec.specs.Steps as steps
 use Rattle.lexopt_spec.specs.Steps.{Reply, Next, NextStep, ReadsPositional, no_word_left, word_left, ReadsWord, no_word, reads_separator, reads_long, reads_cluster, reads_positional, unexpected, joined_value, equals_value, next_in_cluster, after_separator, next_word}
@@ -9,7 +9,8 @@ use Rattle.lexopt_base.specs.declared.parser.Found.{Found}
 use Rattle.lexopt_base.specs.declared.parser.Found.TheVariants as found
 use Rattle.lexopt_options_spec.specs.Asking.{asked_by, first_asked}
 use Rattle.lexopt_options_spec.specs.Legal as legal
-use Rattle.lexopt_options_spec.specs.Legal.{IsWithin, counts, is_required, most, occurs, positional_count}
+use Rattle.lexopt_options_spec.proofs.Listed.{accepted_append}
+use Rattle.lexopt_options_spec.specs.Legal.{IsWithin, are_accepted, counts, is_required, most, occurs, positional_count, refused_value}
 use Rattle.lexopt_options_spec.specs.Stops.{ReadsUpTo}
 use Rattle.lexopt_declaration.specs.declared.declaration.Declared.{Declared}
 use Rattle.lexopt_line_spec.specs.Readings.{option_reply}
@@ -25,13 +26,16 @@ use Rattle.lexopt_options.specs.declared.said.Told.{Told}
 use Rattle.lexopt_options.specs.Declarations.{declaration_of, options_of, positionals_of}
 use Rattle.lexopt_options.specs.Kinds.{kind_at}
 use Rattle.lexopt_options.specs.Keys.{AllFirst, AreSaid, HasKey, IsSaid, IsTold, positional_keys}
-use Rattle.lexopt_options.specs.Reading.{AreSeen, IsReadByKey, ReadsSaid, indexed_view, noted, said_with}
+use Rattle.lexopt_options_spec.specs.Stops as stops
+use Rattle.lexopt_options.specs.declared.mistake.Mistake.{Mistake}
+use Rattle.lexopt_options.specs.Mistakes.{IsMistake}
+use Rattle.lexopt_options.specs.Reading.{StopsBy, StopsByKey, AreSeen, IsReadByKey, ReadsSaid, indexed_view, noted, said_with}
 use Rattle.lexopt_options.specs.declared.said.Said.TheVariants as variant
 use Rattle.lexopt_declaration.specs.Models.{positional_view}
 use Rattle.lexopt_declaration.specs.declared.declaration.Positional.{Positional}
 use Rattle.lexopt_options_spec.specs.Completion.{IsOption}
 use Rattle.lexopt_options_spec.specs.Declaration as spec
-use Rattle.std.proofs.lemmas.Bool.{eqb-true, false≢true}
+use Rattle.std.proofs.lemmas.Bool.{eq-eqb, eqb-true, false≢true}
 use Rattle.lexopt_items.specs.declared.values.Values.TheVariants.{AtMostOne, All}
 use Rattle.lexopt_options.proofs.Keys.{asked_more, said_length, said_more}
 use Rattle.lexopt_options.proofs.ReadNext.{count_more, count_small, no_count, nothing_read, one_more, option_said}
@@ -45,6 +49,7 @@ pub record HasRead {F V P M S : Type 0} (o : Options F V P M S) (u v : UnreadLin
   pub counted : count ≡ positional_count l
   pub are_seen : AreSeen (declaration_of o).options l seen
   pub firsts : AllFirst (positionals_of o) (positional_keys said)
+  pub accepted : are_accepted (declaration_of o).options l ≡ true
 
 pub at_start : {F V P M S : Type 0} (o : Options F V P M S) (u : UnreadLine) {said : List (Said F V P M S)} {seen : List ℕ} → IsLine u → said ≡ [] → seen ≡ [] → HasRead o u u 0 seen said
 at_start {F} {V} {P} {M} {S} o u {said} {seen} line none_said none_seen = subst (λ (xs : List (Said F V P M S)). HasRead o u u 0 seen xs) (sym none_said) (subst (λ (l : List ℕ). HasRead o u u 0 l []) (sym none_seen) (record {
@@ -55,6 +60,7 @@ at_start {F} {V} {P} {M} {S} o u {said} {seen} line none_said none_seen = subst 
   counted = refl;
   are_seen = λ i needed. refl;
   firsts = tt;
+  accepted = refl;
 }))
 
 -- ---- which options were seen
@@ -135,10 +141,13 @@ some_positional (p ∷ ps) n within = omega arith
 
 -- ---- one more
 
+pub one_unrefused : (options : List spec.Declared) (s : legal.Said) → refused_value options s ≡ None → are_accepted options (s ∷ []) ≡ true
+one_unrefused options s none = ap (λ (x : Option (List ℕ)). is_none x && true) none
+
 pub has_option : {F V P M S : Type 0} (o : Options F V P M S) (u v w : UnreadLine) (count index : ℕ) (seen seen_now : List ℕ) (said more : List (Said F V P M S)) (s : legal.Said) (own : Said F V P M S)
-    → HasRead o u v count seen said → ReadsSaid (declaration_of o) count v s w → asked_by (declaration_of o).options s ≡ None → IsSaid (options_of o) s own → counts s ≡ 0 → IsOption index s
+    → HasRead o u v count seen said → ReadsSaid (declaration_of o) count v s w → asked_by (declaration_of o).options s ≡ None → IsSaid (options_of o) s own → counts s ≡ 0 → IsOption index s → refused_value (declaration_of o).options s ≡ None
     → seen_now ≡ noted (is_required (declaration_of o).options index) index seen → more ≡ said ++ own ∷ [] → HasRead o u w count seen_now more
-has_option o u v w count index seen seen_now said more s own had reads none is counts_is option seen_is more_is = record {
+has_option o u v w count index seen seen_now said more s own had reads none is counts_is option unrefused seen_is more_is = record {
   l = had.l ++ s ∷ [];
   read = one_more (declaration_of o) u v w had.l count s had.read had.counted reads;
   none = asked_more (declaration_of o).options had.l s had.none none;
@@ -147,6 +156,7 @@ has_option o u v w count index seen seen_now said more s own had reads none is c
   are_seen = subst (AreSeen (declaration_of o).options (had.l ++ s ∷ [])) (sym seen_is) (seen_more (declaration_of o).options had.l seen index s option had.are_seen);
   firsts = subst (AllFirst (positionals_of o)) (sym (ap positional_keys more_is ∙ keys_append said (own ∷ [])))
       (firsts_append (positionals_of o) (positional_keys said) (positional_keys (own ∷ [])) had.firsts (subst (AllFirst (positionals_of o)) (sym (no_key (options_of o) index s own is option)) tt));
+  accepted = accepted_append (declaration_of o).options had.l (s ∷ []) had.accepted (one_unrefused (declaration_of o).options s unrefused);
 }
 
 pub has_positional : {F V P M S : Type 0} (o : Options F V P M S) (u v w : UnreadLine) (count : ℕ) (seen : List ℕ) (said more : List (Said F V P M S)) (word : List ℕ) (key : P)
@@ -161,18 +171,39 @@ has_positional o u v w count seen said more word key had reads first more_is = r
   are_seen = seen_same (declaration_of o).options had.l seen word had.are_seen;
   firsts = subst (AllFirst (positionals_of o)) (sym (ap positional_keys more_is ∙ keys_append said (variant.Positional key word ∷ [])))
       (firsts_append (positionals_of o) (positional_keys said) (key ∷ []) had.firsts (first, tt));
+  accepted = accepted_append (declaration_of o).options had.l (legal.positional word ∷ []) had.accepted refl;
 }
 
 option_with : (index : ℕ) (values : Values) → IsOption index (said_with index values)
 option_with index (AtMostOne value) = refl
 option_with index (All values) = refl
 
+option_is : (index : ℕ) (values : Values) → legal.is_option index (said_with index values) ≡ true
+option_is index (AtMostOne value) = eq-eqb index index refl
+option_is index (All values) = eq-eqb index index refl
+
 -- an option with its values, and what it tells
 pub read_so : {F V P M S : Type 0} (o : Options F V P M S) (count : ℕ) (u v w : UnreadLine) (name : Name) (k : Kind) (index : ℕ) (values : Values) (s : Indexed) (t : Told F V P M S)
     → kind_view k ≡ kind_at (declaration_of o).options index → Next u (option_reply name) v → index_of (declaration_of o).options name ≡ Some index → indexed_view s ≡ said_with index values
-    → ReadsValues k v values w → IsTold (options_of o) (indexed_view s) t → IsReadByKey (declaration_of o) (options_of o) index count u (Ok t) w
-read_so o count u v w name k index values s t k_is step found is reads tells =
-    (indexed_view s, option_said (declaration_of o) count u v w name k index s o.sound k_is step found (values, is, reads), tells, ap counts is ∙ no_count index values, subst (IsOption index) (sym is) (option_with index values))
+    → ReadsValues k v values w → IsTold (options_of o) (indexed_view s) t → refused_value (declaration_of o).options (indexed_view s) ≡ None → IsReadByKey (declaration_of o) (options_of o) index count u (Ok t) w
+read_so o count u v w name k index values s t k_is step found is reads tells unrefused =
+    (indexed_view s, option_said (declaration_of o) count u v w name k index s o.sound k_is step found (values, is, reads), tells, ap counts is ∙ no_count index values, subst (IsOption index) (sym is) (option_with index values), unrefused)
+
+-- an option with a value that it does not accept
+pub refused_so : {F V P M S : Type 0} (o : Options F V P M S) (count : ℕ) (u v w : UnreadLine) (name : Name) (k : Kind) (index : ℕ) (values : Values) (s : Indexed) (m : Mistake) (value : List ℕ)
+    → kind_view k ≡ kind_at (declaration_of o).options index → Next u (option_reply name) v → index_of (declaration_of o).options name ≡ Some index → indexed_view s ≡ said_with index values
+    → ReadsValues k v values w → (refused_value (declaration_of o).options (indexed_view s) ≡ Some value) × IsMistake (declaration_of o) m (stops.invalid_value index value)
+    → StopsByKey (declaration_of o) count u m
+refused_so o count u v w name k index values s m value k_is step found is reads refused = record {
+  why = stops.invalid_value index value;
+  told = refused.1;
+  stops = λ l line counted. stops.not_accepted (indexed_view s) index value w
+      (one_more (declaration_of o) u u w [] 0 (indexed_view s) (nothing_read (declaration_of o) u line) refl (option_said (declaration_of o) 0 u v w name k index s o.sound k_is step found (values, is, reads)))
+      (subst (λ x. legal.is_option index x ≡ true) (sym is) (option_is index values)) refused.0;
+}
+
+pub by_key : (d : spec.Declaration) (count : ℕ) (u : UnreadLine) (m : Mistake) → StopsBy d count u m → StopsByKey d count u m
+by_key d count u m by = record { why = by.why; told = by.told; stops = λ l line counted. by.stops l counted }
 
 -- there are no more positionals than things that are read
 pub count_within : {F V P M S : Type 0} (o : Options F V P M S) (u v : UnreadLine) (count : ℕ) (seen : List ℕ) (said : List (Said F V P M S)) → HasRead o u v count seen said → count ≤ length said

@@ -1,15 +1,18 @@
 -- One step of the reading of a line.
-use Rattle.std.proofs.Common.{◌≡◌, ◌≢◌, ◌≤◌, ℕ, ◌+◌, List, [], ◌∷◌, ◌++◌, length, append_assoc, Option, Some, None, refl, sym, ap, subst, ◌∙◌, arith}
+use Rattle.std.proofs.Common.{◌≡◌, ◌≢◌, ◌≤◌, ℕ, ◌+◌, List, [], ◌∷◌, ◌++◌, length, Option, Some, None, refl, sym, ap, subst, ◌∙◌, arith}
 use Rattle.std.specs.Option.{option_map}
 use Rattle.lexopt_spec.specs.UnreadLine.{UnreadLine, IsLine}
 use Rattle.lexopt_spec.specs.Steps as steps
-use Rattle.lexopt_spec.specs.Steps.{Next}
+use Rattle.lexopt_spec.specs.Steps.{Next, NextStep, OptionalStep, optional_pending, optional_none, ReadsPositional, no_word_left, word_left, ReadsWord, no_word, reads_separator, reads_long, reads_cluster, reads_positional, joined_value, equals_value, next_in_cluster, after_separator, next_word}
 use Rattle.lexopt_spec.specs.Runs as calls
 use Rattle.lexopt_line_spec.specs.Table as spec
 use Rattle.lexopt_line_spec.specs.Table.{Item, Name, kind}
-use Rattle.lexopt_line_spec.specs.Readings.{IsReading, option_reply}
+use Rattle.lexopt_line_spec.specs.Readings.{ReadsFirst, first_positional, first_flag, first_one, first_optional, first_several, option_reply}
+use Rattle.lexopt_line_spec.proofs.ItemsRead.{one_more_item, option_given}
 use Rattle.lexopt_line_spec.proofs.RunAccounts.{step_line}
-use Rattle.std.proofs.Common.{get_or, true}
+use Rattle.std.proofs.Common.{encode_utf8, get_or, false, true}
+use Rattle.std.specs.Option.{MatchOption}
+use Rattle.lexopt_options_spec.specs.Nearest.{IsHint, only_ending}
 use Rattle.std.specs.Prelude.{unwrap_or}
 use Rattle.std.proofs.lemmas.Option.{slice_get-get_or}
 use Rattle.std.proofs.lemmas.List.Quantifiers.{position-Some}
@@ -17,7 +20,7 @@ use Rattle.std.proofs.lemmas.List.Elements.{Contains-get_or}
 use Rattle.lexopt_options_spec.proofs.Tables.{kind_of_name}
 use Rattle.lexopt_options.specs.Kinds.{kind_at}
 use Rattle.std.specs.Prelude.{Result}
-use Rattle.lexopt_spec.specs.UnreadLine.{LastOption, no_option, short_option, long_option}
+use Rattle.lexopt_spec.specs.UnreadLine.{LastOption, no_option, short_option, long_option, Tail, rest, pending, pending_in, rest_of}
 use Rattle.lexopt_base.specs.Found.{found_as, advance_reply}
 use Rattle.lexopt_base.specs.declared.parser.Found.{Found}
 use Rattle.lexopt_base.specs.declared.parser.Found.TheVariants as found
@@ -68,6 +71,15 @@ kind_of_index (o ∷ os) name index sound found =
     ap (λ (x : Option Declared). unwrap_or (option_map (λ p. p.kind) x) spec.flag) (slice_get-get_or (o ∷ os) index o at.0)
     ∙ sym (kind_of_name (o ∷ os) (get_or (o ∷ os) index o) sound (Contains-get_or (o ∷ os) index o at.0) name at.1)
 
+-- an option, and its values
+option_first : (t : spec.Table) (u v w : UnreadLine) (name : Name) (k : Kind) (values : Values) → kind_view k ≡ kind t name → Next u (option_reply name) v → ReadsValues k v values w
+    → ReadsFirst t u (item_with name values) w
+option_first t u v w name Flag (AtMostOne None) is step reads = subst (ReadsFirst t u (spec.option name None)) (sym reads) (first_flag name v (sym is) step)
+option_first t u v w name One (AtMostOne (Some word)) is step reads = first_one name word v w (sym is) step reads
+option_first t u v w name Optional (AtMostOne value) is step reads = first_optional name value v w (sym is) step reads
+option_first t u v w name Several (All values) is step reads = first_several name reads.0 values.items v w (sym is) step reads.1 reads.2
+option_first t u v w name k values is step reads = absurd reads
+
 -- an option that is declared, with its values
 pub option_said : (d : Declaration) (count : ℕ) (u v w : UnreadLine) (name : Name) (k : Kind) (index : ℕ) (said : Indexed) → is_sound d.options ≡ true → kind_view k ≡ kind_at d.options index
     → Next u (option_reply name) v → index_of d.options name ≡ Some index → (values : Values) × (indexed_view said ≡ said_with index values) × ReadsValues k v values w
@@ -76,7 +88,8 @@ option_said d count u v w name k index said sound k_is step found reads =
     let values = reads.0 in
     subst (λ (s : legal.Said). ReadsSaid d count u s w) (sym reads.1) (record {
       item = item_with name values;
-      reads = option_read (table d.options) u v w name k values (k_is ∙ kind_of_index d.options name index sound found) step reads.2;
+      reads = option_first (table d.options) u v w name k values (k_is ∙ kind_of_index d.options name index sound found) step reads.2;
+      shorter = (option_read (table d.options) u v w name k values (k_is ∙ kind_of_index d.options name index sound found) step reads.2).1;
       said = option_item d name index values found;
       line = λ line. values_line k v w values reads.2 (step_line calls.next u (option_reply name) v line step);
       within = λ within. same_count count (counts (said_with index values)) (most d.positionals) (no_count index values) within;
@@ -85,6 +98,74 @@ option_said d count u v w name k index said sound k_is step found reads =
 -- what was returned
 pub answered : (u w : UnreadLine) (r x : Result Found Refusal) → RepliesWith Next u (advance_reply w.last r) w → r ≡ x → RepliesWith Next u (advance_reply w.last x) w
 answered u w r x h is = subst (λ (q : Result Found Refusal). RepliesWith Next u (advance_reply w.last q) w) is h
+
+-- after a short option some bytes are the rest of its cluster
+pub short_rest : (u v : UnreadLine) (c : ℕ) → Next u (steps.short c) v → (bytes : List ℕ) × (v.tail ≡ rest_of bytes)
+short_rest u v c step = in_step u v (steps.short c) refl (option_given u v (spec.short c) step)
+  where
+    in_positional : (u v : UnreadLine) (r : steps.Reply) → steps.short c ≡ r → ReadsPositional u r v → ⊥
+    in_positional u v r is (no_word_left none r_is after) = let e : steps.short c ≡ steps.end = is ∙ r_is in cc
+    in_positional u v r is (word_left word words some r_is after) = let e : steps.short c ≡ steps.positional word = is ∙ r_is in cc
+
+    in_word : (u v : UnreadLine) (r : steps.Reply) → steps.short c ≡ r → ReadsWord u r v → (bytes : List ℕ) × (v.tail ≡ rest_of bytes)
+    in_word u v r is (no_word none r_is after) = let e : steps.short c ≡ steps.end = is ∙ r_is in absurd (cc)
+    in_word u v r is (reads_separator words some reads) = absurd (in_positional _ v r is reads)
+    in_word u v r is (reads_long text name tail words some not line r_is after) = let e : steps.short c ≡ steps.long _ = is ∙ r_is in absurd (cc)
+    in_word u v r is (reads_cluster bytes words some not reads) = (_, ap (λ (w : UnreadLine). w.tail) reads.after_is)
+    in_word u v r is (reads_positional word words some plain r_is after) = let e : steps.short c ≡ steps.positional word = is ∙ r_is in absurd (cc)
+
+    in_step : (u v : UnreadLine) (r : steps.Reply) → steps.short c ≡ r → NextStep u r v → (bytes : List ℕ) × (v.tail ≡ rest_of bytes)
+    in_step u v r is (joined_value value option tail spelled r_is after) = let e : steps.short c ≡ steps.unexpected option value = is ∙ r_is in absurd (cc)
+    in_step u v r is (equals_value value option tail on spelled r_is after) = let e : steps.short c ≡ steps.unexpected option value = is ∙ r_is in absurd (cc)
+    in_step u v r is (next_in_cluster bytes tail not reads) = (_, ap (λ (w : UnreadLine). w.tail) reads.after_is)
+    in_step u v r is (after_separator tail ended reads) = absurd (in_positional u v r is reads)
+    in_step u v r is (next_word tail ended reads) = in_word u v r is reads
+
+-- what is taken with `=` as a character of the cluster
+taken_bytes : (u w : UnreadLine) (given : Option (List ℕ)) → OptionalStep u (steps.maybe given) w → option_map (λ found. found.0) (pending u) ≡ given
+taken_bytes u w given (optional_pending value by_equals is reply after) = ap (option_map (λ found. found.0)) is ∙ sym (given_is (Some value) reply)
+  where
+    given_is : (other : Option (List ℕ)) → steps.maybe given ≡ steps.maybe other → given ≡ other
+    given_is other is = cc
+taken_bytes u w given (optional_none is reply after) = ap (option_map (λ found. found.0)) is ∙ sym (given_is None reply)
+  where
+    given_is : (other : Option (List ℕ)) → steps.maybe given ≡ steps.maybe other → given ≡ other
+    given_is other is = cc
+
+rest_hint : (options : List Declared) (c : ℕ) (tail : Tail) (bytes : List ℕ) (given hint : Option (List ℕ)) → tail ≡ rest_of bytes → option_map (λ found. found.0) (pending_in false tail) ≡ given
+    → MatchOption given (hint ≡ None) (λ left. IsHint options (spec.short c) (rest left) hint) → IsHint options (spec.short c) tail hint
+rest_hint options c tail [] given hint is taken told =
+    let none : given ≡ None = sym taken ∙ ap (λ t. option_map (λ found. found.0) (pending_in false t)) is in
+    subst (λ t. IsHint options (spec.short c) t hint) (sym is)
+    (subst (λ (x : Option (List ℕ)). MatchOption x (hint ≡ None) (λ left. IsHint options (spec.short c) (rest left) hint)) none told)
+rest_hint options c tail (b ∷ bs) given hint is taken told =
+    let some : given ≡ Some (b ∷ bs) = sym taken ∙ ap (λ t. option_map (λ found. found.0) (pending_in false t)) is in
+    subst (λ t. IsHint options (spec.short c) t hint) (sym is)
+    (subst (λ (x : Option (List ℕ)). MatchOption x (hint ≡ None) (λ left. IsHint options (spec.short c) (rest left) hint)) some told)
+
+-- the hint that the rest of a cluster gives is that of what was left of the word
+pub short_hinted : (options : List Declared) (u v off w : UnreadLine) (c : ℕ) (given hint : Option (List ℕ)) → Next u (steps.short c) v → off ≡ record v { short_equals = false }
+    → OptionalStep off (steps.maybe given) w → MatchOption given (hint ≡ None) (λ left. IsHint options (spec.short c) (rest left) hint) → IsHint options (spec.short c) v.tail hint
+short_hinted options u v off w c given hint step is takes told =
+    let left = short_rest u v c step in
+    rest_hint options c v.tail left.0 given hint left.1 (taken_bytes (record v { short_equals = false }) w given (subst (λ x. OptionalStep x (steps.maybe given) w) is takes)) told
+
+pub some_hint : (options os : List Declared) (c : ℕ) (bytes back : List ℕ) (given hint found : Option (List ℕ)) → given ≡ Some bytes → back ≡ bytes → os ≡ options → hint ≡ found
+    → IsHint os (spec.short c) (rest back) found → MatchOption given (hint ≡ None) (λ left. IsHint options (spec.short c) (rest left) hint)
+some_hint options os c bytes back given hint found some back_is os_is hint_is told =
+    subst (λ (x : Option (List ℕ)). MatchOption x (hint ≡ None) (λ left. IsHint options (spec.short c) (rest left) hint)) (sym some)
+    (hint_is ∙ told ∙ ap (λ o. only_ending o (encode_utf8 c ++ back)) os_is ∙ ap (λ b. only_ending options (encode_utf8 c ++ b)) back_is)
+
+pub no_hint : (options : List Declared) (c : ℕ) (given hint : Option (List ℕ)) → given ≡ None → hint ≡ None
+    → MatchOption given (hint ≡ None) (λ left. IsHint options (spec.short c) (rest left) hint)
+no_hint options c given hint none is =
+    subst (λ (x : Option (List ℕ)). MatchOption x (hint ≡ None) (λ left. IsHint options (spec.short c) (rest left) hint)) (sym none) is
+
+-- a name that was copied
+pub long_hinted : (options os : List Declared) (name text : List ℕ) (left : Tail) (hint : Option (List ℕ)) → os ≡ options → name ≡ text → IsHint os (spec.long text) left hint
+    → IsHint options (spec.long name) left hint
+long_hinted options os name text left hint os_is is told =
+    subst (λ (o : List Declared). IsHint o (spec.long name) left hint) os_is (subst (λ (n : List ℕ). IsHint os (spec.long n) left hint) (sym is) told)
 
 -- a long option has one name
 pub one_name : (u w : UnreadLine) (text other : List ℕ) → RepliesWith Next u (found_as w.last found.Long) w → ((n : List ℕ) → w.last ≡ long_option n → text ≡ n) → ((n : List ℕ) → w.last ≡ long_option n → other ≡ n) → text ≡ other
@@ -109,7 +190,8 @@ pub positional_said : (d : Declaration) (count : ℕ) (u v : UnreadLine) (word :
     → ReadsSaid d count u (legal.positional word) v
 positional_said d count u v word room step = record {
   item = spec.positional word;
-  reads = positional_read (table d.options) u v word step;
+  reads = first_positional word v step;
+  shorter = (positional_read (table d.options) u v word step).1;
   said = refl;
   line = λ line. step_line calls.next u (steps.positional word) v line step;
   within = λ within. more count (most d.positionals) room within;
@@ -121,7 +203,7 @@ positional_said d count u v word room step = record {
 pub nothing_read : (d : Declaration) (u : UnreadLine) → IsLine u → ReadsUpTo d u [] u
 nothing_read d u line = record {
   items = [];
-  read = λ final m reading. reading;
+  read = refl;
   line = line;
   said = refl;
   within = zero_within (most d.positionals);
@@ -136,7 +218,7 @@ pub one_more : (d : Declaration) (u v w : UnreadLine) (l : List legal.Said) (cou
     → ReadsUpTo d u (l ++ s ∷ []) w
 one_more d u v w l count s read counted reads = record {
   items = read.items ++ reads.item ∷ [];
-  read = λ final m reading. subst (IsReading (table d.options) u final) (sym (append_assoc read.items (reads.item ∷ []) m)) (read.read final (reads.item ∷ m) (reads.reads.0 final m reading));
+  read = one_more_item (table d.options) u v w read.items reads.item read.read reads.reads;
   line = reads.line read.line;
   said = joined (said_item d.options) read.items l reads.item s read.said reads.said;
   within = subst (λ n. IsWithin n (most d.positionals)) (ap (λ n. n + counts s) counted ∙ sym (count_append l (s ∷ []) ∙ ap (λ n. positional_count l + n) (omega arith)))

@@ -5,14 +5,15 @@ use Rattle.lexopt_spec.specs.Steps as steps
 use Rattle.lexopt_spec.specs.Steps.{Next}
 use Rattle.lexopt_line_spec.specs.Table.{Item}
 use Rattle.lexopt_line_spec.specs.Readings.{IsReading, start}
+use Rattle.lexopt_line_spec.proofs.ItemsRead.{says_items}
 use Rattle.lexopt_line_spec.proofs.ReadingSteps.{reads_last}
 use Rattle.lexopt_options_spec.specs.Declaration.{Declaration, is_sound, table}
 use Rattle.lexopt_options_spec.specs.Legal as legal
-use Rattle.lexopt_options_spec.specs.Legal.{Says, SaysFront, least, positional_count}
+use Rattle.lexopt_options_spec.specs.Legal.{Says, SaysFront, are_accepted, least, positional_count}
 use Rattle.lexopt_options_spec.specs.Stops as stops
 use Rattle.lexopt_options_spec.specs.Asking.{all_but_last, first_asked, said_before}
 use Rattle.lexopt_options_spec.specs.Stops.{ReadsUpTo, Stops, StopsAt, required_placeholder}
-use Rattle.lexopt_options_spec.proofs.Fronts.{front_later, front_said, no_front, nothing_said, one_front}
+use Rattle.lexopt_options_spec.proofs.Fronts.{ComesTo, front_later, front_said, no_front, nothing_said, one_front}
 use Rattle.std.specs.Borrow.{Bor}
 use Rattle.lexopt_declaration.specs.declared.declaration.Names.{Names}
 use Rattle.lexopt_options.specs.declared.mistake.Mistake.{Mistake}
@@ -38,7 +39,8 @@ front : (d : Declaration) (words : List (List ℕ)) (l : List legal.Said) (v w :
     → SaysFront d words l
 front d words l v w sound read ends =
     front_said d sound words read.items l
-    (subst (IsReading (table d.options) (start d.short_equals words) steps.end) (append_nil read.items) (read.read steps.end [] (reads_last (table d.options) v w steps.end tt ends)))
+    (subst (IsReading (table d.options) (start d.short_equals words) steps.end) (append_nil read.items)
+    (says_items (table d.options) (start d.short_equals words) v read.items read.read steps.end [] (reads_last (table d.options) v w steps.end tt ends)))
     read.said read.within
 
 pub front_of : (d : Declaration) (words : List (List ℕ)) (l : List legal.Said) (u v w : UnreadLine) → is_sound d.options ≡ true → u ≡ start d.short_equals words → ReadsUpTo d u l v → Next v steps.end w
@@ -46,16 +48,27 @@ pub front_of : (d : Declaration) (words : List (List ℕ)) (l : List legal.Said)
 front_of d words l u v w sound is read ends = front d words l v w sound (subst (λ (x : UnreadLine). ReadsUpTo d x l v) is read) ends
 
 pub line_said : (d : Declaration) (words : List (List ℕ)) (l : List legal.Said) (v w : UnreadLine) (count : ℕ) (seen : List ℕ) → is_sound d.options ≡ true
-    → ReadsUpTo d (start d.short_equals words) l v → count ≡ positional_count l → AreSeen d.options l seen → Next v steps.end w → least d.positionals ≤ count → AllSeen d.options seen → Says d words l
-line_said d words l v w count seen sound read counted are_seen ends enough all = record {
+    → ReadsUpTo d (start d.short_equals words) l v → count ≡ positional_count l → AreSeen d.options l seen → Next v steps.end w → least d.positionals ≤ count → AllSeen d.options seen → are_accepted d.options l ≡ true → Says d words l
+line_said d words l v w count seen sound read counted are_seen ends enough all accepted = record {
   front = front d words l v w sound read ends;
   enough = subst (λ n. least d.positionals ≤ n) counted enough;
   complete = λ i is. sym (are_seen i is) ∙ all i is;
+  accepted = accepted;
 }
 
 pub line_stopped : (d : Declaration) (words : List (List ℕ)) (l : List legal.Said) (u v : UnreadLine) (count : ℕ) (why : stops.Mistake) → u ≡ start d.short_equals words → ReadsUpTo d u l v
-    → count ≡ positional_count l → ((m : List legal.Said) → count ≡ positional_count m → Stops d m v why) → StopsAt d words l why
-line_stopped d words l u v count why is read counted stops = record {
+    → count ≡ positional_count l → ((m : List legal.Said) → count ≡ positional_count m → Stops d m v why) → are_accepted d.options l ≡ true → StopsAt d words l why
+line_stopped d words l u v count why is read counted stops accepted = record {
+  there = v;
+  read = subst (λ (x : UnreadLine). ReadsUpTo d x l v) is read;
+  stops = stops l counted;
+  accepted = accepted;
+}
+
+-- the same whether or not each option accepts the values before
+pub part_stopped : (d : Declaration) (words : List (List ℕ)) (l : List legal.Said) (u v : UnreadLine) (count : ℕ) (why : stops.Mistake) → u ≡ start d.short_equals words → ReadsUpTo d u l v
+    → count ≡ positional_count l → ((m : List legal.Said) → count ≡ positional_count m → Stops d m v why) → ComesTo d words l why
+part_stopped d words l u v count why is read counted stops = record {
   there = v;
   read = subst (λ (x : UnreadLine). ReadsUpTo d x l v) is read;
   stops = stops l counted;
@@ -87,9 +100,10 @@ lacks_option d count seen names index enough first are_names = record {
 -- ---- what was read before a mistake
 
 pub before_is : (d : Declaration) (m : Mistake) (why : stops.Mistake) (l : List legal.Said) → IsMistake d m why → before_mistake m l ≡ said_before why l
-before_is d (mistake.UnknownOption name hint) why l told = ap (λ w. said_before w l) (sym told.0)
+before_is d (mistake.UnknownOption name hint) why l told = ap (λ w. said_before w l) (sym told.1)
 before_is d (mistake.UnexpectedValue option value) why l told = ap (λ w. said_before w l) (sym told)
 before_is d (mistake.MissingValue option placeholder) why l told = ap (λ w. said_before w l) (sym told.1)
+before_is d (mistake.InvalidValue option value values) why l told = ap (λ w. said_before w l) (sym told.1)
 before_is d (mistake.UnexpectedArgument word) why l told = ap (λ w. said_before w l) (sym told)
 before_is d (mistake.MissingArgument placeholder) why l told = ap (λ w. said_before w l) (sym told.1)
 before_is d (mistake.MissingOption names) why l told = ap (λ w. said_before w l) (sym told.1)
@@ -98,6 +112,7 @@ pub before_other : (m : Mistake) (l : List legal.Said) → ((option : _) (value 
 before_other (mistake.UnknownOption name hint) l other = refl
 before_other (mistake.UnexpectedValue option value) l other = absurd (other option value refl)
 before_other (mistake.MissingValue option placeholder) l other = refl
+before_other (mistake.InvalidValue option value values) l other = refl
 before_other (mistake.UnexpectedArgument word) l other = refl
 before_other (mistake.MissingArgument placeholder) l other = refl
 before_other (mistake.MissingOption names) l other = refl
@@ -135,6 +150,6 @@ line_of o words (line.Refused refused) read l says = absurd (nothing_said (decla
 -- ---- a part of a line
 
 -- where the reading stops before the end, the words mean nothing
-pub nothing_part : (d : Declaration) (words : List (List ℕ)) (l : List legal.Said) (why : stops.Mistake) → IsEarly why → StopsAt d words l why → (said : List legal.Said) → SaysFront d words said → ⊥
+pub nothing_part : (d : Declaration) (words : List (List ℕ)) (l : List legal.Said) (why : stops.Mistake) → IsEarly why → ComesTo d words l why → (said : List legal.Said) → SaysFront d words said → ⊥
 nothing_part d words l why early stops said says =
-    no_front d words l why stops (λ count is. subst IsEarly is early) (λ index is. subst IsEarly is early) said says
+    no_front d words l why stops (λ count is. subst IsEarly is early) (λ index is. subst IsEarly is early) (λ index value is. subst IsEarly is early) said says

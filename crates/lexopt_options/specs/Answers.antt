@@ -1,11 +1,13 @@
 -- What a program is to do about the words that it was called with. The source is
 -- `docs/behaviour.md`.
 use Rattle.std.specs.Prelude.{◌≡◌, ◌⊎◌, ◌<◌, ◌^◌, ℕ, List, [], ◌∷◌, ◌++◌}
-use Rattle.std.specs.Prelude.{Option, Some, None, codes}
+use Rattle.std.specs.Prelude.{◌==◌, if◌then◌else◌, Option, Some, None, codes}
 use Rattle.std.specs.Prelude.{string_bytes}
 use Rattle.std.specs.List.{flat_map}
+use Rattle.std.specs.Borrow.{Bor}
 use Rattle.std.specs.Str.{IsUtf8}
 use Rattle.std.specs.Str.Parse.{IsNumeral, digits_value, without_leading_plus}
+use Rattle.lexopt_spec.specs.UnreadLine.{dash}
 use Rattle.lexopt_options_spec.specs.Asking.{AskFor}
 use Rattle.lexopt_options_spec.specs.Declaration.{Asked, Declaration, for_help, for_version}
 use Rattle.lexopt_options_spec.specs.Help.{IsHelp, line_feed}
@@ -13,7 +15,12 @@ use Rattle.lexopt_options.specs.declared.answer.Answer.{Answer}
 use Rattle.lexopt_options.specs.declared.answer.Answer.TheVariants as answer
 use Rattle.lexopt_options.specs.declared.complete.Completion.{Completion}
 use Rattle.lexopt_options.specs.declared.complete.Role.{Role}
+use Rattle.lexopt_options.specs.declared.complete.Role.TheVariants as role
 use Rattle.lexopt_options.specs.declared.options.Options.{Options}
+use Rattle.lexopt_declaration.specs.declared.declaration.Declared.{Declared}
+use Rattle.lexopt_declaration.specs.declared.declaration.Words.{Words}
+use Rattle.lexopt_declaration.specs.declared.declaration.Words.TheVariants.{Files, Directories}
+use Rattle.lexopt_declaration.specs.declared.declaration.Words.TheVariants.{Text, Listed}
 use Rattle.lexopt_declaration.specs.declared.shell.Shell.{Shell}
 use Rattle.lexopt_options.specs.Completions.{IsCompletion}
 use Rattle.lexopt_options.specs.Declarations.{declaration_of}
@@ -36,20 +43,42 @@ pub record IsOrdinary (words : List (List ℕ)) : Type 0 where
       → ¬ AsksToComplete words before typed
   pub no_script : (shell : Shell) → ¬ AsksForScript words shell
 
--- a word that is not an option can come there, such as the name of a file
-abbrev pub files_line : {F V M S : Type 0} → Option (Role F V M S) → List ℕ
-files_line None = []
-files_line (Some role) = codes "files\n"
+-- what completes a value of an option: the names of files, those of directories, or none
+abbrev pub names_line : Words → List ℕ
+names_line Files = codes "files\n"
+names_line Directories = codes "directories\n"
+names_line Text = []
+names_line (Listed values) = []
 
--- a value of an option is typed there after `=`
-abbrev pub value_line : {X : Type 0} → Option X → List ℕ
-value_line None = []
-value_line (Some option) = codes "value\n"
+-- what completes a word that is not an option
+abbrev pub word_line : {F V M S : Type 0} → Option (Role F V M S) → List ℕ
+word_line None = []
+word_line (Some role.Argument) = codes "files\n"
+word_line (Some (role.Value option)) = names_line option.now.words
 
--- a line for each spelling, and these lines
+-- what completes the value of an option after `=`
+abbrev pub value_line : Words → List ℕ
+value_line Files = codes "value files\n"
+value_line Directories = codes "value directories\n"
+value_line Text = []
+value_line (Listed values) = []
+
+-- what completes what is typed after `=`
+abbrev pub joined_line : {F V M S : Type 0} → Option (Bor (Declared F V M S)) → List ℕ
+joined_line None = []
+joined_line (Some option) = value_line option.now.words
+
+-- the line for a value in a list: after `+`, unless it begins with a dash
+abbrev pub listed_line : List ℕ → List ℕ
+listed_line [] = codes "+\n"
+listed_line (b ∷ bs) =
+    if b == dash then b ∷ bs ++ line_feed ∷ [] else codes "+" ++ b ∷ bs ++ line_feed ∷ []
+
+-- a line for each spelling, one for each value in a list, and these lines
 abbrev pub completion_text : {F V M S : Type 0} → Completion F V M S → List ℕ
 completion_text c = flat_map (λ s. string_bytes s ++ line_feed ∷ []) c.spellings.items
-    ++ files_line c.word ++ value_line c.joined
+    ++ flat_map (λ s. listed_line (string_bytes s)) c.values.items
+    ++ word_line c.word ++ joined_line c.joined
 
 abbrev pub IsCompletionText : {F V P M S : Type 0} → Options F V P M S → List (List ℕ) → List ℕ → Type 0
 IsCompletionText o words text = (before : List (List ℕ)) × (typed : List ℕ)

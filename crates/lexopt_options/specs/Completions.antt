@@ -1,12 +1,19 @@
 -- What can come where a word is typed, as contracts see it.
-use Rattle.std.specs.Prelude.{◌≡◌, ◌⊎◌, ◌↔◌, ◌∷◌, ℕ, Bool, true, false, IsTrue, List, [], Option, filter}
-use Rattle.std.specs.Prelude.{length, map, nat_eq, string_bytes}
+use Rattle.std.specs.Prelude.{◌≡◌, ◌⊎◌, ◌↔◌, ◌∷◌, ◌++◌, ℕ, Bool, true, false, IsTrue, List, []}
+use Rattle.std.specs.Prelude.{Option, Some, None, filter, length, map, nat_eq, string_bytes}
+use Rattle.std.specs.Borrow.{Bor}
 use Rattle.std.specs.List.{Contains, starts_with}
 use Rattle.lexopt_options_spec.specs.Declaration.{Declaration}
-use Rattle.lexopt_options_spec.specs.Completion.{Completes, HasRole, IsJoined, IsOpen, Role}
-use Rattle.lexopt_options_spec.specs.Completion.{spellings}
+use Rattle.lexopt_options_spec.specs.Completion as spec
+use Rattle.lexopt_options_spec.specs.Completion.{Completes, HasRole, IsJoined, IsOpen}
+use Rattle.lexopt_options_spec.specs.Completion.{joined_by, list_of, offered_values, spellings}
 use Rattle.lexopt_options_spec.specs.Legal as legal
+use Rattle.lexopt_options_spec.specs.Legal.{are_accepted}
+use Rattle.lexopt_declaration.specs.Models.{option_view, words_view}
+use Rattle.lexopt_declaration.specs.declared.declaration.Declared.{Declared}
 use Rattle.lexopt_options.specs.declared.complete.Completion.{Completion}
+use Rattle.lexopt_options.specs.declared.complete.Role.{Role}
+use Rattle.lexopt_options.specs.declared.complete.Role.TheVariants as role
 use Rattle.lexopt_options.specs.declared.options.Options.{Options}
 use Rattle.lexopt_options.specs.declared.indexed.Indexed.{Indexed}
 use Rattle.lexopt_options.specs.declared.indexed.Indexed.TheVariants as indexed
@@ -28,19 +35,47 @@ pub record IsCompletion {F V P M S : Type 0} (o : Options F V P M S) (words : Li
   pub spellings : AreOffered (declaration_of o) words typed
       (map string_bytes completion.spellings.items)
   -- what a word would be that is not an option and begins so
-  pub role : Option Role
+  pub role : Option spec.Role
   pub has_role : HasRole (declaration_of o) words typed role
   pub word : IsRoleAt (options_of o) role completion.word
   -- of which option a value is typed after `=`
   pub index : Option ℕ
   pub is_joined : IsJoined (declaration_of o) words typed index
   pub joined : IsOptionAt (options_of o) index completion.joined
+  -- the values in lists that begin so
+  pub values : map string_bytes completion.values.items
+      ≡ offered_values (declaration_of o).options typed role index
+
+-- ---- values in lists
+
+-- the values in the list of the option that a word is a value of
+abbrev pub word_values : {F V M S : Type 0} → Option (Role F V M S) → List (List ℕ)
+word_values None = []
+word_values (Some role.Argument) = []
+word_values (Some (role.Value option)) = list_of (words_view option.now.words)
+
+-- the words that are this option, with `=` and a value of its list
+abbrev pub joined_values : {F V M S : Type 0} → Option (Bor (Declared F V M S)) → List (List ℕ)
+joined_values None = []
+joined_values (Some option) = joined_by (Some (option_view option.now))
+
+-- those of both that begin with what was typed
+abbrev pub values_so : {F V M S : Type 0} → List ℕ → Option (Role F V M S)
+    → Option (Bor (Declared F V M S)) → List (List ℕ)
+values_so typed word joined = filter (λ v. starts_with nat_eq v typed) (word_values word)
+    ++ filter (λ v. starts_with nat_eq v typed) (joined_values joined)
 
 -- ---- where an option can come
 
 -- this tells whether an option can come after these words
 abbrev pub Opens : Declaration → List (List ℕ) → Bool → Type 0
 Opens d words b = IsTrue b ↔ ((l : List legal.Said) × IsOpen d words l)
+
+-- this tells whether a declared option can come after these words: one could, and each option
+-- accepts the values that it has
+abbrev pub CanCome : Declaration → List (List ℕ) → Bool → Type 0
+CanCome d words b = IsTrue b ↔ ((l : List legal.Said) × IsOpen d words l
+    × (are_accepted d.options l ≡ true))
 
 -- it is not an option of several values
 abbrev pub is_one : Indexed → Bool

@@ -1,15 +1,17 @@
 -- What is printed of a line that is refused. The source is `docs/formats.md`.
 use Rattle.std.specs.Prelude.{ℕ, List, [], ◌++◌, Option, Some, None, codes, encode_utf8, string_bytes}
-use Rattle.std.specs.Prelude.{nat_lt, ◌==◌, ◌||◌, if◌then◌else◌}
+use Rattle.std.specs.Prelude.{nat_lt, ◌==◌, ◌||◌, if◌then◌else◌, map}
 use Rattle.std.specs.List.{flat_map}
 use Rattle.std.specs.Str.{chars}
-use Rattle.lexopt_spec.specs.Text.{quoted_character, unexpected_argument_message}
+use Rattle.lexopt_spec.specs.Text.{quoted, quoted_character, unexpected_argument_message}
 use Rattle.lexopt_spec.specs.Text.{unexpected_option_message, unexpected_value_message}
+use Rattle.lexopt_options_spec.specs.Help.{list_text}
 use Rattle.lexopt_declaration.specs.Texts.{names_text}
 use Rattle.lexopt_declaration.specs.declared.declaration.Names.{Names}
 use Rattle.lexopt_options.specs.declared.mistake.Mistake.{Mistake}
 use Rattle.lexopt_options.specs.declared.mistake.Mistake.TheVariants.{UnknownOption}
 use Rattle.lexopt_options.specs.declared.mistake.Mistake.TheVariants.{UnexpectedValue, MissingValue}
+use Rattle.lexopt_options.specs.declared.mistake.Mistake.TheVariants.{InvalidValue}
 use Rattle.lexopt_options.specs.declared.mistake.Mistake.TheVariants.{UnexpectedArgument}
 use Rattle.lexopt_options.specs.declared.mistake.Mistake.TheVariants.{MissingArgument, MissingOption}
 use Rattle.lexopt_options.specs.declared.mistake.OptionName.{OptionName}
@@ -31,6 +33,9 @@ message (UnknownOption name (Some hint)) = unexpected_option_message (name_text 
 message (UnexpectedValue option value) = unexpected_value_message (string_bytes option) value
 message (MissingValue option placeholder) = codes "missing argument "
     ++ (placeholder.now ++ (codes " for option '" ++ (string_bytes option ++ codes "'")))
+message (InvalidValue option value values) = codes "invalid value " ++ (quoted value
+    ++ (codes " for '" ++ (names_text option
+    ++ (codes "': one of " ++ list_text (map (λ own. own.now) values.now)))))
 message (UnexpectedArgument word) = unexpected_argument_message word
 message (MissingArgument placeholder) = codes "missing argument " ++ placeholder.now
 message (MissingOption names) = codes "missing option '" ++ (names_text names ++ codes "'")

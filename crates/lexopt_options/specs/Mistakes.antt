@@ -1,6 +1,8 @@
 -- What is wrong with a line, as contracts see it.
-use Rattle.std.specs.Prelude.{◌≡◌, ℕ, List, Some, option_map, slice_get, string_bytes}
-use Rattle.lexopt_options_spec.specs.Declaration.{Declaration, Declared}
+use Rattle.std.specs.Prelude.{◌≡◌, ℕ, List, Some, map, option_map, slice_get, string_bytes}
+use Rattle.std.specs.Borrow.{Bor}
+use Rattle.lexopt_spec.specs.UnreadLine.{Tail}
+use Rattle.lexopt_options_spec.specs.Declaration.{Declaration, Declared, listed}
 use Rattle.lexopt_options_spec.specs.Nearest.{IsHint}
 use Rattle.lexopt_options_spec.specs.Stops as stops
 use Rattle.lexopt_options_spec.specs.Stops.{placeholder_at, required_placeholder}
@@ -10,6 +12,7 @@ use Rattle.lexopt_options.specs.Names.{name_view}
 use Rattle.lexopt_options.specs.declared.mistake.Mistake.{Mistake}
 use Rattle.lexopt_options.specs.declared.mistake.Mistake.TheVariants.{UnknownOption}
 use Rattle.lexopt_options.specs.declared.mistake.Mistake.TheVariants.{UnexpectedValue, MissingValue}
+use Rattle.lexopt_options.specs.declared.mistake.Mistake.TheVariants.{InvalidValue}
 use Rattle.lexopt_options.specs.declared.mistake.Mistake.TheVariants.{UnexpectedArgument}
 use Rattle.lexopt_options.specs.declared.mistake.Mistake.TheVariants.{MissingArgument, MissingOption}
 
@@ -18,15 +21,24 @@ abbrev pub AreNames : List Declared → ℕ → Names → Type 0
 AreNames options index names = (o : Declared) × (slice_get options index ≡ Some o)
     × (o.short_name ≡ short_name names) × (o.long_name ≡ long_name names)
 
+-- these are the values that the option of this index accepts
+abbrev pub AreValues : List Declared → ℕ → List (Bor (List ℕ)) → Type 0
+AreValues options index values = (o : Declared) × (slice_get options index ≡ Some o)
+    × (o.words ≡ listed (map (λ value. value.now) values))
+
 -- the mistake is this one of the definitions
 abbrev pub IsMistake : Declaration → Mistake → stops.Mistake → Type 0
-IsMistake d (UnknownOption name hint) m = (m ≡ stops.unknown_option (name_view name))
-    × IsHint d.options (name_view name) (option_map (λ text. text.now) hint)
+IsMistake d (UnknownOption name hint) m = (left : Tail)
+    × (m ≡ stops.unknown_option (name_view name) left)
+    × IsHint d.options (name_view name) left (option_map (λ text. text.now) hint)
 IsMistake d (UnexpectedValue option value) m =
     m ≡ stops.unexpected_value (string_bytes option) value
 IsMistake d (MissingValue option placeholder) m = (index : ℕ)
     × (m ≡ stops.missing_value index (string_bytes option))
     × (placeholder.now ≡ placeholder_at d.options index)
+IsMistake d (InvalidValue option value values) m = (index : ℕ)
+    × (m ≡ stops.invalid_value index value) × AreNames d.options index option
+    × AreValues d.options index values.now
 IsMistake d (UnexpectedArgument word) m = m ≡ stops.unexpected_argument word
 IsMistake d (MissingArgument placeholder) m = (count : ℕ) × (m ≡ stops.missing_argument count)
     × (placeholder.now ≡ required_placeholder d.positionals count)

@@ -1,20 +1,20 @@
 -- What is read from a line, as contracts see it, and what one step of its reading reads.
-use Rattle.std.specs.Prelude.{◌≡◌, ◌<◌, ◌+◌, ◌++◌, ◌∷◌, ℕ, Bool, true, false, List, [], Some}
-use Rattle.std.specs.Prelude.{Result, Ok, Err}
+use Rattle.std.specs.Prelude.{None, ◌≡◌, ◌<◌, ◌+◌, ◌++◌, ◌∷◌, ℕ, Bool, true, false, List, [], Some}
+use Rattle.std.specs.Prelude.{Result, Ok, Err, slice_get}
 use Rattle.lexopt_spec.specs.UnreadLine.{UnreadLine, IsLine}
 use Rattle.lexopt_spec.specs.Steps as steps
 use Rattle.lexopt_spec.specs.Steps.{Next}
-use Rattle.lexopt_line_spec.specs.Readings.{option_reply}
+use Rattle.lexopt_line_spec.specs.Readings.{ReadsFirst, option_reply}
+use Rattle.lexopt_line_spec.specs.Bound.{bound}
 use Rattle.lexopt_line_spec.specs.Table.{Item, Name}
 use Rattle.lexopt_options_spec.specs.Declaration as declared
 use Rattle.lexopt_options_spec.specs.Declaration.{Declaration, has, index_of}
 use Rattle.lexopt_options_spec.specs.Completion.{IsOption}
 use Rattle.lexopt_options_spec.specs.Legal as spec
 use Rattle.lexopt_options_spec.specs.Legal.{IsWithin, counts, is_required, most, occurs}
-use Rattle.lexopt_options_spec.specs.Legal.{positional_count, said_item}
+use Rattle.lexopt_options_spec.specs.Legal.{positional_count, refused_value, said_item}
 use Rattle.lexopt_options_spec.specs.Stops as stops
 use Rattle.lexopt_options_spec.specs.Stops.{Stops}
-use Rattle.lexopt_items.specs.Items.{ReadsItem}
 use Rattle.lexopt_items.specs.declared.values.Values.{Values}
 use Rattle.lexopt_items.specs.declared.values.Values.TheVariants.{AtMostOne, All}
 use Rattle.lexopt_options.specs.declared.mistake.Mistake.{Mistake}
@@ -22,6 +22,7 @@ use Rattle.lexopt_options.specs.declared.read.Outcome.{Outcome}
 use Rattle.lexopt_options.specs.declared.read.Outcome.TheVariants as outcome
 use Rattle.lexopt_options.specs.declared.indexed.Indexed.{Indexed}
 use Rattle.lexopt_options.specs.declared.indexed.Indexed.TheVariants as indexed
+use Rattle.lexopt_declaration.specs.Models.{option_view}
 use Rattle.lexopt_declaration.specs.declared.declaration.Declared.{Declared}
 use Rattle.lexopt_options.specs.declared.said.Told.{Told}
 use Rattle.lexopt_options.specs.Keys.{IsTold}
@@ -41,13 +42,15 @@ said_with index (All values) = spec.several index values.items
 pub record ReadsSaid (d : Declaration) (count : ℕ) (u : UnreadLine) (s : spec.Said)
     (v : UnreadLine) : Type 0 where
   pub item : Item
-  pub reads : ReadsItem (declared.table d.options) u item v
+  pub reads : ReadsFirst (declared.table d.options) u item v
+  pub shorter : bound v < bound u
   pub said : said_item d.options item ≡ Some s
   pub line : IsLine u → IsLine v
   pub within : IsWithin count (most d.positionals) → IsWithin (count + counts s) (most d.positionals)
 
--- it is a mistake before the end of the line
+-- it is a mistake before the end of the line, and not that a value is not accepted
 abbrev pub IsEarly : stops.Mistake → Type 0
+IsEarly (stops.invalid_value index value) = ⊥
 IsEarly (stops.missing_argument count) = ⊥
 IsEarly (stops.missing_option index) = ⊥
 IsEarly mistake = Unit {0}
@@ -59,6 +62,13 @@ pub record StopsBy (d : Declaration) (count : ℕ) (u : UnreadLine) (mistake : M
   pub told : IsMistake d mistake why
   pub early : IsEarly why
   pub stops : (l : List spec.Said) → count ≡ positional_count l → Stops d l u why
+
+-- the same, but it may be a value that the option which comes next does not accept
+pub record StopsByKey (d : Declaration) (count : ℕ) (u : UnreadLine) (mistake : Mistake)
+    : Type 0 where
+  pub why : stops.Mistake
+  pub told : IsMistake d mistake why
+  pub stops : (l : List spec.Said) → IsLine u → count ≡ positional_count l → Stops d l u why
 
 -- after `count` positionals this comes next
 abbrev pub ComesNext : Declaration → ℕ → UnreadLine → Outcome → UnreadLine → Type 0
@@ -107,12 +117,28 @@ IsRead d count u (Ok said) v =
     ReadsSaid d count u (indexed_view said) v × (counts (indexed_view said) ≡ 0)
 IsRead d count u (Err mistake) v = StopsBy d count u mistake
 
--- the same of the option of this index, by its key
+-- the same of the option of this index, by its key; or it is a mistake that it does not accept a
+-- value
 abbrev pub IsReadByKey : {F V P M S : Type 0} → Declaration → List (Declared F V M S) → ℕ → ℕ
     → UnreadLine → Result (Told F V P M S) Mistake → UnreadLine → Type 0
 IsReadByKey d options index count u (Ok told) v = (s : spec.Said) × ReadsSaid d count u s v
     × IsTold options s told × (counts s ≡ 0) × IsOption index s
-IsReadByKey d options index count u (Err mistake) v = StopsBy d count u mistake
+    × (refused_value d.options s ≡ None)
+IsReadByKey d options index count u (Err mistake) v = StopsByKey d count u mistake
+
+-- ---- the values that an option accepts
+
+-- wherever this option is declared, it accepts the values that it has here
+abbrev pub Accepts : {F V M S : Type 0} → Declared F V M S → (ℕ → spec.Said) → Type 0
+Accepts option said = (d : Declaration) (i : ℕ) → slice_get d.options i ≡ Some (option_view option)
+    → refused_value d.options (said i) ≡ None
+
+-- wherever it is declared, this is the mistake that it does not accept one of them
+abbrev pub IsRefusal : {F V M S : Type 0} → Declared F V M S → (ℕ → spec.Said) → Mistake → Type 0
+IsRefusal option said mistake = (value : List ℕ) × ((d : Declaration) (i : ℕ)
+    → slice_get d.options i ≡ Some (option_view option)
+    → (refused_value d.options (said i) ≡ Some value)
+    × IsMistake d mistake (stops.invalid_value i value))
 
 -- ---- the values of an option
 

@@ -1,13 +1,17 @@
 //! What a program does about the words that it was called with: its work, or it writes a text, or
 //! it refuses them.
-ghost use Rattle.std.specs.Prelude.{◌≡◌, ◌↔◌, IfOk, IsTrue, string_bytes};
+ghost use Rattle.std.specs.Prelude.{◌≡◌, ◌↔◌, ◌++◌, IfOk, IsTrue, OnOk, string_bytes};
+ghost use Rattle.std.specs.List.{flat_map};
 ghost use Rattle.std.specs.Option.{MatchOption};
 ghost use Rattle.lexopt_options.specs.Answers.{AsksForScript, IsWidth, completion_text};
+ghost use Rattle.lexopt_options.specs.Answers.{joined_line, listed_line, names_line};
+ghost use Rattle.lexopt_options.specs.Answers.{value_line, word_line};
 
-use crate::complete::Completion;
+use crate::complete::{Completion, Role};
 use crate::options::Options;
 use crate::refused::{Line, Refused};
 use crate::said::{Asked, Said};
+use lexopt_declaration::declaration::{Declared, Words};
 use lexopt_declaration::help::WIDTH;
 use lexopt_declaration::shell::{Script, Shell};
 use lexopt_words::os_string::{OsString, arguments};
@@ -27,9 +31,75 @@ pub enum Answer<'a, F, V = Infallible, P = Infallible, M = Infallible, S = Infal
     Refused(Refused<'a, F, V, P, M, S>),
 }
 
-// What is offered, as the scripts for shells read it: a line for each spelling; a line `files` if a
-// word that is not an option can come there; and a line `value` if a value is typed there after
-// `=`.
+// The line for a shell by what completes a value of an option: names of files, or of directories.
+fn names_line(words: Words<'_>) -> &'static str
+    ensures { result.now ≡ names_line words.entry }
+{
+    match words {
+        Words::Files => "files\n",
+        Words::Directories => "directories\n",
+        Words::Text | Words::Listed(_) => "",
+    }
+}
+
+// The line by what completes a word that is not an option.
+fn word_line<F, V, M, S>(word: &Option<Role<'_, F, V, M, S>>) -> &'static str
+    ensures { result.now ≡ word_line word.now }
+{
+    match word {
+        Some(Role::Value(option)) => names_line(option.words),
+        Some(Role::Argument) => "files\n",
+        None => "",
+    }
+}
+
+// The line by what completes the value of an option after `=`.
+fn value_line(words: Words<'_>) -> &'static str
+    ensures { result.now ≡ value_line words.entry }
+{
+    match words {
+        Words::Files => "value files\n",
+        Words::Directories => "value directories\n",
+        Words::Text | Words::Listed(_) => "",
+    }
+}
+
+// The line by the option whose value is typed after `=`.
+fn joined_line<F, V, M, S>(joined: &Option<&Declared<'_, F, V, M, S>>) -> &'static str
+    ensures { result.now ≡ joined_line joined.now }
+{
+    match joined {
+        Some(option) => value_line(option.words),
+        None => "",
+    }
+}
+
+// Adds a line for a value in a list: after `+`, unless it begins with a dash.
+fn push_value(text: &mut String, value: &str) -> Result<(), AllocError>
+    ensures { OnOk result
+        (string_bytes text.new ≡ string_bytes text.old ++ listed_line value.now) }
+{
+    if value.as_bytes().first() != Some(&b'-') {
+        text.push('+')?;
+    }
+    text.push_str(value)?;
+    text.push('\n')
+}
+
+// Adds a line for each of these values.
+fn push_values(text: &mut String, values: &[String]) -> Result<(), AllocError>
+    ensures { OnOk result (string_bytes text.new
+        ≡ string_bytes text.old ++ flat_map (λ s. listed_line (string_bytes s)) values.now) }
+{
+    for value in values {
+        push_value(text, value.as_str())?;
+    }
+    Ok(())
+}
+
+// What is offered, as the scripts for shells read it: a line for each spelling; one for each value
+// in a list; a line by what completes a word that is not an option; and one by what completes the
+// value typed after `=`.
 fn text_of<F, V, M, S>(
     alloc: Global,
     completion: &Completion<'_, F, V, M, S>,
@@ -41,12 +111,9 @@ fn text_of<F, V, M, S>(
         text.push_str(spelling.as_str())?;
         text.push('\n')?;
     }
-    if completion.word.is_some() {
-        text.push_str("files\n")?;
-    }
-    if completion.joined.is_some() {
-        text.push_str("value\n")?;
-    }
+    push_values(&mut text, &completion.values)?;
+    text.push_str(word_line(&completion.word))?;
+    text.push_str(joined_line(&completion.joined))?;
     Ok(text)
 }
 
@@ -192,9 +259,12 @@ impl<'a, F: Copy, V: Copy, P: Copy, M: Copy, S: Copy> Options<'a, F, V, P, M, S>
     /// - The words `__script bash` ask for the script by which that shell completes the lines of
     ///   the program; `zsh` and `fish` have one too. That script asks by the hidden first word
     ///   `__complete`, then the words before the one that is typed, and then what was typed of it.
-    ///   The result is a line for each spelling that can come there; a line `files` if a word that
-    ///   is not an option can come there; and a line `value` if what was typed is `--name=`, with
-    ///   or without more after it, and a value of that option.
+    ///   The result is a line for each spelling that can come there, and one for each value in a
+    ///   list that can, after `+` unless it begins with a dash. If a word that is not an option can
+    ///   come there, a line `files` follows, or, if that is the value of an option, one by its
+    ///   [`Words`]: `files`, `directories` or none. If what was typed is `--name=`, with or without
+    ///   a value after it, a line `value files`, `value directories` or none follows, by the
+    ///   [`Words`] of that option.
     /// - All other words are read as by [`Options::read`].
     ///
     /// The only error is that memory ran out.

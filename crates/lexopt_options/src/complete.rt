@@ -1,21 +1,24 @@
 //! What can come where a word is typed, for shells.
 ghost use Rattle.std.specs.Prelude.{◌≡◌, ◌↔◌, ◌∷◌, ◌++◌, ℕ, IfOk, IsTrue, List, MatchOption, []};
-ghost use Rattle.std.specs.Prelude.{◌<◌, Some, length, option_map, slice_get};
+ghost use Rattle.std.specs.Prelude.{◌<◌, Some, length, map, option_map, slice_get, string_bytes};
 ghost use Rattle.lexopt_spec.specs.UnreadLine.{BeginsWith, dash};
 ghost use Rattle.lexopt_options_spec.specs.Declaration.{Declaration};
 ghost use Rattle.lexopt_options_spec.specs.Completion as spec;
 ghost use Rattle.lexopt_options_spec.specs.Completion.{HasRole, IsDashedRole, IsOption};
 ghost use Rattle.lexopt_options_spec.specs.Completion.{IsPlainRole};
-ghost use Rattle.lexopt_options.specs.Completions.{Opens, TakeAnyWord, ends_in_one, is_one};
+ghost use Rattle.lexopt_options.specs.Completions.{CanCome, Opens, TakeAnyWord, ends_in_one};
+ghost use Rattle.lexopt_options.specs.Completions.{is_one, values_so};
+ghost use Rattle.lexopt_options.specs.Declarations.{declaration_of};
 ghost use Rattle.lexopt_options.specs.Fronts.{IsPart};
 ghost use Rattle.lexopt_options.specs.Reading.{indexed_view};
 ghost use Rattle.lexopt_options.specs.declared.indexed.Indexed.{Indexed};
 ghost use Rattle.lexopt_options.specs.Roles.{IsDeclared, IsRole, place_view};
 
 use crate::indexed::Indexed;
+use crate::listed::are_accepted;
 use crate::options::Options;
 use lexopt_declaration::declaration::Declared;
-use lexopt_declaration::spellings::spellings_of;
+use lexopt_declaration::spellings::{add_joined, add_values, spellings_of};
 use lexopt_words::os_string::OsString;
 use lexopt_words::words::copies;
 use std::alloc::{AllocError, Global};
@@ -36,6 +39,10 @@ pub struct Completion<'a, F, V = Infallible, M = Infallible, S = Infallible> {
     /// The spellings of declared options that can come there and begin with what was typed. If
     /// that is not UTF-8, there are none.
     pub spellings: Vec<String>,
+    /// The values in the list of the option that a word would be a value of, and then, for the
+    /// option whose value is typed after `=`, the words that are it by its long name, `=` and a
+    /// value in its list: those that begin with what was typed, in the order of the list.
+    pub values: Vec<String>,
     /// What a word that is not an option would be there, if anything: as the empty word would be,
     /// or as the word `--` if a dash was typed first.
     pub word: Option<Role<'a, F, V, M, S>>,
@@ -98,6 +105,23 @@ fn is_open(dashed: &Option<Vec<Indexed>>, plain: &Option<Vec<Indexed>>) -> bool
         },
         None => false,
     }
+}
+
+// Whether a declared option can come after words from which this is read with `--` after them: one
+// could, and each option accepts the values that it has.
+fn can_come<F, V, P, M, S>(
+    options: &Options<'_, F, V, P, M, S>,
+    opens: bool,
+    dashed: &Option<Vec<Indexed>>,
+) -> bool
+    ensures { (words : List (List ℕ)) → Opens (declaration_of options.now) words opens
+        → IsPart (declaration_of options.now) (words ++ (dash ∷ dash ∷ []) ∷ []) dashed.now
+        → CanCome (declaration_of options.now) words result }
+{
+    let Some(dashed) = dashed else {
+        return false;
+    };
+    opens && are_accepted(options.options(), dashed)
 }
 
 // ---- a word that is not an option
@@ -236,11 +260,32 @@ fn role_of<'a, F, V, M, S>(
     }
 }
 
+// The values in lists that begin with what was typed, where a word would be this and a value of
+// this option is typed after `=`.
+fn values_for<F, V, M, S>(
+    alloc: Global,
+    word: &Option<Role<'_, F, V, M, S>>,
+    joined: &Option<&Declared<'_, F, V, M, S>>,
+    typed: &OsString,
+) -> Result<Vec<String>, AllocError>
+    ensures { IfOk result (λ values. map string_bytes values.items
+        ≡ values_so typed.now word.now joined.now) }
+{
+    let mut values = Vec::new(alloc);
+    if let Some(Role::Value(option)) = word {
+        add_values(alloc, &mut values, option.words, typed.as_bytes())?;
+    }
+    if let Some(option) = joined {
+        add_joined(alloc, &mut values, option, typed.as_bytes())?;
+    }
+    Ok(values)
+}
+
 impl<'a, F, V, P, M, S> Options<'a, F, V, P, M, S> {
     ghost use Rattle.std.specs.Prelude.{◌∷◌, ◌++◌, ℕ, [], IfOk, List, map, string_bytes};
     ghost use Rattle.std.specs.Prelude.{Option, option_map};
     ghost use Rattle.lexopt_options_spec.specs.Completion.{HasRole, IsJoined};
-    ghost use Rattle.lexopt_options.specs.Completions.{AreOffered, IsCompletion, Opens};
+    ghost use Rattle.lexopt_options.specs.Completions.{AreOffered, CanCome, IsCompletion, Opens};
     ghost use Rattle.lexopt_options.specs.Declarations.{declaration_of, options_of};
     ghost use Rattle.lexopt_options.specs.Roles.{IsOptionAt, IsRoleAt, place_view};
     ghost use Rattle.lexopt_options.specs.Fronts.{IsPart};
@@ -265,14 +310,15 @@ impl<'a, F, V, P, M, S> Options<'a, F, V, P, M, S> {
     fn spellings_for(
         &self,
         alloc: Global,
-        opens: bool,
+        can_come: bool,
         typed: &OsString,
     ) -> Result<Vec<String>, AllocError>
-        ensures { IfOk result (λ spellings. (words : List (List ℕ)) → Opens (declaration_of self.now) words opens
+        ensures { IfOk result (λ spellings. (words : List (List ℕ))
+            → CanCome (declaration_of self.now) words can_come
             → AreOffered (declaration_of self.now) words typed.now
             (map string_bytes spellings.items)) }
     {
-        if !opens {
+        if !can_come {
             return Ok(Vec::new(alloc));
         }
         match typed.to_str() {
@@ -354,18 +400,22 @@ impl<'a, F, V, P, M, S> Options<'a, F, V, P, M, S> {
     ) -> Result<Completion<'a, F, V, M, S>, AllocError>
         // What is returned is exactly what can come there: the spellings of declared options that
         // begin with what was typed, and after which some words make a legal line where that option
-        // occurs; what a word that is not an option and begins so would be; and of which option a
-        // value is typed after `=`.
+        // occurs; what a word that is not an option and begins so would be; of which option a value
+        // is typed after `=`; and the values in the lists of these two that begin so.
         ensures { IfOk result (λ completion.
             IsCompletion self.now words.now typed.now completion) }
     {
         let dashed = self.read_with(alloc, words, "--")?;
         let plain = self.read_with(alloc, words, "")?;
         let opens = is_open(&dashed, &plain);
+        let can_come = can_come(self, opens, &dashed);
+        let word = self.role(words, typed, place_after(typed, opens, dashed, plain));
+        let joined = self.joined(alloc, words, opens, typed)?;
         Ok(Completion {
-            spellings: self.spellings_for(alloc, opens, typed)?,
-            word: self.role(words, typed, place_after(typed, opens, dashed, plain)),
-            joined: self.joined(alloc, words, opens, typed)?,
+            spellings: self.spellings_for(alloc, can_come, typed)?,
+            values: values_for(alloc, &word, &joined, typed)?,
+            word,
+            joined,
         })
     }
 }

@@ -11,6 +11,7 @@
 /// #[derive(Clone, Copy)]
 /// enum Value {
 ///     Output,
+///     Mode,
 /// }
 ///
 /// #[derive(Clone, Copy)]
@@ -24,6 +25,7 @@
 ///     options: [
 ///         flag(Flag::Verbose, Names::Both('v', "verbose"), "tell more"),
 ///         value(Value::Output, Names::Both('o', "output"), "FILE", "the archive").required(),
+///         value(Value::Mode, Names::Long("mode"), "MODE", "how").one_of(&["fast", "slow"]),
 ///         help(Names::Both('h', "help")),
 ///         version(Names::Long("version"), "pack 1.0"),
 ///     ],
@@ -32,9 +34,19 @@
 /// ```
 ///
 /// A line of `options` is a call of the function of that name of [`Declared`](crate::Declared),
-/// `maybe` and `values` among them; `.hidden()` after it leaves the option out of the help, and
-/// `.required()` makes it one that every line has to have. A line of `positionals` is `once`,
-/// `at_most_once`, `any_number` or `at_least_once`, with the key first; its text may be left out.
+/// `maybe` and `values` among them. After it come any of these, in any order, with or without
+/// others:
+///
+/// - `.hidden()` leaves the option out of the help;
+/// - `.required()` makes it one that every line has to have;
+/// - `.one_of(&["fast", "slow"])` lists the values that it accepts;
+/// - `.directories()` has its values completed by the names of directories, and `.text()` by
+///   nothing; without these, they are completed by the names of files.
+///
+/// Of `one_of`, `directories` and `text` the last counts, as where these are called.
+///
+/// A line of `positionals` is `once`, `at_most_once`, `any_number` or `at_least_once`, with the key
+/// first; its text may be left out.
 ///
 /// `about` and `positionals` may be left out; so may `epilogue: ["..", ".."]`, paragraphs at the
 /// end of the help, and after it `short_equals: false`, by which `=` in a cluster is a character
@@ -44,7 +56,7 @@ macro_rules! declare {
     (
         program: $program:expr
         $(, about: $about:expr)?
-        , options: [$($option:ident $given:tt $(.$mark:ident())*),* $(,)?]
+        , options: [$($option:ident $given:tt $(.$mark:ident $marked:tt)*),* $(,)?]
         $(, positionals: [
             $($count:ident($key:expr, $placeholder:expr $(, $text:expr)? $(,)?)),* $(,)?
         ])?
@@ -55,7 +67,7 @@ macro_rules! declare {
         $crate::Declaration {
             program: $program,
             about: $crate::declare!(@or "" $(, $about)?),
-            options: &[$($crate::declare!(@$option $given $(.$mark)*)),*],
+            options: &[$($crate::declare!(@$option $given $(.$mark $marked)*)),*],
             positionals: &[$($($crate::Positional {
                 key: $key,
                 placeholder: $placeholder,
@@ -86,19 +98,36 @@ macro_rules! declare {
             @option $names, $crate::Kind::Version($version), "print the version and exit", $($mark)*
         )
     };
-    (@option $names:expr, $kind:expr, $help:expr, $(.$mark:ident)*) => {
+    (@option $names:expr, $kind:expr, $help:expr, $(.$mark:ident $marked:tt)*) => {
         $crate::Declared {
             names: $names,
             kind: $kind,
             help: $help,
             hidden: false $(|| $crate::declare!(@is_hidden $mark))*,
             required: false $(|| $crate::declare!(@is_required $mark))*,
+            words: $crate::declare!(@words $crate::Words::Files, $(.$mark $marked)*),
         }
     };
     (@is_hidden hidden) => { true };
-    (@is_hidden required) => { false };
+    (@is_hidden $mark:ident) => { false };
     (@is_required required) => { true };
-    (@is_required hidden) => { false };
+    (@is_required $mark:ident) => { false };
+    (@words $words:expr,) => { $words };
+    (@words $words:expr, .hidden() $($mark:tt)*) => {
+        $crate::declare!(@words $words, $($mark)*)
+    };
+    (@words $words:expr, .required() $($mark:tt)*) => {
+        $crate::declare!(@words $words, $($mark)*)
+    };
+    (@words $words:expr, .directories() $($mark:tt)*) => {
+        $crate::declare!(@words $crate::Words::Directories, $($mark)*)
+    };
+    (@words $words:expr, .text() $($mark:tt)*) => {
+        $crate::declare!(@words $crate::Words::Text, $($mark)*)
+    };
+    (@words $words:expr, .one_of($values:expr $(,)?) $($mark:tt)*) => {
+        $crate::declare!(@words $crate::Words::Listed($values), $($mark)*)
+    };
     (@once) => { $crate::Count::Once };
     (@at_most_once) => { $crate::Count::AtMostOnce };
     (@any_number) => { $crate::Count::AnyNumber };

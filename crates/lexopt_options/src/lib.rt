@@ -5,6 +5,7 @@ pub mod answer;
 pub mod complete;
 mod declare;
 mod indexed;
+mod listed;
 pub mod mistake;
 pub mod options;
 mod places;
@@ -24,7 +25,7 @@ pub use usage::{Report, UsageError};
 
 // What a declaration is made of, and the scripts for shells.
 pub use lexopt_declaration::declaration::{
-    Arity, Count, Declaration, DeclarationError, Declared, Kind, Names, Positional, Reason,
+    Arity, Count, Declaration, DeclarationError, Declared, Kind, Names, Positional, Reason, Words,
 };
 pub use lexopt_declaration::help::WIDTH;
 pub use lexopt_declaration::shell::{Script, Shell};

@@ -1,16 +1,19 @@
 //! What can be wrong with a line, and what is printed about it.
-ghost use Rattle.std.specs.Prelude.{IfOk, map, option_map};
+ghost use Rattle.std.specs.Prelude.{◌++◌, IfOk, codes, map, option_map};
+ghost use Rattle.lexopt_spec.specs.UnreadLine as unread;
+ghost use Rattle.lexopt_spec.specs.UnreadLine.{Tail};
+ghost use Rattle.lexopt_line_spec.specs.Table.{long, short};
+ghost use Rattle.lexopt_options_spec.specs.Help.{list_text};
 ghost use Rattle.lexopt_options_spec.specs.Nearest.{IsHint};
 ghost use Rattle.std.specs.Fmt.{WritesOnOk};
 ghost use Rattle.std.specs.List.{flat_map};
 ghost use Rattle.std.specs.Str.{chars};
 ghost use Rattle.lexopt_options.specs.Messages.{escaped};
-ghost use Rattle.lexopt_options.specs.Names.{name_view};
 ghost use Rattle.lexopt_declaration.specs.Models.{option_view};
 
 use lexopt_declaration::declaration::{Declared, Names};
 use lexopt_declaration::lookup::long_name_of;
-use lexopt_declaration::nearest::{nearest, only_longer};
+use lexopt_declaration::nearest::{nearest, only_ending, only_longer};
 use lexopt_words::message::write_unexpected_value;
 use lexopt_words::os_string::{OsString, Quoted};
 use std::alloc::{AllocError, Global};
@@ -53,6 +56,31 @@ fn write_name<W: fmt::Write>(name: &str, f: &mut fmt::Formatter<W>) -> fmt::Resu
     Ok(())
 }
 
+// Writes values, each after a comma and a blank.
+fn write_others<W: fmt::Write>(others: &[&str], f: &mut fmt::Formatter<W>) -> fmt::Result
+    ensures { WritesOnOk W.write_str_gives f.old result
+        (flat_map (λ other. codes ", " ++ other) (map (λ other. other.now) others.now)) f.new }
+{
+    for other in others {
+        write!(f, ", {other}")?;
+    }
+    Ok(())
+}
+
+// Writes values with a comma and a blank between them.
+fn write_values<W: fmt::Write>(values: &[&str], f: &mut fmt::Formatter<W>) -> fmt::Result
+    ensures { WritesOnOk W.write_str_gives f.old result
+        (list_text (map (λ value. value.now) values.now)) f.new }
+{
+    match values {
+        [first, others @ ..] => {
+            f.write_str(first)?;
+            write_others(others, f)
+        }
+        [] => Ok(()),
+    }
+}
+
 impl fmt::Display for OptionName {
     ghost use Rattle.std.specs.Prelude.{Some};
     ghost use Rattle.lexopt_options.specs.Messages.{name_text};
@@ -82,9 +110,10 @@ pub enum Mistake<'a> {
     UnknownOption {
         /// Its name.
         name: OptionName,
-        /// A declared long name that may have been meant, if a long name was typed: that of the
+        /// A declared long name that may have been meant. If a long name was typed: that of the
         /// nearest option; or, if none is near, the one that begins with what was typed, if exactly
-        /// one does.
+        /// one does. If its cluster goes on after a short option: the one that ends with the option
+        /// and the rest, if exactly one does, as `--verbose` if `-verbose` was typed.
         hint: Option<&'a str>,
     },
     /// An option that takes no value has one joined to it.
@@ -100,6 +129,15 @@ pub enum Mistake<'a> {
         option: String,
         /// The placeholder of the value in the declaration.
         placeholder: &'a str,
+    },
+    /// An option does not accept a value.
+    InvalidValue {
+        /// The names of the option.
+        option: Names<'a>,
+        /// The first value that it does not accept.
+        value: OsString,
+        /// The values that it accepts.
+        values: &'a [&'a str],
     },
     /// One positional argument more than are declared.
     UnexpectedArgument(OsString),
@@ -129,6 +167,15 @@ impl fmt::Display for Mistake<'_> {
                 option,
                 placeholder,
             } => { write!(f, "missing argument {placeholder} for option '{option}'") }
+            Mistake::InvalidValue {
+                option,
+                value,
+                values,
+            } => {
+                let value = Quoted::new(value.as_bytes());
+                write!(f, "invalid value {value} for '{option}': one of ")?;
+                write_values(values, f)
+            }
             Mistake::UnexpectedArgument(word) => {
                 let word = Quoted::new(word.as_bytes());
                 write!(f, "unexpected argument {word}")
@@ -141,22 +188,37 @@ impl fmt::Display for Mistake<'_> {
 
 impl std::error::Error for Mistake<'_> {}
 
-/// The long name that may have been meant by a name that is not declared.
+/// The long name that may have been meant by one that is not declared.
 ///
 /// The only error is that memory ran out.
-pub(crate) fn hint<'a, F, V, M, S>(
+pub(crate) fn long_hint<'a, F, V, M, S>(
     alloc: Global,
     options: &'a [Declared<'a, F, V, M, S>],
-    name: &OptionName,
+    name: &str,
 ) -> Result<Option<&'a str>, AllocError>
-    ensures { IfOk result (λ hint. IsHint (map option_view options.now) (name_view name.now)
-        (option_map (λ text. text.now) hint)) }
+    ensures { (left : Tail) → IfOk result (λ hint. IsHint (map option_view options.now)
+        (long name.now) left (option_map (λ text. text.now) hint)) }
 {
-    match name {
-        OptionName::Short(_) => Ok(None),
-        OptionName::Long(name) => match nearest(alloc, name, options)? {
-            Some(index) => Ok(long_name_of(options, Some(index))),
-            None => Ok(only_longer(options, name)),
-        },
+    match nearest(alloc, name, options)? {
+        Some(index) => Ok(long_name_of(options, Some(index))),
+        None => Ok(only_longer(options, name)),
     }
+}
+
+/// The long name that may have been meant by a cluster, a dash too few, that goes on with `rest`
+/// after an option that is not declared.
+///
+/// The only error is that memory ran out.
+pub(crate) fn short_hint<'a, F, V, M, S>(
+    alloc: Global,
+    options: &'a [Declared<'a, F, V, M, S>],
+    option: char,
+    rest: &[u8],
+) -> Result<Option<&'a str>, AllocError>
+    ensures { IfOk result (λ hint. IsHint (map option_view options.now) (short option)
+        (unread.rest rest.now) (option_map (λ text. text.now) hint)) }
+{
+    let mut back = format!(in alloc; "{option}")?.into_bytes();
+    back.extend_from_slice(rest)?;
+    Ok(only_ending(options, &back))
 }

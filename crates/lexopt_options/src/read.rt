@@ -1,8 +1,8 @@
 //! Reading a line by a declaration.
 ghost use Rattle.std.specs.Prelude.{◌≡◌, ◌≢◌, ◌≤◌, ◌↔◌, ◌∷◌, ◌++◌, ℕ, List, [], IfOk, OnOk};
-ghost use Rattle.std.specs.Prelude.{IsTrue, None, Some, map};
+ghost use Rattle.std.specs.Prelude.{IsTrue, None, Some, map, true};
 ghost use Rattle.std.specs.Option.{MatchOption};
-ghost use Rattle.lexopt_spec.specs.UnreadLine.{IsLine, UnreadLine};
+ghost use Rattle.lexopt_spec.specs.UnreadLine.{IsLine, Tail, UnreadLine};
 ghost use Rattle.lexopt_spec.specs.Steps as steps;
 ghost use Rattle.lexopt_spec.specs.Steps.{Next};
 ghost use Rattle.lexopt_line_spec.specs.Readings.{option_reply, start};
@@ -11,7 +11,8 @@ ghost use Rattle.lexopt_options_spec.specs.Declaration.{has, index_of};
 ghost use Rattle.lexopt_options_spec.specs.Asking as asking;
 ghost use Rattle.lexopt_options_spec.specs.Asking.{asked_by, first_asked};
 ghost use Rattle.lexopt_options_spec.specs.Legal as legal;
-ghost use Rattle.lexopt_options_spec.specs.Legal.{is_required, least, most, positional_count};
+ghost use Rattle.lexopt_options_spec.specs.Legal.{are_accepted, is_required, least, most};
+ghost use Rattle.lexopt_options_spec.specs.Legal.{positional_count};
 ghost use Rattle.lexopt_options_spec.specs.Stops as stops;
 ghost use Rattle.lexopt_options_spec.specs.Stops.{ReadsUpTo, StopsAt};
 ghost use Rattle.lexopt_declaration.specs.Models.{option_view};
@@ -25,7 +26,6 @@ ghost use Rattle.lexopt_options.specs.Declarations.{declaration_of, options_of, 
 ghost use Rattle.lexopt_options.specs.Keys.{AllFirst, AreSaid, asked_view, positional_keys};
 ghost use Rattle.lexopt_options.specs.Kinds as kinds;
 ghost use Rattle.lexopt_options.specs.Mistakes.{IsMistake};
-ghost use Rattle.lexopt_options.specs.Names.{name_view};
 ghost use Rattle.lexopt_options.specs.Lines.{IsLineRead, before_mistake};
 ghost use Rattle.lexopt_options.specs.Fronts.{IsPart};
 ghost use Rattle.lexopt_options.specs.Reading.{AllSeen, AreAll, AreSeen, ComesNext, IsAtMostOne};
@@ -33,7 +33,8 @@ ghost use Rattle.lexopt_options.specs.Reading.{IsFirstUnseen, IsMissing, IsOne, 
 ghost use Rattle.lexopt_options.specs.Reading.{IsReadByKey, StopsBy, indexed_view, noted};
 
 use crate::indexed::Indexed;
-use crate::mistake::{Mistake, OptionName, hint};
+use crate::listed::{check, check_all, check_maybe};
+use crate::mistake::{Mistake, OptionName, long_hint, short_hint};
 use crate::options::Options;
 use crate::places::{first_key, give_keys};
 use crate::refused::{Line, Refused};
@@ -165,7 +166,8 @@ fn all_of(values: Values) -> Vec<OsString>
     }
 }
 
-// The option of this index, which was just read, by its key, or the mistake that it has no value.
+// The option of this index, which was just read, by its key; or the mistake that it has no value,
+// or one that it does not accept.
 fn read_told<'a, F: Copy, V: Copy, P: Copy, M: Copy, S: Copy>(
     alloc: Global,
     parser: &mut Parser,
@@ -187,30 +189,62 @@ fn read_told<'a, F: Copy, V: Copy, P: Copy, M: Copy, S: Copy>(
         declared::Kind::Help => Ok(Ok(Told::Asked(Asked::Help))),
         declared::Kind::Version(text) => Ok(Ok(Told::Asked(Asked::Version(text)))),
         declared::Kind::Value(key, _) => match read_values(alloc, parser, Kind::One) {
-            Ok(values) => Ok(Ok(Told::Said(Said::Value(key, one_of(values))))),
+            Ok(values) => match check(option, one_of(values)) {
+                Ok(value) => Ok(Ok(Told::Said(Said::Value(key, value)))),
+                Err(mistake) => Ok(Err(mistake)),
+            },
             Err(refused) => Ok(Err(missing_value(options, index, refused)?)),
         },
         declared::Kind::Maybe(key, _) => match read_values(alloc, parser, Kind::Optional) {
-            Ok(values) => Ok(Ok(Told::Said(Said::Maybe(key, at_most_one_of(values))))),
+            Ok(values) => match check_maybe(option, at_most_one_of(values)) {
+                Ok(value) => Ok(Ok(Told::Said(Said::Maybe(key, value)))),
+                Err(mistake) => Ok(Err(mistake)),
+            },
             Err(refused) => Ok(Err(missing_value(options, index, refused)?)),
         },
         declared::Kind::Values(key, _) => match read_values(alloc, parser, Kind::Several) {
-            Ok(values) => Ok(Ok(Told::Said(Said::Values(key, all_of(values))))),
+            Ok(values) => match check_all(option, all_of(values)) {
+                Ok(values) => Ok(Ok(Told::Said(Said::Values(key, values)))),
+                Err(mistake) => Ok(Err(mistake)),
+            },
             Err(refused) => Ok(Err(missing_value(options, index, refused)?)),
         },
     }
 }
 
-// The mistake that an option with this name is not declared.
-fn unknown_option<'a, F, V, P, M, S>(
+// The mistake that a long option is not declared.
+fn unknown_long<'a, F, V, P, M, S>(
     alloc: Global,
     options: &Options<'a, F, V, P, M, S>,
-    name: OptionName,
+    name: &str,
 ) -> Result<Mistake<'a>, AllocError>
-    ensures { IfOk result (λ mistake. IsMistake (declaration_of options.now) mistake
-        (stops.unknown_option (name_view name))) }
+    ensures { IfOk result (λ mistake. (left : Tail) → IsMistake (declaration_of options.now) mistake
+        (stops.unknown_option (table.long name.now) left)) }
 {
-    let hint = hint(alloc, options.options(), &name)?;
+    let hint = long_hint(alloc, options.options(), name)?;
+    let name = OptionName::Long(String::from_str(alloc, name)?);
+    Ok(Mistake::UnknownOption { name, hint })
+}
+
+// The mistake that a short option, which was just read, is not declared. The rest of its cluster is
+// taken.
+fn unknown_short<'a, F, V, P, M, S>(
+    alloc: Global,
+    parser: &mut Parser,
+    options: &Options<'a, F, V, P, M, S>,
+    option: char,
+) -> Result<Mistake<'a>, AllocError>
+    ensures { (u : UnreadLine) → Next u (steps.short option) parser.old
+        → IfOk result (λ mistake. IsMistake (declaration_of options.now) mistake
+        (stops.unknown_option (table.short option) parser.old.tail)) }
+{
+    // A `=` is one of its characters.
+    parser.set_short_equals(false);
+    let hint = match parser.optional_value() {
+        Some(rest) => short_hint(alloc, options.options(), option, rest.as_bytes())?,
+        None => None,
+    };
+    let name = OptionName::Short(option);
     Ok(Mistake::UnknownOption { name, hint })
 }
 
@@ -240,15 +274,15 @@ fn read_next<'a, F, V, P, M, S>(
         Ok(Found::Short(option)) => match index_of_short(options.options(), option) {
             Some(index) => Ok(Outcome::Option(index)),
             None => {
-                let name = OptionName::Short(option);
-                Ok(Outcome::Mistake(unknown_option(alloc, options, name)?))
+                let mistake = unknown_short(alloc, parser, options, option)?;
+                Ok(Outcome::Mistake(mistake))
             }
         },
         Ok(Found::Long) => match index_of_long(options.options(), parser.long_name()) {
             Some(index) => Ok(Outcome::Option(index)),
             None => {
-                let name = OptionName::Long(String::from_str(alloc, parser.long_name())?);
-                Ok(Outcome::Mistake(unknown_option(alloc, options, name)?))
+                let mistake = unknown_long(alloc, options, parser.long_name())?;
+                Ok(Outcome::Mistake(mistake))
             }
         },
         Ok(Found::Value(word)) => {
@@ -359,6 +393,14 @@ fn missing<'a, F, V, P, M, S>(
     }
 }
 
+// Adds an index to a list. It is not inlined, since few options are required.
+#[inline(never)]
+fn add_index(index: usize, seen: &mut Vec<usize>) -> Result<(), AllocError>
+    ensures { OnOk result (seen.new.items ≡ seen.old.items ++ index ∷ []) }
+{
+    Ok(seen.push(index)?)
+}
+
 // Notes the index of an option that was read, if it is required.
 fn note<F, V, M, S>(
     options: &[Declared<'_, F, V, M, S>],
@@ -369,7 +411,7 @@ fn note<F, V, M, S>(
         ≡ noted (is_required (map option_view options.now) index) index seen.old.items) }
 {
     match options.get(index) {
-        Some(option) if option.required => Ok(seen.push(index)?),
+        Some(option) if option.required => add_index(index, seen),
         _ => Ok(()),
     }
 }
@@ -455,6 +497,7 @@ where
         → asked_by (declaration_of options.now).options s ≡ Some (asked_view asked.entry)
         → AreSaid (options_of options.now) l said.items
         → AllFirst (positionals_of options.now) (positional_keys said.items)
+        → are_accepted (declaration_of options.now).options (l ++ s ∷ []) ≡ true
         → IfOk result (λ line. IsLineRead options.now words line) }
 {
     match parser.advance() {
@@ -469,7 +512,8 @@ where
     }
 }
 
-// A line that was read to its end.
+// A line that was read to its end. It is not inlined, since a line ends once.
+#[inline(never)]
 fn end<'a, F: Drop, V: Drop, P: Copy, M: Drop, S: Drop>(
     options: &Options<'a, F, V, P, M, S>,
     mut said: Vec<Said<F, V, P, M, S>>,
@@ -483,6 +527,7 @@ fn end<'a, F: Drop, V: Drop, P: Copy, M: Drop, S: Drop>(
         → first_asked (declaration_of options.now).options l ≡ None
         → AreSaid (options_of options.now) l said.items
         → AllFirst (positionals_of options.now) (positional_keys said.items)
+        → are_accepted (declaration_of options.now).options l ≡ true
         → IsLineRead options.now words result }
 {
     match missing(options, count, seen) {

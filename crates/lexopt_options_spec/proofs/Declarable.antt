@@ -11,8 +11,9 @@ use Rattle.lexopt_spec.specs.UnreadLine.{dash, equals}
 use Rattle.lexopt_line_spec.specs.Table.{long, Kind, flag, one, optional, several}
 use Rattle.lexopt_line_spec.proofs.Names.{encoded}
 use Rattle.lexopt_options_spec.specs.Completion.{AreText}
-use Rattle.lexopt_options_spec.specs.Declaration.{Declared, Reason, same_name, or_else, has, has_name, is_blank_or_control, is_empty, shares_name, short_fault, long_fault, placeholder_fault, fault, faults, is_sound}
-use Rattle.lexopt_options_spec.specs.Declarable.{has_replacement, is_good_short, is_good_long, is_good_placeholder, is_good, can_be_declared}
+use Rattle.lexopt_options_spec.specs.Declaration as spec
+use Rattle.lexopt_options_spec.specs.Declaration.{Declared, Words, files, directories, listed, Reason, bad_list, same_name, or_else, has, has_name, is_blank_or_control, is_empty, shares_name, short_fault, long_fault, placeholder_fault, list_fault, fault, faults, is_sound}
+use Rattle.lexopt_options_spec.specs.Declarable.{has_replacement, is_good_short, is_good_long, is_good_placeholder, are_good_words, is_good, can_be_declared}
 use Rattle.lexopt_options_spec.proofs.Tables.{pointwise_refl}
 
 -- ---- U+FFFD by its bytes
@@ -144,8 +145,22 @@ placeholder_good one placeholder none = none_only_if _ _ none
 placeholder_good optional placeholder none = none_only_if _ _ none
 placeholder_good several placeholder none = none_only_if _ _ none
 
-all_none : (s l p q : Option Reason) → s ≡ None → l ≡ None → p ≡ None → q ≡ None → or_else s (or_else l (or_else p q)) ≡ None
-all_none s l p q is js ks ls = rw (is, js, ks, ls) refl
+words_sound : (words : Words) → are_good_words words ≡ true → list_fault words ≡ None
+words_sound files good = refl
+words_sound directories good = refl
+words_sound spec.text good = refl
+words_sound (listed []) good = absurd (true≢false (sym good))
+words_sound (listed (value ∷ values)) good = is_none_if _ _ good
+
+words_good : (words : Words) → list_fault words ≡ None → are_good_words words ≡ true
+words_good files none = refl
+words_good directories none = refl
+words_good spec.text none = refl
+words_good (listed []) none = absurd (let e : Some bad_list ≡ None = none in cc)
+words_good (listed (value ∷ values)) none = none_only_if _ _ none
+
+all_none : (s l p w q : Option Reason) → s ≡ None → l ≡ None → p ≡ None → w ≡ None → q ≡ None → or_else s (or_else l (or_else p (or_else w q))) ≡ None
+all_none s l p w q is js ks ls ms = rw (is, js, ks, ls, ms) refl
 
 parts_none : (a b : Option Reason) → or_else a b ≡ None → (a ≡ None) × (b ≡ None)
 parts_none None b none = (refl, none)
@@ -153,17 +168,20 @@ parts_none (Some r) b none = absurd (let e : Some r ≡ None = none in cc)
 
 option_sound : (before : List Declared) (o : Declared) → HasText o.long_name → is_good o ≡ true → list_any (shares_name o) before ≡ false → fault before o ≡ None
 option_sound before o text good apart =
-    let parts = and_parts (is_good_short o.short_name && is_good_long o.long_name) (is_good_placeholder o.kind o.placeholder) good in
+    let whole = and_parts (is_good_short o.short_name && is_good_long o.long_name && is_good_placeholder o.kind o.placeholder) (are_good_words o.words) good in
+    let parts = and_parts (is_good_short o.short_name && is_good_long o.long_name) (is_good_placeholder o.kind o.placeholder) whole.0 in
     let names = and_parts (is_good_short o.short_name) (is_good_long o.long_name) parts.0 in
-    all_none _ _ _ _ (short_sound o.short_name names.0) (long_sound o.long_name text names.1) (placeholder_sound o.kind o.placeholder parts.1) (unless _ _ _ apart refl)
+    all_none _ _ _ _ _ (short_sound o.short_name names.0) (long_sound o.long_name text names.1) (placeholder_sound o.kind o.placeholder parts.1) (words_sound o.words whole.1) (unless _ _ _ apart refl)
 
 option_good : (before : List Declared) (o : Declared) → HasText o.long_name → fault before o ≡ None → (is_good o ≡ true) × (list_any (shares_name o) before ≡ false)
 option_good before o text none =
     let first = parts_none (short_fault o.short_name) _ none in
     let second = parts_none (long_fault o.long_name) _ first.1 in
     let third = parts_none (placeholder_fault o.kind o.placeholder) _ second.1 in
-    let fourth = only_if (list_any (shares_name o) before) same_name None third.1 in
-    (and_from _ _ (and_from _ _ (short_good o.short_name first.0) (long_good o.long_name text second.0)) (placeholder_good o.kind o.placeholder third.0), fourth.0)
+    let fourth = parts_none (list_fault o.words) _ third.1 in
+    let fifth = only_if (list_any (shares_name o) before) same_name None fourth.1 in
+    let names = and_from _ _ (short_good o.short_name first.0) (long_good o.long_name text second.0) in
+    (and_from _ _ (and_from _ _ names (placeholder_good o.kind o.placeholder third.0)) (words_good o.words fourth.0), fifth.0)
 
 -- ---- options one after the other
 

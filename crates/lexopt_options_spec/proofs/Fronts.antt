@@ -1,7 +1,7 @@
 -- What words mean, and where their reading stops.
-use Rattle.std.proofs.Common.{◌≡◌, ◌≤◌, ℕ, ◌+◌, suc, true, List, [], ◌∷◌, ◌++◌, map, Option, Some, None, refl, sym, ap, subst, ◌∙◌, arith}
+use Rattle.std.proofs.Common.{◌≡◌, ◌≤◌, ℕ, ◌+◌, suc, true, List, [], ◌∷◌, ◌++◌, map, Option, Some, None, is_none, refl, sym, ap, subst, ◌∙◌, arith}
 use Rattle.std.specs.Option.{option_map}
-use Rattle.std.proofs.lemmas.Bool.{false≢true}
+use Rattle.std.proofs.lemmas.Bool.{and_parts, false≢true}
 use Rattle.lexopt_spec.specs.UnreadLine.{UnreadLine}
 use Rattle.lexopt_spec.specs.Steps as steps
 use Rattle.lexopt_spec.specs.Steps.{Reply, Next}
@@ -13,12 +13,13 @@ use Rattle.lexopt_line_spec.specs.Speller.{IsOf}
 use Rattle.lexopt_line_spec.proofs.Existence.{only_one}
 use Rattle.lexopt_line_spec.proofs.Names.{shown_spells, spelled_shows}
 use Rattle.lexopt_line_spec.proofs.OneReading.{option_reading, some_reading}
+use Rattle.lexopt_line_spec.proofs.ItemsRead.{says_items}
 use Rattle.lexopt_line_spec.proofs.ReadingSteps.{says_positional, reads_last, reads_refused}
 use Rattle.lexopt_line_spec.proofs.RunAccounts.{step_line}
 use Rattle.lexopt_line_spec.proofs.WholeLines.{said_shows, shown_said}
 use Rattle.lexopt_options_spec.specs.Declaration.{Declaration, Declared, index_of, is_sound, table}
-use Rattle.lexopt_options_spec.specs.Legal.{Said, said_item, positional, positional_count, occurs, least, most, IsWithin, SaysFront, Says}
-use Rattle.lexopt_options_spec.specs.Stops.{Mistake, ReadsUpTo, Stops, not_declared, value_of_flag, no_value, one_too_many, too_few, not_complete, StopsAt, missing_argument, missing_option}
+use Rattle.lexopt_options_spec.specs.Legal.{Said, said_item, positional, positional_count, occurs, least, most, IsWithin, SaysFront, Says, are_accepted, refused_value}
+use Rattle.lexopt_options_spec.specs.Stops.{Mistake, ReadsUpTo, Stops, not_declared, value_of_flag, no_value, not_accepted, one_too_many, too_few, not_complete, StopsAt, invalid_value, missing_argument, missing_option}
 use Rattle.lexopt_options_spec.proofs.Sound.{whole_names}
 use Rattle.lexopt_options_spec.proofs.Lists.{Later, split, first_none, first_is, same_somes, count_append}
 
@@ -56,21 +57,30 @@ front_said d sound words items l reading said within = record {
 
 -- ---- where a reading stops, nothing is read
 
+-- the reading of these words comes to this mistake, whether or not each option accepts the values before it
+pub record ComesTo (d : Declaration) (words : List (List ℕ)) (before : List Said) (mistake : Mistake) : Type 0 where
+  pub there : UnreadLine
+  pub read : ReadsUpTo d (start d.short_equals words) before there
+  pub stops : Stops d before there mistake
+
+pub comes_to : {d : Declaration} {words : List (List ℕ)} {before : List Said} {mistake : Mistake} → StopsAt d words before mistake → ComesTo d words before mistake
+comes_to at = record { there = at.there; read = at.read; stops = at.stops }
+
 -- every reading of the line that is left is the end of one of the whole, so it means what the words
 -- spell
 record Ends (d : Declaration) (before : List Item) (spelled : List Item) (final : Reply) (m : List Item) : Type 0 where
   final_is : final ≡ steps.end
   items_are : spelled ≡ before ++ m
 
-ends : (d : Declaration) (words : List (List ℕ)) (before : List Said) (mistake : Mistake) (there : StopsAt d words before mistake) (l : List Said) (says : SaysFront d words l)
+ends : (d : Declaration) (words : List (List ℕ)) (before : List Said) (mistake : Mistake) (there : ComesTo d words before mistake) (l : List Said) (says : SaysFront d words l)
     → (final : Reply) (m : List Item) → IsReading (table d.options) there.there final m → Ends d there.read.items says.items final m
 ends d words before mistake there l says final m reading =
-    let whole = there.read.read final m reading in
+    let whole = says_items (table d.options) (start d.short_equals words) there.there there.read.items there.read.read final m reading in
     let said = shown_said (table d.options) d.short_equals words says.items (there.read.items ++ m) final
     (spelled_shows (table d.options) d.short_equals words says.items says.spelled) whole in
     record { final_is = said.0; items_are = said.1 }
 
-later : (d : Declaration) (words : List (List ℕ)) (before : List Said) (mistake : Mistake) (there : StopsAt d words before mistake) (l : List Said) (says : SaysFront d words l)
+later : (d : Declaration) (words : List (List ℕ)) (before : List Said) (mistake : Mistake) (there : ComesTo d words before mistake) (l : List Said) (says : SaysFront d words l)
     → (m : List Item) → says.items ≡ there.read.items ++ m → Later (said_item d.options) m before l
 later d words before mistake there l says m is =
     split (said_item d.options) there.read.items m before l there.read.said (sym (ap (map (said_item d.options)) is) ∙ says.said)
@@ -79,22 +89,23 @@ above : (n k : ℕ) (limit : Option ℕ) → limit ≡ Some n → IsWithin (n + 
 above n k None is within = let e : None ≡ Some n = is in cc
 above n k (Some m) is within = let e : m ≡ n = (let f : Some m ≡ Some n = is in cc) in omega arith
 
-stops_front : (d : Declaration) (words : List (List ℕ)) (before : List Said) (mistake other : Mistake) (there : StopsAt d words before mistake) → mistake ≡ other
-    → ((count : ℕ) → other ≡ missing_argument count → ⊥) → ((index : ℕ) → other ≡ missing_option index → ⊥) → Stops d before there.there other → (l : List Said) → SaysFront d words l → ⊥
-stops_front d words before mistake other there is not neither (not_declared name v step none) l says =
+stops_front : (d : Declaration) (words : List (List ℕ)) (before : List Said) (mistake other : Mistake) (there : ComesTo d words before mistake) → mistake ≡ other
+    → ((count : ℕ) → other ≡ missing_argument count → ⊥) → ((index : ℕ) → other ≡ missing_option index → ⊥) → ((index : ℕ) (value : List ℕ) → other ≡ invalid_value index value → ⊥)
+    → Stops d before there.there other → (l : List Said) → SaysFront d words l → ⊥
+stops_front d words before mistake other there is not neither nor (not_declared name v step none) l says =
     let t = table d.options in
     let r = option_reading t there.there v name (step_line next there.there (option_reply name) v there.read.line step) step in
     let e = ends d words before mistake there l says r.0 (item_after name r.1 ∷ items_said r.1) r.2 in
     let rest = later d words before mistake there l says (item_after name r.1 ∷ items_said r.1) e.items_are in
     first_none (said_item d.options) (item_after name r.1) (items_said r.1) rest.later (undeclared d.options name (item_after name r.1) (item_of name r.1) none) rest.are
-stops_front d words before mistake other there is not neither (value_of_flag option value v step) l says =
+stops_front d words before mistake other there is not neither nor (value_of_flag option value v step) l says =
     let e = ends d words before mistake there l says (steps.unexpected option value) _ (reads_last (table d.options) there.there v (steps.unexpected option value) tt step) in
     let f : steps.unexpected option value ≡ steps.end = e.final_is in cc
-stops_front d words before mistake other there is not neither (no_value name index option call v w step found due takes) l says =
+stops_front d words before mistake other there is not neither nor (no_value name index option call v w step found due takes) l says =
     let e = ends d words before mistake there l says (steps.missing (Some option)) _
     (reads_refused (table d.options) there.there v w name (kind (table d.options) name) call (steps.missing (Some option)) refl due tt step takes) in
     let f : steps.missing (Some option) ≡ steps.end = e.final_is in cc
-stops_front d words before mistake other there is not neither (one_too_many word v step limit) l says =
+stops_front d words before mistake other there is not neither nor (one_too_many word v step limit) l says =
     let t = table d.options in
     let r = some_reading t v (step_line next there.there (steps.positional word) v there.read.line step) in
     let e = ends d words before mistake there l says r.0 _ (says_positional t there.there v word step r.0 r.1 r.2) in
@@ -103,16 +114,18 @@ stops_front d words before mistake other there is not neither (one_too_many word
     let count : positional_count l ≡ positional_count before + suc (positional_count first.0) =
     ap positional_count rest.all_are ∙ count_append before rest.later ∙ ap (λ m. positional_count before + positional_count m) first.1 ∙ ap (λ n. positional_count before + n) (omega arith) in
     above (positional_count before) (positional_count first.0) (most d.positionals) limit (subst (λ n. IsWithin n (most d.positionals)) count says.within)
-stops_front d words before mistake other there is not neither (too_few v step few) l says = absurd (not (positional_count before) refl)
-stops_front d words before mistake other there is not neither (not_complete index v step enough first) l says = absurd (neither index refl)
+stops_front d words before mistake other there is not neither nor (not_accepted s index value v read option refused) l says = absurd (nor index value refl)
+stops_front d words before mistake other there is not neither nor (too_few v step few) l says = absurd (not (positional_count before) refl)
+stops_front d words before mistake other there is not neither nor (not_complete index v step enough first) l says = absurd (neither index refl)
 
--- these words mean no front of a line, but where a positional or an option is missing
-pub no_front : (d : Declaration) (words : List (List ℕ)) (before : List Said) (mistake : Mistake) → StopsAt d words before mistake
-    → ((count : ℕ) → mistake ≡ missing_argument count → ⊥) → ((index : ℕ) → mistake ≡ missing_option index → ⊥) → (l : List Said) → SaysFront d words l → ⊥
-no_front d words before mistake there not neither l says = stops_front d words before mistake mistake there refl not neither there.stops l says
+-- these words mean no front of a line, but where a positional or an option is missing, or a value is not accepted
+pub no_front : (d : Declaration) (words : List (List ℕ)) (before : List Said) (mistake : Mistake) → ComesTo d words before mistake
+    → ((count : ℕ) → mistake ≡ missing_argument count → ⊥) → ((index : ℕ) → mistake ≡ missing_option index → ⊥) → ((index : ℕ) (value : List ℕ) → mistake ≡ invalid_value index value → ⊥)
+    → (l : List Said) → SaysFront d words l → ⊥
+no_front d words before mistake there not neither nor l says = stops_front d words before mistake mistake there refl not neither nor there.stops l says
 
 -- where something is missing, what was read is all that is read
-front_is : (d : Declaration) (words : List (List ℕ)) (before : List Said) (mistake : Mistake) (there : StopsAt d words before mistake) (v : UnreadLine) → Next there.there steps.end v
+front_is : (d : Declaration) (words : List (List ℕ)) (before : List Said) (mistake : Mistake) (there : ComesTo d words before mistake) (v : UnreadLine) → Next there.there steps.end v
     → (l : List Said) → SaysFront d words l → l ≡ before
 front_is d words before mistake there v step l says =
     let e = ends d words before mistake there l says steps.end [] (reads_last (table d.options) there.there v steps.end tt step) in
@@ -123,7 +136,14 @@ front_is d words before mistake there v step l says =
     append_nil [] = refl
     append_nil (s ∷ l) = ap (λ m. s ∷ m) (append_nil l)
 
-stops_whole : (d : Declaration) (words : List (List ℕ)) (before : List Said) (mistake other : Mistake) (there : StopsAt d words before mistake) → mistake ≡ other
+-- among accepted ones no value is refused
+pub not_refused : (options : List Declared) (before : List Said) (s : Said) (rest : List Said) (value : List ℕ) → are_accepted options (before ++ s ∷ rest) ≡ true → refused_value options s ≡ Some value → ⊥
+not_refused options [] s rest value accepted refused =
+    let parts = and_parts (is_none (refused_value options s)) (are_accepted options rest) accepted in false≢true (sym (ap is_none refused) ∙ parts.0)
+not_refused options (b ∷ before) s rest value accepted refused =
+    let parts = and_parts (is_none (refused_value options b)) (are_accepted options (before ++ s ∷ rest)) accepted in not_refused options before s rest value parts.1 refused
+
+stops_whole : (d : Declaration) (words : List (List ℕ)) (before : List Said) (mistake other : Mistake) (there : ComesTo d words before mistake) → mistake ≡ other
     → Stops d before there.there other → (l : List Said) → Says d words l → ⊥
 stops_whole d words before mistake other there is (too_few v step few) l says =
     let same = front_is d words before mistake there v step l says.front in
@@ -132,18 +152,26 @@ stops_whole d words before mistake other there is (too_few v step few) l says =
 stops_whole d words before mistake other there is (not_complete index v step enough first) l says =
     let same = front_is d words before mistake there v step l says.front in
     false≢true (sym first.absent ∙ ap (occurs index) (sym same) ∙ says.complete index first.here)
+stops_whole d words before mistake other there is (not_accepted s index value v read option refused) l says =
+    let t = table d.options in
+    let r = some_reading t v read.line in
+    let e = ends d words before mistake there l says.front r.0 (read.items ++ r.1) (says_items t there.there v read.items read.read r.0 r.1 r.2) in
+    let rest = later d words before mistake there l says.front (read.items ++ r.1) e.items_are in
+    let more = split (said_item d.options) read.items r.1 (s ∷ []) rest.later read.said rest.are in
+    let accepted : are_accepted d.options (before ++ s ∷ more.later) ≡ true = subst (λ m. are_accepted d.options m ≡ true) (rest.all_are ∙ ap (λ m. before ++ m) more.all_are) says.accepted in
+    not_refused d.options before s more.later value accepted refused
 stops_whole d words before mistake other there is (not_declared name v step none) l says =
-    stops_front d words before mistake other there is (λ count same. cc) (λ index same. cc) (not_declared name v step none) l says.front
+    stops_front d words before mistake other there is (λ count same. cc) (λ index same. cc) (λ index value same. cc) (not_declared name v step none) l says.front
 stops_whole d words before mistake other there is (value_of_flag option value v step) l says =
-    stops_front d words before mistake other there is (λ count same. cc) (λ index same. cc) (value_of_flag option value v step) l says.front
+    stops_front d words before mistake other there is (λ count same. cc) (λ index same. cc) (λ index value same. cc) (value_of_flag option value v step) l says.front
 stops_whole d words before mistake other there is (no_value name index option call v w step found due takes) l says =
-    stops_front d words before mistake other there is (λ count same. cc) (λ index same. cc) (no_value name index option call v w step found due takes) l says.front
+    stops_front d words before mistake other there is (λ count same. cc) (λ index same. cc) (λ index value same. cc) (no_value name index option call v w step found due takes) l says.front
 stops_whole d words before mistake other there is (one_too_many word v step limit) l says =
-    stops_front d words before mistake other there is (λ count same. cc) (λ index same. cc) (one_too_many word v step limit) l says.front
+    stops_front d words before mistake other there is (λ count same. cc) (λ index same. cc) (λ index value same. cc) (one_too_many word v step limit) l says.front
 
 -- nothing is read by words whose reading stops
 pub nothing_said : (d : Declaration) (words : List (List ℕ)) (before : List Said) (mistake : Mistake) → StopsAt d words before mistake → (l : List Said) → Says d words l → ⊥
-nothing_said d words before mistake there l says = stops_whole d words before mistake mistake there refl there.stops l says
+nothing_said d words before mistake at l says = let there = comes_to at in stops_whole d words before mistake mistake there refl there.stops l says
 
 -- ---- what a front of a line means
 
@@ -153,6 +181,7 @@ pub front_later : (d : Declaration) (words : List (List ℕ)) (before : List Sai
 front_later d words before there read l says =
     let r = some_reading (table d.options) there read.line in
     let said = shown_said (table d.options) d.short_equals words says.items (read.items ++ r.1) r.0
-    (spelled_shows (table d.options) d.short_equals words says.items says.spelled) (read.read r.0 r.1 r.2) in
+    (spelled_shows (table d.options) d.short_equals words says.items says.spelled)
+    (says_items (table d.options) (start d.short_equals words) there read.items read.read r.0 r.1 r.2) in
     let rest = split (said_item d.options) read.items r.1 before l read.said (sym (ap (map (said_item d.options)) said.1) ∙ says.said) in
     (rest.later, rest.all_are)

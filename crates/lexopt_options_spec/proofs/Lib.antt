@@ -1,4 +1,5 @@
 pub mod Lists
+pub mod Listed
 pub mod Texts
 pub mod FaultLemmas
 pub mod Sound

@@ -23,7 +23,7 @@ none_and : (b : Bool) (r : Reason) (rest : Option Reason) → cond b (Some r) re
 none_and true r rest is = absurd (let e : Some r ≡ None = is in cc)
 none_and false r rest is = (refl, is)
 
-neither : (a b : Option Reason) → or_else a b ≡ None → (a ≡ None) × (b ≡ None)
+pub neither : (a b : Option Reason) → or_else a b ≡ None → (a ≡ None) × (b ≡ None)
 neither None b is = (refl, is)
 neither (Some r) b is = absurd (let e : Some r ≡ None = is in cc)
 
@@ -34,7 +34,7 @@ both false b is = absurd (false≢true is)
 differ : (a b : ℕ) → (a == b) ≡ false → a ≢ b
 differ a b is same = false≢true (sym is ∙ eq-eqb a b same)
 
-no_fault : (f : Option Reason) → is_none f ≡ true → f ≡ None
+pub no_fault : (f : Option Reason) → is_none f ≡ true → f ≡ None
 no_fault None is = refl
 no_fault (Some r) is = absurd (false≢true is)
 

@@ -1,11 +1,11 @@
 -- Where an option can come.
-use Rattle.std.proofs.lemmas.Bool.{and_parts, eq-eqb, false≢true}
+use Rattle.std.proofs.lemmas.Bool.{and_from, and_parts, eq-eqb, false≢true}
 use Rattle.std.proofs.lemmas.List.Elements.{Contains-append_right}
-use Rattle.std.proofs.Common.{◌≡◌, ◌≢◌, ◌<◌, ◌≤◌, ◌+◌, ◌-◌, ◌||◌, Contains, is_none, position, ℕ, zero, suc, Bool, true, false, List, [], ◌∷◌, ◌++◌, map, length, filter, slice_index_or, Option, Some, None, if◌then◌else◌, encode_utf8, refl, sym, ap, subst, ◌∙◌, arith, inr, append_assoc, length-append}
+use Rattle.std.proofs.Common.{◌≡◌, ◌≢◌, ◌<◌, ◌≤◌, ◌+◌, ◌-◌, ◌||◌, Contains, is_none, position, ℕ, zero, suc, Bool, true, false, List, [], ◌∷◌, ◌++◌, map, length, filter, slice_get, slice_index_or, Option, Some, None, if◌then◌else◌, encode_utf8, refl, sym, ap, subst, ◌∙◌, arith, inr, append_assoc, length-append}
 use Rattle.std.specs.Char.{IsScalar}
 use Rattle.std.specs.List.{list_all, list_any}
 use Rattle.std.specs.Option.{option_map}
-use Rattle.lexopt_spec.specs.UnreadLine.{dash, IsPlain, IsNormalIn}
+use Rattle.lexopt_spec.specs.UnreadLine.{dash, BeginsWith, IsPlain, IsNormalIn}
 use Rattle.lexopt_line_spec.specs.Table as spec
 use Rattle.lexopt_line_spec.specs.Table.{Name, short, long, Item, Kind, flag, one, optional, several, kind, Table}
 use Rattle.lexopt_line_spec.specs.Spelling as lines
@@ -15,11 +15,12 @@ use Rattle.lexopt_line_spec.proofs.Existence.{only_one}
 use Rattle.lexopt_line_spec.proofs.Names.{spelled_shows}
 use Rattle.lexopt_line_spec.proofs.SpellerTests.{dash_first, some_bytes}
 use Rattle.lexopt_line_spec.proofs.SpellerSound.{not_plain}
-use Rattle.lexopt_options_spec.specs.Declaration.{Declaration, Declared, Positional, fault, faults, has_name, has_to_occur, index_of, is_sound, may_repeat, table}
-use Rattle.lexopt_options_spec.specs.Legal.{Said, option, several, positional, said_item, positional_count, least, most, IsWithin, SaysFront, is_required, occurs}
+use Rattle.lexopt_options_spec.specs.Declaration.{Declaration, Declared, Positional, fault, faults, has_name, has_to_occur, index_of, is_sound, list_fault, may_repeat, table}
+use Rattle.lexopt_options_spec.specs.Legal.{Said, option, several, positional, said_item, positional_count, least, most, IsWithin, SaysFront, accepts_at, are_accepted, is_required, occurs, refused_value}
 use Rattle.lexopt_options_spec.specs.Legal as legal
 use Rattle.lexopt_options_spec.specs.Completion.{spelling, AreText, IsOption, IsOpen, IsText, CanStand}
 use Rattle.lexopt_options_spec.proofs.Lists.{count_append, first_same, same_somes}
+use Rattle.lexopt_options_spec.proofs.Listed.{accepted_append, accepted_front, accepts_here, list_good, one_accepted, option_there, single_accepted, slice_get_at, value_fits, value_for, value_plain}
 use Rattle.lexopt_options_spec.proofs.Sound.{IsGoodName, found, good}
 use Rattle.lexopt_options_spec.proofs.Tables.{kind_of_name, none_before, position_here}
 use Rattle.lexopt_options_spec.proofs.OpenLines.{OpenLine, Parts, open_to_the_end, up_to_separator, dashes, goes_on, parts}
@@ -36,45 +37,45 @@ not_normal (long name) is rest = not_plain (dash ∷ name) (λ same. let e : das
 pub dashes_calm : (rest : List (List ℕ)) → ¬ IsNormalIn false (dashes ∷ rest)
 dashes_calm rest = not_plain (dash ∷ []) (λ same. let e : dash ∷ [] ≡ [] = same in cc)
 
--- ---- an option alone, with empty words for its values
+-- ---- an option alone, with this word for its value
 
-values_of : Kind → List (List ℕ)
-values_of flag = []
-values_of one = [] ∷ []
-values_of optional = []
-values_of several = [] ∷ []
+values_of : Kind → List ℕ → List (List ℕ)
+values_of flag v = []
+values_of one v = v ∷ []
+values_of optional v = []
+values_of several v = v ∷ []
 
-item_for : Kind → Name → Item
-item_for flag name = spec.option name None
-item_for one name = spec.option name (Some [])
-item_for optional name = spec.option name None
-item_for several name = spec.many name ([] ∷ [])
+item_for : Kind → List ℕ → Name → Item
+item_for flag v name = spec.option name None
+item_for one v name = spec.option name (Some v)
+item_for optional v name = spec.option name None
+item_for several v name = spec.many name (v ∷ [])
 
-one_plain : (k : ℕ) (d : List ℕ) → k < 1 → IsPlain false (slice_index_or ([] ∷ []) k d)
-one_plain zero d within = inr (inr (λ b. b))
-one_plain (suc k) d within = absurd (omega arith)
+one_plain : (v : List ℕ) → ¬ BeginsWith dash v → (k : ℕ) (d : List ℕ) → k < 1 → IsPlain false (slice_index_or (v ∷ []) k d)
+one_plain v plain zero d within = inr (inr plain)
+one_plain v plain (suc k) d within = absurd (omega arith)
 
-completed : (k : Kind) (name : Name) (tail : List (List ℕ)) → ¬ IsNormalIn false tail → Completes k name nothing (values_of k ++ tail) (item_for k name) tail
+completed : (k : Kind) (v : List ℕ) (name : Name) (tail : List (List ℕ)) → ¬ BeginsWith dash v → ¬ IsNormalIn false tail → Completes k name nothing (values_of k v ++ tail) (item_for k v name) tail
 unfolding values_of item_for
-completed flag name tail calm = no_value refl refl refl
-completed one name tail calm = next_word [] refl refl refl
-completed optional name tail calm = no_optional refl refl refl
-completed several name tail calm =
-    several_words ([] ∷ []) refl (record { words_are = refl; plain = one_plain; longest = calm }) (λ none. let e : [] ∷ [] ≡ [] = none in cc) refl
+completed flag v name tail plain calm = no_value refl refl refl
+completed one v name tail plain calm = next_word v refl refl refl
+completed optional v name tail plain calm = no_optional refl refl refl
+completed several v name tail plain calm =
+    several_words (v ∷ []) refl (record { words_are = refl; plain = one_plain v plain; longest = calm }) (λ none. let e : v ∷ [] ≡ [] = none in cc) refl
 
 append_nil : {X : Type 0} (l : List X) → l ≡ l ++ []
 append_nil [] = refl
 append_nil (x ∷ l) = ap (λ m. x ∷ m) (append_nil l)
 
-spelled_group : (t : Table) (on : Bool) (name : Name) (tail : List (List ℕ)) → IsText name → IsGoodName name → ¬ IsNormalIn false tail
-    → Group exact t on (spelling name ∷ values_of (kind t name) ++ tail) (item_for (kind t name) name ∷ []) tail
-spelled_group t on (short c) tail text is calm =
-    cluster (encode_utf8 c ++ []) (values_of (kind t (short c)) ++ tail) (ap (λ (l : List ℕ). (dash ∷ l) ∷ values_of (kind t (short c)) ++ tail) (append_nil (encode_utf8 c)))
+spelled_group : (t : Table) (on : Bool) (name : Name) (v : List ℕ) (tail : List (List ℕ)) → IsText name → IsGoodName name → ¬ BeginsWith dash v → ¬ IsNormalIn false tail
+    → Group exact t on (spelling name ∷ values_of (kind t name) v ++ tail) (item_for (kind t name) v name ∷ []) tail
+spelled_group t on (short c) v tail text is plain calm =
+    cluster (encode_utf8 c ++ []) (values_of (kind t (short c)) v ++ tail) (ap (λ (l : List ℕ). (dash ∷ l) ∷ values_of (kind t (short c)) v ++ tail) (append_nil (encode_utf8 c)))
     (λ begins. is.0 (dash_first c [] begins))
-    (last_option c (encode_utf8 c) [] nothing (item_for (kind t (short c)) (short c)) (text, refl) (nothing_more refl refl) (completed (kind t (short c)) (short c) tail calm))
-spelled_group t on (long name) tail text is calm =
-    lines.long_option name name name nothing (item_for (kind t (long name)) (long name)) (values_of (kind t (long name)) ++ tail) refl (name_alone is.0 refl refl) is.1 (text, refl)
-    (completed (kind t (long name)) (long name) tail calm) refl
+    (last_option c (encode_utf8 c) [] nothing (item_for (kind t (short c)) v (short c)) (text, refl) (nothing_more refl refl) (completed (kind t (short c)) v (short c) tail plain calm))
+spelled_group t on (long name) v tail text is plain calm =
+    lines.long_option name name name nothing (item_for (kind t (long name)) v (long name)) (values_of (kind t (long name)) v ++ tail) refl (name_alone is.0 refl refl) is.1 (text, refl)
+    (completed (kind t (long name)) v (long name) tail plain calm) refl
 
 -- this many empty words
 blanks : ℕ → List (List ℕ)
@@ -82,46 +83,57 @@ blanks zero = []
 blanks (suc n) = [] ∷ blanks n
 
 -- the option, and then a line
-spelled_line : (t : Table) (on : Bool) (name : Name) (tail : List (List ℕ)) (items : List Item) → IsText name → IsGoodName name → ¬ IsNormalIn false tail → Line exact t on tail items
-    → Line exact t on (spelling name ∷ values_of (kind t name) ++ tail) (item_for (kind t name) name ∷ items)
-spelled_line t on name tail items text is calm line =
-    group (spelling name ∷ values_of (kind t name) ++ tail) tail (item_for (kind t name) name ∷ []) items (spelled_group t on name tail text is calm) line
+spelled_line : (t : Table) (on : Bool) (name : Name) (v : List ℕ) (tail : List (List ℕ)) (items : List Item) → IsText name → IsGoodName name → ¬ BeginsWith dash v → ¬ IsNormalIn false tail → Line exact t on tail items
+    → Line exact t on (spelling name ∷ values_of (kind t name) v ++ tail) (item_for (kind t name) v name ∷ items)
+spelled_line t on name v tail items text is plain calm line =
+    group (spelling name ∷ values_of (kind t name) v ++ tail) tail (item_for (kind t name) v name ∷ []) items (spelled_group t on name v tail text is plain calm) line
 
 -- ---- what is read of it
 
-said_for : ℕ → Kind → Said
-said_for i flag = option i None
-said_for i one = option i (Some [])
-said_for i optional = option i None
-said_for i several = several i ([] ∷ [])
+said_for : ℕ → Kind → List ℕ → Said
+said_for i flag v = option i None
+said_for i one v = option i (Some v)
+said_for i optional v = option i None
+said_for i several v = several i (v ∷ [])
 
-is_said : (options : List Declared) (name : Name) (i : ℕ) (k : Kind) → index_of options name ≡ Some i → said_item options (item_for k name) ≡ Some (said_for i k)
+is_said : (options : List Declared) (name : Name) (i : ℕ) (k : Kind) (v : List ℕ) → index_of options name ≡ Some i → said_item options (item_for k v name) ≡ Some (said_for i k v)
 unfolding item_for said_for
-is_said options name i flag found = ap (option_map (λ j. option j None)) found
-is_said options name i one found = ap (option_map (λ j. option j (Some []))) found
-is_said options name i optional found = ap (option_map (λ j. option j None)) found
-is_said options name i several found = ap (option_map (λ j. several j ([] ∷ []))) found
+is_said options name i flag v found = ap (option_map (λ j. option j None)) found
+is_said options name i one v found = ap (option_map (λ j. option j (Some v))) found
+is_said options name i optional v found = ap (option_map (λ j. option j None)) found
+is_said options name i several v found = ap (option_map (λ j. several j (v ∷ []))) found
 
-is_option : (i : ℕ) (k : Kind) → IsOption i (said_for i k)
+is_option : (i : ℕ) (k : Kind) (v : List ℕ) → IsOption i (said_for i k v)
 unfolding said_for
-is_option i flag = refl
-is_option i one = refl
-is_option i optional = refl
-is_option i several = refl
+is_option i flag v = refl
+is_option i one v = refl
+is_option i optional v = refl
+is_option i several v = refl
 
-counts_none : (i : ℕ) (k : Kind) (l : List Said) → positional_count (said_for i k ∷ l) ≡ positional_count l
+counts_none : (i : ℕ) (k : Kind) (v : List ℕ) (l : List Said) → positional_count (said_for i k v ∷ l) ≡ positional_count l
 unfolding said_for
-counts_none i flag l = omega arith
-counts_none i one l = omega arith
-counts_none i optional l = omega arith
-counts_none i several l = omega arith
+counts_none i flag v l = omega arith
+counts_none i one v l = omega arith
+counts_none i optional v l = omega arith
+counts_none i several v l = omega arith
 
-occurs_once : (i : ℕ) (k : Kind) (l : List Said) → occurs i (said_for i k ∷ l) ≡ true
+occurs_once : (i : ℕ) (k : Kind) (v : List ℕ) (l : List Said) → occurs i (said_for i k v ∷ l) ≡ true
 unfolding said_for
-occurs_once i flag l = ap (λ b. b || occurs i l) (eq-eqb i i refl)
-occurs_once i one l = ap (λ b. b || occurs i l) (eq-eqb i i refl)
-occurs_once i optional l = ap (λ b. b || occurs i l) (eq-eqb i i refl)
-occurs_once i several l = ap (λ b. b || occurs i l) (eq-eqb i i refl)
+occurs_once i flag v l = ap (λ b. b || occurs i l) (eq-eqb i i refl)
+occurs_once i one v l = ap (λ b. b || occurs i l) (eq-eqb i i refl)
+occurs_once i optional v l = ap (λ b. b || occurs i l) (eq-eqb i i refl)
+occurs_once i several v l = ap (λ b. b || occurs i l) (eq-eqb i i refl)
+
+-- its option accepts the value
+accepted_one : (options : List Declared) (i : ℕ) (k : Kind) (v : List ℕ) → accepts_at options i v ≡ true → refused_value options (said_for i k v) ≡ None
+unfolding said_for
+accepted_one options i flag v is = refl
+accepted_one options i one v is = one_accepted options i v is
+accepted_one options i optional v is = refl
+accepted_one options i several v is = single_accepted options i v is
+
+accepted_more : (options : List Declared) (i : ℕ) (k : Kind) (v : List ℕ) (l : List Said) → accepts_at options i v ≡ true → are_accepted options l ≡ true → are_accepted options (said_for i k v ∷ l) ≡ true
+accepted_more options i k v l is rest = and_from _ _ (ap is_none (accepted_one options i k v is)) rest
 
 or_right : (b : Bool) → (b || true) ≡ true
 or_right true = refl
@@ -141,31 +153,31 @@ abbrev pub AreNamed : List Declared → Type 0
 AreNamed [] = Unit {0}
 AreNamed (o ∷ os) = ((name : Name) × (has_name name o ≡ true)) × AreNamed os
 
-abbrev with_words : Bool → Name → Kind → List (List ℕ) → List (List ℕ)
-with_words true name k words = spelling name ∷ values_of k ++ words
-with_words false name k words = words
+abbrev with_words : Bool → Name → Kind → List ℕ → List (List ℕ) → List (List ℕ)
+with_words true name k v words = spelling name ∷ values_of k v ++ words
+with_words false name k v words = words
 
-abbrev with_item : Bool → Name → Kind → List Item → List Item
-with_item true name k items = item_for k name ∷ items
-with_item false name k items = items
+abbrev with_item : Bool → Name → Kind → List ℕ → List Item → List Item
+with_item true name k v items = item_for k v name ∷ items
+with_item false name k v items = items
 
-abbrev with_said : Bool → ℕ → Kind → List Said → List Said
-with_said true i k l = said_for i k ∷ l
-with_said false i k l = l
+abbrev with_said : Bool → ℕ → Kind → List ℕ → List Said → List Said
+with_said true i k v l = said_for i k v ∷ l
+with_said false i k v l = l
 
 -- the required ones of these options, and then these words
 abbrev required_words : (os : List Declared) → AreNamed os → List (List ℕ) → List (List ℕ)
 required_words [] named words = words
-required_words (o ∷ os) named words = with_words o.required named.0.0 o.kind (required_words os named.1 words)
+required_words (o ∷ os) named words = with_words o.required named.0.0 o.kind (value_for o.words) (required_words os named.1 words)
 
 abbrev required_items : (os : List Declared) → AreNamed os → List Item → List Item
 required_items [] named items = items
-required_items (o ∷ os) named items = with_item o.required named.0.0 o.kind (required_items os named.1 items)
+required_items (o ∷ os) named items = with_item o.required named.0.0 o.kind (value_for o.words) (required_items os named.1 items)
 
 -- counted from this index
 abbrev required_said : ℕ → List Declared → List Said → List Said
 required_said i [] l = l
-required_said i (o ∷ os) l = with_said o.required i o.kind (required_said (suc i) os l)
+required_said i (o ∷ os) l = with_said o.required i o.kind (value_for o.words) (required_said (suc i) os l)
 
 -- what holds of the name of an option
 pub record IsNameOf (options : List Declared) (i : ℕ) (o : Declared) (name : Name) : Type 0 where
@@ -173,6 +185,8 @@ pub record IsNameOf (options : List Declared) (i : ℕ) (o : Declared) (name : N
   good : IsGoodName name
   kind_is : kind (table options) name ≡ o.kind
   index : index_of options name ≡ Some i
+  there : slice_get options i ≡ Some o
+  listed : list_fault o.words ≡ None
 
 abbrev AreNamesOf : List Declared → ℕ → (os : List Declared) → AreNamed os → Type 0
 AreNamesOf options i [] named = Unit {0}
@@ -198,6 +212,8 @@ named_so options before (o ∷ os) named sound text are so =
         good = good options name (length before) sound index;
         kind_is = kind_of_name options o sound (subst (λ (l : List Declared). Contains l o) (sym are) (Contains-append_right before (o ∷ os) o (zero, omega arith, refl))) name has;
         index = index;
+        there = subst (λ (l : List Declared). slice_get l (length before) ≡ Some o) (sym are) (slice_get_at before os o);
+        listed = list_good options (length before) o sound (subst (λ (l : List Declared). slice_get l (length before) ≡ Some o) (sym are) (slice_get_at before os o));
       },
       subst (λ n. AreNamesOf options n os named.1) counted rest,
     )
@@ -207,8 +223,8 @@ required_calm : (options : List Declared) (i : ℕ) (os : List Declared) (named 
 required_calm options i [] named words are calm = calm
 required_calm options i (o ∷ os) named words are calm = go o.required (required_calm options (suc i) os named.1 words are.1 calm)
   where
-    go : (b : Bool) → ¬ IsNormalIn false (required_words os named.1 words) → ¬ IsNormalIn false (with_words b named.0.0 o.kind (required_words os named.1 words))
-    go true rest = not_normal named.0.0 are.0.text (values_of o.kind ++ required_words os named.1 words)
+    go : (b : Bool) → ¬ IsNormalIn false (required_words os named.1 words) → ¬ IsNormalIn false (with_words b named.0.0 o.kind (value_for o.words) (required_words os named.1 words))
+    go true rest = not_normal named.0.0 are.0.text (values_of o.kind (value_for o.words) ++ required_words os named.1 words)
     go false rest = rest
 
 required_line : (options : List Declared) (on : Bool) (i : ℕ) (os : List Declared) (named : AreNamed os) (words : List (List ℕ)) (items : List Item) → AreNamesOf options i os named → ¬ IsNormalIn false words
@@ -220,10 +236,10 @@ required_line options on i (o ∷ os) named words items are calm line = go o.req
     name = named.0.0
 
     go : (b : Bool) → Line exact (table options) on (required_words os named.1 words) (required_items os named.1 items)
-        → Line exact (table options) on (with_words b name o.kind (required_words os named.1 words)) (with_item b name o.kind (required_items os named.1 items))
+        → Line exact (table options) on (with_words b name o.kind (value_for o.words) (required_words os named.1 words)) (with_item b name o.kind (value_for o.words) (required_items os named.1 items))
     go true rest =
-        subst (λ (k : Kind). Line exact (table options) on (spelling name ∷ values_of k ++ required_words os named.1 words) (item_for k name ∷ required_items os named.1 items)) are.0.kind_is
-        (spelled_line (table options) on name (required_words os named.1 words) (required_items os named.1 items) are.0.text are.0.good (required_calm options (suc i) os named.1 words are.1 calm) rest)
+        subst (λ (k : Kind). Line exact (table options) on (spelling name ∷ values_of k (value_for o.words) ++ required_words os named.1 words) (item_for k (value_for o.words) name ∷ required_items os named.1 items)) are.0.kind_is
+        (spelled_line (table options) on name (value_for o.words) (required_words os named.1 words) (required_items os named.1 items) are.0.text are.0.good (value_plain o.words are.0.listed) (required_calm options (suc i) os named.1 words are.1 calm) rest)
     go false rest = rest
 
 required_are : (options : List Declared) (i : ℕ) (os : List Declared) (named : AreNamed os) (items : List Item) (l : List Said) → AreNamesOf options i os named
@@ -232,30 +248,43 @@ required_are options i [] named items l are is = is
 required_are options i (o ∷ os) named items l are is = go o.required (required_are options (suc i) os named.1 items l are.1 is)
   where
     go : (b : Bool) → map (said_item options) (required_items os named.1 items) ≡ map (λ s. Some s) (required_said (suc i) os l)
-        → map (said_item options) (with_item b named.0.0 o.kind (required_items os named.1 items)) ≡ map (λ s. Some s) (with_said b i o.kind (required_said (suc i) os l))
-    go true rest = ap (λ z. z ∷ map (said_item options) (required_items os named.1 items)) (is_said options named.0.0 i o.kind are.0.index) ∙ ap (λ zs. Some (said_for i o.kind) ∷ zs) rest
+        → map (said_item options) (with_item b named.0.0 o.kind (value_for o.words) (required_items os named.1 items)) ≡ map (λ s. Some s) (with_said b i o.kind (value_for o.words) (required_said (suc i) os l))
+    go true rest = ap (λ z. z ∷ map (said_item options) (required_items os named.1 items)) (is_said options named.0.0 i o.kind (value_for o.words) are.0.index) ∙ ap (λ zs. Some (said_for i o.kind (value_for o.words)) ∷ zs) rest
     go false rest = rest
 
 required_counts : (i : ℕ) (os : List Declared) (l : List Said) → positional_count (required_said i os l) ≡ positional_count l
 required_counts i [] l = refl
 required_counts i (o ∷ os) l = go o.required (required_counts (suc i) os l)
   where
-    go : (b : Bool) → positional_count (required_said (suc i) os l) ≡ positional_count l → positional_count (with_said b i o.kind (required_said (suc i) os l)) ≡ positional_count l
-    go true rest = counts_none i o.kind (required_said (suc i) os l) ∙ rest
+    go : (b : Bool) → positional_count (required_said (suc i) os l) ≡ positional_count l → positional_count (with_said b i o.kind (value_for o.words) (required_said (suc i) os l)) ≡ positional_count l
+    go true rest = counts_none i o.kind (value_for o.words) (required_said (suc i) os l) ∙ rest
     go false rest = rest
 
 required_occur : (i : ℕ) (os : List Declared) (l : List Said) (j : ℕ) → is_required os j ≡ true → occurs (i + j) (required_said i os l) ≡ true
 required_occur i [] l j is = absurd (false≢true is)
 required_occur i (o ∷ os) l zero is = go o.required is
   where
-    go : (b : Bool) → b ≡ true → occurs (i + 0) (with_said b i o.kind (required_said (suc i) os l)) ≡ true
-    go true is = subst (λ n. occurs n (said_for i o.kind ∷ required_said (suc i) os l) ≡ true) (omega arith) (occurs_once i o.kind (required_said (suc i) os l))
+    go : (b : Bool) → b ≡ true → occurs (i + 0) (with_said b i o.kind (value_for o.words) (required_said (suc i) os l)) ≡ true
+    go true is = subst (λ n. occurs n (said_for i o.kind (value_for o.words) ∷ required_said (suc i) os l) ≡ true) (omega arith) (occurs_once i o.kind (value_for o.words) (required_said (suc i) os l))
     go false is = absurd (false≢true is)
 required_occur i (o ∷ os) l (suc j) is = go o.required (subst (λ n. occurs n (required_said (suc i) os l) ≡ true) (omega arith) (required_occur (suc i) os l j is))
   where
-    go : (b : Bool) → occurs (i + suc j) (required_said (suc i) os l) ≡ true → occurs (i + suc j) (with_said b i o.kind (required_said (suc i) os l)) ≡ true
-    go true rest = occurs_later (i + suc j) (said_for i o.kind) (required_said (suc i) os l) rest
+    go : (b : Bool) → occurs (i + suc j) (required_said (suc i) os l) ≡ true → occurs (i + suc j) (with_said b i o.kind (value_for o.words) (required_said (suc i) os l)) ≡ true
+    go true rest = occurs_later (i + suc j) (said_for i o.kind (value_for o.words)) (required_said (suc i) os l) rest
     go false rest = rest
+
+required_accepted : (options : List Declared) (i : ℕ) (os : List Declared) (named : AreNamed os) (l : List Said) → AreNamesOf options i os named → are_accepted options l ≡ true
+    → are_accepted options (required_said i os l) ≡ true
+required_accepted options i [] named l are is = is
+required_accepted options i (o ∷ os) named l are is = go o.required (required_accepted options (suc i) os named.1 l are.1 is)
+  where
+    go : (b : Bool) → are_accepted options (required_said (suc i) os l) ≡ true → are_accepted options (with_said b i o.kind (value_for o.words) (required_said (suc i) os l)) ≡ true
+    go true rest = accepted_more options i o.kind (value_for o.words) (required_said (suc i) os l) (accepts_here options i o (value_for o.words) are.0.there (value_fits o.words are.0.listed)) rest
+    go false rest = rest
+
+words_accepted : (options : List Declared) (words : List (List ℕ)) → are_accepted options (map positional words) ≡ true
+words_accepted options [] = refl
+words_accepted options (w ∷ ws) = words_accepted options ws
 
 words_said : (options : List Declared) (words : List (List ℕ)) → map (said_item options) (map spec.positional words) ≡ map (λ s. Some s) (map positional words)
 words_said options [] = refl
@@ -339,10 +368,14 @@ open_line d words l is = go (parts exact (table d.options) d.short_equals words 
         absurd (longer l (positional dashes) [] (sym (later_positionals d words before rest (dashes ∷ []) front l l is.front are items_are opens is.with_separator)))
 
 pub can_stand : (d : Declaration) (words : List (List ℕ)) (l : List Said) (name : Name) (i : ℕ) → is_sound d.options ≡ true → AreText d.options → AreNamed d.options → IsOpen d words l
-    → index_of d.options name ≡ Some i → IsText name → CanStand d words (spelling name)
-can_stand d words l name i sound utf8 names is found text =
+    → are_accepted d.options l ≡ true → index_of d.options name ≡ Some i → IsText name → CanStand d words (spelling name)
+can_stand d words l name i sound utf8 names is accepted found text =
     let t = table d.options in
     let k = kind t name in
+    let here = option_there d.options name i found in
+    let o = here.0 in
+    let v = value_for o.words in
+    let listed = list_good d.options i o sound here.1 in
     let n = least d.positionals - positional_count l in
     let opens = open_line d words l is in
     let named = good d.options name i sound found in
@@ -353,33 +386,36 @@ can_stand d words l name i sound utf8 names is found text =
     let more_items = required_items d.options names positionals in
     let more_said = required_said 0 d.options (map positional (blanks n)) in
     let calm = required_calm d.options 0 d.options names (dashes ∷ blanks n) are (dashes_calm (blanks n)) in
-    let rest = values_of k ++ more in
-    let counted : positional_count (l ++ said_for i k ∷ more_said) ≡ positional_count l + n =
-    count_append l (said_for i k ∷ more_said) ∙ ap (λ m. positional_count l + m) (counts_none i k more_said ∙ required_counts 0 d.options (map positional (blanks n)) ∙ blank_count n) in
+    let rest = values_of k v ++ more in
+    let counted : positional_count (l ++ said_for i k v ∷ more_said) ≡ positional_count l + n =
+    count_append l (said_for i k v ∷ more_said) ∙ ap (λ m. positional_count l + m) (counts_none i k v more_said ∙ required_counts 0 d.options (map positional (blanks n)) ∙ blank_count n) in
     record {
       name = name;
       index = i;
       declared = found;
       spelled = refl;
       before = l;
-      said = said_for i k;
+      said = said_for i k v;
       later = more_said;
       rest = rest;
-      is = is_option i k;
+      is = is_option i k v;
       words_say = is.front;
       line_says = record {
         front = record {
-          items = is.front.items ++ item_for k name ∷ more_items;
-          spelled = goes_on exact t d.short_equals words (spelling name ∷ rest) is.front.items (item_for k name ∷ more_items) (not_normal name text rest) opens
-              (spelled_line t d.short_equals name more more_items text named calm (required_line d.options d.short_equals 0 d.options names (dashes ∷ blanks n) positionals are (dashes_calm (blanks n)) end));
-          said = both_said d.options is.front.items (item_for k name ∷ more_items) l (said_for i k ∷ more_said) is.front.said
-              (both_said d.options (item_for k name ∷ []) more_items (said_for i k ∷ []) more_said
-              (ap (λ s. s ∷ []) (is_said d.options name i k found)) (required_are d.options 0 d.options names positionals (map positional (blanks n)) are (words_said d.options (blanks n))));
+          items = is.front.items ++ item_for k v name ∷ more_items;
+          spelled = goes_on exact t d.short_equals words (spelling name ∷ rest) is.front.items (item_for k v name ∷ more_items) (not_normal name text rest) opens
+              (spelled_line t d.short_equals name v more more_items text named (value_plain o.words listed) calm (required_line d.options d.short_equals 0 d.options names (dashes ∷ blanks n) positionals are (dashes_calm (blanks n)) end));
+          said = both_said d.options is.front.items (item_for k v name ∷ more_items) l (said_for i k v ∷ more_said) is.front.said
+              (both_said d.options (item_for k v name ∷ []) more_items (said_for i k v ∷ []) more_said
+              (ap (λ s. s ∷ []) (is_said d.options name i k v found)) (required_are d.options 0 d.options names positionals (map positional (blanks n)) are (words_said d.options (blanks n))));
           within = subst (λ m. IsWithin m (most d.positionals)) (sym counted) (enough_within d.positionals (positional_count l) is.front.within);
         };
         enough = subst (λ m. least d.positionals ≤ m) (sym counted) (omega arith);
-        complete = λ j is_needed. occurs_after j l (said_for i k ∷ more_said) (occurs_later j (said_for i k) more_said
+        complete = λ j is_needed. occurs_after j l (said_for i k v ∷ more_said) (occurs_later j (said_for i k v) more_said
             (subst (λ m. occurs m more_said ≡ true) (omega arith) (required_occur 0 d.options (map positional (blanks n)) j is_needed)));
+        accepted = accepted_append d.options l (said_for i k v ∷ more_said) accepted
+            (accepted_more d.options i k v more_said (accepts_here d.options i o v here.1 (value_fits o.words listed))
+            (required_accepted d.options 0 d.options names (map positional (blanks n)) are (words_accepted d.options (blanks n))));
       };
     }
 
@@ -392,6 +428,10 @@ same_later (x ∷ l) s ss ts is = same_later l s ss ts (first_same x x (l ++ s �
 no_positional : (i : ℕ) (s : Said) (ss : List Said) (w : List ℕ) (ws : List (List ℕ)) → IsOption i s → s ∷ ss ≡ map positional (w ∷ ws) → ⊥
 no_positional i s ss w ws is same =
     let e : s ≡ positional w = (first_same s (positional w) ss (map positional ws) same).0 in subst (IsOption i) e is
+
+-- the values before it are accepted
+pub stands_accepted : (d : Declaration) (words : List (List ℕ)) (s : List ℕ) → (stands : CanStand d words s) → are_accepted d.options stands.before ≡ true
+stands_accepted d words s stands = accepted_front d.options stands.before (stands.said ∷ stands.later) stands.line_says.accepted
 
 pub stands_open : (d : Declaration) (words : List (List ℕ)) (s : List ℕ) → (stands : CanStand d words s) → IsOpen d words stands.before
 stands_open d words s stands = go (parts exact (table d.options) d.short_equals words stands.words_say.items stands.words_say.spelled)

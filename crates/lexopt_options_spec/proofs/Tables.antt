@@ -8,7 +8,7 @@ use Rattle.std.specs.Option.{option_to_list}
 use Rattle.std.specs.List.{list_all, list_any}
 use Rattle.std.specs.Cmp.Lexicographic.{pointwise, same_text}
 use Rattle.lexopt_line_spec.specs.Table.{Name, short, long, Kind, flag, one, optional, several, holds_in, kind}
-use Rattle.lexopt_options_spec.specs.Declaration.{Declared, has_name, is_short, is_long, if_kind, shorts_of, longs_of, table, Reason, same_name, fault, faults, is_sound, shares_name, shares_short, shares_long, or_else, short_fault, long_fault, placeholder_fault}
+use Rattle.lexopt_options_spec.specs.Declaration.{Declared, has_name, is_short, is_long, if_kind, shorts_of, longs_of, table, Reason, same_name, fault, faults, is_sound, shares_name, shares_short, shares_long, or_else, short_fault, long_fault, placeholder_fault, list_fault}
 
 -- ---- lists
 
@@ -129,18 +129,19 @@ any_shared name o (p ∷ ps) e f =
       | false ↦ λ is h. ap (λ b. shares_name o p || b) (any_shared name o ps e h) ∙ or_right (shares_name o p)
     ] refl f
 
-not_shared : (f g h : Option Reason) (b : Bool) → is_none (or_else f (or_else g (or_else h (cond b (Some same_name) None)))) ≡ true → b ≡ false
-not_shared f g h false e = refl
-not_shared None None None true e = sym e
-not_shared None None (Some r) true e = sym e
-not_shared None (Some r) h true e = sym e
-not_shared (Some r) g h true e = sym e
+not_shared : (f g h i : Option Reason) (b : Bool) → is_none (or_else f (or_else g (or_else h (or_else i (cond b (Some same_name) None))))) ≡ true → b ≡ false
+not_shared f g h i false e = refl
+not_shared None None None None true e = sym e
+not_shared None None None (Some r) true e = sym e
+not_shared None None (Some r) i true e = sym e
+not_shared None (Some r) h i true e = sym e
+not_shared (Some r) g h i true e = sym e
 
 -- an option that can be declared has no name of one before it
 new_names : (name : Name) (before : List Declared) (o : Declared) → is_none (fault before o) ≡ true → list_any (has_name name) before ≡ true → has_name name o ≡ false
 new_names name before o sound there =
     elim (has_name name o) as (λ v. has_name name o ≡ v → v ≡ false) [
-      | true ↦ λ is. sym (any_shared name o before is there) ∙ not_shared (short_fault o.short_name) (long_fault o.long_name) (placeholder_fault o.kind o.placeholder) (list_any (shares_name o) before) sound
+      | true ↦ λ is. sym (any_shared name o before is there) ∙ not_shared (short_fault o.short_name) (long_fault o.long_name) (placeholder_fault o.kind o.placeholder) (list_fault o.words) (list_any (shares_name o) before) sound
       | false ↦ λ is. refl
     ] refl
 

@@ -1,11 +1,11 @@
 -- Lines that ask for the help or the version. The source is `docs/behaviour.md`.
 use Rattle.std.specs.Prelude.{◌≡◌, ℕ, List, [], ◌∷◌, ◌++◌, Option, Some, None, option_and_then}
-use Rattle.std.specs.Prelude.{slice_get}
+use Rattle.std.specs.Prelude.{slice_get, true}
 use Rattle.lexopt_spec.specs.Steps.{Next, unexpected}
 use Rattle.lexopt_spec.specs.UnreadLine.{UnreadLine}
 use Rattle.lexopt_line_spec.specs.Readings.{start}
 use Rattle.lexopt_options_spec.specs.Declaration.{Asked, Declared, Declaration}
-use Rattle.lexopt_options_spec.specs.Legal.{Said, option, several, positional}
+use Rattle.lexopt_options_spec.specs.Legal.{Said, option, several, positional, are_accepted}
 use Rattle.lexopt_options_spec.specs.Stops.{Mistake, ReadsUpTo, unexpected_value}
 
 -- what the option of this index asks for
@@ -37,14 +37,16 @@ abbrev pub said_before : Mistake → List Said → List Said
 said_before (unexpected_value name value) l = all_but_last l
 said_before mistake l = l
 
--- The line can be read up to an option that asks for this, to which no value is joined, and no option
--- before it asks for anything. What comes after it is not looked at.
+-- The line can be read up to an option that asks for this, to which no value is joined. No option
+-- before it asks for anything, and each, this one too, accepts the values that it has. What comes
+-- after it is not looked at.
 pub record AskFor (d : Declaration) (words : List (List ℕ)) (asked : Asked) : Type 0 where
   pub before : List Said
   pub said : Said
   pub there : UnreadLine
   pub read : ReadsUpTo d (start d.short_equals words) (before ++ said ∷ []) there
   pub none_before : first_asked d.options before ≡ None
+  pub accepted : are_accepted d.options (before ++ said ∷ []) ≡ true
   pub asks : asked_by d.options said ≡ Some asked
   pub no_value : (option value : List ℕ) (after : UnreadLine)
       → ¬ Next there (unexpected option value) after

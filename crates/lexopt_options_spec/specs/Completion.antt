@@ -2,7 +2,7 @@
 -- The source is `docs/behaviour.md`.
 use Rattle.std.specs.Prelude.{◌≡◌, ◌++◌, ◌==◌, ◌&&◌, ℕ}
 use Rattle.std.specs.Prelude.{Bool, true, false, nat_eq, List, [], ◌∷◌, map, Option, Some, None}
-use Rattle.std.specs.Prelude.{encode_utf8}
+use Rattle.std.specs.Prelude.{encode_utf8, filter, slice_get}
 use Rattle.std.specs.Char.{IsScalar}
 use Rattle.std.specs.List.{flat_map, list_any, starts_with}
 use Rattle.std.specs.Option.{option_to_list}
@@ -10,6 +10,7 @@ use Rattle.std.specs.Str.{IsUtf8}
 use Rattle.lexopt_spec.specs.UnreadLine.{dash, equals, BeginsWith}
 use Rattle.lexopt_line_spec.specs.Table.{Name, short, long}
 use Rattle.lexopt_options_spec.specs.Declaration.{Declaration, Declared, has, has_name, index_of}
+use Rattle.lexopt_options_spec.specs.Declaration.{Words, listed}
 use Rattle.lexopt_options_spec.specs.Legal.{Said, option, several, positional, Says, SaysFront}
 
 -- the word that is an option of this name, and nothing else
@@ -124,3 +125,43 @@ IsJoined d words typed None = (l : List Said) (i : ℕ) (s : Said)
 IsJoined d words typed (Some i) = (l : List Said) × (s : Said)
     × (is_long_with_equals typed ≡ true) × IsOpen d words l × SaysFront d (typed ∷ []) (s ∷ [])
     × IsOption i s
+
+-- ---- values in lists
+
+-- the values of a list
+abbrev pub list_of : Words → List (List ℕ)
+list_of (listed values) = values
+list_of words = []
+
+-- the words that are the option of this long name, with `=` and one of these values
+abbrev pub joined_words : Option (List ℕ) → List (List ℕ) → List (List ℕ)
+joined_words None values = []
+joined_words (Some name) values = map (λ v. spelling (long name) ++ equals ∷ v) values
+
+-- the values in the list of an option, and the words that are this option with one of them
+abbrev pub listed_by : Option Declared → List (List ℕ)
+listed_by None = []
+listed_by (Some o) = list_of o.words
+
+abbrev pub joined_by : Option Declared → List (List ℕ)
+joined_by None = []
+joined_by (Some o) = joined_words o.long_name (list_of o.words)
+
+-- the values in the list of the option that a word is a value of
+abbrev pub values_at : List Declared → Option Role → List (List ℕ)
+values_at options None = []
+values_at options (Some argument) = []
+values_at options (Some (value i)) = listed_by (slice_get options i)
+
+-- the words that are the option of this index, with `=` and a value of its list
+abbrev pub joined_at : List Declared → Option ℕ → List (List ℕ)
+joined_at options None = []
+joined_at options (Some i) = joined_by (slice_get options i)
+
+-- Where a word would have this role, and a value of the option of this index is typed after `=`,
+-- these values in lists can come, in order: those that begin with what was typed; the latter with
+-- their option before them.
+abbrev pub offered_values : List Declared → List ℕ → Option Role → Option ℕ → List (List ℕ)
+offered_values options typed role index =
+    filter (λ v. starts_with nat_eq v typed) (values_at options role)
+    ++ filter (λ v. starts_with nat_eq v typed) (joined_at options index)

@@ -1,12 +1,13 @@
 -- Which options can be declared, as a test that a check computes on the options of a program.
 use Rattle.std.specs.Prelude.{ℕ, Bool, true, false, nat_eq, ◌==◌, ◌||◌, ◌&&◌, not, List, [], ◌∷◌}
 use Rattle.std.specs.Prelude.{Option, Some, None}
-use Rattle.std.specs.List.{list_any, starts_with}
+use Rattle.std.specs.List.{list_all, list_any, starts_with}
 use Rattle.lexopt_spec.specs.Pieces.{replacement}
 use Rattle.lexopt_spec.specs.UnreadLine.{dash, equals}
 use Rattle.lexopt_line_spec.specs.Table.{Kind, flag}
 use Rattle.lexopt_options_spec.specs.Declaration.{Declared, has, is_blank_or_control, is_empty}
-use Rattle.lexopt_options_spec.specs.Declaration.{is_placeholder, shares_name}
+use Rattle.lexopt_options_spec.specs.Declaration.{is_listable, is_placeholder, shares_name}
+use Rattle.lexopt_options_spec.specs.Declaration.{Words, listed}
 
 -- the bytes of U+FFFD are among these
 abbrev pub has_replacement : List ℕ → Bool
@@ -30,10 +31,16 @@ abbrev pub is_good_placeholder : Kind → List ℕ → Bool
 is_good_placeholder flag placeholder = true
 is_good_placeholder k placeholder = is_placeholder placeholder
 
+-- and what its values may be
+abbrev pub are_good_words : Words → Bool
+are_good_words (listed []) = false
+are_good_words (listed words) = list_all is_listable words
+are_good_words words = true
+
 -- the option can be declared where no other is
 abbrev pub is_good : Declared → Bool
 is_good o = is_good_short o.short_name && is_good_long o.long_name
-    && is_good_placeholder o.kind o.placeholder
+    && is_good_placeholder o.kind o.placeholder && are_good_words o.words
 
 -- each of these options can be declared, and no two have a name in common
 abbrev pub can_be_declared : List Declared → Bool

@@ -16,6 +16,22 @@ pub data Asked : Type 0 where
   -- for this text
   for_version : List ℕ → Asked
 
+-- what the values of an option may be, and what a shell completes them by
+pub data Words : Type 0 where
+  -- any; by the names of files
+  files : Words
+  -- any; by the names of directories
+  directories : Words
+  -- any; by nothing
+  text : Words
+  -- these and no others; by these
+  listed : List (List ℕ) → Words
+
+-- a value may be this
+abbrev pub accepts : Words → List ℕ → Bool
+accepts (listed words) value = list_any (λ w. pointwise ◌==◌ w value) words
+accepts words value = true
+
 -- an option: with one name at least
 pub record Declared : Type 0 where
   pub short_name : Option ℕ
@@ -31,6 +47,8 @@ pub record Declared : Type 0 where
   pub hidden : Bool
   -- it has to occur
   pub required : Bool
+  -- what its values may be
+  pub words : Words
 
 -- how often a positional argument may occur
 pub data Count : Type 0 where
@@ -134,6 +152,9 @@ pub data Reason : Type 0 where
   blank_or_control_in_name : Reason
   -- the placeholder of its value is empty, or begins with `-` or `=`: no such value could be there
   bad_placeholder : Reason
+  -- the list of its values is empty, or one of them is empty, begins with `-` or `=`, or has a
+  -- blank or a control character
+  bad_list : Reason
   -- an option before it has one of its names
   same_name : Reason
 
@@ -170,6 +191,15 @@ placeholder_fault flag placeholder = None
 placeholder_fault k placeholder =
     if is_placeholder placeholder then None else Some bad_placeholder
 
+-- this can be one of the values in a list
+abbrev pub is_listable : List ℕ → Bool
+is_listable value = is_placeholder value && not (list_any is_blank_or_control value)
+
+abbrev pub list_fault : Words → Option Reason
+list_fault (listed []) = Some bad_list
+list_fault (listed words) = if list_all is_listable words then None else Some bad_list
+list_fault words = None
+
 -- the first of these reasons
 abbrev pub or_else : Option Reason → Option Reason → Option Reason
 or_else None other = other
@@ -191,8 +221,8 @@ shares_name o other =
 -- why this option cannot be declared after those before it, if it cannot
 abbrev pub fault : List Declared → Declared → Option Reason
 fault before o = or_else (short_fault o.short_name) (or_else (long_fault o.long_name)
-    (or_else (placeholder_fault o.kind o.placeholder)
-    (if list_any (shares_name o) before then Some same_name else None)))
+    (or_else (placeholder_fault o.kind o.placeholder) (or_else (list_fault o.words)
+    (if list_any (shares_name o) before then Some same_name else None))))
 
 -- the same for each of these options, where others come before them
 abbrev pub faults : List Declared → List Declared → List (Option Reason)

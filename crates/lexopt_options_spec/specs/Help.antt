@@ -14,6 +14,7 @@ use Rattle.lexopt_line_spec.specs.Table.{Item, Name, option, many, positional, s
 use Rattle.lexopt_line_spec.specs.Table.{Kind, flag, one, optional, several}
 use Rattle.lexopt_options_spec.specs.Declaration.{Declared, Declaration, Positional, Count, once}
 use Rattle.lexopt_options_spec.specs.Declaration.{at_least_once, at_most_once, any_number, is_empty}
+use Rattle.lexopt_options_spec.specs.Declaration.{Words, listed}
 
 -- ---- columns
 
@@ -285,6 +286,19 @@ pub record IsParagraph (width : ℕ) (content text : List ℕ) : Type 0 where
   pub wrapped : Wraps width (words_of content) lines
   pub written : text ≡ paragraph lines
 
+-- ---- the values in a list
+
+-- values with a comma and a blank between them
+abbrev pub list_text : List (List ℕ) → List ℕ
+list_text [] = []
+list_text (value ∷ values) = value ++ flat_map (λ other. codes ", " ++ other) values
+
+-- what the help tells of an option with this text: the values in its list too
+abbrev pub told_of : List ℕ → Words → List ℕ
+told_of [] (listed values) = codes "one of " ++ list_text values
+told_of help (listed values) = help ++ codes ": one of " ++ list_text values
+told_of help words = help
+
 -- ---- the whole text
 
 -- the positionals whose help has a word
@@ -308,7 +322,8 @@ pub record IsHelp (d : Declaration) (width : ℕ) (text : List ℕ) : Type 0 whe
   pub about_next : IsParagraph width d.about about
   pub each_positional :
       AllZip (λ p. IsEntry width p.placeholder p.help) (described d.positionals) positionals
-  pub each_option : AllZip (λ o. IsEntry width (label o) o.help) (visible d.options) options
+  pub each_option :
+      AllZip (λ o. IsEntry width (label o) (told_of o.help o.words)) (visible d.options) options
   pub each_paragraph : AllZip (IsParagraph width) d.epilogue epilogue
   pub written : text ≡ usage ++ about ++ set_apart (concat positionals)
       ++ set_apart (concat options) ++ flat_map set_apart epilogue

@@ -1,14 +1,15 @@
 -- Which words mean what, under a declaration: from items to words, with no call and no state.
 -- The source is `docs/behaviour.md`.
 use Rattle.std.specs.Prelude.{◌≡◌, ◌≤◌, ◌+◌, ◌==◌, ℕ, Bool, true, false, List, [], ◌∷◌, length}
-use Rattle.std.specs.Prelude.{filter, map, Option, Some, None, if◌then◌else◌, slice_get, unwrap_or}
-use Rattle.std.specs.List.{list_any}
+use Rattle.std.specs.Prelude.{filter, map, Option, Some, None, if◌then◌else◌, is_none, not}
+use Rattle.std.specs.Prelude.{option_and_then, position, slice_get, unwrap_or}
+use Rattle.std.specs.List.{list_all, list_any}
 use Rattle.std.specs.Option.{option_map}
 use Rattle.lexopt_line_spec.specs.Table as spec
 use Rattle.lexopt_line_spec.specs.Table.{Item}
 use Rattle.lexopt_line_spec.specs.Spelling.{Spells}
-use Rattle.lexopt_options_spec.specs.Declaration.{Declared, Declaration, Positional, has_to_occur}
-use Rattle.lexopt_options_spec.specs.Declaration.{index_of, may_repeat, table}
+use Rattle.lexopt_options_spec.specs.Declaration.{Declared, Declaration, Positional, accepts}
+use Rattle.lexopt_options_spec.specs.Declaration.{has_to_occur, index_of, may_repeat, table}
 
 -- what is read from a line, in order: an option by its index in the declaration, whichever of its
 -- names was typed, with its value if it has one; an option of several values with all of them; or a
@@ -70,6 +71,26 @@ occurs i l = list_any (is_option i) l
 abbrev pub is_required : List Declared → ℕ → Bool
 is_required options i = unwrap_or (option_map (λ o. o.required) (slice_get options i)) false
 
+-- ---- which values are accepted
+
+-- the option of this index, if there is one, accepts this as a value
+abbrev pub accepts_at : List Declared → ℕ → List ℕ → Bool
+accepts_at options i value =
+    unwrap_or (option_map (λ o. accepts o.words value) (slice_get options i)) true
+
+-- the first value that the option of an item does not accept, if there is one
+abbrev pub refused_value : List Declared → Said → Option (List ℕ)
+refused_value options (option i None) = None
+refused_value options (option i (Some value)) =
+    if accepts_at options i value then None else Some value
+refused_value options (several i values) = option_and_then (λ n. slice_get values n)
+    (position (λ value. not (accepts_at options i value)) values)
+refused_value options (positional word) = None
+
+-- each option accepts the values that it has here
+abbrev pub are_accepted : List Declared → List Said → Bool
+are_accepted options l = list_all (λ s. is_none (refused_value options s)) l
+
 -- ---- a whole line
 
 -- the words legally spell options that are declared, and no more positionals than are declared, and
@@ -80,8 +101,10 @@ pub record SaysFront (d : Declaration) (words : List (List ℕ)) (l : List Said)
   pub said : map (said_item d.options) items ≡ map (λ s. Some s) l
   pub within : IsWithin (positional_count l) (most d.positionals)
 
--- and as many positionals as are declared, and each option that is required
+-- and as many positionals as are declared, and each option that is required, with values that the
+-- options accept
 pub record Says (d : Declaration) (words : List (List ℕ)) (l : List Said) : Type 0 where
   pub front : SaysFront d words l
   pub enough : least d.positionals ≤ positional_count l
   pub complete : (i : ℕ) → is_required d.options i ≡ true → occurs i l ≡ true
+  pub accepted : are_accepted d.options l ≡ true

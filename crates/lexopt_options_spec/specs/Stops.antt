@@ -1,27 +1,30 @@
 -- Where the reading of a line that is not legal stops, and why.
 -- The source is `docs/behaviour.md`.
 use Rattle.std.specs.Prelude.{◌≡◌, ◌≤◌, ◌<◌, ℕ, true, false, List, [], map, Some, None, slice_get}
-use Rattle.std.specs.Prelude.{slice_index_or, unwrap_or}
+use Rattle.std.specs.Prelude.{◌∷◌, slice_index_or, unwrap_or}
 use Rattle.std.specs.Option.{option_map}
-use Rattle.lexopt_spec.specs.UnreadLine.{UnreadLine, IsLine}
+use Rattle.lexopt_spec.specs.UnreadLine.{Tail, UnreadLine, IsLine}
 use Rattle.lexopt_spec.specs.Steps as steps
 use Rattle.lexopt_spec.specs.Steps.{Next}
 use Rattle.lexopt_spec.specs.Runs.{Call, Step}
 use Rattle.lexopt_line_spec.specs.Table.{Item, Name, kind}
-use Rattle.lexopt_line_spec.specs.Readings.{IsDue, SaysUpTo, option_reply, start}
+use Rattle.lexopt_line_spec.specs.Readings.{IsDue, ReadsItems, option_reply, start}
 use Rattle.lexopt_options_spec.specs.Declaration.{Declaration, Declared, Positional, index_of}
 use Rattle.lexopt_options_spec.specs.Declaration.{table}
-use Rattle.lexopt_options_spec.specs.Legal.{IsWithin, Said, is_required, least, most, occurs}
-use Rattle.lexopt_options_spec.specs.Legal.{positional_count, required, said_item}
+use Rattle.lexopt_options_spec.specs.Legal.{IsWithin, Said, are_accepted, is_option, is_required}
+use Rattle.lexopt_options_spec.specs.Legal.{least, most, occurs, positional_count, refused_value, required}
+use Rattle.lexopt_options_spec.specs.Legal.{said_item}
 
 -- what is wrong with a line
 pub data Mistake : Type 0 where
-  -- an option that is not declared
-  unknown_option : Name → Mistake
+  -- an option that is not declared, and what is left of its word
+  unknown_option : Name → Tail → Mistake
   -- an option, with its dashes, has a value that it does not take
   unexpected_value : List ℕ → List ℕ → Mistake
   -- an option of this index, with its dashes, has no value
   missing_value : ℕ → List ℕ → Mistake
+  -- the option of this index does not accept this value
+  invalid_value : ℕ → List ℕ → Mistake
   -- one positional more than are declared
   unexpected_argument : List ℕ → Mistake
   -- fewer positionals than are required: this many are there
@@ -34,7 +37,7 @@ pub data Mistake : Type 0 where
 pub record ReadsUpTo (d : Declaration) (u : UnreadLine) (l : List Said) (v : UnreadLine)
     : Type 0 where
   pub items : List Item
-  pub read : SaysUpTo (table d.options) u items v
+  pub read : ReadsItems (table d.options) u items v
   pub line : IsLine v
   pub said : map (said_item d.options) items ≡ map (λ s. Some s) l
   pub within : IsWithin (positional_count l) (most d.positionals)
@@ -46,16 +49,20 @@ pub record IsFirstMissing (options : List Declared) (l : List Said) (index : ℕ
   pub first : (i : ℕ) → i < index → is_required options i ≡ true → occurs i l ≡ true
 
 -- After this was read, the line cannot be read on, and this is why. Of an option that is not
--- declared nothing more is read than its name.
+-- declared nothing more is read than its name; an option with a value that it does not accept is
+-- read with all of its values.
 pub data Stops (d : Declaration) (l : List Said) (u : UnreadLine) : Mistake → Type 0 where
   not_declared : (name : Name) (v : UnreadLine) → Next u (option_reply name) v
-      → index_of d.options name ≡ None → Stops d l u (unknown_option name)
+      → index_of d.options name ≡ None → Stops d l u (unknown_option name v.tail)
   value_of_flag : (option value : List ℕ) (v : UnreadLine) → Next u (steps.unexpected option value) v
       → Stops d l u (unexpected_value option value)
   no_value : (name : Name) (index : ℕ) (option : List ℕ) (call : Call) (v w : UnreadLine)
       → Next u (option_reply name) v → index_of d.options name ≡ Some index
       → IsDue (kind (table d.options) name) call → Step call v (steps.missing (Some option)) w
       → Stops d l u (missing_value index option)
+  not_accepted : (s : Said) (index : ℕ) (value : List ℕ) (v : UnreadLine)
+      → ReadsUpTo d u (s ∷ []) v → is_option index s ≡ true
+      → refused_value d.options s ≡ Some value → Stops d l u (invalid_value index value)
   one_too_many : (word : List ℕ) (v : UnreadLine) → Next u (steps.positional word) v
       → most d.positionals ≡ Some (positional_count l) → Stops d l u (unexpected_argument word)
   too_few : (v : UnreadLine) → Next u steps.end v → positional_count l < least d.positionals
@@ -65,12 +72,14 @@ pub data Stops (d : Declaration) (l : List Said) (u : UnreadLine) : Mistake → 
       → least d.positionals ≤ positional_count l → IsFirstMissing d.options l index
       → Stops d l u (missing_option index)
 
--- These words are read up to this mistake, and mean this before it.
+-- These words are read up to this mistake, and mean this before it, where each option accepts the
+-- values that it has.
 pub record StopsAt (d : Declaration) (words : List (List ℕ)) (before : List Said)
     (mistake : Mistake) : Type 0 where
   pub there : UnreadLine
   pub read : ReadsUpTo d (start d.short_equals words) before there
   pub stops : Stops d before there mistake
+  pub accepted : are_accepted d.options before ≡ true
 
 -- the placeholder of the value of the option of this index
 abbrev pub placeholder_at : List Declared → ℕ → List ℕ

@@ -2,10 +2,10 @@
 ghost use Rattle.std.specs.Prelude.{◌≡◌, ◌∷◌, ◌++◌, [], None, Some, codes, false, true};
 ghost use Rattle.lexopt_line_spec.specs.Table.{flag, one, optional, several};
 ghost use Rattle.lexopt_options_spec.specs.Declaration.{any_number, at_least_once, at_most_once};
-ghost use Rattle.lexopt_options_spec.specs.Declaration.{once};
+ghost use Rattle.lexopt_options_spec.specs.Declaration.{directories, files, listed, once};
 ghost use Rattle.lexopt_options_spec.specs.Help.{below, columns, described, help_column, label_of};
 ghost use Rattle.lexopt_options_spec.specs.Help.{line_feed, mark_of, option_mark, paragraph};
-ghost use Rattle.lexopt_options_spec.specs.Help.{set_apart, usage_words, words_of};
+ghost use Rattle.lexopt_options_spec.specs.Help.{set_apart, told_of, usage_words, words_of};
 ghost use Rattle.lexopt_options_spec.specs.Examples.{demanded_option};
 
 /// The labels of options with one name and with both.
@@ -65,6 +65,7 @@ pub fn usage_lines_have_these_words()
         asks = None;
         hidden = false;
         required = false;
+        words = files;
       } ∷ [];
       positionals = [];
       epilogue = [];
@@ -82,6 +83,7 @@ pub fn usage_lines_have_these_words()
         asks = None;
         hidden = true;
         required = false;
+        words = files;
       } ∷ [];
       positionals = [];
       epilogue = [];
@@ -135,6 +137,16 @@ pub fn positionals_are_described()
     ensures one_of_two { described (record { placeholder = codes "MODE"; count = once; help = codes " " }
         ∷ record { placeholder = codes "FILE"; count = any_number; help = codes "to pack" } ∷ [])
         ≡ record { placeholder = codes "FILE"; count = any_number; help = codes "to pack" } ∷ [] }
+{}
+
+/// The values in an option's list are told after its help, or alone if that is empty.
+pub fn lists_are_told_of()
+    ensures list { told_of (codes "how to pack") (listed (codes "fast" ∷ codes "slow" ∷ []))
+        ≡ codes "how to pack: one of fast, slow" }
+    ensures no_help { told_of [] (listed (codes "fast" ∷ codes "slow" ∷ []))
+        ≡ codes "one of fast, slow" }
+    ensures one_value { told_of [] (listed (codes "fast" ∷ [])) ≡ codes "one of fast" }
+    ensures no_list { told_of (codes "where to") directories ≡ codes "where to" }
 {}
 
 /// A paragraph is on lines of its own, if it has words.

@@ -9,3 +9,4 @@
 
 pub mod help_examples;
 pub mod laws;
+pub mod list_examples;

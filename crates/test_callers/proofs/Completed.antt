@@ -1,14 +1,18 @@
 -- What the clauses of `complete` and `answer` mean for the tool.
-use Rattle.std.proofs.Common.{◌≡◌, ℕ, List, [], ◌∷◌, ◌++◌, Some, None, subst, ap, ◌∙◌, refl, map, Option, string_bytes, codes, inl, inr}
+use Rattle.std.proofs.Common.{◌≡◌, ℕ, List, [], ◌∷◌, ◌++◌, Some, None, subst, sym, ap, ◌∙◌, refl, map, option_map, Option, slice_get, string_bytes, codes, inl, inr}
 use Rattle.std.specs.Prelude.{String}
 use Rattle.std.specs.Global.{Global}
 use Rattle.std.specs.Borrow.{Bor}
 use Rattle.std.specs.List.{flat_map}
+use Rattle.std.proofs.lemmas.Option.{slice_get-map}
 use Rattle.lexopt_options_spec.specs.Declaration.{Declaration, for_help, for_version}
 use Rattle.lexopt_options_spec.specs.Completion as completion
-use Rattle.lexopt_options_spec.specs.Completion.{Completes, HasRole, IsJoined, spellings}
+use Rattle.lexopt_options_spec.specs.Completion.{Completes, HasRole, IsJoined, offered_values, spellings}
 use Rattle.lexopt_declaration.specs.Scripts.{bash_script, fish_script, zsh_script}
+use Rattle.lexopt_declaration.specs.Models.{option_view, words_view}
 use Rattle.lexopt_declaration.specs.declared.declaration.Declared.{Declared}
+use Rattle.lexopt_declaration.specs.declared.declaration.Words.{Words}
+use Rattle.lexopt_declaration.specs.declared.declaration.Words.TheVariants as words
 use Rattle.lexopt_declaration.specs.declared.shell.Shell.TheVariants.{Bash, Zsh, Fish}
 use Rattle.lexopt_options.specs.declared.answer.Answer.{Answer}
 use Rattle.lexopt_options.specs.declared.answer.Answer.TheVariants as answer
@@ -16,7 +20,7 @@ use Rattle.lexopt_options.specs.declared.complete.Completion.{Completion}
 use Rattle.lexopt_options.specs.declared.complete.Role.{Role}
 use Rattle.lexopt_options.specs.declared.complete.Role.TheVariants as role
 use Rattle.lexopt_options.specs.declared.options.Options.{Options}
-use Rattle.lexopt_options.specs.Answers.{AskForText, IsAnswer, IsCompletionText, IsOrdinary, IsScriptText, files_line, value_line}
+use Rattle.lexopt_options.specs.Answers.{AskForText, IsAnswer, IsCompletionText, IsOrdinary, IsScriptText, joined_line, listed_line, names_line, value_line, word_line}
 use Rattle.lexopt_options.specs.Completions.{AreOffered, IsCompletion}
 use Rattle.lexopt_options.specs.Declarations.{declaration_of, options_of}
 use Rattle.lexopt_options.specs.Roles.{IsOptionAt, IsRoleAt}
@@ -25,7 +29,7 @@ use Rattle.test_callers.specs.declared.declared.Value.{Value}
 use Rattle.test_callers.specs.declared.declared.Maybe.{Maybe}
 use Rattle.test_callers.specs.declared.declared.Values.{Values}
 use Rattle.test_callers.specs.declared.declared.Word.{Word}
-use Rattle.test_callers.specs.Tool.{AreBoth, AreInOrder, IsAskedFor, IsOffer, IsSameRole, IsScript, NoShellAsks, ToolAnswer, line_if, tool}
+use Rattle.test_callers.specs.Tool.{AreBoth, AreInOrder, IsAskedFor, IsOffer, IsSameRole, IsScript, NoShellAsks, ToolAnswer, index_line, line_at, line_of, plus_line, role_line, tool, tool_options}
 use Rattle.test_callers.proofs.Tool.{AreOfTool, refused_as, says}
 
 pub same_role : (options : List (Declared Flag Value Maybe Values)) (r : Option completion.Role) (found : Option (Role Flag Value Maybe Values)) → IsRoleAt options r found → IsSameRole r found
@@ -53,24 +57,58 @@ spelled : (items : List (String Global)) → flat_map (λ s. string_bytes s ++ 1
 spelled [] = refl
 spelled (s ∷ ss) = ap (λ rest. (string_bytes s ++ 10 ∷ []) ++ rest) (spelled ss)
 
-files : (options : List (Declared Flag Value Maybe Values)) (r : Option completion.Role) (found : Option (Role Flag Value Maybe Values)) → IsRoleAt options r found → files_line found ≡ line_if r (codes "files\n")
-files options None None is = refl
-files options None (Some r) is = absurd is
-files options (Some (completion.value i)) None is = absurd is
-files options (Some completion.argument) None is = absurd is
-files options (Some r) (Some found) is = refl
+value_lines : (v : List ℕ) → listed_line v ≡ plus_line v
+value_lines [] = refl
+value_lines (b ∷ bs) = refl
 
-value : (options : List (Declared Flag Value Maybe Values)) (i : Option ℕ) (found : Option (Bor (Declared Flag Value Maybe Values))) → IsOptionAt options i found → value_line found ≡ line_if i (codes "value\n")
-value options None None is = refl
-value options None (Some o) is = absurd is
-value options (Some i) None is = absurd is
-value options (Some i) (Some o) is = refl
+listed_values : (items : List (String Global)) → flat_map (λ s. listed_line (string_bytes s)) items ≡ flat_map plus_line (map string_bytes items)
+listed_values [] = refl
+listed_values (s ∷ ss) = ap (λ x. x ++ flat_map (λ s. listed_line (string_bytes s)) ss) (value_lines (string_bytes s)) ∙ ap (λ rest. plus_line (string_bytes s) ++ rest) (listed_values ss)
+
+-- the option of an index, as the tool declares it
+at_tool : (options : List (Declared Flag Value Maybe Values)) (i : ℕ) (o : Declared Flag Value Maybe Values) → map option_view options ≡ tool_options → slice_get options i ≡ Some o
+    → slice_get tool_options i ≡ Some (option_view o)
+at_tool options i o view at = ap (λ os. slice_get os i) (sym view) ∙ slice_get-map option_view options i ∙ ap (option_map option_view) at
+
+names : (w : Words) → names_line w ≡ line_of [] (words_view w)
+names words.Files = refl
+names words.Directories = refl
+names words.Text = refl
+names (words.Listed values) = refl
+
+value_names : (w : Words) → value_line w ≡ line_of (codes "value ") (words_view w)
+value_names words.Files = refl
+value_names words.Directories = refl
+value_names words.Text = refl
+value_names (words.Listed values) = refl
+
+role_text : (options : List (Declared Flag Value Maybe Values)) (r : Option completion.Role) (found : Option (Role Flag Value Maybe Values)) → map option_view options ≡ tool_options → IsRoleAt options r found
+    → word_line found ≡ role_line r
+role_text options None None view is = refl
+role_text options None (Some r) view is = absurd is
+role_text options (Some (completion.value i)) None view is = absurd is
+role_text options (Some completion.argument) None view is = absurd is
+role_text options (Some (completion.value i)) (Some (role.Value option)) view is = names option.now.words ∙ ap (line_at []) (sym (at_tool options i option.now view is))
+role_text options (Some (completion.value i)) (Some role.Argument) view is = absurd is
+role_text options (Some completion.argument) (Some role.Argument) view is = refl
+role_text options (Some completion.argument) (Some (role.Value option)) view is = absurd is
+
+index_text : (options : List (Declared Flag Value Maybe Values)) (i : Option ℕ) (found : Option (Bor (Declared Flag Value Maybe Values))) → map option_view options ≡ tool_options → IsOptionAt options i found
+    → joined_line found ≡ index_line i
+index_text options None None view is = refl
+index_text options None (Some o) view is = absurd is
+index_text options (Some i) None view is = absurd is
+index_text options (Some i) (Some o) view is = value_names o.now.words ∙ ap (line_at (codes "value ")) (sym (at_tool options i o.now view is))
 
 offer : (o : Options Flag Value Word Maybe Values) (words : List (List ℕ)) (text : List ℕ) → declaration_of o ≡ tool → IsCompletionText o words text → IsOffer words text
 offer o words text view is =
     let c : Completion Flag Value Maybe Values = is.2 in
     let done : IsCompletion o is.0 is.1 c = is.4 in
     let offered : AreOffered tool is.0 is.1 (map string_bytes c.spellings.items) = subst (λ (d : Declaration). AreOffered d is.0 is.1 (map string_bytes c.spellings.items)) view done.spellings in
+    let options : map option_view (options_of o) ≡ tool_options = ap (λ d. d.options) view in
+    let values : map string_bytes c.values.items ≡ offered_values tool_options is.1 done.role done.index =
+    subst (λ (d : Declaration). map string_bytes c.values.items ≡ offered_values d.options is.1 done.role done.index) view done.values
+    in
     record {
       before = is.0;
       typed = is.1;
@@ -82,10 +120,17 @@ offer o words text view is =
       word = subst (λ (d : Declaration). HasRole d is.0 is.1 done.role) view done.has_role;
       index = done.index;
       joined = subst (λ (d : Declaration). IsJoined d is.0 is.1 done.index) view done.is_joined;
-      written = is.5 ∙ ap (λ x. x ++ files_line c.word ++ value_line c.joined) (spelled c.spellings.items)
-          ∙ ap (λ x. flat_map (λ (s : List ℕ). s ++ 10 ∷ []) (map string_bytes c.spellings.items) ++ x ++ value_line c.joined) (files (options_of o) done.role c.word done.word)
-          ∙ ap (λ x. flat_map (λ (s : List ℕ). s ++ 10 ∷ []) (map string_bytes c.spellings.items) ++ line_if done.role (codes "files\n") ++ x) (value (options_of o) done.index c.joined done.joined);
+      written = is.5 ∙ ap (λ x. x ++ listed c ++ word_line c.word ++ joined_line c.joined) (spelled c.spellings.items)
+          ∙ ap (λ x. spellings_of c ++ x ++ word_line c.word ++ joined_line c.joined) (listed_values c.values.items ∙ ap (flat_map plus_line) values)
+          ∙ ap (λ x. spellings_of c ++ flat_map plus_line (offered_values tool_options is.1 done.role done.index) ++ x ++ joined_line c.joined) (role_text (options_of o) done.role c.word options done.word)
+          ∙ ap (λ x. spellings_of c ++ flat_map plus_line (offered_values tool_options is.1 done.role done.index) ++ role_line done.role ++ x) (index_text (options_of o) done.index c.joined options done.joined);
     }
+  where
+    listed : Completion Flag Value Maybe Values → List ℕ
+    listed c = flat_map (λ s. listed_line (string_bytes s)) c.values.items
+
+    spellings_of : Completion Flag Value Maybe Values → List ℕ
+    spellings_of c = flat_map (λ (s : List ℕ). s ++ 10 ∷ []) (map string_bytes c.spellings.items)
 
 script : (o : Options Flag Value Word Maybe Values) (words : List (List ℕ)) (text : List ℕ) → declaration_of o ≡ tool → IsScriptText o words text → IsScript words text
 script o words text view (Bash, asks, is) = inl (asks, subst (λ (d : Declaration). text ≡ bash_script d.program ++ 10 ∷ []) view is)

@@ -89,10 +89,12 @@ names_are d (names.Long own) short long = (short, long)
 names_are d (names.Both c own) short long = (short, long)
 
 stopped_by : (words : List (List ℕ)) (before : List (Said Flag Value Word Maybe Values)) (m : Mistake) (why : stops.Mistake) → IsMistake tool m why → Stopped words before why → StoppedBy words before m
-stopped_by words before (mistake.UnknownOption (name.Short c) hint) why is stopped = (subst (Stopped words before) is.0 stopped, is.1)
-stopped_by words before (mistake.UnknownOption (name.Long own) hint) why is stopped = (subst (Stopped words before) is.0 stopped, is.1)
+stopped_by words before (mistake.UnknownOption (name.Short c) hint) why is stopped = (is.0, subst (Stopped words before) is.1 stopped, is.2)
+stopped_by words before (mistake.UnknownOption (name.Long own) hint) why is stopped = (is.0, subst (Stopped words before) is.1 stopped, is.2)
 stopped_by words before (mistake.UnexpectedValue option value) why is stopped = subst (Stopped words before) is stopped
 stopped_by words before (mistake.MissingValue option placeholder) why is stopped = (is.0, subst (Stopped words before) is.1 stopped, is.2)
+stopped_by words before (mistake.InvalidValue own value values) why (index, same, (d, here, short, long), are) stopped =
+    (index, subst (Stopped words before) same stopped, (d, here, names_are d own short long), are)
 stopped_by words before (mistake.UnexpectedArgument word) why is stopped = subst (Stopped words before) is stopped
 stopped_by words before (mistake.MissingArgument placeholder) why is stopped = (is.0, subst (Stopped words before) is.1 stopped, is.2)
 stopped_by words before (mistake.MissingOption own) why (index, same, (d, here, short, long)) stopped =

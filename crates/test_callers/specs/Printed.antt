@@ -12,7 +12,7 @@ use Rattle.lexopt_words.specs.declared.error.Error.TheVariants as error
 use Rattle.lexopt_line_spec.specs.Table.{flag, one}
 use Rattle.lexopt_options_spec.specs.Declaration as spec
 use Rattle.lexopt_options_spec.specs.Declaration.{IsFirstFault, are_clear, is_sound}
-use Rattle.lexopt_options_spec.specs.Help.{IsUsage}
+use Rattle.lexopt_options_spec.specs.Help.{IsUsage, list_text}
 use Rattle.lexopt_declaration.specs.declared.declaration.Count.{Count}
 use Rattle.lexopt_declaration.specs.declared.declaration.Count.TheVariants as count
 use Rattle.lexopt_declaration.specs.Declarations.{declaration_view}
@@ -49,6 +49,9 @@ reason_line reason.ReplacementInName = codes "its name has U+FFFD in it"
 reason_line reason.BlankOrControlInName =
     codes "its name has a blank or a control character in it"
 reason_line reason.BadPlaceholder = codes "its placeholder is empty or begins with '-' or '='"
+reason_line reason.BadList =
+    codes "the list of its values is empty, or one of them is empty, begins with '-' or '=', "
+    ++ codes "or has a blank or a control character in it"
 reason_line reason.SameName = codes "an option before it has one of its names"
 
 abbrev pub declaration_line : DeclarationError → List ℕ
@@ -77,6 +80,9 @@ mistake_line (mistake.UnexpectedValue option value) = codes "unexpected argument
     ++ (string_bytes option ++ (codes "': " ++ quoted value))
 mistake_line (mistake.MissingValue option placeholder) = codes "missing argument "
     ++ (placeholder.now ++ (codes " for option '" ++ (string_bytes option ++ codes "'")))
+mistake_line (mistake.InvalidValue option value values) = codes "invalid value "
+    ++ (quoted value ++ (codes " for '" ++ (names_line option
+    ++ (codes "': one of " ++ list_text (map (λ v. v.now) values.now)))))
 mistake_line (mistake.UnexpectedArgument word) = codes "unexpected argument " ++ quoted word
 mistake_line (mistake.MissingArgument placeholder) = codes "missing argument " ++ placeholder.now
 mistake_line (mistake.MissingOption names) =
@@ -127,8 +133,8 @@ report_line r = r.program.now
 
 -- ---- two options that cannot be declared
 
-abbrev pub two_options : ℕ → List ℕ → List ℕ → List spec.Declared
-two_options character name placeholder = record {
+abbrev pub two_options : ℕ → List ℕ → List ℕ → List (List ℕ) → List spec.Declared
+two_options character name placeholder values = record {
   short_name = Some character;
   long_name = Some name;
   kind = flag;
@@ -137,6 +143,7 @@ two_options character name placeholder = record {
   asks = None;
   hidden = false;
   required = false;
+  words = spec.files;
 }
     ∷ record {
       short_name = Some 118;
@@ -147,6 +154,7 @@ two_options character name placeholder = record {
       asks = None;
       hidden = false;
       required = false;
+      words = spec.listed values;
     }
     ∷ []
 
@@ -157,6 +165,7 @@ reason_of reason.EqualsInName = spec.equals_in_name
 reason_of reason.ReplacementInName = spec.replacement_in_name
 reason_of reason.BlankOrControlInName = spec.blank_or_control_in_name
 reason_of reason.BadPlaceholder = spec.bad_placeholder
+reason_of reason.BadList = spec.bad_list
 reason_of reason.SameName = spec.same_name
 
 -- the character of the first of them, or of the second
@@ -165,9 +174,9 @@ character_at character zero = character
 character_at character (suc index) = 118
 
 -- the option of this character is the first that cannot be declared, and why
-abbrev pub IsFaultOf : ℕ → List ℕ → List ℕ → ℕ × Reason → Type 0
-IsFaultOf character name placeholder fault = (index : ℕ)
-    × IsFirstFault (two_options character name placeholder) index (reason_of fault.1)
+abbrev pub IsFaultOf : ℕ → List ℕ → List ℕ → List (List ℕ) → ℕ × Reason → Type 0
+IsFaultOf character name placeholder values fault = (index : ℕ)
+    × IsFirstFault (two_options character name placeholder values) index (reason_of fault.1)
     × (fault.0 ≡ character_at character index)
 
 -- ---- a declaration that is tried, by the definitions that the clause of `try_new` cites
@@ -195,6 +204,7 @@ one_option character = record {
   asks = None;
   hidden = false;
   required = false;
+  words = spec.files;
 }
     ∷ []
 

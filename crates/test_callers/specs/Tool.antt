@@ -1,17 +1,22 @@
 -- The tool that `declared.rt` declares, by the grammar and by plain data.
 use Rattle.std.specs.Prelude.{◌≡◌, ℕ, List, [], ◌∷◌, Option, Some, None, codes, true, false}
-use Rattle.std.specs.Prelude.{◌⊎◌, ◌++◌, ◌-◌, Contains, filter, length, nat_eq, option_map}
-use Rattle.std.specs.Prelude.{slice_get, string_bytes}
+use Rattle.std.specs.Prelude.{◌⊎◌, ◌++◌, ◌-◌, ◌==◌, if◌then◌else◌, Contains, filter, length}
+use Rattle.std.specs.Prelude.{nat_eq, option_map}
+use Rattle.std.specs.Prelude.{map, slice_get, string_bytes}
 use Rattle.std.specs.List.{AllZip, flat_map, starts_with}
 use Rattle.lexopt_declaration.specs.declared.declaration.Names.{Names}
 use Rattle.lexopt_declaration.specs.declared.declaration.Names.TheVariants as names
 use Rattle.lexopt_declaration.specs.Scripts.{bash_script, fish_script, zsh_script}
+use Rattle.lexopt_spec.specs.UnreadLine.{Tail}
 use Rattle.lexopt_line_spec.specs.Table.{Kind, flag, one, optional, several, short, long}
 use Rattle.lexopt_options_spec.specs.Declaration.{Declaration, Declared, once}
 use Rattle.lexopt_options_spec.specs.Declaration.{at_most_once, any_number, for_help, for_version}
+use Rattle.lexopt_options_spec.specs.Declaration as spec
+use Rattle.lexopt_options_spec.specs.Declaration.{files, listed}
 use Rattle.lexopt_options_spec.specs.Asking.{AskFor, first_asked, said_before}
 use Rattle.lexopt_options_spec.specs.Completion as completion
-use Rattle.lexopt_options_spec.specs.Completion.{Completes, HasRole, IsJoined, spellings}
+use Rattle.lexopt_options_spec.specs.Completion.{Completes, HasRole, IsJoined, offered_values}
+use Rattle.lexopt_options_spec.specs.Completion.{spellings}
 use Rattle.lexopt_options_spec.specs.Help.{IsHelp, Line as HelpLine, Wraps, below}
 use Rattle.lexopt_options_spec.specs.Legal as legal
 use Rattle.lexopt_options_spec.specs.Legal.{Says}
@@ -51,13 +56,16 @@ plain c name kind placeholder help = record {
   asks = None;
   hidden = false;
   required = false;
+  words = files;
 }
 
 abbrev pub tool_options : List Declared
 tool_options = plain (Some 118) (Some (codes "verbose")) flag [] (codes "tell more")
     ∷ record (plain (Some 102) None flag [] (codes "by force")) { hidden = true }
     ∷ plain (Some 111) (Some (codes "output")) one (codes "FILE") (codes "write there")
-    ∷ plain None (Some (codes "color")) optional (codes "WHEN") (codes "paint")
+    ∷ record (plain None (Some (codes "color")) optional (codes "WHEN") (codes "paint")) {
+      words = listed (codes "always" ∷ codes "never" ∷ []);
+    }
     ∷ plain (Some 120) None several (codes "GLOB") (codes "leave out")
     ∷ record (plain (Some 104) (Some (codes "help")) flag [] (codes "help")) {
       asks = Some for_help;
@@ -138,17 +146,22 @@ HasNames o (names.Long own) = (o.short_name ≡ None) × (o.long_name ≡ Some o
 HasNames o (names.Both c own) = (o.short_name ≡ Some c) × (o.long_name ≡ Some own.now)
 
 abbrev pub StoppedBy : List (List ℕ) → List (Said Flag Value Word Maybe Values) → Mistake → Type 0
-StoppedBy words before (mistake.UnknownOption (name.Short c) hint) =
-    Stopped words before (stops.unknown_option (short c))
-    × IsHint tool_options (short c) (option_map (λ text. text.now) hint)
-StoppedBy words before (mistake.UnknownOption (name.Long own) hint) =
-    Stopped words before (stops.unknown_option (long (string_bytes own)))
-    × IsHint tool_options (long (string_bytes own)) (option_map (λ text. text.now) hint)
+StoppedBy words before (mistake.UnknownOption (name.Short c) hint) = (left : Tail)
+    × Stopped words before (stops.unknown_option (short c) left)
+    × IsHint tool_options (short c) left (option_map (λ text. text.now) hint)
+StoppedBy words before (mistake.UnknownOption (name.Long own) hint) = (left : Tail)
+    × Stopped words before (stops.unknown_option (long (string_bytes own)) left)
+    × IsHint tool_options (long (string_bytes own)) left (option_map (λ text. text.now) hint)
 StoppedBy words before (mistake.UnexpectedValue option value) =
     Stopped words before (stops.unexpected_value (string_bytes option) value)
 StoppedBy words before (mistake.MissingValue option placeholder) = (index : ℕ)
     × Stopped words before (stops.missing_value index (string_bytes option))
     × (placeholder.now ≡ placeholder_at tool_options index)
+StoppedBy words before (mistake.InvalidValue own value values) = (index : ℕ)
+    × Stopped words before (stops.invalid_value index value)
+    × ((o : Declared) × (slice_get tool_options index ≡ Some o) × HasNames o own)
+    × ((o : Declared) × (slice_get tool_options index ≡ Some o)
+    × (o.words ≡ listed (map (λ v. v.now) values.now)))
 StoppedBy words before (mistake.UnexpectedArgument word) =
     Stopped words before (stops.unexpected_argument word)
 StoppedBy words before (mistake.MissingArgument placeholder) = (count : ℕ)
@@ -217,13 +230,37 @@ NoShellAsks words = ((before : List (List ℕ)) (typed : List ℕ)
     × ¬ (words ≡ codes "__script" ∷ codes "zsh" ∷ [])
     × ¬ (words ≡ codes "__script" ∷ codes "fish" ∷ [])
 
--- this line, if there is something, and otherwise none
-abbrev pub line_if : {X : Type 0} → Option X → List ℕ → List ℕ
-line_if None line = []
-line_if (Some x) line = line
+-- the line for what completes the values of an option, after this
+abbrev pub line_of : List ℕ → spec.Words → List ℕ
+line_of start spec.files = start ++ codes "files\n"
+line_of start spec.directories = start ++ codes "directories\n"
+line_of start spec.text = []
+line_of start (spec.listed values) = []
 
--- The words ask what can be typed. The text has a line for each spelling, a line `files` if a word
--- is possible that is not an option, and a line `value` if a value is typed after `=`.
+abbrev pub line_at : List ℕ → Option Declared → List ℕ
+line_at start None = []
+line_at start (Some o) = line_of start o.words
+
+-- the line for a word that is not an option
+abbrev pub role_line : Option completion.Role → List ℕ
+role_line None = []
+role_line (Some completion.argument) = codes "files\n"
+role_line (Some (completion.value i)) = line_at [] (slice_get tool_options i)
+
+-- the line for a value after `=`
+abbrev pub index_line : Option ℕ → List ℕ
+index_line None = []
+index_line (Some i) = line_at (codes "value ") (slice_get tool_options i)
+
+-- the line for a value in a list
+abbrev pub plus_line : List ℕ → List ℕ
+plus_line [] = 43 ∷ 10 ∷ []
+plus_line (b ∷ bs) = if b == 45 then b ∷ bs ++ 10 ∷ [] else 43 ∷ b ∷ bs ++ 10 ∷ []
+
+-- The words ask what can be typed. The text has a line for each spelling, and one for each value in
+-- a list. If a word is possible that is not an option, a line `files` follows, or the line by what
+-- completes the values of the option whose value it is; and if a value is typed after `=`, the line
+-- by what completes it.
 pub record IsOffer (words : List (List ℕ)) (text : List ℕ) : Type 0 where
   pub before : List (List ℕ)
   pub typed : List ℕ
@@ -235,8 +272,9 @@ pub record IsOffer (words : List (List ℕ)) (text : List ℕ) : Type 0 where
   pub word : HasRole tool before typed role
   pub index : Option ℕ
   pub joined : IsJoined tool before typed index
-  pub written : text ≡ flat_map (λ s. s ++ 10 ∷ []) offered ++ line_if role (codes "files\n")
-      ++ line_if index (codes "value\n")
+  pub written : text ≡ flat_map (λ s. s ++ 10 ∷ []) offered
+      ++ flat_map plus_line (offered_values tool_options typed role index)
+      ++ role_line role ++ index_line index
 
 -- they ask for the script of this shell
 abbrev pub IsScript : List (List ℕ) → List ℕ → Type 0

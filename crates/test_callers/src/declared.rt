@@ -4,6 +4,7 @@
 ghost use Rattle.std.specs.Prelude.{◌≡◌, ℕ, Contains, IfOk, List, Option, map, string_bytes};
 ghost use Rattle.lexopt_options_spec.specs.Completion as completion;
 ghost use Rattle.lexopt_options_spec.specs.Completion.{Completes, HasRole, IsJoined};
+ghost use Rattle.lexopt_options_spec.specs.Completion.{offered_values};
 ghost use Rattle.lexopt_options_spec.specs.Declaration as spec;
 ghost use Rattle.lexopt_options_spec.specs.Help.{IsHelp};
 ghost use Rattle.lexopt_options_spec.specs.Legal as legal;
@@ -16,7 +17,7 @@ ghost use Rattle.test_callers.specs.Tool.{tool_options};
 use lexopt_items::items::Table;
 use lexopt_options::{
     Answer, Completion, Count, Declaration, Declared, Kind, Line, Names, Options, OsString,
-    Positional,
+    Positional, Words,
 };
 use std::alloc::{AllocError, Global};
 
@@ -74,6 +75,7 @@ static TOOL: Declaration<'static, Flag, Value, Word, Maybe, Values> = Declaratio
             help: "tell more",
             hidden: false,
             required: false,
+            words: Words::Files,
         },
         Declared {
             names: Names::Short('f'),
@@ -81,6 +83,7 @@ static TOOL: Declaration<'static, Flag, Value, Word, Maybe, Values> = Declaratio
             help: "by force",
             hidden: true,
             required: false,
+            words: Words::Files,
         },
         Declared {
             names: Names::Both('o', "output"),
@@ -88,6 +91,7 @@ static TOOL: Declaration<'static, Flag, Value, Word, Maybe, Values> = Declaratio
             help: "write there",
             hidden: false,
             required: false,
+            words: Words::Files,
         },
         Declared {
             names: Names::Long("color"),
@@ -95,6 +99,7 @@ static TOOL: Declaration<'static, Flag, Value, Word, Maybe, Values> = Declaratio
             help: "paint",
             hidden: false,
             required: false,
+            words: Words::Listed(&["always", "never"]),
         },
         Declared {
             names: Names::Short('x'),
@@ -102,6 +107,7 @@ static TOOL: Declaration<'static, Flag, Value, Word, Maybe, Values> = Declaratio
             help: "leave out",
             hidden: false,
             required: false,
+            words: Words::Files,
         },
         Declared {
             names: Names::Both('h', "help"),
@@ -109,6 +115,7 @@ static TOOL: Declaration<'static, Flag, Value, Word, Maybe, Values> = Declaratio
             help: "help",
             hidden: false,
             required: false,
+            words: Words::Files,
         },
         Declared {
             names: Names::Long("version"),
@@ -116,6 +123,7 @@ static TOOL: Declaration<'static, Flag, Value, Word, Maybe, Values> = Declaratio
             help: "version",
             hidden: false,
             required: false,
+            words: Words::Files,
         },
         Declared {
             names: Names::Both('u', "user"),
@@ -123,6 +131,7 @@ static TOOL: Declaration<'static, Flag, Value, Word, Maybe, Values> = Declaratio
             help: "for whom",
             hidden: false,
             required: true,
+            words: Words::Files,
         },
     ],
     positionals: &[
@@ -177,6 +186,9 @@ pub fn complete(
         × HasRole tool words.now typed.now role × IsSameRole role c.word) }
     ensures joined { IfOk result (λ c. (index : Option ℕ)
         × IsJoined tool words.now typed.now index × AreBoth index c.joined) }
+    ensures values { IfOk result (λ c. (role : Option completion.Role) × (index : Option ℕ)
+        × HasRole tool words.now typed.now role × IsJoined tool words.now typed.now index
+        × (map string_bytes c.values.items ≡ offered_values tool_options typed.now role index)) }
 {
     Options::new(&TOOL).complete(alloc, words, typed)
 }

@@ -1,6 +1,6 @@
 //! Callers of what prints names and errors, and of what refuses a declaration, with clauses of
 //! their own in plain data.
-ghost use Rattle.std.specs.Prelude.{◌≡◌, ◌≢◌, IfOk, MatchResult, codes, string_bytes, true};
+ghost use Rattle.std.specs.Prelude.{◌≡◌, ◌≢◌, IfOk, MatchResult, codes, map, string_bytes, true};
 ghost use Rattle.std.specs.Option.{MatchOption};
 ghost use Rattle.lexopt_options_spec.specs.Declaration.{is_sound};
 ghost use Rattle.test_callers.specs.Printed.{IsErrorOf, IsFaultOf, IsUsageOf, declaration_line};
@@ -61,15 +61,21 @@ pub fn report_status(report: &Report<'_>) -> u8
     report.status()
 }
 
-/// Declares two options, and returns the character of the first of them that cannot be declared,
-/// and why; `None` if both can be declared together.
-pub fn fault_of_two(character: char, name: &str, placeholder: &str) -> Option<(char, Reason)>
-    ensures { MatchOption result (is_sound (two_options character name.now placeholder.now) ≡ true)
-        (IsFaultOf character name.now placeholder.now) }
+/// Declares two options, the second with a list of values. Returns the character of the first of
+/// them that cannot be declared, and why; `None` if both can be declared together.
+pub fn fault_of_two(
+    character: char,
+    name: &str,
+    placeholder: &str,
+    values: &[&str],
+) -> Option<(char, Reason)>
+    ensures { let listed = map (λ value. value.now) values.now in MatchOption result
+        (is_sound (two_options character name.now placeholder.now listed) ≡ true)
+        (IsFaultOf character name.now placeholder.now listed) }
 {
     let options = [
         Declared::flag(Flag::Verbose, Names::Both(character, name), ""),
-        Declared::value(Value::Output, Names::Both('v', "verbose"), placeholder, ""),
+        Declared::value(Value::Output, Names::Both('v', "verbose"), placeholder, "").one_of(values),
     ];
     let declaration: Declaration<'_, Flag, Value> = Declaration {
         program: "",

@@ -1,6 +1,6 @@
 //! Tests of calls with enough memory: single calls, views, lists of calls, whole lines, a reader of
 //! options with an error type of its own, sizes, and the callers of `test_callers`; words,
-//! arguments, conversions, errors, code points, names, items that are spelled, and declared options.
+//! arguments, conversions, errors, code points, names, and items that are spelled.
 //! Lines that a script can write are cases of `test_cases`.
 #![tactic(auto)]
 
@@ -18,8 +18,6 @@ mod errors;
 mod example;
 #[cfg(test)]
 mod names;
-#[cfg(test)]
-mod options;
 #[cfg(test)]
 mod replays;
 #[cfg(test)]

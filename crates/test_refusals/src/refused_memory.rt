@@ -923,6 +923,18 @@ fn declared_mistake(rt: HostRuntime) -> Result<(), Fail> {
     )
 }
 
+// A mistake in a cluster, with the name that has a dash more.
+#[test]
+fn declared_cluster(rt: HostRuntime) -> Result<(), Fail> {
+    answers_so(
+        rt.alloc(),
+        Options::new(&PACK),
+        b"-verbose",
+        "pack: invalid option '-e'; did you mean '--verbose'?\n\
+        Try 'pack --help' for more information.",
+    )
+}
+
 #[test]
 fn declared_help(rt: HostRuntime) -> Result<(), Fail> {
     answers_so(

@@ -1,6 +1,7 @@
-use Rattle.std.proofs.Common.{ap, filter, map, nat_eq, ◌++◌, ◌∙◌}
-use Rattle.lexopt_options_spec.specs.Completion.{names_of, spelling}
+use Rattle.std.proofs.Common.{ap, filter, map, nat_eq, ◌++◌, ◌∙◌, arith}
+use Rattle.lexopt_options_spec.specs.Completion.{names_of, spelling, spellings}
 use Rattle.std.specs.List.{starts_with}
+use Rattle.std.proofs.lemmas.List.{take_all}
 use Rattle.lexopt_declaration.specs.Models.{option_view}
 use Rattle.lexopt_declaration.proofs.Spelled.{spelled_more, text_more}
 use Rattle.lexopt_declaration.proofs.spellings.spellings_of.Goals as goal
@@ -11,3 +12,8 @@ loop-option-preserved g c = record {
   spellings = spelled_more (λ s. starts_with nat_eq s c.args.typed.now) c.args.options.now c.loop-option.option-index c.option-item.result _ c.loop-option-test.true c.option-item.is
       (c.in_ok-add_spellings.ensures.added ∙ ap (λ l. l ++ filter (λ s. starts_with nat_eq s c.args.typed.now) (map spelling (names_of (option_view c.option-item.result)))) c.loop-option.invariant.spellings);
 }
+
+pub returns-clause-spellings : goal.returns-clause-spellings
+returns-clause-spellings g c =
+    c.loop-option.invariant.spellings
+    ∙ ap (λ os. filter (λ s. starts_with nat_eq s c.args.typed.now) (spellings (map option_view os))) (take_all c.loop-option.option-index c.args.options.now (omega (arith, c.loop-option-test.false)))

@@ -1,7 +1,7 @@
 use Rattle.std.proofs.Common.{List, ℕ, [], ◌∷◌, ◌++◌, true, codes, refl, lit≤, lit<}
 use Rattle.bstr.proofs.Computing.{computing}
-use Rattle.lexopt_options_spec.specs.Help.{columns, label, IsParagraph, IsEntry, IsUsage}
-use Rattle.lexopt_laws.specs.Sample.{verbose, output, backup, exclude, asks_for_help, sample, sample_options, files, described_files, mode, target}
+use Rattle.lexopt_options_spec.specs.Help.{columns, label, told_of, IsParagraph, IsEntry, IsUsage}
+use Rattle.lexopt_laws.specs.Sample.{listed_mode, verbose, output, backup, exclude, asks_for_help, sample, sample_options, files, described_files, mode, target}
 use Rattle.lexopt_laws.proofs.WorkedLines.{fits}
 use Rattle.lexopt_laws.proofs.option_examples.helps_are_written.Goals as goal
 
@@ -179,6 +179,37 @@ returns-clause-every_part c = record {
   each_positional = (files_entry, tt);
   each_option = (verbose_entry, tt);
   each_paragraph = (first_paragraph, (no_paragraph, (last_paragraph, tt)));
+  written = refl;
+}
+
+usage_of_a_list : IsUsage 80 (record (sample [] true) { options = listed_mode ∷ []; about = [] }) (codes "Usage: example_archive [OPTION]...\n")
+unfolding columns computing
+usage_of_a_list = record {
+  lines = (codes "example_archive" ∷ codes "[OPTION]..." ∷ []) ∷ [];
+  wrapped = record { in_order = refl; fit = (fits (lit< tt) (lit≤ tt), tt); full = tt };
+  written = refl;
+}
+
+list_entry : IsEntry 80 (label listed_mode) (told_of listed_mode.help listed_mode.words) (codes "  -m, --mode=MODE       how to pack: one of fast, slow\n")
+unfolding columns computing
+list_entry = record {
+  lines = (codes "how" ∷ codes "to" ∷ codes "pack:" ∷ codes "one" ∷ codes "of" ∷ codes "fast," ∷ codes "slow" ∷ []) ∷ [];
+  wrapped = record { in_order = refl; fit = (fits (lit< tt) (lit≤ tt), tt); full = tt };
+  written = refl;
+}
+
+pub returns-clause-list : goal.returns-clause-list
+returns-clause-list c = record {
+  usage = codes "Usage: example_archive [OPTION]...\n";
+  about = [];
+  positionals = [];
+  options = codes "  -m, --mode=MODE       how to pack: one of fast, slow\n" ∷ [];
+  epilogue = [];
+  usage_first = usage_of_a_list;
+  about_next = no_about;
+  each_positional = tt;
+  each_option = (list_entry, tt);
+  each_paragraph = tt;
   written = refl;
 }
 

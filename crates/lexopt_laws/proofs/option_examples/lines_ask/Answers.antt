@@ -2,8 +2,9 @@ use Rattle.std.proofs.Common.{[], ◌∷◌, codes, refl, lit≤}
 use Rattle.lexopt_spec.specs.Steps.{next_in_cluster, next_word, no_word}
 use Rattle.lexopt_line_spec.specs.Table.{short, long, kind}
 use Rattle.lexopt_line_spec.proofs.Computing.{computing}
-use Rattle.lexopt_line_spec.proofs.Worked.{some, not_mark, reads_first, reads_name, reads_plain}
+use Rattle.lexopt_line_spec.proofs.Worked.{some, not_mark, reads_first, reads_joined, reads_name, reads_plain}
 use Rattle.lexopt_laws.proofs.WorkedAsking.{asks_first, asks_second}
+use Rattle.lexopt_laws.proofs.WorkedValues.{asks_after_value}
 use Rattle.lexopt_laws.proofs.option_examples.lines_ask.Goals as goal
 
 -- `--help`
@@ -52,3 +53,12 @@ pub returns-clause-under_its_setting : goal.returns-clause-under_its_setting
 unfolding kind computing
 returns-clause-under_its_setting c = asks_first (short 0x68) 4 _ _ _ refl refl refl tt (reads_first _ 0x68 (codes "=1") [] refl refl refl refl)
     (next_in_cluster (codes "=1") refl (not_mark _ (codes "=1") refl) (record { some = some _ _; reply_is = refl; after_is = refl })) (λ o x is. cc)
+
+-- `--help --mode=medium`
+pub returns-clause-before_a_value : goal.returns-clause-before_a_value
+unfolding kind computing
+returns-clause-before_a_value c = asks_first (long (codes "help")) 4 _ _ _ refl refl refl (lit≤ tt) (reads_name _ 0x68 (codes "elp") (codes "--mode=medium" ∷ []) refl refl refl refl)
+    (reads_joined _ (codes "mode") (codes "medium") [] refl refl refl refl) (λ o x is. cc)
+
+pub returns-clause-after_a_value : goal.returns-clause-after_a_value
+returns-clause-after_a_value c = asks_after_value

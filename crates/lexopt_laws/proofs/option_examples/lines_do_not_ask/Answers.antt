@@ -1,5 +1,6 @@
 use Rattle.std.proofs.Common.{◌≡◌, true, [], ◌∷◌, Some, None, codes, refl, inl, lit≤}
 use Rattle.lexopt_spec.specs.Steps.{joined_value, equals_value}
+use Rattle.lexopt_spec.specs.UnreadLine.{no_tail}
 use Rattle.lexopt_line_spec.specs.Table as spec
 use Rattle.lexopt_line_spec.specs.Table.{short, long, kind}
 use Rattle.lexopt_line_spec.specs.Spelling.{separator}
@@ -14,6 +15,7 @@ use Rattle.lexopt_laws.proofs.AskedOnce.{asked_of_list, asked_of_stop, one_asked
 use Rattle.lexopt_laws.proofs.WorkedAsking.{asks_first}
 use Rattle.lexopt_laws.proofs.WorkedSays.{whole_of}
 use Rattle.lexopt_laws.proofs.WorkedStops.{at_first, after_flag}
+use Rattle.lexopt_laws.proofs.WorkedValues.{asking_medium, value_before_the_help}
 use Rattle.lexopt_laws.proofs.option_examples.lines_do_not_ask.Goals as goal
 
 -- `--help=1`
@@ -47,7 +49,7 @@ returns-clause-for_the_second c a ask =
 pub returns-clause-after_a_mistake : goal.returns-clause-after_a_mistake
 unfolding kind computing
 returns-clause-after_a_mistake c a ask =
-    let stops : StopsAt (asking_sample [] true) (codes "-z" ∷ codes "--help" ∷ []) [] (unknown_option (short 0x7A)) =
+    let stops : StopsAt (asking_sample [] true) (codes "-z" ∷ codes "--help" ∷ []) [] (unknown_option (short 0x7A) no_tail) =
     at_first (not_declared (short 0x7A) _ (inl (reads_first _ 0x7A [] (codes "--help" ∷ []) refl refl refl refl)) refl) in
     let e : None ≡ Some a = asked_of_stop _ _ _ _ a stops ask in cc
 
@@ -56,5 +58,14 @@ pub returns-clause-after_the_separator : goal.returns-clause-after_the_separator
 unfolding kind computing
 returns-clause-after_the_separator c a ask =
     let says : Says (asking_sample (files ∷ []) true) (codes "--" ∷ codes "--help" ∷ []) (positional (codes "--help") ∷ []) =
-    whole_of (spec.positional (codes "--help") ∷ []) (separator (codes "--help" ∷ [])) refl tt (lit≤ tt) refl in
+    whole_of (spec.positional (codes "--help") ∷ []) (separator (codes "--help" ∷ [])) refl tt (lit≤ tt) refl refl in
     let e : None ≡ Some a = asked_of_list _ _ _ a says ask in cc
+
+-- `--mode=medium --help`
+pub returns-clause-after_a_value : goal.returns-clause-after_a_value
+returns-clause-after_a_value c a ask =
+    let e : None ≡ Some a = asked_of_stop _ _ _ _ a value_before_the_help ask in cc
+
+-- `-mmedium`
+pub returns-clause-by_a_refused_value : goal.returns-clause-by_a_refused_value
+returns-clause-by_a_refused_value c a ask = let e : None ≡ Some a = asked_of_stop _ _ _ _ a asking_medium ask in cc

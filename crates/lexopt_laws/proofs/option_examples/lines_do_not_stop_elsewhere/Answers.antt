@@ -1,5 +1,6 @@
 use Rattle.std.proofs.Common.{[], ◌∷◌, true, codes, refl, inl, lit<, lit≤}
 use Rattle.lexopt_spec.specs.Steps.{next_word, no_word}
+use Rattle.lexopt_spec.specs.UnreadLine.{no_tail, rest}
 use Rattle.lexopt_line_spec.specs.Table.{short, kind}
 use Rattle.lexopt_line_spec.proofs.Computing.{computing}
 use Rattle.lexopt_line_spec.proofs.Worked.{reads_first, reads_plain}
@@ -19,9 +20,17 @@ returns-clause-nowhere c l m stops = nothing_said _ _ l m stops (positional (cod
 pub returns-clause-at_the_first_mistake : goal.returns-clause-at_the_first_mistake
 unfolding kind computing
 returns-clause-at_the_first_mistake c l m stops =
-    let first : StopsAt (sample (mode ∷ []) true) (codes "-z" ∷ codes "--verbose=1" ∷ []) [] (unknown_option (short 0x7A)) =
+    let first : StopsAt (sample (mode ∷ []) true) (codes "-z" ∷ codes "--verbose=1" ∷ []) [] (unknown_option (short 0x7A) no_tail) =
     at_first (not_declared (short 0x7A) _ (inl (reads_first _ 0x7A [] (codes "--verbose=1" ∷ []) refl refl refl refl)) refl) in
-    one_stop _ _ l [] m (unknown_option (short 0x7A)) stops first
+    one_stop _ _ l [] m (unknown_option (short 0x7A) no_tail) stops first
+
+-- `-zv`
+pub returns-clause-in_a_cluster : goal.returns-clause-in_a_cluster
+unfolding kind computing
+returns-clause-in_a_cluster c l m stops =
+    let first : StopsAt (sample (mode ∷ []) true) (codes "-zv" ∷ []) [] (unknown_option (short 0x7A) (rest (codes "v"))) =
+    at_first (not_declared (short 0x7A) _ (inl (reads_first _ 0x7A (codes "v") [] refl refl refl refl)) refl) in
+    one_stop _ _ l [] m (unknown_option (short 0x7A) (rest (codes "v"))) stops first
 
 -- `a`
 pub returns-clause-what_is_missing : goal.returns-clause-what_is_missing

@@ -1,4 +1,4 @@
-use Rattle.std.proofs.Common.{[], ◌∷◌, codes, refl, inl, lit<, lit≤}
+use Rattle.std.proofs.Common.{◌≡◌, [], ◌∷◌, codes, refl, inl, lit<, lit≤}
 use Rattle.lexopt_spec.specs.Steps.{joined_value, equals_value, next_in_cluster, nothing_to_take, next_word, no_word}
 use Rattle.lexopt_spec.specs.Runs.{value, values}
 use Rattle.lexopt_line_spec.specs.Table.{short, long, kind}
@@ -39,6 +39,12 @@ pub returns-clause-under_its_setting : goal.returns-clause-under_its_setting
 unfolding kind computing
 returns-clause-under_its_setting c = after_flag (short 0x76) 0 _ refl refl tt (inl (reads_first _ 0x76 (codes "=1") [] refl refl refl refl))
     (not_declared (short 0x3D) _ (inl (next_in_cluster (codes "=1") refl (not_mark _ (codes "=1") refl) (record { some = some _ _; reply_is = refl; after_is = refl }))) refl)
+
+-- `-verbose`
+pub returns-clause-in_a_cluster : goal.returns-clause-in_a_cluster
+unfolding kind computing
+returns-clause-in_a_cluster c = after_flag (short 0x76) 0 _ refl refl tt (inl (reads_first _ 0x76 (codes "erbose") [] refl refl refl refl))
+    (not_declared (short 0x65) _ (inl (next_in_cluster (codes "erbose") refl (λ both. let e : 0x65 ≡ 0x3D = both.1 in cc) (record { some = some _ _; reply_is = refl; after_is = refl }))) refl)
 
 -- `-o`
 pub returns-clause-no_value : goal.returns-clause-no_value

@@ -35,7 +35,7 @@ returns-clause-first_of_two c = after_flag (short 0x76) 0 _ refl refl (lit≤ tt
 -- `-o f`
 pub returns-clause-second_of_two : goal.returns-clause-second_of_two
 unfolding kind computing
-returns-clause-second_of_two c = after_value (short 0x6F) 1 (codes "f") _ _ refl refl (lit≤ tt) (inl (reads_first _ 0x6F [] (codes "f" ∷ []) refl refl refl refl))
+returns-clause-second_of_two c = after_value (short 0x6F) 1 (codes "f") _ _ refl refl (lit≤ tt) refl (inl (reads_first _ 0x6F [] (codes "f" ∷ []) refl refl refl refl))
     (inl (takes_word (codes "f") [] refl refl refl refl))
     (not_complete 2 _ (inl (next_word refl refl (no_word refl refl refl))) (lit≤ tt) (is_first_missing _ _ 2 refl))
 
@@ -45,7 +45,7 @@ returns-clause-both c = lacks_both
 -- `-u me -z`
 pub returns-clause-not_declared : goal.returns-clause-not_declared
 unfolding kind computing
-returns-clause-not_declared c = after_value (short 0x75) 4 (codes "me") _ _ refl refl (lit≤ tt) (inl (reads_first _ 0x75 [] (codes "me" ∷ codes "-z" ∷ []) refl refl refl refl))
+returns-clause-not_declared c = after_value (short 0x75) 4 (codes "me") _ _ refl refl (lit≤ tt) refl (inl (reads_first _ 0x75 [] (codes "me" ∷ codes "-z" ∷ []) refl refl refl refl))
     (inl (takes_word (codes "me") (codes "-z" ∷ []) refl refl refl refl))
     (not_declared (short 0x7A) _ (inl (reads_first _ 0x7A [] [] refl refl refl refl)) refl)
 

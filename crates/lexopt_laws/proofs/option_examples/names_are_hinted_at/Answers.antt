@@ -20,6 +20,34 @@ returns-clause-character c = refl
 pub returns-clause-no_character : goal.returns-clause-no_character
 returns-clause-no_character c is = let e : Some (codes "verbose") ≡ None = is in cc
 
+pub returns-clause-cluster : goal.returns-clause-cluster
+unfolding computing
+returns-clause-cluster c = refl
+
+pub returns-clause-cluster_later : goal.returns-clause-cluster_later
+unfolding computing
+returns-clause-cluster_later c = refl
+
+pub returns-clause-cluster_of_the_rest : goal.returns-clause-cluster_of_the_rest
+unfolding computing
+returns-clause-cluster_of_the_rest c = refl
+
+pub returns-clause-cluster_of_two_bytes : goal.returns-clause-cluster_of_two_bytes
+unfolding computing
+returns-clause-cluster_of_two_bytes c = refl
+
+pub returns-clause-cluster_with_a_value : goal.returns-clause-cluster_with_a_value
+unfolding computing
+returns-clause-cluster_with_a_value c = refl
+
+pub returns-clause-damaged_cluster : goal.returns-clause-damaged_cluster
+unfolding computing
+returns-clause-damaged_cluster c = refl
+
+pub returns-clause-cluster_of_two : goal.returns-clause-cluster_of_two
+unfolding computing
+returns-clause-cluster_of_two c = refl
+
 pub returns-clause-not_far : goal.returns-clause-not_far
 unfolding computing
 returns-clause-not_far c is =

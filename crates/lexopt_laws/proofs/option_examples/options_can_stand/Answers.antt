@@ -26,35 +26,35 @@ returns-clause-before_a_positional c = worked.before_a_positional
 
 pub returns-clause-first : goal.returns-clause-first
 unfolding computing
-returns-clause-first c = offered_stands _ _ _ _ refl sample_text sample_named worked.before_a_positional (3, lit< tt, refl)
+returns-clause-first c = offered_stands _ _ _ _ refl sample_text sample_named worked.before_a_positional refl (3, lit< tt, refl)
 
 pub returns-clause-again : goal.returns-clause-again
 unfolding computing
-returns-clause-again c = offered_stands _ _ _ _ refl sample_text sample_named worked.after_a_flag (0, lit< tt, refl)
+returns-clause-again c = offered_stands _ _ _ _ refl sample_text sample_named worked.after_a_flag refl (0, lit< tt, refl)
 
 pub returns-clause-another : goal.returns-clause-another
 unfolding computing
-returns-clause-another c = offered_stands _ _ _ _ refl sample_text sample_named worked.after_an_optional_value (6, lit< tt, refl)
+returns-clause-another c = offered_stands _ _ _ _ refl sample_text sample_named worked.after_an_optional_value refl (6, lit< tt, refl)
 
 pub returns-clause-past_values : goal.returns-clause-past_values
 unfolding computing
-returns-clause-past_values c = offered_stands _ _ _ _ refl sample_text sample_named worked.after_several_values (1, lit< tt, refl)
+returns-clause-past_values c = offered_stands _ _ _ _ refl sample_text sample_named worked.after_several_values refl (1, lit< tt, refl)
 
 pub returns-clause-without_a_required_option : goal.returns-clause-without_a_required_option
 returns-clause-without_a_required_option c = open_without_user
 
 pub returns-clause-before_a_required_option : goal.returns-clause-before_a_required_option
 unfolding computing
-returns-clause-before_a_required_option c = offered_stands _ _ _ _ refl demanding_text demanding_named open_without_user (3, lit< tt, refl)
+returns-clause-before_a_required_option c = offered_stands _ _ _ _ refl demanding_text demanding_named open_without_user refl (3, lit< tt, refl)
 
 pub returns-clause-required : goal.returns-clause-required
 unfolding computing
-returns-clause-required c = offered_stands _ _ _ _ refl demanding_text demanding_named open_without_user (9, lit< tt, refl)
+returns-clause-required c = offered_stands _ _ _ _ refl demanding_text demanding_named open_without_user refl (9, lit< tt, refl)
 
 pub returns-clause-required_character : goal.returns-clause-required_character
 unfolding computing
-returns-clause-required_character c = offered_stands _ _ _ _ refl demanding_text demanding_named open_without_user (8, lit< tt, refl)
+returns-clause-required_character c = offered_stands _ _ _ _ refl demanding_text demanding_named open_without_user refl (8, lit< tt, refl)
 
 pub returns-clause-required_with_a_positional : goal.returns-clause-required_with_a_positional
 unfolding computing
-returns-clause-required_with_a_positional c = offered_stands _ _ _ _ refl demanding_text demanding_named open_before_both (9, lit< tt, refl)
+returns-clause-required_with_a_positional c = offered_stands _ _ _ _ refl demanding_text demanding_named open_before_both refl (9, lit< tt, refl)

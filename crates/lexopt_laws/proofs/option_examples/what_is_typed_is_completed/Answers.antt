@@ -12,7 +12,7 @@ unfolding computing
 returns-clause-front c = record {
   text = IsUtf8-from_is_utf8 (codes "--out") refl;
   begins = refl;
-  stands = offered_stands _ _ _ _ refl sample_text sample_named worked.at_the_start (3, lit< tt, refl);
+  stands = offered_stands _ _ _ _ refl sample_text sample_named worked.at_the_start refl (3, lit< tt, refl);
 }
 
 pub returns-clause-whole : goal.returns-clause-whole
@@ -20,7 +20,7 @@ unfolding computing
 returns-clause-whole c = record {
   text = IsUtf8-from_is_utf8 (codes "-v") refl;
   begins = refl;
-  stands = offered_stands _ _ _ _ refl sample_text sample_named worked.at_the_start (0, lit< tt, refl);
+  stands = offered_stands _ _ _ _ refl sample_text sample_named worked.at_the_start refl (0, lit< tt, refl);
 }
 
 pub returns-clause-nothing : goal.returns-clause-nothing
@@ -28,7 +28,7 @@ unfolding computing
 returns-clause-nothing c = record {
   text = IsUtf8-from_is_utf8 [] refl;
   begins = refl;
-  stands = offered_stands _ _ _ _ refl sample_text sample_named worked.after_a_flag (5, lit< tt, refl);
+  stands = offered_stands _ _ _ _ refl sample_text sample_named worked.after_a_flag refl (5, lit< tt, refl);
 }
 
 pub returns-clause-required : goal.returns-clause-required
@@ -36,7 +36,7 @@ unfolding computing
 returns-clause-required c = record {
   text = IsUtf8-from_is_utf8 (codes "--us") refl;
   begins = refl;
-  stands = offered_stands _ _ _ _ refl demanding_text demanding_named open_without_user (9, lit< tt, refl);
+  stands = offered_stands _ _ _ _ refl demanding_text demanding_named open_without_user refl (9, lit< tt, refl);
 }
 
 pub returns-clause-another : goal.returns-clause-another

@@ -12,23 +12,24 @@ use Rattle.lexopt_options.proofs.WholeLines.{last_dropped}
 use Rattle.lexopt_options.proofs.read.ask.Goals as goal
 
 pub returns-in-Ok : goal.returns-in-Ok
-returns-in-Ok g c = λ words l s read none asks are first. record {
+returns-in-Ok g c = λ words l s read none asks are first accepted. record {
   before = l;
   said = s;
   there = c.args.parser.now;
   read = read;
   none_before = none;
+  accepted = accepted;
   asks = asks;
   no_value = λ o x v step. asks_alone c.args.parser.now c.advance.new.self c.in-Ok.field-0 c.in-Ok.ensures o x v step;
 }
 
 pub returns-in-UnexpectedValue : goal.returns-in-UnexpectedValue
-returns-in-UnexpectedValue g c = λ words l s read none asks are first.
+returns-in-UnexpectedValue g c = λ words l s read none asks are first accepted.
     let d = declaration_of c.args.options.now in
     let step = subst (λ r. Next c.args.parser.now (refusal_reply r) c.advance.new.self) c.in-UnexpectedValue.is c.in-Err.ensures in
     let why = stops.unexpected_value (string_bytes c.in-UnexpectedValue.option) c.in-UnexpectedValue.value in
     c.refuse.ensures words why (l ++ s ∷ []) refl
-    (record { there = c.args.parser.now; read = read; stops = stops.value_of_flag (string_bytes c.in-UnexpectedValue.option) c.in-UnexpectedValue.value c.advance.new.self step })
+    (record { there = c.args.parser.now; read = read; stops = stops.value_of_flag (string_bytes c.in-UnexpectedValue.option) c.in-UnexpectedValue.value c.advance.new.self step; accepted = accepted })
     (subst (λ (m : List legal.Said). first_asked d.options m ≡ None) (sym (last_dropped l s)) none)
     (subst (λ (m : List legal.Said). AreSaid (options_of c.args.options.now) m c.args.said.items) (sym (last_dropped l s)) are) first
 

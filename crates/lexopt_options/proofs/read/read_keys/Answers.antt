@@ -7,7 +7,8 @@ use Rattle.lexopt_options.specs.declared.said.Told.TheVariants as told
 use Rattle.lexopt_options.specs.Declarations.{declaration_of}
 use Rattle.lexopt_options.specs.Keys.{HasKey}
 use Rattle.lexopt_options.specs.Reading.{AreSeen, noted}
-use Rattle.lexopt_options.proofs.ReadKeys.{at_start, count_within, has_option, has_positional}
+use Rattle.lexopt_options_spec.proofs.Listed.{accepted_append}
+use Rattle.lexopt_options.proofs.ReadKeys.{at_start, count_within, has_option, has_positional, one_unrefused}
 use Rattle.lexopt_options.proofs.ReadNext.{one_more}
 use Rattle.lexopt_options.proofs.WholeLines.{line_stopped}
 use Rattle.lexopt_options.proofs.read.read_keys.Goals as goal
@@ -25,7 +26,7 @@ loop-seen-smaller-in-Continue-branch-8 g c =
     let next = rw c.in-Option.is at c.in_ok-index.ensures in
     let is : c.in_ok-own-in-Option.field-0 ≡ Ok (told.Said c.in-Ok-Said.own) = cc in
     let read = rw is at c.in_ok-own-in-Option.ensures c.loop-seen.count c.loop-seen.parser next.0 next.1 next.2 in
-    read.1.reads.1
+    read.1.shorter
 
 pub loop-seen-preserved-in-Continue-branch-8 : goal.loop-seen-preserved-in-Continue-branch-8
 loop-seen-preserved-in-Continue-branch-8 g c =
@@ -34,7 +35,7 @@ loop-seen-preserved-in-Continue-branch-8 g c =
     let is : c.in_ok-own-in-Option.field-0 ≡ Ok (told.Said c.in-Ok-Said.own) = cc in
     let read = rw is at c.in_ok-own-in-Option.ensures c.loop-seen.count c.loop-seen.parser next.0 next.1 next.2 in
     has_option o c.args.parser.now c.loop-seen.parser c.read_told.new.parser c.loop-seen.count c.in-Option.index c.loop-seen.seen.items c.note.new.seen.items c.loop-seen.said.items c.push.new.self.items read.0 c.in-Ok-Said.own
-    c.loop-seen.invariant read.1 read.2.0 read.2.1 read.3 read.4
+    c.loop-seen.invariant read.1 read.2.0 read.2.1 read.3 read.4 read.5
     (c.in_ok-note-in-Ok-Said.ensures ∙ ap (λ (os : List spec.Declared). noted (is_required os c.in-Option.index) c.in-Option.index c.loop-seen.seen.items) c.options.ensures.view) c.in_ok-push-in-Ok-Said.ensures.items
 
 pub returns-in-Ok-Asked : goal.returns-in-Ok-Asked
@@ -46,7 +47,7 @@ returns-in-Ok-Asked g c = λ words is_start.
     let read = rw is at c.in_ok-own-in-Option.ensures c.loop-seen.count c.loop-seen.parser next.0 next.1 next.2 in
     c.ask.ensures words had.l read.0
     (subst (λ (u : UnreadLine). ReadsUpTo d u (had.l ++ read.0 ∷ []) c.read_told.new.parser) is_start (one_more d c.args.parser.now c.loop-seen.parser c.read_told.new.parser had.l c.loop-seen.count read.0 had.read had.counted read.1))
-    had.none read.2 had.are had.firsts
+    had.none read.2 had.are had.firsts (accepted_append d.options had.l (read.0 ∷ []) had.accepted (one_unrefused d.options read.0 read.5))
 
 pub returns-in-Err : goal.returns-in-Err
 returns-in-Err g c = λ words is.
@@ -54,7 +55,8 @@ returns-in-Err g c = λ words is.
     let had = c.loop-seen.invariant in
     let next = rw c.in-Option.is at c.in_ok-index.ensures in
     let stops = rw c.in-Err.is at c.in_ok-own-in-Option.ensures c.loop-seen.count c.loop-seen.parser next.0 next.1 next.2 in
-    c.stop.ensures words stops.why had.l stops.told (line_stopped d words had.l c.args.parser.now c.loop-seen.parser c.loop-seen.count stops.why is had.read had.counted stops.stops) had.none had.are had.firsts
+    c.stop.ensures words stops.why had.l stops.told (line_stopped d words had.l c.args.parser.now c.loop-seen.parser c.loop-seen.count stops.why is had.read had.counted (λ m counted. stops.stops m had.read.line counted) had.accepted)
+    had.none had.are had.firsts
 
 pub loop-seen-preserved : goal.loop-seen-preserved
 loop-seen-preserved g c =
@@ -69,11 +71,11 @@ returns-in-End g c = λ words is.
     let had = c.loop-seen.invariant in
     let ends = rw c.in-End.is at c.in_ok-index.ensures in
     c.end.ensures words had.l c.loop-seen.parser c.read_next.new.parser (subst (λ (u : UnreadLine). ReadsUpTo d u had.l c.loop-seen.parser) is had.read) ends had.counted
-    (subst (λ (l : List ℕ). AreSeen d.options had.l l) (sym c.deref.ensures.value) had.are_seen) had.none had.are had.firsts
+    (subst (λ (l : List ℕ). AreSeen d.options had.l l) (sym c.deref.ensures.value) had.are_seen) had.none had.are had.firsts had.accepted
 
 pub returns-in-Mistake : goal.returns-in-Mistake
 returns-in-Mistake g c = λ words is.
     let d = declaration_of c.args.options.now in
     let had = c.loop-seen.invariant in
     let stops = rw c.in-Mistake.is at c.in_ok-index.ensures in
-    c.stop-in-Mistake.ensures words stops.why had.l stops.told (line_stopped d words had.l c.args.parser.now c.loop-seen.parser c.loop-seen.count stops.why is had.read had.counted stops.stops) had.none had.are had.firsts
+    c.stop-in-Mistake.ensures words stops.why had.l stops.told (line_stopped d words had.l c.args.parser.now c.loop-seen.parser c.loop-seen.count stops.why is had.read had.counted stops.stops had.accepted) had.none had.are had.firsts

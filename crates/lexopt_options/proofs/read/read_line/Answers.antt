@@ -6,7 +6,7 @@ use Rattle.lexopt_options_spec.specs.Stops.{ReadsUpTo}
 use Rattle.lexopt_options.specs.Declarations.{declaration_of}
 use Rattle.lexopt_options.specs.Reading.{indexed_view}
 use Rattle.lexopt_options.proofs.ReadNext.{count_more, count_small, one_more}
-use Rattle.lexopt_options.proofs.WholeLines.{front_of, line_stopped, nothing_part}
+use Rattle.lexopt_options.proofs.WholeLines.{front_of, part_stopped, nothing_part}
 use Rattle.lexopt_options.proofs.read.read_line.Goals as goal
 
 pub overflow_add-count : goal.overflow_add-count
@@ -18,7 +18,7 @@ pub loop-said-smaller-in-Continue-branch-6 : goal.loop-said-smaller-in-Continue-
 loop-said-smaller-in-Continue-branch-6 g c =
     let next = rw c.in-Option.is at c.in_ok-index.ensures in
     let read = rw c.in-Ok.is at c.in_ok-option-in-Option.ensures c.loop-said.count c.loop-said.parser next.0 next.1 next.2 in
-    read.0.reads.1
+    read.0.shorter
 
 pub loop-said-preserved-in-Continue-branch-6 : goal.loop-said-preserved-in-Continue-branch-6
 loop-said-preserved-in-Continue-branch-6 g c =
@@ -54,7 +54,7 @@ returns-in-Err g c = λ words is.
     let next = rw c.in-Option.is at c.in_ok-index.ensures in
     let stops = rw c.in-Err.is at c.in_ok-option-in-Option.ensures c.loop-said.count c.loop-said.parser next.0 next.1 next.2 in
     nothing_part d words l stops.why stops.early
-    (line_stopped d words l c.args.parser.now c.loop-said.parser c.loop-said.count stops.why is c.loop-said.invariant.read c.loop-said.invariant.counted stops.stops)
+    (part_stopped d words l c.args.parser.now c.loop-said.parser c.loop-said.count stops.why is c.loop-said.invariant.read c.loop-said.invariant.counted stops.stops)
 
 pub returns-in-End : goal.returns-in-End
 returns-in-End g c = λ words is.
@@ -67,4 +67,4 @@ returns-in-Mistake g c = λ words is.
     let l = map indexed_view c.loop-said.said.items in
     let stops = rw c.in-Mistake.is at c.in_ok-index.ensures in
     nothing_part d words l stops.why stops.early
-    (line_stopped d words l c.args.parser.now c.loop-said.parser c.loop-said.count stops.why is c.loop-said.invariant.read c.loop-said.invariant.counted stops.stops)
+    (part_stopped d words l c.args.parser.now c.loop-said.parser c.loop-said.count stops.why is c.loop-said.invariant.read c.loop-said.invariant.counted stops.stops)

@@ -22,28 +22,29 @@ returns-in-Some-index_of_long g c =
     let step = named _ _ c.long_name.result.now (answered _ _ _ _ c.advance.ensures is) c.long_name.ensures in
     (long c.long_name.result.now, step, sym (ap (λ os. index_of os (long c.long_name.result.now)) c.options-in-Ok-Long.ensures.view) ∙ sym c.index_of_long.ensures ∙ c.in-Some-index_of_long.is)
 
-pub returns-in_ok-unknown_option-in-None : goal.returns-in_ok-unknown_option-in-None
-returns-in_ok-unknown_option-in-None g c =
+pub returns-in_ok-mistake-in-None : goal.returns-in_ok-mistake-in-None
+returns-in_ok-mistake-in-None g c =
     let is : c.advance.result ≡ Ok (found.Short c.in-Ok-Short.option) = cc in
+    let step = answered _ _ _ _ c.advance.ensures is in
     record {
-      why = stops.unknown_option (short c.in-Ok-Short.option);
-      told = c.in_ok-unknown_option-in-None.ensures;
+      why = stops.unknown_option (short c.in-Ok-Short.option) c.advance.new.self.tail;
+      told = c.in_ok-mistake-in-None.ensures c.args.parser.now step;
       early = tt;
-      stops = λ l counted. stops.not_declared (short c.in-Ok-Short.option) c.advance.new.self (answered _ _ _ _ c.advance.ensures is)
+      stops = λ l counted. stops.not_declared (short c.in-Ok-Short.option) c.advance.new.self step
           (sym (ap (λ os. index_of os (short c.in-Ok-Short.option)) c.options.ensures.view) ∙ sym c.index_of_short.ensures ∙ c.in-None.is);
     }
 
-pub returns-in_ok-unknown_option-in-None-index_of_long : goal.returns-in_ok-unknown_option-in-None-index_of_long
-returns-in_ok-unknown_option-in-None-index_of_long g c =
+pub returns-in_ok-mistake-in-None-index_of_long : goal.returns-in_ok-mistake-in-None-index_of_long
+returns-in_ok-mistake-in-None-index_of_long g c =
     let is : c.advance.result ≡ Ok found.Long = cc in
     let step = named _ _ c.long_name.result.now (answered _ _ _ _ c.advance.ensures is) c.long_name.ensures in
-    let name = c.in_ok-from_str-in-None-index_of_long.field-0 in
-    let same : c.long_name.result.now ≡ string_bytes name = one_name _ _ _ _ (answered _ _ _ _ c.advance.ensures is) c.long_name.ensures c.long_name-in-None-index_of_long.ensures ∙ sym c.in_ok-from_str-in-None-index_of_long.ensures.ok in
+    let name = c.long_name-in-None-index_of_long.result.now in
+    let same : c.long_name.result.now ≡ name = one_name _ _ _ _ (answered _ _ _ _ c.advance.ensures is) c.long_name.ensures c.long_name-in-None-index_of_long.ensures in
     record {
-      why = stops.unknown_option (long (string_bytes name));
-      told = c.in_ok-unknown_option-in-None-index_of_long.ensures;
+      why = stops.unknown_option (long name) c.advance.new.self.tail;
+      told = c.in_ok-mistake-in-None-index_of_long.ensures c.advance.new.self.tail;
       early = tt;
-      stops = λ l counted. subst (λ (n : List ℕ). Stops (declaration_of c.args.options.now) l c.args.parser.now (stops.unknown_option (long n))) same
+      stops = λ l counted. subst (λ (n : List ℕ). Stops (declaration_of c.args.options.now) l c.args.parser.now (stops.unknown_option (long n) c.advance.new.self.tail)) same
           (stops.not_declared (long c.long_name.result.now) c.advance.new.self step
           (sym (ap (λ os. index_of os (long c.long_name.result.now)) c.options-in-Ok-Long.ensures.view) ∙ sym c.index_of_long.ensures ∙ c.in-None-index_of_long.is));
     }

@@ -1,11 +1,13 @@
-use Rattle.lexopt_options.specs.Declarations.{declaration_of}
+use Rattle.std.proofs.Common.{◌∙◌}
+use Rattle.lexopt_options.specs.Declarations.{declaration_of, options_of}
+use Rattle.lexopt_options.proofs.Completing.{values_are}
 use Rattle.lexopt_options.proofs.options.Options.complete.Goals as goal
 
 pub joined-requires : goal.joined-requires
 joined-requires g c = c.is_open-opens.ensures (declaration_of c.args.self.now) c.args.words.now c.in_ok-dashed.ensures c.in_ok-plain.ensures
 
-pub role-requires : goal.role-requires
-role-requires g c =
+pub role-word-requires : goal.role-word-requires
+role-word-requires g c =
     let dashed = c.in_ok-dashed.ensures in
     let plain = c.in_ok-plain.ensures in
     let opens = c.is_open-opens.ensures (declaration_of c.args.self.now) c.args.words.now dashed plain in
@@ -18,10 +20,11 @@ returns g c =
     let plain = c.in_ok-plain.ensures in
     let opens = c.is_open-opens.ensures d c.args.words.now dashed plain in
     record {
-      spellings = c.in_ok-spellings_for.ensures c.args.words.now opens;
+      spellings = c.in_ok-spellings_for.ensures c.args.words.now (c.can_come-can_come.ensures c.args.words.now opens dashed);
+      values = c.in_ok-values_for.ensures ∙ values_are (options_of c.args.self.now) c.args.typed.now _ _ _ _ c.role-word.ensures c.in_ok-joined.ensures.2;
       role = _;
       has_role = c.place_after.ensures d c.args.words.now opens dashed plain;
-      word = c.role.ensures;
+      word = c.role-word.ensures;
       index = c.in_ok-joined.ensures.0;
       is_joined = c.in_ok-joined.ensures.1;
       joined = c.in_ok-joined.ensures.2;

@@ -1,17 +1,17 @@
 use Rattle.std.proofs.Common.{List, String, map, refl, string_bytes, subst, sym}
 use Rattle.std.specs.Global.{Global}
 use Rattle.std.specs.Option.{IsSome}
-use Rattle.lexopt_options.specs.Completions.{AreOffered, Opens}
+use Rattle.lexopt_options.specs.Completions.{AreOffered, CanCome}
 use Rattle.lexopt_options.specs.Declarations.{declaration_of, options_of}
 use Rattle.lexopt_options.proofs.Completing.{all_named, none_stands, offered_all}
 use Rattle.lexopt_options.proofs.options.Options.spellings_for.Goals as goal
 
-pub returns-then-not-opens : goal.returns-then-not-opens
-returns-then-not-opens g c = λ words opens.
+pub returns-then-not-can_come : goal.returns-then-not-can_come
+returns-then-not-can_come g c = λ words opens.
     subst (λ (l : List (String Global)). AreOffered (declaration_of c.args.self.now) words c.args.typed.now (map string_bytes l)) (sym c.new.ensures.items)
-    (none_stands (declaration_of c.args.self.now) words c.args.typed.now (subst (Opens (declaration_of c.args.self.now) words) c.if-not-opens.true opens))
+    (none_stands (declaration_of c.args.self.now) words c.args.typed.now (subst (CanCome (declaration_of c.args.self.now) words) c.if-not-can_come.true opens))
 
 pub returns-in-Some : goal.returns-in-Some
 returns-in-Some g c =
-    offered_all (declaration_of c.args.self.now) c.args.typed.now c.spellings_of.result _ c.as_bytes.result.now c.args.opens c.args.self.now.sound (all_named (options_of c.args.self.now)) (c.to_str.ensures.exactly_on_utf8.0 (subst IsSome (sym c.in-Some.is) refl)) c.if-not-opens.false
+    offered_all (declaration_of c.args.self.now) c.args.typed.now c.spellings_of.result _ c.as_bytes.result.now c.args.can_come c.args.self.now.sound (all_named (options_of c.args.self.now)) (c.to_str.ensures.exactly_on_utf8.0 (subst IsSome (sym c.in-Some.is) refl)) c.if-not-can_come.false
     c.options.ensures.view c.as_bytes.ensures c.spellings_of.ensures.text c.spellings_of.ensures.spellings

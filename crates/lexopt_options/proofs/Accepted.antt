@@ -1,0 +1,121 @@
+-- Whether options accept the values that they have.
+use Rattle.std.proofs.Common.{◌≡◌, ◌==◌, ◌||◌, ◌∷◌, ◌<◌, ◌⊎◌, inl, inr, ℕ, Bool, true, false, not, List, [], map, length, position, cond, Option, Some, None, is_none, option_and_then, slice_get, unwrap_or, get_or, refl, sym, ap, ◌∙◌}
+use Rattle.std.specs.List.{list_any}
+use Rattle.std.specs.Option.{is_some, option_map}
+use Rattle.std.specs.Cmp.Lexicographic.{pointwise}
+use Rattle.std.specs.Borrow.{Bor}
+use Rattle.std.proofs.lemmas.Bool.{false≢true}
+use Rattle.std.proofs.lemmas.List.Quantifiers.{position-Some}
+use Rattle.std.proofs.lemmas.Option.{slice_get-map, slice_get-get_or}
+use Rattle.lexopt_options_spec.specs.Declaration as spec
+use Rattle.lexopt_options_spec.specs.Legal as legal
+use Rattle.lexopt_options_spec.specs.Legal.{accepts_at, refused_value}
+use Rattle.lexopt_declaration.specs.declared.declaration.Declared.{Declared}
+use Rattle.lexopt_declaration.specs.declared.declaration.Words.{Words}
+use Rattle.lexopt_declaration.specs.declared.declaration.Words.TheVariants as variant
+use Rattle.lexopt_declaration.specs.Models.{option_view, words_view}
+
+-- a value that is listed
+pub listed_by : (value : List ℕ) (values : List (Bor (List ℕ))) → list_any (λ own. pointwise ◌==◌ own.now value) values ≡ list_any (λ own. pointwise ◌==◌ own value) (map (λ own. own.now) values)
+listed_by value [] = refl
+listed_by value (own ∷ values) = ap (λ b. pointwise ◌==◌ own.now value || b) (listed_by value values)
+
+pub accepts_by : (words : Words) (values : Bor (List (Bor (List ℕ)))) (value : List ℕ) (b : Bool) → words ≡ variant.Listed values → b ≡ list_any (λ own. pointwise ◌==◌ own.now value) values.now
+    → spec.accepts (words_view words) value ≡ b
+accepts_by words values value b is so = ap (λ w. spec.accepts (words_view w) value) is ∙ sym (listed_by value values.now) ∙ sym so
+
+pub accepts_any : (words : Words) → (words ≡ variant.Files) ⊎ ((words ≡ variant.Directories) ⊎ (words ≡ variant.Text)) → (value : List ℕ) → spec.accepts (words_view words) value ≡ true
+accepts_any words (inl is) value = ap (λ w. spec.accepts (words_view w) value) is
+accepts_any words (inr (inl is)) value = ap (λ w. spec.accepts (words_view w) value) is
+accepts_any words (inr (inr is)) value = ap (λ w. spec.accepts (words_view w) value) is
+
+none_never : (values : List (List ℕ)) → position (λ (v : List ℕ). false) values ≡ None
+none_never [] = refl
+none_never (v ∷ values) = go (position (λ (w : List ℕ). false) (v ∷ values)) refl
+  where
+    go : (o : Option ℕ) → position (λ (w : List ℕ). false) (v ∷ values) ≡ o → position (λ (w : List ℕ). false) (v ∷ values) ≡ None
+    go None is = is
+    go (Some i) is = absurd (false≢true (position-Some (λ (w : List ℕ). false) (v ∷ values) i v is).1)
+
+-- a place in a list has a value
+first_there : (p : List ℕ → Bool) (values : List (List ℕ)) → is_none (option_and_then (λ n. slice_get values n) (position p values)) ≡ is_none (position p values)
+first_there p [] = refl
+first_there p (v ∷ values) = go (position p (v ∷ values)) refl
+  where
+    go : (o : Option ℕ) → position p (v ∷ values) ≡ o → is_none (option_and_then (λ n. slice_get (v ∷ values) n) o) ≡ is_none o
+    go None is = refl
+    go (Some i) is = ap is_none (slice_get-get_or (v ∷ values) i v (position-Some p (v ∷ values) i v is).0)
+
+none_cond : (b : Bool) (value : List ℕ) → is_none (cond b None (Some value)) ≡ b
+none_cond true value = refl
+none_cond false value = refl
+
+view_at : {F V M S : Type 0} (options : List (Declared F V M S)) (i : ℕ) (o : Option (Declared F V M S)) → slice_get options i ≡ o → slice_get (map option_view options) i ≡ option_map option_view o
+view_at options i o at = slice_get-map option_view options i ∙ ap (option_map option_view) at
+
+-- the option of an index
+pub at_place : {X : Type 0} (xs : List X) (i : ℕ) (x : X) → i < length xs → x ≡ get_or xs i x → slice_get xs i ≡ Some x
+at_place xs i x within is = slice_get-get_or xs i x within ∙ ap (λ y. Some y) (sym is)
+
+pub none_is : (o : Option ℕ) (b : Bool) → is_some o ≡ not b → b ≡ is_none o
+none_is None true is = refl
+none_is None false is = absurd (false≢true is)
+none_is (Some i) true is = absurd (false≢true (sym is))
+none_is (Some i) false is = refl
+
+pub viewed : {F V M S : Type 0} (options : List (Declared F V M S)) (i : ℕ) (o : Declared F V M S) → i < length options → o ≡ get_or options i o → slice_get (map option_view options) i ≡ Some (option_view o)
+viewed options i o within is = view_at options i (Some o) (at_place options i o within is)
+
+-- one value
+pub accepts_one : {F V M S : Type 0} (options : List (Declared F V M S)) (i : ℕ) (o : Declared F V M S) (value : List ℕ) → slice_get options i ≡ Some o
+    → accepts_at (map option_view options) i value ≡ spec.accepts (words_view o.words) value
+accepts_one options i o value at = ap (λ x. unwrap_or (option_map (λ p. spec.accepts p.words value) x) true) (view_at options i (Some o) at)
+
+pub one_accepted : {F V M S : Type 0} (options : List (Declared F V M S)) (i : ℕ) (o : Declared F V M S) (value : List ℕ) → slice_get options i ≡ Some o
+    → is_none (refused_value (map option_view options) (legal.option i (Some value))) ≡ spec.accepts (words_view o.words) value
+one_accepted options i o value at = none_cond (accepts_at (map option_view options) i value) value ∙ accepts_one options i o value at
+
+-- several values
+pub places_are : {F V M S : Type 0} (options : List (Declared F V M S)) (i : ℕ) (o : Declared F V M S) (values : List (List ℕ)) → slice_get options i ≡ Some o
+    → position (λ value. not (accepts_at (map option_view options) i value)) values ≡ position (λ value. not (spec.accepts (words_view o.words) value)) values
+places_are options i o values at = ap (λ x. position (λ (value : List ℕ). not (unwrap_or (option_map (λ p. spec.accepts p.words value) x) true)) values) (view_at options i (Some o) at)
+
+pub several_accepted : {F V M S : Type 0} (options : List (Declared F V M S)) (i : ℕ) (o : Declared F V M S) (values : List (List ℕ)) → slice_get options i ≡ Some o
+    → is_none (refused_value (map option_view options) (legal.several i values)) ≡ is_none (position (λ value. not (spec.accepts (words_view o.words) value)) values)
+several_accepted options i o values at =
+    first_there (λ value. not (accepts_at (map option_view options) i value)) values ∙ ap is_none (places_are options i o values at)
+
+-- one value is accepted or not
+pub value_accepted : (options : List spec.Declared) (i : ℕ) (o : spec.Declared) (value : List ℕ) → slice_get options i ≡ Some o → spec.accepts o.words value ≡ true
+    → refused_value options (legal.option i (Some value)) ≡ None
+value_accepted options i o value at is = ap (λ b. cond b None (Some value)) (ap (λ x. unwrap_or (option_map (λ p. spec.accepts p.words value) x) true) at ∙ is)
+
+pub value_refused : (options : List spec.Declared) (i : ℕ) (o : spec.Declared) (value : List ℕ) → slice_get options i ≡ Some o → spec.accepts o.words value ≡ false
+    → refused_value options (legal.option i (Some value)) ≡ Some value
+value_refused options i o value at is = ap (λ b. cond b None (Some value)) (ap (λ x. unwrap_or (option_map (λ p. spec.accepts p.words value) x) true) at ∙ is)
+
+-- the first of several that is not accepted
+pub first_refused : (options : List spec.Declared) (i : ℕ) (o : spec.Declared) (values : List (List ℕ)) (n : Option ℕ) → slice_get options i ≡ Some o
+    → n ≡ position (λ value. not (spec.accepts o.words value)) values → refused_value options (legal.several i values) ≡ option_and_then (λ k. slice_get values k) n
+first_refused options i o values n at is =
+    ap (λ x. option_and_then (λ k. slice_get values k) (position (λ (value : List ℕ). not (unwrap_or (option_map (λ p. spec.accepts p.words value) x) true)) values)) at
+    ∙ ap (λ x. option_and_then (λ k. slice_get values k) x) (sym is)
+
+pub any_accepted : (words : spec.Words) (values : List (List ℕ)) → ((value : List ℕ) → spec.accepts words value ≡ true) → position (λ value. not (spec.accepts words value)) values ≡ None
+any_accepted spec.files values all = none_never values
+any_accepted spec.directories values all = none_never values
+any_accepted spec.text values all = none_never values
+any_accepted (spec.listed own) [] all = refl
+any_accepted (spec.listed own) (v ∷ values) all = go (position (λ value. not (spec.accepts (spec.listed own) value)) (v ∷ values)) refl
+  where
+    go : (r : Option ℕ) → position (λ value. not (spec.accepts (spec.listed own) value)) (v ∷ values) ≡ r → position (λ value. not (spec.accepts (spec.listed own) value)) (v ∷ values) ≡ None
+    go None is = is
+    go (Some i) is =
+        let at = position-Some (λ value. not (spec.accepts (spec.listed own) value)) (v ∷ values) i v is in
+        absurd (false≢true (sym (ap not (all (get_or (v ∷ values) i v))) ∙ at.1))
+
+pub none_refused : {F V M S : Type 0} (options : List (Declared F V M S)) (i : ℕ) (values : List (List ℕ)) → slice_get options i ≡ None
+    → is_none (refused_value (map option_view options) (legal.several i values)) ≡ true
+none_refused options i values at =
+    first_there (λ value. not (accepts_at (map option_view options) i value)) values
+    ∙ ap is_none (ap (λ x. position (λ (value : List ℕ). not (unwrap_or (option_map (λ p. spec.accepts p.words value) x) true)) values) (view_at options i None at) ∙ none_never values)

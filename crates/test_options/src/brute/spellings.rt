@@ -1,0 +1,215 @@
+//! The spellings and values that are offered, beside the plain reader.
+use crate::brute::plain::{
+    Item, Key, Left, Place, Plan, Reading, Typed, ends_in_option, left_after, list_at, place_of,
+    read,
+};
+use crate::brute::plans::{FRONTS, MORE_WORDS, SPELLINGS, TAILS, WORDS, plans};
+use crate::brute::words_of;
+use lexopt_options::{Options, OsString};
+use std::alloc::{AllocError, Global};
+use test_helpers::lists::{list_of, numbers_of};
+
+type KeyOptions = Options<'static, Key, Key, Place, Key, Key>;
+
+// A spelling, and the place of its option in the declaration.
+#[derive(Clone, Copy)]
+struct Spelling {
+    text: &'static str,
+    place: usize,
+}
+
+// The place of the option of this spelling.
+fn place_of_spelling(plan: &Plan, spelling: &str) -> Option<usize> {
+    match spelling.strip_prefix("--") {
+        Some(name) => place_of(plan, Typed::Long(name)),
+        None => match spelling.chars().last() {
+            Some(character) => place_of(plan, Typed::Short(character)),
+            None => None,
+        },
+    }
+}
+
+// The declared spellings, in order.
+fn spellings_of(alloc: Global, plan: &Plan) -> Result<Vec<Spelling>, AllocError> {
+    let mut spellings = Vec::new(alloc);
+    for place in 0..plan.options.len() {
+        for text in SPELLINGS {
+            if place_of_spelling(plan, text) == Some(place) {
+                spellings.push(Spelling { text, place })?;
+            }
+        }
+    }
+    Ok(spellings)
+}
+
+// Whether a legal line says what these words say, and then the option at this place.
+fn goes_on(front: &Reading<'static>, place: usize, line: &Reading<'static>) -> bool {
+    line.mistake.is_none()
+        && line.missing.is_none()
+        && line.items.starts_with(&front.items)
+        && matches!(
+            line.items.get(front.items.len()),
+            Some(Item::Option(own, _)) if *own == place
+        )
+}
+
+// These words, the spelling, and those.
+fn joined(
+    alloc: Global,
+    before: &[&'static str],
+    spelling: &'static str,
+    after: &[&'static str],
+) -> Result<Vec<&'static str>, AllocError> {
+    let mut words = Vec::new(alloc);
+    for word in before {
+        words.push(*word)?;
+    }
+    words.push(spelling)?;
+    for word in after {
+        words.push(*word)?;
+    }
+    Ok(words)
+}
+
+// Whether a spelling can come after these words: with at most three words after it some line is
+// legal in which it is its option.
+fn can_come(
+    alloc: Global,
+    plan: &'static Plan,
+    before: &[&'static str],
+    spelling: Spelling,
+) -> Result<bool, AllocError> {
+    let front = read(alloc, plan, before)?;
+    let words = joined(alloc, before, spelling.text, &[])?;
+    if front.mistake.is_some()
+        || !ends_in_option(alloc, plan, &words, front.items.len(), spelling.place)?
+    {
+        return Ok(false);
+    }
+    for after in TAILS {
+        let words = joined(alloc, before, spelling.text, after)?;
+        if goes_on(&front, spelling.place, &read(alloc, plan, &words)?) {
+            return Ok(true);
+        }
+    }
+    for number in 0..numbers_of(MORE_WORDS.len()) {
+        if let Some(after) = list_of(alloc, &MORE_WORDS, number)? {
+            let words = joined(alloc, before, spelling.text, &after)?;
+            if goes_on(&front, spelling.place, &read(alloc, plan, &words)?) {
+                return Ok(true);
+            }
+        }
+    }
+    Ok(false)
+}
+
+// The spellings that can come after these words.
+fn comers(
+    alloc: Global,
+    plan: &'static Plan,
+    before: &[&'static str],
+) -> Result<Vec<Spelling>, AllocError> {
+    let mut found = Vec::new(alloc);
+    for spelling in spellings_of(alloc, plan)? {
+        if can_come(alloc, plan, before, spelling)? {
+            found.push(spelling)?;
+        }
+    }
+    Ok(found)
+}
+
+// Whether exactly those of these spellings that begin with what was typed are offered.
+fn are_offered(comers: &[Spelling], typed: &str, offered: &[String]) -> bool {
+    let wanted = comers
+        .iter()
+        .filter(|spelling| spelling.text.starts_with(typed));
+    wanted.count() == offered.len()
+        && comers
+            .iter()
+            .filter(|spelling| spelling.text.starts_with(typed))
+            .zip(offered)
+            .all(|(spelling, text)| spelling.text == text.as_str())
+}
+
+// The option whose value is typed after `=`, and that name.
+fn joined_option(plan: &Plan, typed: &'static str) -> Option<(usize, &'static str)> {
+    let (name, _) = typed.strip_prefix("--")?.split_once('=')?;
+    Some((place_of(plan, Typed::Long(name))?, name))
+}
+
+// The values in lists that can come, where this can come next and this was typed.
+fn values_of(
+    alloc: Global,
+    plan: &Plan,
+    left: Left,
+    typed: &'static str,
+) -> Result<Vec<String>, AllocError> {
+    let mut values = Vec::new(alloc);
+    let own = match left {
+        Left::OptionOrValue(place) | Left::Value(place) | Left::PlainValue(place) => {
+            list_at(plan, place)
+        }
+        Left::Option | Left::Argument | Left::Nothing => None,
+    };
+    for value in own.unwrap_or(&[]) {
+        if value.starts_with(typed) {
+            values.push(String::from_str(alloc, value)?)?;
+        }
+    }
+    if let (Left::Option | Left::OptionOrValue(_), Some((place, name))) = (
+        left,
+        joined_option(plan, typed),
+    ) {
+        for value in list_at(plan, place).unwrap_or(&[]) {
+            values.push(format!(in alloc; "--{name}={value}")?)?;
+        }
+    }
+    Ok(values)
+}
+
+// For how many of what can be typed after these words what is offered is right.
+fn right_after(
+    alloc: Global,
+    plan: &'static Plan,
+    options: &KeyOptions,
+    before: &[&'static str],
+) -> Result<usize, AllocError> {
+    let comers = comers(alloc, plan, before)?;
+    let left = left_after(alloc, plan, before)?;
+    let words = words_of(alloc, before)?;
+    let mut right = 0usize;
+    for typed in FRONTS {
+        let word = OsString::from_bytes(alloc, typed.as_bytes())?;
+        let completion = options.complete(alloc, &words, &word)?;
+        if are_offered(&comers, typed, &completion.spellings)
+            && completion.values == values_of(alloc, plan, left, typed)?
+        {
+            right = right.saturating_add(1);
+        }
+    }
+    Ok(right)
+}
+
+// The same after no word, and after each one and each two of the words.
+fn right_of(alloc: Global, plan: &'static Plan) -> Result<usize, AllocError> {
+    let Ok(options) = Options::try_new(plan) else {
+        return Ok(0);
+    };
+    let mut right = right_after(alloc, plan, &options, &[])?;
+    for word in WORDS {
+        right = right.saturating_add(right_after(alloc, plan, &options, &[word])?);
+        for second in WORDS {
+            right = right.saturating_add(right_after(alloc, plan, &options, &[word, second])?);
+        }
+    }
+    Ok(right)
+}
+
+// Six things are typed after each of 1 + 12 + 144 lines.
+#[test]
+fn spellings(rt: HostRuntime) {
+    for plan in plans() {
+        let right = right_of(rt.alloc(), plan).expect(&rt, "memory");
+        assert_eq!(rt; right, 942, "{}", plan.program);
+    }
+}

@@ -1,0 +1,30 @@
+//! Tests of declared options: what is read, printed, refused and offered, by rows that are written
+//! by hand and beside a plain reader.
+#![tactic(auto)]
+
+#[cfg(test)]
+mod answers;
+#[cfg(test)]
+mod archive;
+#[cfg(test)]
+mod asked;
+#[cfg(test)]
+mod brute;
+#[cfg(test)]
+mod completions;
+#[cfg(test)]
+mod declarations;
+#[cfg(test)]
+mod offers;
+#[cfg(test)]
+mod places;
+#[cfg(test)]
+mod readings;
+#[cfg(test)]
+mod refusals;
+#[cfg(test)]
+mod required;
+#[cfg(test)]
+mod texts;
+#[cfg(test)]
+mod usages;

@@ -1,0 +1,87 @@
+//! What lines are read as.
+use crate::archive::{ARCHIVE, Archive, ArchiveOptions, archive_of_files, text_of_words, words_of};
+use lexopt_options::{Declaration, Options};
+use std::alloc::{AllocError, Global};
+
+// Whether a line is read as this.
+fn says(
+    alloc: Global,
+    options: &ArchiveOptions<'_>,
+    line: &[u8],
+    wanted: &str,
+) -> Result<bool, AllocError> {
+    Ok(text_of_words(alloc, options, words_of(alloc, line)?)?.as_str() == wanted)
+}
+
+static LINES: [(&[u8], &str); 11] = [
+    (b"", "[]"),
+    (
+        b"-vo=x --output y -bz --exclude a b -- -f",
+        "[Flag(Verbose), Value(Output, \"x\"), Value(Output, \"y\"), Maybe(Backup, Some(\"z\")), \
+        Values(Exclude, [\"a\", \"b\"]), Positional(File, \"-f\")]",
+    ),
+    // What comes after the request for the help does not matter.
+    (b"-h --backup z --backup=", "Help"),
+    (b"--help --bogus", "Help"),
+    (b"-h --verbose=x -o", "Help"),
+    (
+        b"--backup z --backup=",
+        "[Maybe(Backup, None), Positional(File, \"z\"), Maybe(Backup, Some(\"\"))]",
+    ),
+    (
+        b"-o -- --output=--",
+        "[Value(Output, \"--\"), Value(Output, \"--\")]",
+    ),
+    (
+        b"-x a - -v",
+        "[Values(Exclude, [\"a\", \"-\"]), Flag(Verbose)]",
+    ),
+    (
+        b"-- -- --help",
+        "[Positional(File, \"--\"), Positional(File, \"--help\")]",
+    ),
+    (
+        b"-  -",
+        "[Positional(File, \"-\"), Positional(File, \"\"), Positional(File, \"-\")]",
+    ),
+    (b"-o\xFF", "[Value(Output, \"\\xFF\")]"),
+];
+
+/// The first of these rows that does not hold, or none.
+pub fn first_wrong(
+    alloc: Global,
+    options: &ArchiveOptions<'_>,
+    rows: &[(&[u8], &'static str)],
+) -> Result<Option<usize>, AllocError> {
+    for (row, (line, wanted)) in rows.iter().enumerate() {
+        if !says(alloc, options, line, wanted)? {
+            return Ok(Some(row));
+        }
+    }
+    Ok(None)
+}
+
+#[test]
+fn lines(rt: HostRuntime) {
+    assert_eq!(rt;
+        first_wrong(rt.alloc(), &archive_of_files(), &LINES).expect(&rt, "success"),
+        None
+    );
+}
+
+// Whether `=` belongs to the value if it is a character like any other.
+fn keeps_equals(alloc: Global) -> Result<bool, AllocError> {
+    let declaration = Declaration {
+        short_equals: false,
+        ..ARCHIVE
+    };
+    match Options::try_new(&declaration) {
+        Ok(options) => says(alloc, &options, b"-o=x", "[Value(Output, \"=x\")]"),
+        Err(_) => Ok(false),
+    }
+}
+
+#[test]
+fn equals(rt: HostRuntime) {
+    assert!(rt; keeps_equals(rt.alloc()).expect(&rt, "success"));
+}
