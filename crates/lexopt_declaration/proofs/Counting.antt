@@ -6,7 +6,8 @@ use Rattle.std.proofs.lemmas.List.{length-map}
 use Rattle.lexopt_line_spec.proofs.Lists.{list_any-map}
 use Rattle.lexopt_options_spec.specs.Declaration as spec
 use Rattle.lexopt_options_spec.specs.Declaration.{has_to_occur, may_repeat}
-use Rattle.lexopt_options_spec.specs.Legal.{most, least, required}
+use Rattle.lexopt_options_spec.specs.Legal.{most}
+use Rattle.lexopt_options_spec.specs.Places.{least, required}
 use Rattle.lexopt_options_spec.specs.Stops.{required_placeholder}
 use Rattle.lexopt_declaration.specs.declared.declaration.Positional.{Positional}
 use Rattle.lexopt_declaration.specs.Models.{count_view, positional_view}

@@ -9,3 +9,4 @@ pub mod Spelled
 pub mod Repeated
 pub mod Suspects
 pub mod Marks
+pub mod BadLists

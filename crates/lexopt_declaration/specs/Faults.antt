@@ -3,8 +3,8 @@ use Rattle.std.specs.Prelude.{◌≡◌, ◌==◌, ◌||◌, ℕ, Bool, true, Li
 use Rattle.std.specs.Prelude.{slice_get}
 use Rattle.std.specs.Borrow.{Bor}
 use Rattle.lexopt_spec.specs.UnreadLine.{equals}
-use Rattle.lexopt_options_spec.specs.Declaration.{IsFirstFault, IsSecondRepeated, is_sound}
-use Rattle.lexopt_options_spec.specs.Declaration.{is_blank_or_control}
+use Rattle.lexopt_options_spec.specs.Declaration.{IsFirstBadList, IsFirstFault, IsSecondRepeated}
+use Rattle.lexopt_options_spec.specs.Declaration.{are_clear, is_blank_or_control, is_sound}
 use Rattle.lexopt_declaration.specs.declared.declaration.Declaration.{Declaration}
 use Rattle.lexopt_declaration.specs.declared.declaration.DeclarationError.{DeclarationError}
 use Rattle.lexopt_declaration.specs.declared.declaration.DeclarationError.TheVariants as error
@@ -31,10 +31,20 @@ IsPositionalError positionals placeholder = (index : ℕ)
     × IsSecondRepeated (map positional_view positionals) index
     × (option_map (λ p. p.placeholder) (slice_get positionals index) ≡ Some placeholder)
 
--- it has such an option, or it has none and such a positional
+-- the positional with this placeholder is the first whose list cannot be declared
+abbrev pub IsListError : {P : Type 0} → List (Positional P) → Bor (List ℕ) → Type 0
+IsListError positionals placeholder = (index : ℕ)
+    × IsFirstBadList (map positional_view positionals) index
+    × (option_map (λ p. p.placeholder) (slice_get positionals index) ≡ Some placeholder)
+
+-- it has such an option; or it has none and such a positional, of the one kind or the other
 abbrev pub IsDeclarationError : {F V P M S : Type 0} → Declaration F V P M S → DeclarationError
     → Type 0
 IsDeclarationError d (error.Option names reason) = IsOptionError d.options.now names reason
 IsDeclarationError d (error.Positional placeholder) =
     (is_sound (map option_view d.options.now) ≡ true)
     × IsPositionalError d.positionals.now placeholder
+IsDeclarationError d (error.BadList placeholder) =
+    (is_sound (map option_view d.options.now) ≡ true)
+    × (are_clear (map positional_view d.positionals.now) ≡ true)
+    × IsListError d.positionals.now placeholder

@@ -92,8 +92,12 @@ count_view AnyNumber = spec.any_number
 count_view AtLeastOnce = spec.at_least_once
 
 abbrev pub positional_view : {P : Type 0} → Positional P → spec.Positional
-positional_view p =
-    record { placeholder = p.placeholder.now; count = count_view p.count; help = p.help.now }
+positional_view p = record {
+  placeholder = p.placeholder.now;
+  count = count_view p.count;
+  help = p.help.now;
+  words = words_view p.words;
+}
 
 abbrev pub reason_view : Reason → spec.Reason
 reason_view DashName = spec.dash_name

@@ -37,3 +37,5 @@ declaration_error_text (error.Option option reason) =
     codes "option '" ++ (names_text option ++ (codes "': " ++ reason_text reason))
 declaration_error_text (error.Positional placeholder) = codes "positional argument "
     ++ (placeholder.now ++ codes ": one before it may occur more than once too")
+declaration_error_text (error.BadList placeholder) =
+    codes "positional argument " ++ (placeholder.now ++ (codes ": " ++ reason_text BadList))

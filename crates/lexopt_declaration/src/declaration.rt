@@ -7,12 +7,12 @@ ghost use Rattle.std.specs.Str.{IsUtf8, chars};
 ghost use Rattle.lexopt_spec.specs.Pieces.{lossy_characters, replacement};
 ghost use Rattle.lexopt_options_spec.specs.Completion.{AreText};
 ghost use Rattle.lexopt_options_spec.specs.Declaration as spec;
-ghost use Rattle.lexopt_options_spec.specs.Declaration.{are_clear, has, is_sound};
+ghost use Rattle.lexopt_options_spec.specs.Declaration.{are_clear, are_listable, has, is_sound};
 ghost use Rattle.lexopt_declaration.specs.Faults.{IsDeclarationError, IsOptionError, is_suspect};
 ghost use Rattle.lexopt_declaration.specs.Models.{arity_kind, arity_placeholder, option_view};
 ghost use Rattle.lexopt_declaration.specs.Models.{positional_view, reason_view, words_view};
 
-use crate::positionals::second_repeated;
+use crate::positionals::{first_bad_list, second_repeated};
 use std::convert::Infallible;
 use std::fmt;
 
@@ -155,7 +155,8 @@ impl<'a, F, V, M, S> Kind<'a, F, V, M, S> {
     }
 }
 
-/// What the values of an option may be, and what a shell completes them by.
+/// What the values of an option or the words of a positional argument may be, and what a shell
+/// completes them by.
 #[derive(Debug, Clone, Copy)]
 pub enum Words<'a> {
     /// Any; by the names of files.
@@ -400,8 +401,11 @@ pub struct Positional<'a, P> {
     pub placeholder: &'a str,
     /// How often it may occur.
     pub count: Count,
-    /// What the help tells of it. If that has no word, the help has no entry for it.
+    /// What the help tells of it. If that has no word and it has no list, the help has no entry for
+    /// it.
     pub help: &'a str,
+    /// What its words may be. The help tells of a list.
+    pub words: Words<'a>,
 }
 
 impl<'a, P> Positional<'a, P> {
@@ -414,6 +418,7 @@ impl<'a, P> Positional<'a, P> {
           placeholder = placeholder.entry;
           count = Count.Once;
           help = help.entry;
+          words = Words.Files;
         } }
     {
         Positional {
@@ -421,6 +426,7 @@ impl<'a, P> Positional<'a, P> {
             placeholder,
             count: Count::Once,
             help,
+            words: Words::Files,
         }
     }
 
@@ -431,6 +437,7 @@ impl<'a, P> Positional<'a, P> {
           placeholder = placeholder.entry;
           count = Count.AtMostOnce;
           help = help.entry;
+          words = Words.Files;
         } }
     {
         Positional {
@@ -438,6 +445,7 @@ impl<'a, P> Positional<'a, P> {
             placeholder,
             count: Count::AtMostOnce,
             help,
+            words: Words::Files,
         }
     }
 
@@ -448,6 +456,7 @@ impl<'a, P> Positional<'a, P> {
           placeholder = placeholder.entry;
           count = Count.AnyNumber;
           help = help.entry;
+          words = Words.Files;
         } }
     {
         Positional {
@@ -455,6 +464,7 @@ impl<'a, P> Positional<'a, P> {
             placeholder,
             count: Count::AnyNumber,
             help,
+            words: Words::Files,
         }
     }
 
@@ -465,6 +475,7 @@ impl<'a, P> Positional<'a, P> {
           placeholder = placeholder.entry;
           count = Count.AtLeastOnce;
           help = help.entry;
+          words = Words.Files;
         } }
     {
         Positional {
@@ -472,6 +483,37 @@ impl<'a, P> Positional<'a, P> {
             placeholder,
             count: Count::AtLeastOnce,
             help,
+            words: Words::Files,
+        }
+    }
+
+    /// The same positional argument, whose words a shell completes by the names of directories.
+    pub fn directories(self) -> Positional<'a, P>
+        ensures { result ≡ record self.entry { words = Words.Directories } }
+    {
+        Positional {
+            words: Words::Directories,
+            ..self
+        }
+    }
+
+    /// The same positional argument, whose words no shell completes.
+    pub fn text(self) -> Positional<'a, P>
+        ensures { result ≡ record self.entry { words = Words.Text } }
+    {
+        Positional {
+            words: Words::Text,
+            ..self
+        }
+    }
+
+    /// The same positional argument, which accepts no other word than these.
+    pub fn one_of(self, values: &'a [&'a str]) -> Positional<'a, P>
+        ensures { result ≡ record self.entry { words = Words.Listed values.entry } }
+    {
+        Positional {
+            words: Words::Listed(values),
+            ..self
         }
     }
 }
@@ -512,6 +554,9 @@ pub enum DeclarationError<'a> {
     },
     /// A second positional argument that may occur more than once: its placeholder.
     Positional(&'a str),
+    /// A positional argument whose list of values is empty, or has one that is empty, begins with
+    /// `-` or `=`, or has a blank or a control character of ASCII in it: its placeholder.
+    BadList(&'a str),
 }
 
 impl fmt::Display for Reason {
@@ -556,6 +601,9 @@ impl fmt::Display for DeclarationError<'_> {
                 f,
                 "positional argument {placeholder}: one before it may occur more than once too"
             ),
+            DeclarationError::BadList(placeholder) => {
+                write!(f, "positional argument {placeholder}: {}", Reason::BadList)
+            }
         }
     }
 }
@@ -719,8 +767,8 @@ fn are_listable(values: &[&str]) -> bool
     values.iter().all(|value| is_listable(value))
 }
 
-// What is wrong with what the values of an option may be.
-fn list_fault(words: Words<'_>) -> Option<Reason>
+// What is wrong with what values or words may be.
+pub(crate) fn list_fault(words: Words<'_>) -> Option<Reason>
     ensures { option_map reason_view result ≡ spec.list_fault (words_view words.entry) }
 {
     match words {
@@ -841,21 +889,26 @@ fn first_fault<'a, F, V, M, S>(
     None
 }
 
-/// The first option that cannot be declared after those before it, or, if there is none, the second
-/// positional argument that may occur more than once.
+/// The first option that cannot be declared after those before it; or, if there is none, the second
+/// positional argument that may occur more than once; or, if there is none either, the first
+/// positional argument whose list cannot be declared.
 pub fn declaration_fault<'a, F, V, P, M, S>(
     declaration: &'a Declaration<'a, F, V, P, M, S>,
 ) -> Option<DeclarationError<'a>>
     ensures { MatchOption result
         ((is_sound (map option_view declaration.now.options.now) ≡ true)
-        × (are_clear (map positional_view declaration.now.positionals.now) ≡ true))
+        × (are_clear (map positional_view declaration.now.positionals.now) ≡ true)
+        × (are_listable (map positional_view declaration.now.positionals.now) ≡ true))
         (IsDeclarationError declaration.now) }
 {
     if let Some((option, reason)) = first_fault(declaration.options) {
         return Some(DeclarationError::Option { option, reason });
     }
-    match second_repeated(declaration.positionals) {
-        Some(placeholder) => Some(DeclarationError::Positional(placeholder)),
+    if let Some(placeholder) = second_repeated(declaration.positionals) {
+        return Some(DeclarationError::Positional(placeholder));
+    }
+    match first_bad_list(declaration.positionals) {
+        Some(placeholder) => Some(DeclarationError::BadList(placeholder)),
         None => None,
     }
 }

@@ -3,7 +3,6 @@
 ghost use Rattle.std.specs.Prelude.{◌≡◌, ◌≤◌, ◌+◌, ◌-◌, ◌∷◌, ◌++◌, ◌&&◌, [], List, ℕ, IfOk, OnOk, nat_lt};
 ghost use Rattle.std.specs.Prelude.{if◌then◌else◌, codes, length, map, not, string_bytes};
 ghost use Rattle.std.specs.List.{AllZip, concat, flat_map, list_any};
-ghost use Rattle.lexopt_options_spec.specs.Declaration.{listed};
 ghost use Rattle.lexopt_options_spec.specs.Help as spec;
 ghost use Rattle.lexopt_options_spec.specs.Help.{IsEntry, IsHelp, IsParagraph, IsUsage, Wraps};
 ghost use Rattle.lexopt_declaration.specs.Models.{arity_kind, arity_placeholder, long_name, option_view};
@@ -11,6 +10,7 @@ ghost use Rattle.lexopt_declaration.specs.Models.{positional_view, short_name, w
 ghost use Rattle.lexopt_declaration.specs.Declarations.{declaration_view};
 
 use crate::declaration::{Arity, Count, Declaration, Declared, Names, Positional, Words};
+use crate::listed::Listed;
 use bstr::ByteSlice;
 use std::alloc::{AllocError, Global};
 use std::fmt::Write;
@@ -241,40 +241,17 @@ fn push_labelled(
     out.push('\n')
 }
 
-// Values, each after a comma and a blank.
-fn push_others(out: &mut String, others: &[&str]) -> Result<(), AllocError>
-    ensures { IfOk result (λ _. string_bytes out.new ≡ string_bytes out.old
-        ++ flat_map (λ other. codes ", " ++ other) (map (λ o. o.now) others.now)) }
+// What is told of an option or a positional argument: its help, and the values in its list, if it
+// has one.
+fn told_of(alloc: Global, help: &str, words: Words<'_>) -> Result<String, AllocError>
+    ensures { IfOk result (λ text.
+        string_bytes text ≡ spec.told_of help.now (words_view words.entry)) }
 {
-    for other in others {
-        write!(out, ", {other}")?;
+    match words {
+        Words::Files | Words::Directories | Words::Text => String::from_str(alloc, help),
+        Words::Listed(values) if help.is_empty() => format!(in alloc; "one of {}", Listed(values)),
+        Words::Listed(values) => format!(in alloc; "{help}: one of {}", Listed(values)),
     }
-    Ok(())
-}
-
-// Values with a comma and a blank between them.
-fn push_list(out: &mut String, values: &[&str]) -> Result<(), AllocError>
-    ensures { IfOk result (λ _. string_bytes out.new
-        ≡ string_bytes out.old ++ spec.list_text (map (λ v. v.now) values.now)) }
-{
-    let [first, others @ ..] = values else {
-        return Ok(());
-    };
-    out.push_str(first)?;
-    push_others(out, others)
-}
-
-// What is told of an option: its help, and the values in its list.
-fn push_told(out: &mut String, help: &str, values: &[&str]) -> Result<(), AllocError>
-    ensures { IfOk result (λ _. string_bytes out.new ≡ string_bytes out.old
-        ++ spec.told_of help.now (listed (map (λ v. v.now) values.now))) }
-{
-    if help.is_empty() {
-        out.push_str("one of ")?;
-        return push_list(out, values);
-    }
-    write!(out, "{help}: one of ")?;
-    push_list(out, values)
 }
 
 // A label, and this text beside it.
@@ -292,31 +269,6 @@ fn push_described(
     push_labelled(out, label, words.as_slice(), width)
 }
 
-// A label, and beside it this text and the list of values, if there is one.
-fn push_told_entry(
-    out: &mut String,
-    alloc: Global,
-    label: &str,
-    help: &str,
-    words: Words<'_>,
-    width: usize,
-) -> Result<(), AllocError>
-    ensures { IfOk result (λ _. (text : List ℕ)
-        × IsEntry width label.now (spec.told_of help.now (words_view words.entry)) text
-        × (string_bytes out.new ≡ string_bytes out.old ++ text)) }
-{
-    match words {
-        Words::Files | Words::Directories | Words::Text => {
-            push_described(out, alloc, label, help, width)
-        }
-        Words::Listed(values) => {
-            let mut told = String::new(alloc);
-            push_told(&mut told, help, values)?;
-            push_described(out, alloc, label, told.as_str(), width)
-        }
-    }
-}
-
 // The entry of an option.
 fn push_entry<F, V, M, S>(
     out: &mut String,
@@ -330,7 +282,8 @@ fn push_entry<F, V, M, S>(
 {
     let mut label = String::new(alloc);
     push_label(&mut label, option.names, option.kind.arity())?;
-    push_told_entry(out, alloc, label.as_str(), option.help, option.words, width)
+    let told = told_of(alloc, option.help, option.words)?;
+    push_described(out, alloc, label.as_str(), told.as_str(), width)
 }
 
 // The entries of the options that are not hidden.
@@ -354,20 +307,21 @@ fn option_entries<F, V, M, S>(
     Ok(text)
 }
 
-// The entries of the positional arguments whose help has a word.
+// The entries of the positional arguments of which something is told.
 fn positional_entries<P>(
     alloc: Global,
     positionals: &[Positional<'_, P>],
     width: usize,
 ) -> Result<String, AllocError>
     ensures { IfOk result (λ text. (entries : List (List ℕ))
-        × AllZip (λ p. IsEntry width p.placeholder p.help)
+        × AllZip (λ p. IsEntry width p.placeholder (spec.told_of p.help p.words))
         (spec.described (map positional_view positionals.now)) entries
         × (string_bytes text ≡ concat entries)) }
 {
     let mut text = String::new(alloc);
     for positional in positionals {
-        let words = words_of(alloc, positional.help)?;
+        let told = told_of(alloc, positional.help, positional.words)?;
+        let words = words_of(alloc, told.as_str())?;
         let words = words.as_slice();
         if words.is_empty() {
             continue;

@@ -5,6 +5,7 @@
 
 pub mod declaration;
 pub mod help;
+pub mod listed;
 pub mod lookup;
 pub mod nearest;
 pub mod positionals;

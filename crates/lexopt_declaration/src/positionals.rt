@@ -3,13 +3,14 @@ ghost use Rattle.std.specs.Prelude.{◌≡◌, filter, length, map, true};
 ghost use Rattle.std.specs.List.{list_any};
 ghost use Rattle.std.specs.Option.{MatchOption};
 ghost use Rattle.lexopt_options_spec.specs.Declaration as spec;
-ghost use Rattle.lexopt_options_spec.specs.Declaration.{are_clear};
-ghost use Rattle.lexopt_options_spec.specs.Legal.{least, most};
+ghost use Rattle.lexopt_options_spec.specs.Declaration.{are_clear, are_listable};
+ghost use Rattle.lexopt_options_spec.specs.Legal.{most};
+ghost use Rattle.lexopt_options_spec.specs.Places.{least};
 ghost use Rattle.lexopt_options_spec.specs.Stops.{required_placeholder};
-ghost use Rattle.lexopt_declaration.specs.Faults.{IsPositionalError};
+ghost use Rattle.lexopt_declaration.specs.Faults.{IsListError, IsPositionalError};
 ghost use Rattle.lexopt_declaration.specs.Models.{count_view, positional_view};
 
-use crate::declaration::{Count, Positional};
+use crate::declaration::{Count, Positional, list_fault};
 
 // Whether a positional argument may occur more than once.
 fn may_repeat<P>(positional: &Positional<'_, P>) -> bool
@@ -95,6 +96,19 @@ pub(crate) fn second_repeated<'a, P>(positionals: &'a [Positional<'a, P>]) -> Op
                 return Some(positional.placeholder);
             }
             repeated = true;
+        }
+    }
+    None
+}
+
+// The placeholder of the first of these whose list cannot be declared.
+pub(crate) fn first_bad_list<'a, P>(positionals: &'a [Positional<'a, P>]) -> Option<&'a str>
+    ensures { MatchOption result (are_listable (map positional_view positionals.now) ≡ true)
+        (IsListError positionals.now) }
+{
+    for argument in positionals {
+        if list_fault(argument.words).is_some() {
+            return Some(argument.placeholder);
         }
     }
     None

@@ -13,10 +13,10 @@ use Rattle.lexopt_line_spec.proofs.ReplyKinds.{IsNextReply, next_reply}
 use Rattle.lexopt_options_spec.specs.Asking.{AskFor, all_but_last, asked_by, first_asked, or_asked, said_before}
 use Rattle.lexopt_options_spec.specs.Declaration.{Asked, Declaration, Declared, table}
 use Rattle.lexopt_options_spec.specs.Legal.{Said, Says, said_item, are_accepted}
-use Rattle.lexopt_options_spec.specs.Stops.{Mistake, StopsAt, unknown_option, unexpected_value, missing_value, invalid_value, unexpected_argument, missing_argument, missing_option}
+use Rattle.lexopt_options_spec.specs.Stops.{Mistake, StopsAt, unknown_option, unexpected_value, missing_value, invalid_value, unexpected_argument, invalid_argument, missing_argument, missing_option}
 use Rattle.lexopt_options_spec.proofs.Fronts.{front_later}
 use Rattle.lexopt_options_spec.proofs.Lists.{same_somes, split}
-use Rattle.lexopt_laws.proofs.OneStop.{Compared, same, shorter, longer, compared, IsMissing, lacks_argument, lacks_option, Left, undeclared_first, flag_value, valueless, refused_first, no_room, at_end, left_of, not_shorter}
+use Rattle.lexopt_laws.proofs.OneStop.{Compared, same, shorter, longer, compared, IsMissing, lacks_argument, refuses_word, lacks_option, Left, undeclared_first, flag_value, valueless, refused_first, no_room, at_end, left_of, not_shorter}
 
 -- ---- the first that asks
 
@@ -124,13 +124,15 @@ kept_before (unknown_option name tail) l s k = (s ∷ k, refl)
 kept_before (missing_value index option) l s k = (s ∷ k, refl)
 kept_before (invalid_value index value) l s k = (s ∷ k, refl)
 kept_before (unexpected_argument word) l s k = (s ∷ k, refl)
+kept_before (invalid_argument index word) l s k = (s ∷ k, refl)
 kept_before (missing_argument count) l s k = (s ∷ k, refl)
 kept_before (missing_option index) l s k = (s ∷ k, refl)
 
--- and nothing at all, if something is missing at the end
+-- and nothing at all, if something is wrong at the end
 all_at_end : (d : Declaration) (l : List Said) (m : Mistake) → IsMissing d l m → said_before m l ≡ l
 all_at_end d l m (lacks_argument m_is few) = ap (λ x. said_before x l) m_is
-all_at_end d l m (lacks_option index m_is enough first) = ap (λ x. said_before x l) m_is
+all_at_end d l m (refuses_word index word m_is enough unfit) = ap (λ x. said_before x l) m_is
+all_at_end d l m (lacks_option index m_is enough taken first) = ap (λ x. said_before x l) m_is
 
 -- nor elsewhere, unless it is a value that an option does not take
 all_before : (d : Declaration) (words : List (List ℕ)) (a : Asked) (ask : AskFor d words a) (l : List Said) (m : Mistake) (final : Reply) (ms ns : List Item) → ms ≡ ns

@@ -10,11 +10,15 @@ pub mod WorkedDamage
 pub mod Cuts
 pub mod Stays
 pub mod OneItem
+pub mod AnyWords
 pub mod Missing
 pub mod OneStop
 pub mod AskedOnce
 pub mod Occurs
 pub mod Refused
+pub mod RefusedWords
+pub mod WorkedWords
+pub mod OwnedWords
 pub mod WorkedAsking
 pub mod SomeAnswer
 pub mod WorkedStops

@@ -10,11 +10,12 @@ use Rattle.lexopt_line_spec.specs.Spelling.{no_words, separator}
 use Rattle.lexopt_line_spec.proofs.Names.{encoded}
 use Rattle.lexopt_line_spec.proofs.SpellerTests.{dash_first}
 use Rattle.lexopt_options_spec.specs.Completion.{AreText, IsOpen, IsOption, IsText, spelling}
-use Rattle.lexopt_options_spec.specs.Declaration.{Declaration, Declared, accepts, has_name, index_of, is_sound}
+use Rattle.lexopt_options_spec.specs.Declaration.{Declaration, Declared, accepts, are_listable, has_name, index_of, is_sound}
 use Rattle.lexopt_options_spec.specs.Legal.{Said, option, several, positional, Says, is_option, most, occurs}
 use Rattle.lexopt_options_spec.proofs.Listed.{list_good, value_fits, value_for}
 use Rattle.lexopt_options_spec.proofs.Sound.{IsGoodName, found, good}
 use Rattle.lexopt_options_spec.proofs.Stands.{AreNamed, can_stand}
+use Rattle.lexopt_laws.proofs.AnyWords.{none_filled}
 use Rattle.lexopt_laws.proofs.SomeAnswer.{zero_within}
 use Rattle.lexopt_laws.proofs.WorkedOpen.{open_of}
 
@@ -77,10 +78,10 @@ one_spelling (long name) (long n) text also good fine is = ap long (tail_same da
 
 -- ---- a line with an option
 
-pub in_a_line : (d : Declaration) (name : Name) (i : ℕ) → is_sound d.options ≡ true → AreText d.options → ((o : Declared) → Contains d.options o → (n : Name) × (has_name n o ≡ true))
+pub in_a_line : (d : Declaration) (name : Name) (i : ℕ) → is_sound d.options ≡ true → are_listable d.positionals ≡ true → AreText d.options → ((o : Declared) → Contains d.options o → (n : Name) × (has_name n o ≡ true))
     → index_of d.options name ≡ Some i → (words : List (List ℕ)) × (l : List Said) × Says d words l × (occurs i l ≡ true)
-in_a_line d name i sound text names declared =
-    let stands = can_stand d [] [] name i sound text (named d.options names) (open_first d) refl declared (text name (found (has_name name) d.options i declared)) in
+in_a_line d name i sound good_lists text names declared =
+    let stands = can_stand d [] [] name i sound text (named d.options names) (open_first d) refl (none_filled d.positionals good_lists) declared (text name (found (has_name name) d.options i declared)) in
     let other = text stands.name (found (has_name stands.name) d.options stands.index stands.declared) in
     let same = one_spelling name stands.name (text name (found (has_name name) d.options i declared)) other (good d.options name i sound declared)
     (good d.options stands.name stands.index sound stands.declared) stands.spelled in

@@ -17,18 +17,21 @@ use Rattle.lexopt_line_spec.proofs.ReadingSteps.{says_positional, reads_last, re
 use Rattle.lexopt_line_spec.proofs.RunAccounts.{step_line}
 use Rattle.lexopt_options_spec.specs.Declaration.{Declaration, Declared, index_of, table}
 use Rattle.lexopt_options_spec.specs.Legal as legal
-use Rattle.lexopt_options_spec.specs.Legal.{Said, said_item, positional, positional_count, least, most, IsWithin, are_accepted, is_option, refused_value}
-use Rattle.lexopt_options_spec.specs.Stops.{Mistake, unknown_option, unexpected_value, missing_value, invalid_value, unexpected_argument, missing_argument, missing_option, IsFirstMissing, Stops, not_declared, value_of_flag, no_value, not_accepted, one_too_many, too_few, not_complete, StopsAt}
+use Rattle.lexopt_options_spec.specs.Legal.{Said, said_item, positional, positional_count, positional_words, most, IsWithin, are_accepted, is_option, refused_value}
+use Rattle.lexopt_options_spec.specs.Places.{AreTaken, IsNotTaken, least}
+use Rattle.lexopt_options_spec.specs.Stops.{Mistake, unknown_option, unexpected_value, missing_value, invalid_value, unexpected_argument, invalid_argument, missing_argument, missing_option, IsFirstMissing, Stops, not_declared, value_of_flag, no_value, not_accepted, one_too_many, too_few, not_taken, not_complete, StopsAt}
 use Rattle.lexopt_options_spec.proofs.Lists.{first_same, split, first_none, first_is, same_somes, count_append}
+use Rattle.lexopt_options_spec.proofs.Taken.{not_both, one_refused}
 use Rattle.lexopt_options_spec.proofs.Fronts.{item_of, not_refused, undeclared}
 use Rattle.lexopt_laws.proofs.Missing.{one_first_missing}
 
 -- ---- what is left where a reading stops
 
--- where this was read to the end, a positional or an option is missing
+-- where this was read to the end, a positional or an option is missing, or a word is not accepted
 pub data IsMissing (d : Declaration) (l : List Said) (m : Mistake) : Type 0 where
   lacks_argument : m ≡ missing_argument (positional_count l) → positional_count l < least d.positionals → IsMissing d l m
-  lacks_option : (index : ℕ) → m ≡ missing_option index → least d.positionals ≤ positional_count l → IsFirstMissing d.options l index → IsMissing d l m
+  refuses_word : (index : ℕ) (word : List ℕ) → m ≡ invalid_argument index word → least d.positionals ≤ positional_count l → IsNotTaken d.positionals (positional_words l) index word → IsMissing d l m
+  lacks_option : (index : ℕ) → m ≡ missing_option index → least d.positionals ≤ positional_count l → AreTaken d.positionals (positional_words l) → IsFirstMissing d.options l index → IsMissing d l m
 
 -- after this was read, the line that is left is read to this reply, and gives these items, so that
 -- this is the mistake
@@ -49,7 +52,7 @@ pub record IsLeft (d : Declaration) (l : List Said) (u : UnreadLine) (m : Mistak
   pub left : Left d l m final items
 
 -- what means one thing is one item
-one_item : (options : List Declared) (items : List Item) (s : Said) → map (said_item options) items ≡ map (λ s. Some s) (s ∷ []) → (item : Item) × (items ≡ item ∷ []) × (said_item options item ≡ Some s)
+pub one_item : (options : List Declared) (items : List Item) (s : Said) → map (said_item options) items ≡ map (λ s. Some s) (s ∷ []) → (item : Item) × (items ≡ item ∷ []) × (said_item options item ≡ Some s)
 one_item options [] s is = absurd (let e : [] ≡ Some s ∷ [] = is in cc)
 one_item options (x ∷ []) s is = (x, refl, (first_same (said_item options x) (Some s) [] [] is).0)
 one_item options (x ∷ y ∷ items) s is =
@@ -103,11 +106,17 @@ left_of d l u m line (too_few v step few) = record {
   reading = reads_last (table d.options) u v steps.end tt step;
   left = at_end (lacks_argument refl few) refl refl;
 }
-left_of d l u m line (not_complete index v step enough first) = record {
+left_of d l u m line (not_taken index word v step enough unfit) = record {
   final = steps.end;
   items = [];
   reading = reads_last (table d.options) u v steps.end tt step;
-  left = at_end (lacks_option index refl enough first) refl refl;
+  left = at_end (refuses_word index word refl enough unfit) refl refl;
+}
+left_of d l u m line (not_complete index v step enough taken first) = record {
+  final = steps.end;
+  items = [];
+  reading = reads_last (table d.options) u v steps.end tt step;
+  left = at_end (lacks_option index refl enough taken first) refl refl;
 }
 
 -- ---- two lists in two parts
@@ -206,12 +215,21 @@ one_option i j (legal.option k value) is too = sym (eqb-true k i is) ∙ eqb-tru
 one_option i j (legal.several k values) is too = sym (eqb-true k i is) ∙ eqb-true k j too
 one_option i j (positional word) is too = absurd (false≢true is)
 
--- where something is missing there is one mistake
+-- where the line was read to its end there is one mistake
 same_missing : (d : Declaration) (l : List Said) (m n : Mistake) → IsMissing d l m → IsMissing d l n → m ≡ n
 same_missing d l m n (lacks_argument m_is few) (lacks_argument n_is few2) = m_is ∙ sym n_is
-same_missing d l m n (lacks_argument m_is few) (lacks_option index2 n_is enough2 first2) = absurd (omega arith)
-same_missing d l m n (lacks_option index m_is enough first) (lacks_argument n_is few2) = absurd (omega arith)
-same_missing d l m n (lacks_option index m_is enough first) (lacks_option index2 n_is enough2 first2) = m_is ∙ ap missing_option (one_first_missing d.options l index index2 first first2) ∙ sym n_is
+same_missing d l m n (lacks_argument m_is few) (refuses_word index2 word2 n_is enough2 unfit2) = absurd (omega arith)
+same_missing d l m n (lacks_argument m_is few) (lacks_option index2 n_is enough2 taken2 first2) = absurd (omega arith)
+same_missing d l m n (refuses_word index word m_is enough unfit) (lacks_argument n_is few2) = absurd (omega arith)
+same_missing d l m n (refuses_word index word m_is enough unfit) (refuses_word index2 word2 n_is enough2 unfit2) =
+    let same = one_refused d.positionals (positional_words l) index index2 word word2 unfit unfit2 in
+    m_is ∙ ap (λ i. invalid_argument i word) same.0 ∙ ap (invalid_argument index2) same.1 ∙ sym n_is
+same_missing d l m n (refuses_word index word m_is enough unfit) (lacks_option index2 n_is enough2 taken2 first2) =
+    absurd (not_both d.positionals (positional_words l) index word unfit taken2)
+same_missing d l m n (lacks_option index m_is enough taken first) (lacks_argument n_is few2) = absurd (omega arith)
+same_missing d l m n (lacks_option index m_is enough taken first) (refuses_word index2 word2 n_is enough2 unfit2) =
+    absurd (not_both d.positionals (positional_words l) index2 word2 unfit2 taken)
+same_missing d l m n (lacks_option index m_is enough taken first) (lacks_option index2 n_is enough2 taken2 first2) = m_is ∙ ap missing_option (one_first_missing d.options l index index2 first first2) ∙ sym n_is
 
 -- of an option that is not declared one thing is left
 abbrev SameTails : Mistake → Mistake → Type 0
@@ -229,7 +247,8 @@ tail_left d l u m name tail (no_value other index option call v w step found due
 tail_left d l u m name tail (not_accepted s index value v read option refused) is = let e : invalid_value index value ≡ unknown_option name tail = is in absurd (cc)
 tail_left d l u m name tail (one_too_many word v step limit) is = let e : unexpected_argument word ≡ unknown_option name tail = is in absurd (cc)
 tail_left d l u m name tail (too_few v step few) is = let e : missing_argument (positional_count l) ≡ unknown_option name tail = is in absurd (cc)
-tail_left d l u m name tail (not_complete index v step enough first) is = let e : missing_option index ≡ unknown_option name tail = is in absurd (cc)
+tail_left d l u m name tail (not_taken index word v step enough unfit) is = let e : invalid_argument index word ≡ unknown_option name tail = is in absurd (cc)
+tail_left d l u m name tail (not_complete index v step enough taken first) is = let e : missing_option index ≡ unknown_option name tail = is in absurd (cc)
 
 same_tails : (d : Declaration) (l k : List Said) (u : UnreadLine) (m n : Mistake) → Stops d l u m → Stops d k u n → SameTails m n
 same_tails d l k u m n stops again = λ name tail other is too.

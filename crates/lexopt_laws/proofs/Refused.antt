@@ -44,7 +44,7 @@ refused_is options i (positional word) of = absurd (false≢true of)
 -- ---- what is in a list
 
 -- the test that an option with this list makes
-abbrev is_in : List (List ℕ) → List ℕ → Bool
+abbrev pub is_in : List (List ℕ) → List ℕ → Bool
 is_in list value = list_any (λ w. pointwise ◌==◌ w value) list
 
 one_list : (xs ys : List ℕ) → pointwise ◌==◌ xs ys ≡ true → xs ≡ ys
@@ -58,7 +58,7 @@ one_list (x ∷ xs) (y ∷ ys) is =
 later : (w : List ℕ) (list : List (List ℕ)) (value : List ℕ) → Contains list value → Contains (w ∷ list) value
 later w list value has = (suc has.0, (let below = has.1 in omega arith), has.2)
 
-in_list : (list : List (List ℕ)) (value : List ℕ) → is_in list value ≡ true → Contains list value
+pub in_list : (list : List (List ℕ)) (value : List ℕ) → is_in list value ≡ true → Contains list value
 in_list [] value is = absurd (false≢true is)
 in_list (w ∷ list) value is = go (pointwise ◌==◌ w value) refl (in_list list value)
   where
@@ -66,7 +66,7 @@ in_list (w ∷ list) value is = go (pointwise ◌==◌ w value) refl (in_list li
     go true same rest = (0, omega arith, one_list w value same)
     go false other rest = later w list value (rest (sym (ap (λ (b : Bool). b || is_in list value) other) ∙ is))
 
-found_in : (list : List (List ℕ)) (value : List ℕ) → Contains list value → is_in list value ≡ true
+pub found_in : (list : List (List ℕ)) (value : List ℕ) → Contains list value → is_in list value ≡ true
 found_in [] value (n, below, same) = absurd (omega arith)
 found_in (w ∷ list) value (zero, below, same) =
     or_left (pointwise ◌==◌ w value) (is_in list value) (subst (λ x. pointwise ◌==◌ w x ≡ true) same (pointwise_refl w))

@@ -23,11 +23,13 @@ use Rattle.lexopt_line_spec.proofs.ReplyKinds.{IsNextReply, next_reply, IsValueR
 use Rattle.lexopt_line_spec.proofs.RunAccounts.{step_line}
 use Rattle.lexopt_line_spec.proofs.Total.{next_answer}
 use Rattle.lexopt_options_spec.specs.Declaration.{Declaration, index_of, is_sound, table}
-use Rattle.lexopt_options_spec.specs.Legal.{Said, option, several, positional, said_item, counts, positional_count, least, most, IsWithin, is_required, occurs, Says, are_accepted, is_option, refused_value}
-use Rattle.lexopt_options_spec.specs.Stops.{Mistake, unknown_option, unexpected_value, missing_value, invalid_value, unexpected_argument, missing_argument, missing_option, IsFirstMissing, Stops, not_declared, value_of_flag, no_value, not_accepted, one_too_many, too_few, not_complete, ReadsUpTo, StopsAt}
+use Rattle.lexopt_options_spec.specs.Legal.{Said, option, several, positional, said_item, counts, positional_count, positional_words, most, IsWithin, is_required, occurs, Says, SaysFront, are_accepted, is_option, refused_value}
+use Rattle.lexopt_options_spec.specs.Places.{AreTaken, IsNotTaken, least}
+use Rattle.lexopt_options_spec.specs.Stops.{Mistake, unknown_option, unexpected_value, missing_value, invalid_value, unexpected_argument, invalid_argument, missing_argument, missing_option, IsFirstMissing, Stops, not_declared, value_of_flag, no_value, not_accepted, one_too_many, too_few, not_taken, not_complete, ReadsUpTo, StopsAt}
 use Rattle.lexopt_options_spec.proofs.Fronts.{front_said}
 use Rattle.lexopt_options_spec.proofs.Listed.{accepted_append}
 use Rattle.lexopt_options_spec.proofs.Lists.{count_append, joined}
+use Rattle.lexopt_options_spec.proofs.Taken.{taken_or_not, words_count}
 use Rattle.lexopt_laws.proofs.Missing.{complete_or_missing}
 
 -- ---- what is read as one item
@@ -109,7 +111,7 @@ one_more d u v w l item s read first line said within = record {
   within = subst (λ n. IsWithin n (most d.positionals)) (sym (count_append l (s ∷ []) ∙ ap (λ n. positional_count l + n) (omega arith))) within;
 }
 
-same_within : (n k : ℕ) (limit : Option ℕ) → k ≡ 0 → IsWithin n limit → IsWithin (n + k) limit
+pub same_within : (n k : ℕ) (limit : Option ℕ) → k ≡ 0 → IsWithin n limit → IsWithin (n + k) limit
 same_within n k None none within = tt
 same_within n k (Some m) none within = omega arith
 
@@ -122,8 +124,8 @@ one_read d u v item s line first after said within = one_more d u u v [] item s 
 
 -- what the line is found to do: to mean something to its end, or to stop
 data Found (d : Declaration) (u : UnreadLine) : Type 0 where
-  to_the_end : (l : List Said) (v w : UnreadLine) → ReadsUpTo d u l v → Next v steps.end w → least d.positionals ≤ positional_count l → ((i : ℕ) → is_required d.options i ≡ true → occurs i l ≡ true)
-      → are_accepted d.options l ≡ true → Found d u
+  to_the_end : (l : List Said) (v w : UnreadLine) → ReadsUpTo d u l v → Next v steps.end w → least d.positionals ≤ positional_count l → AreTaken d.positionals (positional_words l)
+      → ((i : ℕ) → is_required d.options i ≡ true → occurs i l ≡ true) → are_accepted d.options l ≡ true → Found d u
   stopped : (l : List Said) (m : Mistake) (v : UnreadLine) → ReadsUpTo d u l v → Stops d l v m → are_accepted d.options l ≡ true → Found d u
 
 -- the rest of a line of no greater bound is read
@@ -219,9 +221,13 @@ end_found : (d : Declaration) (u v w : UnreadLine) (l : List Said) → ReadsUpTo
 end_found d u v w l read accepted step = ⊎_elim
     (λ (less : positional_count l < least d.positionals). stopped l (missing_argument (positional_count l)) v read (too_few w step less) accepted)
     (λ (enough : least d.positionals ≤ positional_count l). ⊎_elim
-    (λ (complete : (i : ℕ) → is_required d.options i ≡ true → occurs i l ≡ true). to_the_end l v w read step enough complete accepted)
-    (λ (lacks : (index : ℕ) × IsFirstMissing d.options l index). stopped l (missing_option lacks.0) v read (not_complete lacks.0 w step enough lacks.1) accepted)
+    (λ (taken : AreTaken d.positionals (positional_words l)). ⊎_elim
+    (λ (complete : (i : ℕ) → is_required d.options i ≡ true → occurs i l ≡ true). to_the_end l v w read step enough taken complete accepted)
+    (λ (lacks : (index : ℕ) × IsFirstMissing d.options l index). stopped l (missing_option lacks.0) v read (not_complete lacks.0 w step enough taken lacks.1) accepted)
     (complete_or_missing d.options l))
+    (λ (refused : (index : ℕ) × (word : List ℕ) × IsNotTaken d.positionals (positional_words l) index word).
+    stopped l (invalid_argument refused.0 refused.1) v read (not_taken refused.0 refused.1 w step enough refused.2) accepted)
+    (taken_or_not d.positionals (positional_words l) (subst (λ n. IsWithin n (most d.positionals)) (sym (words_count l)) read.within)))
     (few_or_enough (positional_count l) (least d.positionals))
 
 reply_found : (d : Declaration) (u v w : UnreadLine) (l : List Said) (n : ℕ) (r : Reply) → ReadsUpTo d u l v → are_accepted d.options l ≡ true → NextStep v r w → IsNextReply r → bound v < suc n → Later d u n → Found d u
@@ -248,17 +254,22 @@ append_nil : (l : List Item) → l ++ [] ≡ l
 append_nil [] = refl
 append_nil (x ∷ l) = ap (λ m. x ∷ m) (append_nil l)
 
+-- what is read to its end is what the words mean
+pub whole_front : (d : Declaration) (words : List (List ℕ)) (l : List Said) (v w : UnreadLine) → is_sound d.options ≡ true → ReadsUpTo d (start d.short_equals words) l v → Next v steps.end w → SaysFront d words l
+whole_front d words l v w sound read ends = front_said d sound words read.items l
+    (subst (IsReading (table d.options) (start d.short_equals words) steps.end) (append_nil read.items)
+    (says_items (table d.options) (start d.short_equals words) v read.items read.read steps.end [] (reads_last (table d.options) v w steps.end tt ends)))
+    read.said read.within
+
 answer_of : (d : Declaration) (words : List (List ℕ)) → is_sound d.options ≡ true → Found d (start d.short_equals words)
     → ((l : List Said) × Says d words l) ⊎ ((l : List Said) × (m : Mistake) × StopsAt d words l m)
-answer_of d words sound (to_the_end l v w read ends enough complete accepted) =
+answer_of d words sound (to_the_end l v w read ends enough taken complete accepted) =
     inl (
       l,
       record {
-        front = front_said d sound words read.items l
-            (subst (IsReading (table d.options) (start d.short_equals words) steps.end) (append_nil read.items)
-            (says_items (table d.options) (start d.short_equals words) v read.items read.read steps.end [] (reads_last (table d.options) v w steps.end tt ends)))
-            read.said read.within;
+        front = whole_front d words l v w sound read ends;
         enough = enough;
+        taken = taken;
         complete = complete;
         accepted = accepted;
       },

@@ -12,7 +12,7 @@ use Rattle.lexopt_line_spec.proofs.Computing.{computing}
 use Rattle.lexopt_line_spec.proofs.Worked.{last_of, cluster_line, joined_line, plain_line, plain_front_is, some, reads_first, reads_joined, reads_plain, misses_values}
 use Rattle.lexopt_options_spec.specs.Declaration.{Declaration, Positional}
 use Rattle.lexopt_options_spec.specs.Legal.{Said, SaysFront, IsWithin, most, option, several, positional}
-use Rattle.lexopt_options_spec.specs.Stops.{Mistake, StopsAt, unknown_option, missing_value, unexpected_value, unexpected_argument, missing_argument, missing_option, invalid_value, not_declared, value_of_flag, one_too_many}
+use Rattle.lexopt_options_spec.specs.Stops.{Mistake, StopsAt, unknown_option, missing_value, unexpected_value, unexpected_argument, missing_argument, missing_option, invalid_argument, invalid_value, not_declared, value_of_flag, one_too_many}
 use Rattle.lexopt_options_spec.specs.Stops as stop
 use Rattle.lexopt_options_spec.specs.Completion.{IsOpen, IsPlainRole, IsDashedRole, Role, role_of}
 use Rattle.lexopt_options_spec.proofs.Fronts.{comes_to, no_front, one_front}
@@ -27,23 +27,30 @@ no_last : (l : List Said) (s : Said) → [] ≡ l ++ s ∷ [] → ⊥
 no_last [] s is = let e : [] ≡ s ∷ [] = is in cc
 no_last (x ∷ l) s is = let e : [] ≡ x ∷ (l ++ s ∷ []) = is in cc
 
-same_last : (l m : List Said) (s t : Said) → l ++ s ∷ [] ≡ m ++ t ∷ [] → s ≡ t
-same_last [] [] s t is = let e : s ∷ [] ≡ t ∷ [] = is in cc
+same_last : (l m : List Said) (s t : Said) → l ++ s ∷ [] ≡ m ++ t ∷ [] → (l ≡ m) × (s ≡ t)
+same_last [] [] s t is = let e : s ∷ [] ≡ t ∷ [] = is in (refl, cc)
 same_last [] (y ∷ m) s t is = let e : s ∷ [] ≡ y ∷ (m ++ t ∷ []) = is in let rest : [] ≡ m ++ t ∷ [] = cc in absurd (no_last m t rest)
 same_last (x ∷ l) [] s t is = let e : x ∷ (l ++ s ∷ []) ≡ t ∷ [] = is in let rest : [] ≡ l ++ s ∷ [] = cc in absurd (no_last l s rest)
-same_last (x ∷ l) (y ∷ m) s t is = let e : x ∷ (l ++ s ∷ []) ≡ y ∷ (m ++ t ∷ []) = is in let rest : l ++ s ∷ [] ≡ m ++ t ∷ [] = cc in same_last l m s t rest
+same_last (x ∷ l) (y ∷ m) s t is = let e : x ∷ (l ++ s ∷ []) ≡ y ∷ (m ++ t ∷ []) = is in let rest : l ++ s ∷ [] ≡ m ++ t ∷ [] = cc in
+    let head : x ≡ y = cc in
+    let parts = same_last l m s t rest in
+    (ap (λ z. z ∷ l) head ∙ ap (λ k. y ∷ k) parts.0, parts.1)
+
+-- so it has one role
+same_role : (l m : List Said) (s t : Said) → l ++ s ∷ [] ≡ m ++ t ∷ [] → role_of l s ≡ role_of m t
+same_role l m s t is = let parts = same_last l m s t is in ap (λ k. role_of k s) parts.0 ∙ ap (role_of m) parts.1
 
 -- ---- roles
 
 -- the words with the empty word mean this, so the role is that of its last part, and no other
-pub plain_is : (d : Declaration) (words : List (List ℕ)) (before : List Said) (s : Said) → SaysFront d (words ++ [] ∷ []) (before ++ s ∷ []) → (r : Role) → IsPlainRole d words (Some r) → role_of s ≡ r
+pub plain_is : (d : Declaration) (words : List (List ℕ)) (before : List Said) (s : Said) → SaysFront d (words ++ [] ∷ []) (before ++ s ∷ []) → (r : Role) → IsPlainRole d words (Some r) → role_of before s ≡ r
 plain_is d words before s says r (others, t, other, is) =
-    ap role_of (same_last before others s t (one_front d (words ++ [] ∷ []) (before ++ s ∷ []) (others ++ t ∷ []) says other)) ∙ is
+    same_role before others s t (one_front d (words ++ [] ∷ []) (before ++ s ∷ []) (others ++ t ∷ []) says other) ∙ is
 
 pub dashed_is : (d : Declaration) (words : List (List ℕ)) (before : List Said) (s : Said) → SaysFront d (words ++ (dash ∷ dash ∷ []) ∷ []) (before ++ s ∷ []) → (r : Role)
-    → IsDashedRole d words (Some r) → role_of s ≡ r
+    → IsDashedRole d words (Some r) → role_of before s ≡ r
 dashed_is d words before s says r (others, t, other, unsaid, is) =
-    ap role_of (same_last before others s t (one_front d (words ++ (dash ∷ dash ∷ []) ∷ []) (before ++ s ∷ []) (others ++ t ∷ []) says other)) ∙ is
+    same_role before others s t (one_front d (words ++ (dash ∷ dash ∷ []) ∷ []) (before ++ s ∷ []) (others ++ t ∷ []) says other) ∙ is
 
 -- a separator means nothing more
 pub open_dashed : (d : Declaration) (words : List (List ℕ)) (l : List Said) → IsOpen d words l → IsDashedRole d words None
@@ -60,12 +67,17 @@ unfolding kind computing
 flag_empty = front_of (spec.option (short 0x76) None ∷ spec.positional [] ∷ [])
     (cluster_line (codes "v") _ refl (last_of 0x76 [] nothing _ refl (nothing_more refl refl) (no_value refl refl refl)) (plain_line [] refl no_words)) refl tt
 
+-- `a`
+pub positional_empty : SaysFront (sample (files ∷ []) true) (codes "a" ∷ [] ∷ []) (positional (codes "a") ∷ positional [] ∷ [])
+positional_empty = front_of (spec.positional (codes "a") ∷ spec.positional [] ∷ []) (plain_line (codes "a") refl (plain_line [] refl no_words)) refl tt
+
+-- `-v`, where there is no positional
 pub no_flag_empty : (l : List Said) → SaysFront (sample [] true) (codes "-v" ∷ [] ∷ []) l → ⊥
 unfolding kind computing
 no_flag_empty l says =
     let stops : StopsAt (sample [] true) (codes "-v" ∷ [] ∷ []) (option 0 None ∷ []) (unexpected_argument []) =
     after_flag (short 0x76) 0 _ refl refl (lit≤ tt) (inl (reads_first _ 0x76 [] ([] ∷ []) refl refl refl refl)) (one_too_many [] _ (inl (reads_plain _ [] [] refl refl refl refl)) refl) in
-    no_front _ _ (option 0 None ∷ []) (unexpected_argument []) (comes_to stops) (λ count same. let e : unexpected_argument [] ≡ missing_argument count = same in cc) (λ index same. let e : unexpected_argument [] ≡ missing_option index = same in cc) (λ index value same. let e : unexpected_argument [] ≡ invalid_value index value = same in cc) l says
+    no_front _ _ (option 0 None ∷ []) (unexpected_argument []) (comes_to stops) (λ count same. let e : unexpected_argument [] ≡ missing_argument count = same in cc) (λ index same. let e : unexpected_argument [] ≡ missing_option index = same in cc) (λ index value same. let e : unexpected_argument [] ≡ invalid_value index value = same in cc) (λ index word same. let e : unexpected_argument [] ≡ invalid_argument index word = same in cc) l says
 
 -- `-b`
 pub optional_empty : SaysFront (sample (files ∷ []) true) (codes "-b" ∷ [] ∷ []) (option 2 None ∷ positional [] ∷ [])
@@ -104,7 +116,7 @@ unfolding kind computing
 no_unknown more l says =
     let stops : StopsAt (sample (files ∷ []) true) (codes "-z" ∷ more) [] (unknown_option (short 0x7A) no_tail) =
     at_first (not_declared (short 0x7A) _ (inl (reads_first _ 0x7A [] more refl refl refl refl)) refl) in
-    no_front _ _ [] (unknown_option (short 0x7A) no_tail) (comes_to stops) (λ count same. let e : unknown_option (short 0x7A) no_tail ≡ missing_argument count = same in cc) (λ index same. let e : unknown_option (short 0x7A) no_tail ≡ missing_option index = same in cc) (λ index value same. let e : unknown_option (short 0x7A) no_tail ≡ invalid_value index value = same in cc) l says
+    no_front _ _ [] (unknown_option (short 0x7A) no_tail) (comes_to stops) (λ count same. let e : unknown_option (short 0x7A) no_tail ≡ missing_argument count = same in cc) (λ index same. let e : unknown_option (short 0x7A) no_tail ≡ missing_option index = same in cc) (λ index value same. let e : unknown_option (short 0x7A) no_tail ≡ invalid_value index value = same in cc) (λ index word same. let e : unknown_option (short 0x7A) no_tail ≡ invalid_argument index word = same in cc) l says
 
 -- ---- lines with a separator
 
@@ -126,7 +138,7 @@ unfolding kind computing
 says_no_value l says =
     let stops : StopsAt (sample [] true) (codes "-o" ∷ []) [] (missing_value 1 (codes "-o")) =
     at_first (stop.no_value (short 0x6F) 1 (codes "-o") value _ _ (inl (reads_first _ 0x6F [] [] refl refl refl refl)) refl refl (inl (nothing_to_take refl refl refl refl))) in
-    no_front _ _ [] (missing_value 1 (codes "-o")) (comes_to stops) (λ count same. let e : missing_value 1 (codes "-o") ≡ missing_argument count = same in cc) (λ index same. let e : missing_value 1 (codes "-o") ≡ missing_option index = same in cc) (λ index value same. let e : missing_value 1 (codes "-o") ≡ invalid_value index value = same in cc) l says
+    no_front _ _ [] (missing_value 1 (codes "-o")) (comes_to stops) (λ count same. let e : missing_value 1 (codes "-o") ≡ missing_argument count = same in cc) (λ index same. let e : missing_value 1 (codes "-o") ≡ missing_option index = same in cc) (λ index value same. let e : missing_value 1 (codes "-o") ≡ invalid_value index value = same in cc) (λ index word same. let e : missing_value 1 (codes "-o") ≡ invalid_argument index word = same in cc) l says
 
 pub value_dashes : SaysFront (sample [] true) (codes "-o" ∷ codes "--" ∷ []) (option 1 (Some (codes "--")) ∷ [])
 unfolding kind computing
@@ -139,7 +151,7 @@ unfolding kind computing
 no_several_dashes l says =
     let stops : StopsAt (sample [] true) (codes "-x" ∷ codes "--" ∷ []) [] (missing_value 3 (codes "-x")) =
     at_first (stop.no_value (short 0x78) 3 (codes "-x") (values 1) _ _ (inl (reads_first _ 0x78 [] (codes "--" ∷ []) refl refl refl refl)) refl (1, refl) (inl (misses_values 1 _ refl refl))) in
-    no_front _ _ [] (missing_value 3 (codes "-x")) (comes_to stops) (λ count same. let e : missing_value 3 (codes "-x") ≡ missing_argument count = same in cc) (λ index same. let e : missing_value 3 (codes "-x") ≡ missing_option index = same in cc) (λ index value same. let e : missing_value 3 (codes "-x") ≡ invalid_value index value = same in cc) l says
+    no_front _ _ [] (missing_value 3 (codes "-x")) (comes_to stops) (λ count same. let e : missing_value 3 (codes "-x") ≡ missing_argument count = same in cc) (λ index same. let e : missing_value 3 (codes "-x") ≡ missing_option index = same in cc) (λ index value same. let e : missing_value 3 (codes "-x") ≡ invalid_value index value = same in cc) (λ index word same. let e : missing_value 3 (codes "-x") ≡ invalid_argument index word = same in cc) l says
 
 -- `--`, and with another one
 pub separator_says : SaysFront (sample (files ∷ []) true) (codes "--" ∷ []) []
@@ -169,4 +181,4 @@ verbose_says_nothing l says =
     after_flag (long (codes "verbose")) 0 _ refl refl (lit≤ tt) (inl (reads_joined _ (codes "verbose") (codes "fi") [] refl refl refl refl))
     (value_of_flag (codes "--verbose") (codes "fi") _ (inl (joined_value (codes "fi") (codes "--verbose") refl refl refl refl))) in
     no_front _ _ (option 0 None ∷ []) (unexpected_value (codes "--verbose") (codes "fi")) (comes_to stops)
-    (λ count same. let e : unexpected_value (codes "--verbose") (codes "fi") ≡ missing_argument count = same in cc) (λ index same. let e : unexpected_value (codes "--verbose") (codes "fi") ≡ missing_option index = same in cc) (λ index value same. let e : unexpected_value (codes "--verbose") (codes "fi") ≡ invalid_value index value = same in cc) l says
+    (λ count same. let e : unexpected_value (codes "--verbose") (codes "fi") ≡ missing_argument count = same in cc) (λ index same. let e : unexpected_value (codes "--verbose") (codes "fi") ≡ missing_option index = same in cc) (λ index value same. let e : unexpected_value (codes "--verbose") (codes "fi") ≡ invalid_value index value = same in cc) (λ index word same. let e : unexpected_value (codes "--verbose") (codes "fi") ≡ invalid_argument index word = same in cc) l says

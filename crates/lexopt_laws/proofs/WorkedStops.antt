@@ -9,7 +9,7 @@ use Rattle.lexopt_line_spec.specs.Table.{Item, Name, flag, one, kind}
 use Rattle.lexopt_line_spec.specs.Readings.{first_flag, first_one, first_positional, option_reply, start}
 use Rattle.lexopt_line_spec.proofs.RunAccounts.{step_line}
 use Rattle.lexopt_options_spec.specs.Declaration.{Declaration, table}
-use Rattle.lexopt_options_spec.specs.Legal.{Said, option, positional, said_item, most, IsWithin, are_accepted}
+use Rattle.lexopt_options_spec.specs.Legal.{option, positional, said_item, most, IsWithin, are_accepted}
 use Rattle.lexopt_options_spec.specs.Stops.{Mistake, Stops, StopsAt}
 use Rattle.lexopt_laws.proofs.SomeAnswer.{nothing_read, one_more}
 

@@ -114,7 +114,7 @@ argument_missing = at_first (refuses_one (long (codes "mode")) 1 (codes "medium"
 -- `--mode=fast`
 pub says_fast : Says (listed_sample [] true) (codes "--mode=fast" ∷ []) (option 1 (Some (codes "fast")) ∷ [])
 unfolding kind computing
-says_fast = whole_of (spec.option (long (codes "mode")) (Some (codes "fast")) ∷ [])
+says_fast = whole_of refl (spec.option (long (codes "mode")) (Some (codes "fast")) ∷ [])
     (joined_line (codes "mode") (codes "fast") _ refl (codes "mode", (refl, refl)) (lines.joined_value (codes "fast") refl refl refl) no_words)
     refl (lit≤ tt) (lit≤ tt) refl refl
 

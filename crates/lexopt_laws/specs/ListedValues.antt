@@ -1,7 +1,11 @@
--- The values of an option in what is read from a line, and which of them a list does not have.
-use Rattle.std.specs.Prelude.{◌≡◌, ◌++◌, ℕ, List, [], ◌∷◌, Some, None, Contains}
+-- The values of an option in what is read from a line, and which of them a list does not have; and
+-- which of the words of a line its positional does not accept.
+use Rattle.std.specs.Prelude.{◌≡◌, ◌<◌, ◌++◌, ℕ, List, [], ◌∷◌, Some, None, Contains, false, true}
+use Rattle.std.specs.Prelude.{slice_get}
 use Rattle.std.specs.List.{All}
+use Rattle.lexopt_options_spec.specs.Declaration.{Positional}
 use Rattle.lexopt_options_spec.specs.Legal.{Said, option, several, positional}
+use Rattle.lexopt_options_spec.specs.Places.{takes_at}
 
 -- the values that an option has here
 abbrev pub values_of : Said → List (List ℕ)
@@ -17,3 +21,14 @@ pub record IsFirstOutside (list values : List (List ℕ)) (value : List ℕ) : T
   pub values_are : values ≡ before ++ value ∷ after
   pub listed_before : All (Contains list) before
   pub outside : ¬ Contains list value
+
+-- where these words belong to the positionals of these indices, this is the first of them that its
+-- positional, of this index, does not accept
+pub record IsFirstRefused (ps : List Positional) (places : List ℕ) (words : List (List ℕ))
+    (index : ℕ) (word : List ℕ) : Type 0 where
+  pub at : ℕ
+  pub here : slice_get words at ≡ Some word
+  pub belongs : slice_get places at ≡ Some index
+  pub refused : takes_at ps index word ≡ false
+  pub before : (n i : ℕ) (w : List ℕ) → n < at → slice_get words n ≡ Some w
+      → slice_get places n ≡ Some i → takes_at ps i w ≡ true

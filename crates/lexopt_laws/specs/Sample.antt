@@ -63,31 +63,53 @@ sample_options = verbose ∷ output ∷ backup ∷ exclude ∷ []
 
 -- positionals: one that has to be there, one that may be left out, and any number
 abbrev pub mode : Positional
-mode = record { placeholder = codes "MODE"; count = once; help = [] }
+mode = record { placeholder = codes "MODE"; count = once; help = []; words = spec.files }
 
 abbrev pub target : Positional
-target = record { placeholder = codes "TARGET"; count = at_most_once; help = [] }
+target = record {
+  placeholder = codes "TARGET";
+  count = at_most_once;
+  help = [];
+  words = spec.files;
+}
 
 abbrev pub files : Positional
-files = record { placeholder = codes "FILE"; count = any_number; help = [] }
+files = record { placeholder = codes "FILE"; count = any_number; help = []; words = spec.files }
 
 -- one that has to be there and may be there more than once, and one after it
 abbrev pub sources : Positional
-sources = record { placeholder = codes "SOURCE"; count = at_least_once; help = [] }
+sources = record {
+  placeholder = codes "SOURCE";
+  count = at_least_once;
+  help = [];
+  words = spec.files;
+}
 
 abbrev pub dest : Positional
-dest = record { placeholder = codes "DEST"; count = once; help = [] }
+dest = record { placeholder = codes "DEST"; count = once; help = []; words = spec.files }
 
 -- one that may be left out, and one after it
 abbrev pub old : Positional
-old = record { placeholder = codes "OLD"; count = at_most_once; help = [] }
+old = record { placeholder = codes "OLD"; count = at_most_once; help = []; words = spec.files }
 
 abbrev pub new : Positional
-new = record { placeholder = codes "NEW"; count = once; help = [] }
+new = record { placeholder = codes "NEW"; count = once; help = []; words = spec.files }
 
 -- the same as `files`, with a help text
 abbrev pub described_files : Positional
 described_files = record files { help = codes "a file to read" }
+
+-- positionals that accept the words in a list alone
+abbrev pub mode_in_list : Positional
+mode_in_list = record mode { words = spec.listed (codes "fast" ∷ codes "slow" ∷ []) }
+
+abbrev pub form_in_list : Positional
+form_in_list = record {
+  placeholder = codes "FORM";
+  count = once;
+  help = [];
+  words = spec.listed (codes "tar" ∷ []);
+}
 
 -- these options, with these positionals
 abbrev pub sample : List Positional → Bool → Declaration

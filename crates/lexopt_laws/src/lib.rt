@@ -23,5 +23,6 @@ pub use laws::{
     views_agree, whole_names_are_spelled, words_show_one_list,
 };
 pub use option_laws::{
-    each_line_asks_for_one_thing, each_line_says_something_or_stops, words_belong_to_one_positional,
+    each_line_asks_for_one_thing, each_line_says_something_or_stops,
+    words_belong_to_one_positional, words_can_belong_to_one_list_of_positionals,
 };

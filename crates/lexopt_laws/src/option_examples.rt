@@ -1,7 +1,8 @@
 //! Worked examples of declared options: what the definitions mean for short lines and small
 //! declarations, and what they rule out. Most are about the options of `Sample`: v|verbose is a
 //! flag, o|output has one value, b|backup has one or none, and x|exclude has several. With lists,
-//! m|mode accepts fast and slow alone, b|backup old and bak, and x|exclude a and c.
+//! m|mode accepts fast and slow alone, b|backup old and bak, and x|exclude a and c. Of positionals
+//! with lists, MODE accepts fast and slow alone, and FORM tar.
 ghost use Rattle.std.specs.Prelude.{◌≡◌, ◌++◌, [], ◌∷◌, ℕ, List, Option, Some, None, true, false};
 ghost use Rattle.std.specs.Prelude.{codes};
 ghost use Rattle.lexopt_spec.specs.UnreadLine.{joined, no_tail, rest};
@@ -9,6 +10,7 @@ ghost use Rattle.lexopt_line_spec.specs.Table as spec;
 ghost use Rattle.lexopt_line_spec.specs.Table.{flag, long, many, one, optional, short};
 ghost use Rattle.lexopt_options_spec.specs.Asking.{AskFor, all_but_last, asked_at, asked_by};
 ghost use Rattle.lexopt_options_spec.specs.Asking.{first_asked, said_before};
+ghost use Rattle.lexopt_options_spec.specs.Completion.{AreOwners, AreOwnersIn, CanOwn};
 ghost use Rattle.lexopt_options_spec.specs.Completion.{AreText, CanStand, Completes, IsOpen};
 ghost use Rattle.lexopt_options_spec.specs.Completion.{IsOption, IsText, names_of, spelling};
 ghost use Rattle.lexopt_options_spec.specs.Completion.{HasRole, IsDashedRole, IsJoined};
@@ -28,13 +30,15 @@ ghost use Rattle.lexopt_options_spec.specs.Declaration.{any_number, at_least_onc
 ghost use Rattle.lexopt_options_spec.specs.Declaration.{has_to_occur, may_repeat, once};
 ghost use Rattle.lexopt_options_spec.specs.Declaration.{same_name, table};
 ghost use Rattle.lexopt_options_spec.specs.Legal.{Said, Says, SaysFront, accepts_at};
-ghost use Rattle.lexopt_options_spec.specs.Legal.{are_accepted, is_required, least, most};
+ghost use Rattle.lexopt_options_spec.specs.Legal.{are_accepted, is_required, most};
+ghost use Rattle.lexopt_options_spec.specs.Places.{least};
 ghost use Rattle.lexopt_options_spec.specs.Legal.{refused_value};
 ghost use Rattle.lexopt_options_spec.specs.Legal.{occurs, option};
 ghost use Rattle.lexopt_options_spec.specs.Legal.{positional, positional_count, said_item, several};
 ghost use Rattle.lexopt_options_spec.specs.Places.{ArePlaces, AreShares, CanTake, owners};
 ghost use Rattle.lexopt_options_spec.specs.Stops.{IsFirstMissing, Mistake, StopsAt};
-ghost use Rattle.lexopt_options_spec.specs.Stops.{invalid_value, missing_argument, missing_option};
+ghost use Rattle.lexopt_options_spec.specs.Stops.{invalid_argument, invalid_value};
+ghost use Rattle.lexopt_options_spec.specs.Stops.{missing_argument, missing_option};
 ghost use Rattle.lexopt_options_spec.specs.Stops.{missing_value, placeholder_at};
 ghost use Rattle.lexopt_options_spec.specs.Stops.{required_placeholder, unexpected_argument};
 ghost use Rattle.lexopt_options_spec.specs.Stops.{unexpected_value, unknown_option};
@@ -44,7 +48,7 @@ ghost use Rattle.lexopt_options_spec.specs.Help.{beside, blanks, entry, gap, lab
 ghost use Rattle.lexopt_options_spec.specs.Help.{line_columns, line_text};
 ghost use Rattle.lexopt_laws.specs.Sample.{asking_sample, asks_for_help, asks_for_version};
 ghost use Rattle.lexopt_laws.specs.Sample.{backup, described_files, exclude};
-ghost use Rattle.lexopt_laws.specs.Sample.{files, mode, output, sample};
+ghost use Rattle.lexopt_laws.specs.Sample.{files, form_in_list, mode, mode_in_list, output, sample};
 ghost use Rattle.lexopt_options_spec.specs.Nearest.{IsDistance, IsHint, IsNearest, hinted_name};
 ghost use Rattle.lexopt_options_spec.specs.Nearest.{long_name_at, only_ending, only_longer};
 ghost use Rattle.lexopt_options_spec.specs.Nearest.{only_passing, passes, passing_count};
@@ -297,6 +301,30 @@ fn words_have_no_other_places()
     ensures not_the_first { ArePlaces (old ∷ new ∷ []) 1 (0 ∷ []) → ⊥ }
 {}
 
+// To which positionals words can belong: the first of `OLD NEW` is `OLD` where another word comes
+// after it, and `NEW` where none does.
+fn words_can_belong_to_positionals()
+    ensures first { CanOwn (old ∷ new ∷ []) 0 0 }
+    ensures second { CanOwn (old ∷ new ∷ []) 0 1 }
+    ensures later { CanOwn (mode ∷ target ∷ []) 1 1 }
+{}
+
+// To which they cannot.
+fn words_cannot_belong_elsewhere()
+    ensures not_the_second { CanOwn (mode ∷ target ∷ []) 0 1 → ⊥ }
+    ensures past_the_end { (i : ℕ) → CanOwn (mode ∷ []) 1 i → ⊥ }
+{}
+
+// All of those to which they can belong.
+fn words_can_belong_to_these()
+    ensures two { AreOwners (old ∷ new ∷ []) 0 (0 ∷ 1 ∷ []) }
+    ensures one { AreOwners (mode ∷ target ∷ []) 0 (0 ∷ []) }
+    ensures none { AreOwners (mode ∷ []) 1 [] }
+    ensures role { AreOwnersIn (mode ∷ target ∷ []) (Some (argument 1)) (1 ∷ []) }
+    ensures of_a_value { AreOwnersIn (mode ∷ target ∷ []) (Some (value 1)) [] }
+    ensures of_nothing { AreOwnersIn (mode ∷ target ∷ []) None [] }
+{}
+
 // The indices of positionals to which these numbers of words belong.
 fn positionals_have_indices()
     ensures three { owners 0 (1 ∷ 0 ∷ 2 ∷ []) ≡ 0 ∷ 2 ∷ 2 ∷ [] }
@@ -425,6 +453,28 @@ fn lines_say_values_in_lists()
         (option 1 (Some (codes "medium")) ∷ []) }
 {}
 
+// What lines mean where positionals have lists. The front of a line may have any word.
+fn lines_say_words_in_lists()
+    ensures first { Says (sample (mode_in_list ∷ files ∷ []) true) (codes "fast" ∷ codes "a" ∷ [])
+        (positional (codes "fast") ∷ positional (codes "a") ∷ []) }
+    ensures last { Says (sample (sources ∷ form_in_list ∷ []) true) (codes "a" ∷ codes "tar" ∷ [])
+        (positional (codes "a") ∷ positional (codes "tar") ∷ []) }
+    ensures of_another_positional { Says (sample (mode_in_list ∷ files ∷ []) true)
+        (codes "slow" ∷ codes "fats" ∷ []) (positional (codes "slow") ∷ positional (codes "fats")
+        ∷ []) }
+    ensures two_lists { Says (sample (mode_in_list ∷ form_in_list ∷ []) true)
+        (codes "fast" ∷ codes "tar" ∷ []) (positional (codes "fast") ∷ positional (codes "tar")
+        ∷ []) }
+    ensures left_out { Says
+        (sample (record mode_in_list { count = at_most_once } ∷ form_in_list ∷ []) true)
+        (codes "tar" ∷ []) (positional (codes "tar") ∷ []) }
+    ensures after_the_separator { Says (sample (mode_in_list ∷ files ∷ []) true)
+        (codes "--" ∷ codes "fast" ∷ codes "-v" ∷ [])
+        (positional (codes "fast") ∷ positional (codes "-v") ∷ []) }
+    ensures front { SaysFront (sample (mode_in_list ∷ files ∷ []) true) (codes "fats" ∷ [])
+        (positional (codes "fats") ∷ []) }
+{}
+
 // What they do not mean.
 fn lines_do_not_say_these()
     ensures not_declared { (l : List Said) → SaysFront (sample (files ∷ []) true)
@@ -536,6 +586,45 @@ fn lines_stop_at_values()
         (codes "--mode=medium" ∷ []) [] (invalid_value 1 (codes "medium")) }
 {}
 
+// Where it stops at a word that a positional does not accept. Each other mistake in the line comes
+// before this one, and so does a positional that is missing, since to which positional a word
+// belongs is known at the end of the line. A required option that is missing comes after it.
+fn lines_stop_at_words()
+    ensures first { StopsAt (sample (mode_in_list ∷ files ∷ []) true)
+        (codes "fats" ∷ codes "a" ∷ []) (positional (codes "fats") ∷ positional (codes "a") ∷ [])
+        (invalid_argument 0 (codes "fats")) }
+    ensures last { StopsAt (sample (sources ∷ form_in_list ∷ []) true)
+        (codes "tar" ∷ codes "a" ∷ []) (positional (codes "tar") ∷ positional (codes "a") ∷ [])
+        (invalid_argument 1 (codes "a")) }
+    ensures front_of_one { StopsAt (sample (mode_in_list ∷ files ∷ []) true) (codes "fas" ∷ [])
+        (positional (codes "fas") ∷ []) (invalid_argument 0 (codes "fas")) }
+    ensures first_of_two { StopsAt (sample (mode_in_list ∷ form_in_list ∷ []) true)
+        (codes "tar" ∷ codes "fast" ∷ [])
+        (positional (codes "tar") ∷ positional (codes "fast") ∷ [])
+        (invalid_argument 0 (codes "tar")) }
+    ensures second_of_two { StopsAt (sample (mode_in_list ∷ form_in_list ∷ []) true)
+        (codes "fast" ∷ codes "rar" ∷ [])
+        (positional (codes "fast") ∷ positional (codes "rar") ∷ [])
+        (invalid_argument 1 (codes "rar")) }
+    ensures left_out { StopsAt
+        (sample (record mode_in_list { count = at_most_once } ∷ form_in_list ∷ []) true)
+        (codes "fast" ∷ []) (positional (codes "fast") ∷ []) (invalid_argument 1 (codes "fast")) }
+    ensures option_missing { StopsAt (demanding_sample (mode_in_list ∷ files ∷ []) true)
+        (codes "fats" ∷ codes "a" ∷ []) (positional (codes "fats") ∷ positional (codes "a") ∷ [])
+        (invalid_argument 0 (codes "fats")) }
+    ensures option_alone_missing { StopsAt (demanding_sample (mode_in_list ∷ files ∷ []) true)
+        (codes "fast" ∷ codes "a" ∷ []) (positional (codes "fast") ∷ positional (codes "a") ∷ [])
+        (missing_option 4) }
+    ensures argument_missing { StopsAt (sample (mode_in_list ∷ new ∷ []) true)
+        (codes "fats" ∷ []) (positional (codes "fats") ∷ []) (missing_argument 1) }
+    ensures before_another_mistake { StopsAt (sample (mode_in_list ∷ files ∷ []) true)
+        (codes "fats" ∷ codes "-z" ∷ []) (positional (codes "fats") ∷ [])
+        (unknown_option (short 0x7A) no_tail) }
+    ensures one_too_many { StopsAt (sample (mode_in_list ∷ []) true)
+        (codes "fats" ∷ codes "a" ∷ []) (positional (codes "fats") ∷ [])
+        (unexpected_argument (codes "a")) }
+{}
+
 // Where it does not stop.
 fn lines_do_not_stop_elsewhere()
     ensures nowhere { (l : List Said) (m : Mistake)
@@ -571,6 +660,31 @@ fn lines_need_values_in_lists()
         → (l ≡ []) × (m ≡ invalid_value 1 (codes "medium")) }
     ensures nowhere { (l : List Said) (m : Mistake)
         → StopsAt (listed_sample [] true) (codes "--mode=fast" ∷ []) l m → ⊥ }
+{}
+
+// A line with a word that a positional does not accept means nothing, and its reading stops at that
+// alone.
+fn lines_need_words_in_lists()
+    ensures first { (l : List Said) → Says (sample (mode_in_list ∷ files ∷ []) true)
+        (codes "fats" ∷ codes "a" ∷ []) l → ⊥ }
+    ensures last { (l : List Said) → Says (sample (sources ∷ form_in_list ∷ []) true)
+        (codes "tar" ∷ codes "a" ∷ []) l → ⊥ }
+    ensures not_the_second { (l : List Said) (m : Mistake)
+        → StopsAt (sample (mode_in_list ∷ form_in_list ∷ []) true)
+        (codes "tar" ∷ codes "fast" ∷ []) l m
+        → (l ≡ positional (codes "tar") ∷ positional (codes "fast") ∷ [])
+        × (m ≡ invalid_argument 0 (codes "tar")) }
+    ensures not_the_option { (l : List Said) (m : Mistake)
+        → StopsAt (demanding_sample (mode_in_list ∷ files ∷ []) true)
+        (codes "fats" ∷ codes "a" ∷ []) l m
+        → (l ≡ positional (codes "fats") ∷ positional (codes "a") ∷ [])
+        × (m ≡ invalid_argument 0 (codes "fats")) }
+    ensures not_before_the_end { (l : List Said) (m : Mistake)
+        → StopsAt (sample (mode_in_list ∷ new ∷ []) true) (codes "fats" ∷ []) l m
+        → (l ≡ positional (codes "fats") ∷ []) × (m ≡ missing_argument 1) }
+    ensures nowhere { (l : List Said) (m : Mistake)
+        → StopsAt (sample (mode_in_list ∷ files ∷ []) true) (codes "fast" ∷ codes "a" ∷ []) l m
+        → ⊥ }
 {}
 
 // A line that lacks what is required means nothing, and its reading stops at that alone. If a line
@@ -625,6 +739,8 @@ fn options_are_read_before_mistakes()
         ≡ option 0 None ∷ [] }
     ensures one_too_many { said_before (unexpected_argument (codes "a")) (option 0 None ∷ [])
         ≡ option 0 None ∷ [] }
+    ensures word_not_accepted { said_before (invalid_argument 0 (codes "fats"))
+        (option 0 None ∷ []) ≡ option 0 None ∷ [] }
     ensures one_too_few { said_before (missing_argument 0) (option 0 None ∷ [])
         ≡ option 0 None ∷ [] }
     ensures option_missing { said_before (missing_option 4) (option 0 None ∷ [])
@@ -819,6 +935,10 @@ fn options_can_stand()
         (codes "-u") }
     ensures required_with_a_positional { CanStand (demanding_sample (mode ∷ []) true) []
         (codes "--user") }
+    ensures after_a_word { CanStand (sample (mode_in_list ∷ files ∷ []) true) (codes "fast" ∷ [])
+        (codes "--verbose") }
+    ensures before_words { CanStand (sample (sources ∷ form_in_list ∷ []) true) (codes "a" ∷ [])
+        (codes "--verbose") }
 {}
 
 // Which are not, and which options cannot come next.
@@ -836,6 +956,8 @@ fn options_cannot_stand()
     ensures after_a_mistake { (s : List ℕ) → CanStand (sample [] true) (codes "-z" ∷ []) s → ⊥ }
     ensures after_a_refused_value { (s : List ℕ)
         → CanStand (listed_sample [] true) (codes "-mmedium" ∷ []) s → ⊥ }
+    ensures after_a_refused_word { (s : List ℕ)
+        → CanStand (sample (mode_in_list ∷ files ∷ []) true) (codes "fats" ∷ []) s → ⊥ }
     ensures not_open { (l : List Said) → IsOpen (sample (files ∷ []) true) (codes "--" ∷ []) l
         → ⊥ }
     ensures not_open_to_an_option { (l : List Said) → IsOpen (sample [] true) (codes "-o" ∷ []) l
@@ -857,9 +979,11 @@ fn what_is_typed_is_completed()
 
 // What a word is by what is read from it, and which words are a long option with `=`.
 fn roles_are_by_the_last_of_what_is_said()
-    ensures of_an_option { role_of (option 1 (Some (codes "x"))) ≡ value 1 }
-    ensures of_several { role_of (several 3 (codes "a" ∷ [])) ≡ value 3 }
-    ensures positional { role_of (positional (codes "a")) ≡ argument }
+    ensures of_an_option { role_of [] (option 1 (Some (codes "x"))) ≡ value 1 }
+    ensures of_several { role_of (option 0 None ∷ []) (several 3 (codes "a" ∷ [])) ≡ value 3 }
+    ensures positional { role_of [] (positional (codes "a")) ≡ argument 0 }
+    ensures second_positional { role_of (option 0 None ∷ positional (codes "a") ∷ option 0 None
+        ∷ []) (positional (codes "b")) ≡ argument 1 }
     ensures long_with_equals { is_long_with_equals (codes "--output=fi") ≡ true }
     ensures nothing_after_it { is_long_with_equals (codes "--output=") ≡ true }
     ensures no_equals { is_long_with_equals (codes "--output") ≡ false }
@@ -894,30 +1018,35 @@ fn values_are_not_joined()
 // What a word that is not an option would be.
 fn plain_words_have_roles()
     ensures after_a_flag { IsPlainRole (sample (files ∷ []) true) (codes "-v" ∷ [])
-        (Some argument) }
+        (Some (argument 0)) }
+    ensures after_a_positional { IsPlainRole (sample (files ∷ []) true) (codes "a" ∷ [])
+        (Some (argument 1)) }
     ensures no_more_positionals { IsPlainRole (sample [] true) (codes "-v" ∷ []) None }
     ensures after_an_optional_value { IsPlainRole (sample (files ∷ []) true) (codes "-b" ∷ [])
-        (Some argument) }
+        (Some (argument 0)) }
     ensures value_due { IsPlainRole (sample [] true) (codes "-o" ∷ []) (Some (value 1)) }
     ensures first_value_due { IsPlainRole (sample [] true) (codes "-x" ∷ []) (Some (value 3)) }
     ensures one_more_value { IsPlainRole (sample [] true) (codes "-x" ∷ codes "a" ∷ [])
         (Some (value 3)) }
     ensures after_the_separator { IsPlainRole (sample (files ∷ []) true) (codes "--" ∷ [])
-        (Some argument) }
+        (Some (argument 0)) }
     ensures after_a_mistake { IsPlainRole (sample (files ∷ []) true) (codes "-z" ∷ []) None }
 {}
 
 // What it would not be.
 fn plain_words_have_no_other_role()
     ensures after_a_flag { IsPlainRole (sample (files ∷ []) true) (codes "-v" ∷ []) None → ⊥ }
+    ensures after_a_positional { IsPlainRole (sample (files ∷ []) true) (codes "a" ∷ [])
+        (Some (argument 0)) → ⊥ }
     ensures no_more_positionals { (role : Role)
         → IsPlainRole (sample [] true) (codes "-v" ∷ []) (Some role) → ⊥ }
     ensures after_an_optional_value { IsPlainRole (sample (files ∷ []) true) (codes "-b" ∷ [])
         (Some (value 2)) → ⊥ }
-    ensures value_due { IsPlainRole (sample [] true) (codes "-o" ∷ []) (Some argument) → ⊥ }
+    ensures value_due { (n : ℕ)
+        → IsPlainRole (sample [] true) (codes "-o" ∷ []) (Some (argument n)) → ⊥ }
     ensures first_value_due { IsPlainRole (sample [] true) (codes "-x" ∷ []) None → ⊥ }
-    ensures one_more_value { IsPlainRole (sample (files ∷ []) true)
-        (codes "-x" ∷ codes "a" ∷ []) (Some argument) → ⊥ }
+    ensures one_more_value { (n : ℕ) → IsPlainRole (sample (files ∷ []) true)
+        (codes "-x" ∷ codes "a" ∷ []) (Some (argument n)) → ⊥ }
     ensures after_the_separator { IsPlainRole (sample (files ∷ []) true) (codes "--" ∷ []) None
         → ⊥ }
     ensures after_a_mistake { (role : Role)
@@ -933,7 +1062,7 @@ fn dashed_words_have_roles()
     ensures first_value_due { IsDashedRole (sample [] true) (codes "-x" ∷ []) None }
     ensures one_more_value { IsDashedRole (sample [] true) (codes "-x" ∷ codes "a" ∷ []) None }
     ensures after_the_separator { IsDashedRole (sample (files ∷ []) true) (codes "--" ∷ [])
-        (Some argument) }
+        (Some (argument 0)) }
     ensures after_a_mistake { IsDashedRole (sample (files ∷ []) true) (codes "-z" ∷ []) None }
 {}
 
@@ -944,8 +1073,8 @@ fn dashed_words_have_no_other_role()
     ensures after_an_optional_value { (role : Role)
         → IsDashedRole (sample (files ∷ []) true) (codes "-b" ∷ []) (Some role) → ⊥ }
     ensures value_due { IsDashedRole (sample [] true) (codes "-o" ∷ []) None → ⊥ }
-    ensures not_an_argument { IsDashedRole (sample [] true) (codes "-o" ∷ []) (Some argument)
-        → ⊥ }
+    ensures not_an_argument { (n : ℕ)
+        → IsDashedRole (sample [] true) (codes "-o" ∷ []) (Some (argument n)) → ⊥ }
     ensures first_value_due { (role : Role)
         → IsDashedRole (sample [] true) (codes "-x" ∷ []) (Some role) → ⊥ }
     ensures one_more_value { (role : Role)
@@ -959,14 +1088,14 @@ fn dashed_words_have_no_other_role()
 // What was typed first decides which of the two counts.
 fn words_have_roles()
     ensures plain { HasRole (sample (files ∷ []) true) (codes "-v" ∷ []) (codes "f")
-        (Some argument) }
+        (Some (argument 0)) }
     ensures nothing_typed { HasRole (sample (files ∷ []) true) (codes "-v" ∷ []) []
-        (Some argument) }
+        (Some (argument 0)) }
     ensures dash { HasRole (sample (files ∷ []) true) (codes "-v" ∷ []) (codes "-") None }
     ensures not_none { HasRole (sample (files ∷ []) true) (codes "-v" ∷ []) (codes "f") None
         → ⊥ }
     ensures not_after_a_dash { HasRole (sample (files ∷ []) true) (codes "-v" ∷ []) (codes "-")
-        (Some argument) → ⊥ }
+        (Some (argument 0)) → ⊥ }
 {}
 
 // The forms that labels show.
@@ -1095,4 +1224,7 @@ fn helps_are_written()
     ensures list { IsHelp
         (record (sample [] true) { options = listed_mode ∷ []; about = [] }) 80
         (codes "Usage: example_archive [OPTION]...\n\n  -m, --mode=MODE       how to pack: one of fast, slow\n") }
+    ensures list_of_a_positional { IsHelp
+        (record (sample (mode_in_list ∷ []) true) { options = []; about = [] }) 80
+        (codes "Usage: example_archive MODE\n\n  MODE                  one of fast, slow\n") }
 {}

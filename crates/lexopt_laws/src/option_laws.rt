@@ -4,15 +4,18 @@ ghost use Rattle.std.specs.Prelude.{Option, None, Some, true};
 ghost use Rattle.std.specs.List.{All};
 ghost use Rattle.lexopt_line_spec.specs.Table.{Name};
 ghost use Rattle.lexopt_options_spec.specs.Asking.{AskFor, first_asked, said_before};
-ghost use Rattle.lexopt_options_spec.specs.Completion.{AreText};
+ghost use Rattle.lexopt_options_spec.specs.Completion.{AreOwners, AreOwnersIn, AreText, Role};
 ghost use Rattle.lexopt_options_spec.specs.Declaration.{Asked, Declaration, Declared, Positional};
 ghost use Rattle.lexopt_options_spec.specs.Declaration.{accepts, has_name, index_of, is_sound};
-ghost use Rattle.lexopt_options_spec.specs.Declaration.{listed};
-ghost use Rattle.lexopt_options_spec.specs.Legal.{IsWithin, Said, Says, is_option};
-ghost use Rattle.lexopt_options_spec.specs.Legal.{least, most, occurs, refused_value};
-ghost use Rattle.lexopt_options_spec.specs.Places.{ArePlaces, AreShares};
-ghost use Rattle.lexopt_options_spec.specs.Stops.{Mistake, StopsAt};
-ghost use Rattle.lexopt_laws.specs.ListedValues.{IsFirstOutside, values_of};
+ghost use Rattle.lexopt_options_spec.specs.Declaration.{are_listable, listed};
+ghost use Rattle.lexopt_options_spec.specs.Legal.{IsWithin, Said, Says, SaysFront};
+ghost use Rattle.lexopt_options_spec.specs.Legal.{are_accepted, is_option, most, occurs};
+ghost use Rattle.lexopt_options_spec.specs.Legal.{positional_count, positional_words};
+ghost use Rattle.lexopt_options_spec.specs.Legal.{refused_value};
+ghost use Rattle.lexopt_options_spec.specs.Places.{ArePlaces, AreShares, IsNotTaken, least};
+ghost use Rattle.lexopt_options_spec.specs.Places.{refused_word, takes_at};
+ghost use Rattle.lexopt_options_spec.specs.Stops.{Mistake, StopsAt, invalid_argument};
+ghost use Rattle.lexopt_laws.specs.ListedValues.{IsFirstOutside, IsFirstRefused, values_of};
 
 /// Under a declaration words mean exactly one list, or their reading stops at exactly one mistake,
 /// and never both. That one of the two holds needs options that can be declared together. The rest
@@ -45,14 +48,15 @@ pub fn each_line_asks_for_one_thing()
 {}
 
 /// Among options that can be declared together each accepts some value, whatever list it has. So
-/// each can occur in a legal line, whichever of them are required, if each has a name, and names
-/// are text.
+/// each can occur in a legal line, whichever of them are required, if each has a name, names are
+/// text, and the lists of the positionals can be declared.
 pub fn each_option_can_occur()
     ensures value { (options : List Declared) (o : Declared) → is_sound options ≡ true
         → Contains options o → (value : List ℕ) × (accepts o.words value ≡ true) }
     ensures line { (d : Declaration) (name : Name) (i : ℕ) → is_sound d.options ≡ true
-        → AreText d.options → ((o : Declared) → Contains d.options o → (n : Name)
-        × (has_name n o ≡ true)) → index_of d.options name ≡ Some i
+        → are_listable d.positionals ≡ true → AreText d.options
+        → ((o : Declared) → Contains d.options o → (n : Name) × (has_name n o ≡ true))
+        → index_of d.options name ≡ Some i
         → (words : List (List ℕ)) × (l : List Said) × Says d words l × (occurs i l ≡ true) }
 {}
 
@@ -78,6 +82,48 @@ pub fn the_first_value_outside_a_list_is_refused()
         → is_option i s ≡ true → refused_value options s ≡ None }
 {}
 
+/// Where words belong to positionals, the word that is refused is the first one that its positional
+/// does not accept. Its positional has a list, and the word is not in the list. If none is refused,
+/// each positional accepts each of its words.
+pub fn the_first_word_outside_a_list_is_refused()
+    ensures first { (ps : List Positional) (places : List ℕ) (words : List (List ℕ)) (i : ℕ)
+        (word : List ℕ) → refused_word ps places words ≡ Some (i, word)
+        → IsFirstRefused ps places words i word }
+    ensures no_other { (ps : List Positional) (places : List ℕ) (words : List (List ℕ)) (i : ℕ)
+        (word : List ℕ) → IsFirstRefused ps places words i word
+        → refused_word ps places words ≡ Some (i, word) }
+    ensures outside { (ps : List Positional) (words : List (List ℕ)) (i : ℕ) (word : List ℕ)
+        → IsNotTaken ps words i word → (p : Positional) × (list : List (List ℕ))
+        × (slice_get ps i ≡ Some p) × (p.words ≡ listed list) × (¬ Contains list word) }
+    ensures none { (ps : List Positional) (places : List ℕ) (words : List (List ℕ)) (n i : ℕ)
+        (word : List ℕ) → refused_word ps places words ≡ None → slice_get words n ≡ Some word
+        → slice_get places n ≡ Some i → takes_at ps i word ≡ true }
+    ensures each { (ps : List Positional) (places : List ℕ) (words : List (List ℕ))
+        → ((n i : ℕ) (word : List ℕ) → slice_get words n ≡ Some word
+        → slice_get places n ≡ Some i → takes_at ps i word ≡ true)
+        → refused_word ps places words ≡ None }
+{}
+
+/// In a legal line each word of a positional with a list is in the list, and no word is refused. If
+/// the words of a line mean something and enough of them are positionals, and each option accepts
+/// its values, the line stops at the first word that is refused, whatever required options are
+/// missing.
+pub fn legal_lines_have_words_in_lists()
+    ensures in_lists { (d : Declaration) (words : List (List ℕ)) (l : List Said)
+        (places : List ℕ) (n i : ℕ) (word : List ℕ) (p : Positional) (list : List (List ℕ))
+        → Says d words l → ArePlaces d.positionals (positional_count l) places
+        → slice_get (positional_words l) n ≡ Some word → slice_get places n ≡ Some i
+        → slice_get d.positionals i ≡ Some p → p.words ≡ listed list → Contains list word }
+    ensures none_refused { (d : Declaration) (words : List (List ℕ)) (l : List Said) (i : ℕ)
+        (word : List ℕ) → Says d words l → IsNotTaken d.positionals (positional_words l) i word
+        → ⊥ }
+    ensures stops { (d : Declaration) (words : List (List ℕ)) (l : List Said) (i : ℕ)
+        (word : List ℕ) → is_sound d.options ≡ true → SaysFront d words l
+        → are_accepted d.options l ≡ true → least d.positionals ≤ positional_count l
+        → IsNotTaken d.positionals (positional_words l) i word
+        → StopsAt d words l (invalid_argument i word) }
+{}
+
 /// Words belong to the positionals of a declaration in one way alone. If there are at least as many
 /// words as have to occur, and no more than may, each positional has a share of them, and two lists
 /// of shares are equal. If there are no more words than may occur, each word has a place, also
@@ -91,4 +137,13 @@ pub fn words_belong_to_one_positional()
         → (places : List ℕ) × ArePlaces ps n places }
     ensures no_other_places { (ps : List Positional) (n : ℕ) (places others : List ℕ)
         → ArePlaces ps n places → ArePlaces ps n others → places ≡ others }
+{}
+
+/// There is one list alone of the positionals to which a word can belong, by its index and by its
+/// role: each that it can belong to, and no other, in the order of the declaration.
+pub fn words_can_belong_to_one_list_of_positionals()
+    ensures no_other { (ps : List Positional) (n : ℕ) (owners others : List ℕ)
+        → AreOwners ps n owners → AreOwners ps n others → owners ≡ others }
+    ensures role { (ps : List Positional) (role : Option Role) (owners others : List ℕ)
+        → AreOwnersIn ps role owners → AreOwnersIn ps role others → owners ≡ others }
 {}

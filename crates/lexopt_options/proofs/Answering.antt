@@ -1,5 +1,5 @@
 -- What a program is to do.
-use Rattle.std.proofs.Common.{◌≡◌, ◌↔◌, ◌≤◌, ◌<◌, ◌-◌, ◌+◌, ℕ, List, [], ◌∷◌, ◌++◌, codes, length, take, drop, get_or, MatchOption, Option, Some, None, Global, String, string_bytes, refl, sym, ap, subst, ◌∙◌, arith}
+use Rattle.std.proofs.Common.{suc, zero, ◌≡◌, ◌↔◌, ◌≤◌, ◌<◌, ◌-◌, ◌+◌, ℕ, List, [], ◌∷◌, ◌++◌, codes, length, take, drop, get_or, MatchOption, Option, Some, None, Global, String, string_bytes, refl, sym, ap, subst, ◌∙◌, arith}
 use Rattle.std.proofs.lemmas.List.{get_or-drop, take_all, take_more}
 use Rattle.lexopt_options.specs.declared.options.Options.{Options}
 use Rattle.lexopt_declaration.specs.declared.shell.Shell.{Shell}
@@ -37,3 +37,16 @@ ends_apart (w ∷ ws) first typed many first_is typed_is =
     let at : length (w ∷ ws) - 1 ≡ 1 + i = omega (arith, many) in
     let last : typed ≡ get_or ws i typed = typed_is ∙ ap (λ (n : ℕ). get_or (w ∷ ws) n typed) at ∙ sym (get_or-drop 1 (w ∷ ws) i typed) in
     ap (λ (x : List ℕ). x ∷ ws) (sym first_is) ∙ ap (λ (l : List (List ℕ)). first ∷ l) (last_apart ws typed i all last)
+
+-- ---- the lines for a shell
+
+pub take_past : {X : Type 0} (n : ℕ) (l : List X) → length l ≤ n → take n l ≡ l
+take_past zero [] past = refl
+take_past (suc n) [] past = refl
+take_past zero (x ∷ l) past = absurd (omega (arith, past))
+take_past (suc n) (x ∷ l) past = ap (λ m. x ∷ m) (take_past n l (omega (arith, past)))
+
+-- four parts, one after the other
+pub text_so : (s v w j p q r all : List ℕ) → r ≡ s → q ≡ r ++ v → p ≡ q ++ w → all ≡ p ++ j → all ≡ s ++ v ++ w ++ j
+text_so s v w j p q r all r_is q_is p_is is =
+    is ∙ ap (λ l. l ++ j) (p_is ∙ ap (λ l. l ++ w) (q_is ∙ ap (λ l. l ++ v) r_is))

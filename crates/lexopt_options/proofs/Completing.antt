@@ -1,8 +1,8 @@
 -- What is offered after some words.
-use Rattle.std.proofs.Common.{◌≡◌, ◌≢◌, ◌↔◌, ◌≤◌, ◌-◌, ◌+◌, ◌&&◌, ℕ, Bool, IsTrue, not, true, false, List, [], ◌∷◌, ◌++◌, map, filter, get_or, length, slice_get, MatchOption, Option, Some, None, Vec, nat_eq, option_map, refl, sym, ap, subst, ◌∙◌, inl, inr, arith}
+use Rattle.std.proofs.Common.{if◌then◌else◌, is_none, zero, suc, take, ◌≡◌, ◌≢◌, ◌↔◌, ◌≤◌, ◌-◌, ◌+◌, ℕ, Bool, IsTrue, not, true, false, List, [], ◌∷◌, ◌++◌, map, filter, get_or, length, slice_get, MatchOption, Option, Some, None, Vec, nat_eq, option_map, refl, sym, ap, subst, ◌∙◌, inl, inr, arith}
 use Rattle.std.proofs.Common.{Result, Ok, Err, String, IfOk, OnOk, string_bytes}
 use Rattle.std.specs.Global.{Global}
-use Rattle.std.specs.List.{Contains, starts_with}
+use Rattle.std.specs.List.{Contains, flat_map, starts_with}
 use Rattle.std.specs.Str.{IsUtf8}
 use Rattle.std.proofs.Common.{◌<◌, ◌⊎◌, position, ⊎_elim}
 use Rattle.std.proofs.lemmas.Bool.{cases_eq, eq-eqb, false≢true}
@@ -25,22 +25,36 @@ use Rattle.lexopt_options_spec.proofs.LastWords.{no_last, same_last}
 use Rattle.lexopt_options_spec.proofs.OpenLines.{dashes}
 use Rattle.lexopt_options_spec.proofs.OpenWords as open_words
 use Rattle.lexopt_options_spec.proofs.OpenWords.{EndsInOne, OpenOrNot, takes_any_word, open_or_not, open_adds}
-use Rattle.lexopt_options_spec.proofs.Stands.{AreNamed, stands_accepted, stands_open}
+use Rattle.lexopt_options_spec.proofs.Stands.{AreNamed, stands_accepted, stands_open, stands_taken}
+use Rattle.lexopt_options_spec.proofs.Taken.{CanBeTaken, filled}
+use Rattle.lexopt_options_spec.specs.Declaration.{Positional, are_listable}
+use Rattle.lexopt_options_spec.specs.Legal.{positional_count, positional_words}
+use Rattle.lexopt_options_spec.specs.Completion.{words_at}
+use Rattle.lexopt_options.specs.declared.options.Options.{Options}
+use Rattle.lexopt_options.specs.Declarations.{declaration_of, options_of}
 use Rattle.lexopt_options_spec.proofs.Tables.{pointwise_refl}
-use Rattle.lexopt_declaration.specs.Models.{long_name, option_view, short_name}
+use Rattle.lexopt_declaration.specs.Models.{long_name, option_view, positional_view, short_name}
+use Rattle.lexopt_declaration.specs.declared.declaration.Positional as rust_positional
 use Rattle.lexopt_declaration.specs.declared.declaration.Declared as rust
 use Rattle.lexopt_declaration.specs.declared.declaration.Names.{Names}
 use Rattle.lexopt_declaration.specs.declared.declaration.Names.TheVariants as names
 use Rattle.lexopt_options_spec.proofs.Offered.{kept, keeps, offered_stands, stands_offered}
 use Rattle.lexopt_options.specs.declared.indexed.Indexed.{Indexed}
 use Rattle.lexopt_options.specs.declared.indexed.Indexed.TheVariants as indexed
-use Rattle.lexopt_options.specs.Completions.{AreOffered, CanCome, Opens, TakeAnyWord, ends_in_one, is_one, joined_values, values_so, word_values}
+use Rattle.lexopt_options.specs.Completions.{AreOffered, CanCome, IsLastPlace, Opens, TakeAnyWord, ends_in_one, is_one, joined_values, values_so, word_values, words_so}
 use Rattle.lexopt_options.specs.Fronts.{IsPart}
 use Rattle.lexopt_options.specs.declared.complete.Place.{Place}
 use Rattle.lexopt_options.specs.declared.complete.Role.{Role}
 use Rattle.lexopt_options.specs.declared.complete.Role.TheVariants as role
 use Rattle.lexopt_options.specs.Reading.{indexed_view}
-use Rattle.lexopt_options.specs.Roles.{IsDeclared, IsOptionAt, IsRoleAt, place_view}
+use Rattle.lexopt_options.specs.Roles.{IsCounted, IsDeclared, IsOptionAt, IsRoleAt, place_view}
+use Rattle.lexopt_options.specs.declared.complete.Place.TheVariants as place
+use Rattle.lexopt_options.specs.Taken as taken
+use Rattle.lexopt_options.specs.Taken.{indexed_words}
+use Rattle.lexopt_options.proofs.TakenWords.{index_counted, index_words_are}
+use Rattle.std.proofs.lemmas.List.Folds.{list_all-map}
+use Rattle.std.specs.List.{list_all}
+use Rattle.lexopt_options_spec.specs.Legal.{refused_value}
 
 -- ---- the last that is read
 
@@ -119,12 +133,12 @@ mapped_last : (before : List Indexed) (last : Indexed) → map indexed_view (bef
 mapped_last [] last = refl
 mapped_last (x ∷ before) last = ap (λ l. indexed_view x ∷ l) (mapped_last before last)
 
-pub some_role : (d : Declaration) (words : List (List ℕ)) (said : Vec Indexed Global) (r : Option Place) → SaysFront d (words ++ [] ∷ []) (map indexed_view said.items)
-    → MatchOption r (said.items ≡ []) (λ role. (before : List Indexed) × (last : Indexed) × (said.items ≡ before ++ last ∷ []) × (spec.role_of (indexed_view last) ≡ place_view role))
+pub some_role : (d : Declaration) (words : List (List ℕ)) (said : List Indexed) (r : Option Place) → SaysFront d (words ++ [] ∷ []) (map indexed_view said)
+    → IsLastPlace said r
     → IsPlainRole d words (option_map place_view r)
 some_role d words said None says none = λ before s other.
-    no_last before s (sym (ap (map indexed_view) none) ∙ one_front d (words ++ [] ∷ []) (map indexed_view said.items) (before ++ s ∷ []) says other)
-some_role d words said (Some role) says (before, last, items_are, role_is) = (
+    no_last before s (sym (ap (map indexed_view) none) ∙ one_front d (words ++ [] ∷ []) (map indexed_view said) (before ++ s ∷ []) says other)
+some_role d words said (Some role) says (counted, (before, last, items_are, role_is)) = (
   map indexed_view before,
   indexed_view last,
   subst (SaysFront d (words ++ [] ∷ [])) (ap (map indexed_view) items_are ∙ mapped_last before last) says,
@@ -142,12 +156,12 @@ no_dashed d words opens = λ before s other.
 pub unsaid_dashed : (d : Declaration) (words : List (List ℕ)) → IsPart d (words ++ dashes ∷ []) None → IsDashedRole d words None
 unsaid_dashed d words none = λ before s other. absurd (none (before ++ s ∷ []) other)
 
-pub some_dashed : (d : Declaration) (words : List (List ℕ)) (said : Vec Indexed Global) (r : Option Place) → Opens d words false → SaysFront d (words ++ dashes ∷ []) (map indexed_view said.items)
-    → MatchOption r (said.items ≡ []) (λ role. (before : List Indexed) × (last : Indexed) × (said.items ≡ before ++ last ∷ []) × (spec.role_of (indexed_view last) ≡ place_view role))
+pub some_dashed : (d : Declaration) (words : List (List ℕ)) (said : List Indexed) (r : Option Place) → Opens d words false → SaysFront d (words ++ dashes ∷ []) (map indexed_view said)
+    → IsLastPlace said r
     → IsDashedRole d words (option_map place_view r)
 some_dashed d words said None closed says none = λ before s other.
-    absurd (no_last before s (sym (ap (map indexed_view) none) ∙ one_front d (words ++ dashes ∷ []) (map indexed_view said.items) (before ++ s ∷ []) says other))
-some_dashed d words said (Some role) closed says (before, last, items_are, role_is) =
+    absurd (no_last before s (sym (ap (map indexed_view) none) ∙ one_front d (words ++ dashes ∷ []) (map indexed_view said) (before ++ s ∷ []) says other))
+some_dashed d words said (Some role) closed says (counted, (before, last, items_are, role_is)) =
     let dashed = subst (SaysFront d (words ++ dashes ∷ [])) (ap (map indexed_view) items_are ∙ mapped_last before last) says in (
       map indexed_view before,
       indexed_view last,
@@ -194,12 +208,12 @@ all_named {F} {V} {M} {S} (o ∷ os) = (one o.names refl, all_named os)
     one (names.Long name) is = (table.long name.now, ap (is_long name.now) (ap long_name is) ∙ pointwise_refl name.now)
     one (names.Both c name) is = (table.short c, ap (is_short c) (ap short_name is) ∙ eq-eqb c c refl)
 
-pub offered : (d : Declaration) (words : List (List ℕ)) (typed : List ℕ) (list : List (List ℕ)) → is_sound d.options ≡ true → AreNamed d.options → IsUtf8 typed → CanCome d words true → AreText d.options
+pub offered : (d : Declaration) (words : List (List ℕ)) (typed : List ℕ) (list : List (List ℕ)) → is_sound d.options ≡ true → are_listable d.positionals ≡ true → AreNamed d.options → IsUtf8 typed → CanCome d words true → AreText d.options
     → list ≡ filter (λ x. starts_with nat_eq x typed) (spellings d.options) → AreOffered d words typed list
-offered d words typed list sound named utf8 opens text is = record {
+offered d words typed list sound good named utf8 opens text is = record {
   sound = λ s has.
       let k = kept (λ x. starts_with nat_eq x typed) (spellings d.options) s (subst (λ x. Contains x s) is has) in
-      record { text = utf8; begins = k.1; stands = let there = opens.0 refl in offered_stands d words there.0 s sound text named there.1 there.2 k.0 };
+      record { text = utf8; begins = k.1; stands = let there = opens.0 refl in offered_stands d words there.0 s sound text named there.1 there.2 (filled d.positionals (positional_words there.0) good there.3) k.0 };
   complete = λ s completes.
       subst (λ x. Contains x s) (sym is)
       (keeps (λ x. starts_with nat_eq x typed) (spellings d.options) s (stands_offered d words s completes.stands) completes.begins);
@@ -207,33 +221,46 @@ offered d words typed list sound named utf8 opens text is = record {
 }
 
 -- the same of what a call returns
-pub offered_all : (d : Declaration) (typed : List ℕ) (r : Result (Vec (String Global) Global) AllocError) (options : List Declared) (bytes : List ℕ) (b : Bool) → is_sound d.options ≡ true → AreNamed d.options → IsUtf8 typed → b ≡ true
+pub offered_all : (d : Declaration) (typed : List ℕ) (r : Result (Vec (String Global) Global) AllocError) (options : List Declared) (bytes : List ℕ) (b : Bool) → is_sound d.options ≡ true → are_listable d.positionals ≡ true → AreNamed d.options → IsUtf8 typed → b ≡ true
     → options ≡ d.options → bytes ≡ typed → OnOk r (AreText options) → IfOk r (λ list. map string_bytes list.items ≡ filter (λ s. starts_with nat_eq s bytes) (spellings options))
     → IfOk r (λ list. (words : List (List ℕ)) → CanCome d words b → AreOffered d words typed (map string_bytes list.items))
-offered_all d typed (Ok list) options bytes b sound named utf8 can are also text is = λ words is_open.
-    offered d words typed (map string_bytes list.items) sound named utf8 (subst (CanCome d words) can is_open) (subst AreText are text)
+offered_all d typed (Ok list) options bytes b sound good named utf8 can are also text is = λ words is_open.
+    offered d words typed (map string_bytes list.items) sound good named utf8 (subst (CanCome d words) can is_open) (subst AreText are text)
     (is ∙ ap (λ b. filter (λ s. starts_with nat_eq s b) (spellings options)) also ∙ ap (λ os. filter (λ s. starts_with nat_eq s typed) (spellings os)) are)
-offered_all d typed (Err e) options bytes b sound named utf8 can are also text is = tt
+offered_all d typed (Err e) options bytes b sound good named utf8 can are also text is = tt
 
 none_there : (s : List ℕ) → Contains [] s → ⊥
 none_there s (k, below, is) = omega (arith, below)
 
 -- one can come where one could, and what was read is accepted
-pub comes_so : (d : Declaration) (words : List (List ℕ)) (said : List legal.Said) (opens accepted : Bool) → Opens d words opens → SaysFront d (words ++ dashes ∷ []) said
-    → accepted ≡ legal.are_accepted d.options said → CanCome d words (opens && accepted)
-comes_so d words said true accepted opens front is = (
+pub comes_so : (d : Declaration) (words : List (List ℕ)) (said : List legal.Said) (legal_so : Bool) → Opens d words true → SaysFront d (words ++ dashes ∷ []) said
+    → (IsTrue legal_so ↔ ((legal.are_accepted d.options said ≡ true) × CanBeTaken d.positionals (positional_words said))) → CanCome d words legal_so
+comes_so d words said legal_so opens front is = (
   (λ yes.
       let there = opens.0 refl in
       let same = one_front d (words ++ dashes ∷ []) there.0 said there.1.with_separator front in
-      (there.0, there.1, ap (legal.are_accepted d.options) same ∙ sym is ∙ yes)),
+      let both = is.0 yes in
+      (there.0, there.1, ap (legal.are_accepted d.options) same ∙ both.0, subst (λ l. CanBeTaken d.positionals (positional_words l)) (sym same) both.1)),
   (λ there.
       let same = one_front d (words ++ dashes ∷ []) there.0 said there.1.with_separator front in
-      is ∙ sym (ap (legal.are_accepted d.options) same) ∙ there.2),
+      is.1 (sym (ap (legal.are_accepted d.options) same) ∙ there.2, subst (λ l. CanBeTaken d.positionals (positional_words l)) same there.3)),
 )
-comes_so d words said false accepted opens front is = (
-  (λ yes. absurd (false≢true yes)),
-  (λ there. opens.1 (there.0, there.1)),
-)
+
+-- by the options and the positionals that a call returns
+pub accepted_so : (options others : List Declared) (said : List Indexed) (b : Bool) → options ≡ others → b ≡ list_all (λ own. is_none (refused_value options (indexed_view own))) said → legal.are_accepted others (map indexed_view said) ≡ b
+accepted_so options others said b same is =
+    list_all-map (λ s. is_none (refused_value others s)) indexed_view said ∙ sym (ap (λ (os : List Declared). list_all (λ own. is_none (refused_value os (indexed_view own))) said) same) ∙ sym is
+
+pub taken_so : (ps others : List Positional) (said : List Indexed) (b : Bool) → ps ≡ others → (IsTrue b ↔ CanBeTaken ps (indexed_words said)) → IsTrue b ↔ CanBeTaken others (positional_words (map indexed_view said))
+taken_so ps others said b same is =
+    subst (λ ws. IsTrue b ↔ CanBeTaken others ws) (sym (index_words_are said)) (subst (λ qs. IsTrue b ↔ CanBeTaken qs (indexed_words said)) same is)
+
+pub legal_so : (d : Declaration) (xs ys : List Indexed) (b : Bool) → xs ≡ ys → (IsTrue b ↔ ((legal.are_accepted d.options (map indexed_view xs) ≡ true) × CanBeTaken d.positionals (positional_words (map indexed_view xs))))
+    → IsTrue b ↔ ((legal.are_accepted d.options (map indexed_view ys) ≡ true) × CanBeTaken d.positionals (positional_words (map indexed_view ys)))
+legal_so d xs ys b same is = subst (λ l. IsTrue b ↔ ((legal.are_accepted d.options (map indexed_view l) ≡ true) × CanBeTaken d.positionals (positional_words (map indexed_view l)))) same is
+
+pub comes_closed : (d : Declaration) (words : List (List ℕ)) → Opens d words false → CanCome d words false
+comes_closed d words opens = ((λ yes. absurd (false≢true yes)), (λ there. opens.1 (there.0, there.1)))
 
 pub comes_never : (d : Declaration) (words : List (List ℕ)) → IsPart d (words ++ dashes ∷ []) None → CanCome d words false
 comes_never d words dashed = ((λ yes. absurd (false≢true yes)), (λ there. absurd (dashed there.0 there.1.with_separator)))
@@ -242,7 +269,7 @@ comes_never d words dashed = ((λ yes. absurd (false≢true yes)), (λ there. ab
 pub none_stands : (d : Declaration) (words : List (List ℕ)) (typed : List ℕ) → CanCome d words false → AreOffered d words typed []
 none_stands d words typed closed = record {
   sound = λ s has. absurd (none_there s has);
-  complete = λ s completes. absurd (false≢true (closed.1 (completes.stands.before, stands_open d words s completes.stands, stands_accepted d words s completes.stands)));
+  complete = λ s completes. absurd (false≢true (closed.1 (completes.stands.before, stands_open d words s completes.stands, stands_accepted d words s completes.stands, stands_taken d words s completes.stands)));
   in_order = inr refl;
 }
 
@@ -253,13 +280,13 @@ known f None y is = absurd (let e : None ≡ Some y = is in cc)
 known f (Some x) y is = (x, refl, cc)
 
 declared_by : (options : List Declared) (items : List Item) (l before : List legal.Said) (s : legal.Said) → map (said_item options) items ≡ map (λ x. Some x) l → l ≡ before ++ s ∷ []
-    → IsDeclared (length options) (spec.role_of s)
-declared_by options [] l [] s said is = absurd (let e : [] ≡ Some s ∷ [] = said ∙ ap (map (λ x. Some x)) is in cc)
-declared_by options [] l (b ∷ before) s said is = absurd (let e : [] ≡ Some b ∷ map (λ x. Some x) (before ++ s ∷ []) = said ∙ ap (map (λ x. Some x)) is in cc)
-declared_by options (item ∷ items) l (b ∷ before) s said is =
+    → (earlier : List legal.Said) → IsDeclared (length options) (spec.role_of earlier s)
+declared_by options [] l [] s said is earlier = absurd (let e : [] ≡ Some s ∷ [] = said ∙ ap (map (λ x. Some x)) is in cc)
+declared_by options [] l (b ∷ before) s said is earlier = absurd (let e : [] ≡ Some b ∷ map (λ x. Some x) (before ++ s ∷ []) = said ∙ ap (map (λ x. Some x)) is in cc)
+declared_by options (item ∷ items) l (b ∷ before) s said is earlier =
     let parts = first_same (said_item options item) (Some b) (map (said_item options) items) (map (λ x. Some x) (before ++ s ∷ [])) (said ∙ ap (map (λ x. Some x)) is) in
-    declared_by options items (before ++ s ∷ []) before s parts.1 refl
-declared_by options (item ∷ items) l [] s said is =
+    declared_by options items (before ++ s ∷ []) before s parts.1 refl earlier
+declared_by options (item ∷ items) l [] s said is earlier =
     let parts = first_same (said_item options item) (Some s) (map (said_item options) items) [] (said ∙ ap (map (λ x. Some x)) is) in
     one item parts.0
   where
@@ -270,20 +297,20 @@ declared_by options (item ∷ items) l [] s said is =
         inside [] found = absurd (let e : None ≡ Some i = found in cc)
         inside (o ∷ os) found = (position-Some (has_name name) (o ∷ os) i o found).0
 
-    one : (item : Item) → said_item options item ≡ Some s → IsDeclared (length options) (spec.role_of s)
+    one : (item : Item) → said_item options item ≡ Some s → IsDeclared (length options) (spec.role_of earlier s)
     one (table.option name value) so =
         let index = known (λ i. legal.option i value) (index_of options name) s so in
-        subst (λ x. IsDeclared (length options) (spec.role_of x)) index.2 (within name index.0 index.1)
+        subst (λ x. IsDeclared (length options) (spec.role_of earlier x)) index.2 (within name index.0 index.1)
     one (table.many name values) so =
         let index = known (λ i. legal.several i values) (index_of options name) s so in
-        subst (λ x. IsDeclared (length options) (spec.role_of x)) index.2 (within name index.0 index.1)
+        subst (λ x. IsDeclared (length options) (spec.role_of earlier x)) index.2 (within name index.0 index.1)
     one (table.positional word) so =
         let e : legal.positional word ≡ s = cc in
-        subst (λ x. IsDeclared (length options) (spec.role_of x)) e tt
+        subst (λ x. IsDeclared (length options) (spec.role_of earlier x)) e tt
 
 -- the last of what words mean
-last_declared : (d : Declaration) (words : List (List ℕ)) (before : List legal.Said) (s : legal.Said) → SaysFront d words (before ++ s ∷ []) → IsDeclared (length d.options) (spec.role_of s)
-last_declared d words before s says = declared_by d.options says.items (before ++ s ∷ []) before s says.said refl
+last_declared : (d : Declaration) (words : List (List ℕ)) (before : List legal.Said) (s : legal.Said) → SaysFront d words (before ++ s ∷ []) → IsDeclared (length d.options) (spec.role_of before s)
+last_declared d words before s says = declared_by d.options says.items (before ++ s ∷ []) before s says.said refl before
 
 starts_so : (typed : List ℕ) → BeginsWith dash typed ⊎ (¬ BeginsWith dash typed)
 starts_so [] = inr (λ begins. begins)
@@ -297,7 +324,7 @@ role_declared d words typed role is = ⊎_elim
 pub joined_declared : (d : Declaration) (words : List (List ℕ)) (typed : List ℕ) (i : ℕ) → IsJoined d words typed (Some i) → i < length d.options
 joined_declared d words typed i (l, s, with_equals, opens, front, option) = of s option (last_declared d (typed ∷ []) [] s front)
   where
-    of : (s : legal.Said) → IsOption i s → IsDeclared (length d.options) (spec.role_of s) → i < length d.options
+    of : (s : legal.Said) → IsOption i s → IsDeclared (length d.options) (spec.role_of [] s) → i < length d.options
     of (legal.option j value) same within = subst (λ n. n < length d.options) same within
     of (legal.several j values) same within = subst (λ n. n < length d.options) same within
     of (legal.positional word) same within = absurd same
@@ -311,11 +338,11 @@ word_so : {F V M S : Type 0} (options : List (rust.Declared F V M S)) (r : Optio
 word_so options None None is = refl
 word_so options None (Some w) is = absurd is
 word_so options (Some (spec.value i)) None is = absurd is
-word_so options (Some spec.argument) None is = absurd is
+word_so options (Some (spec.argument n)) None is = absurd is
 word_so options (Some (spec.value i)) (Some (role.Value o)) is = ap listed_by (sym (view_at options i o.now is))
 word_so options (Some (spec.value i)) (Some role.Argument) is = absurd is
-word_so options (Some spec.argument) (Some role.Argument) is = refl
-word_so options (Some spec.argument) (Some (role.Value o)) is = absurd is
+word_so options (Some (spec.argument n)) (Some role.Argument) is = refl
+word_so options (Some (spec.argument n)) (Some (role.Value o)) is = absurd is
 
 joined_so : {F V M S : Type 0} (options : List (rust.Declared F V M S)) (i : Option ℕ) (joined : Option (Bor (rust.Declared F V M S))) → IsOptionAt options i joined → joined_values joined ≡ joined_at (map option_view options) i
 joined_so options None None is = refl
@@ -323,9 +350,69 @@ joined_so options None (Some o) is = absurd is
 joined_so options (Some i) None is = absurd is
 joined_so options (Some i) (Some o) is = ap joined_by (sym (view_at options i o.now is))
 
+filter_append : (p : List ℕ → Bool) (xs ys : List (List ℕ)) → filter p (xs ++ ys) ≡ filter p xs ++ filter p ys
+filter_append p [] ys = refl
+filter_append p (x ∷ xs) ys = elim (p x) as (λ b. (if b then x ∷ filter p (xs ++ ys) else filter p (xs ++ ys)) ≡ (if b then x ∷ filter p xs else filter p xs) ++ filter p ys)
+    [ true ↦ ap (λ l. x ∷ l) (filter_append p xs ys) | false ↦ filter_append p xs ys ]
+
+-- the words of the positionals that begin so, of each in turn
+words_are_so : (ps : List Positional) (typed : List ℕ) (owners : List ℕ) → flat_map (words_so ps typed) owners ≡ filter (λ v. starts_with nat_eq v typed) (flat_map (words_at ps) owners)
+words_are_so ps typed [] = refl
+words_are_so ps typed (i ∷ owners) =
+    ap (λ l. words_so ps typed i ++ l) (words_are_so ps typed owners) ∙ sym (filter_append (λ v. starts_with nat_eq v typed) (words_at ps i) (flat_map (words_at ps) owners))
+
 -- the values of the options that are found are those of the options at the indices
-pub values_are : {F V M S : Type 0} (options : List (rust.Declared F V M S)) (typed : List ℕ) (r : Option spec.Role) (i : Option ℕ) (word : Option (Role F V M S)) (joined : Option (Bor (rust.Declared F V M S)))
-    → IsRoleAt options r word → IsOptionAt options i joined → values_so typed word joined ≡ offered_values (map option_view options) typed r i
-values_are options typed r i word joined is at =
-    ap (λ l. filter (λ v. starts_with nat_eq v typed) l ++ filter (λ v. starts_with nat_eq v typed) (joined_values joined)) (word_so options r word is)
-    ∙ ap (λ l. filter (λ v. starts_with nat_eq v typed) (values_at (map option_view options) r) ++ filter (λ v. starts_with nat_eq v typed) l) (joined_so options i joined at)
+pub values_are : {F V P M S : Type 0} (o : Options F V P M S) (typed : List ℕ) (r : Option spec.Role) (owners : List ℕ) (i : Option ℕ) (word : Option (Role F V M S)) (joined : Option (Bor (rust.Declared F V M S)))
+    → IsRoleAt (options_of o) r word → IsOptionAt (options_of o) i joined → values_so (declaration_of o).positionals typed word owners joined ≡ offered_values (declaration_of o) typed r owners i
+values_are o typed r owners i word joined is at =
+    ap (λ l. filter (λ v. starts_with nat_eq v typed) l ++ flat_map (words_so (declaration_of o).positionals typed) owners ++ filter (λ v. starts_with nat_eq v typed) (joined_values joined)) (word_so (options_of o) r word is)
+    ∙ ap (λ l. filter (λ v. starts_with nat_eq v typed) (values_at (declaration_of o).options r) ++ l ++ filter (λ v. starts_with nat_eq v typed) (joined_values joined)) (words_are_so (declaration_of o).positionals typed owners)
+    ∙ ap (λ l. filter (λ v. starts_with nat_eq v typed) (values_at (declaration_of o).options r) ++ filter (λ v. starts_with nat_eq v typed) (flat_map (words_at (declaration_of o).positionals) owners) ++ filter (λ v. starts_with nat_eq v typed) l)
+    (joined_so (options_of o) i joined at)
+
+-- ---- the last of what is read
+
+pub last_split : (l : List Indexed) (last : Indexed) → 1 ≤ length l → last ≡ get_or l (length l - 1) last → l ≡ take (length l - 1) l ++ last ∷ []
+last_split [] last some is = absurd (omega (arith, some))
+last_split (s ∷ []) last some is = ap (λ x. x ∷ []) (sym is)
+last_split (s ∷ t ∷ l) last some is =
+    let i : ℕ = length (t ∷ l) - 1 in
+    let at : length (s ∷ t ∷ l) - 1 ≡ suc i = omega arith in
+    ap (λ m. s ∷ m) (last_split (t ∷ l) last (omega arith) (is ∙ ap (λ (n : ℕ). get_or (s ∷ t ∷ l) n last) at)) ∙ ap (λ n. take n (s ∷ t ∷ l) ++ last ∷ []) (sym at)
+
+indexed_append : (before : List Indexed) (last : Indexed) (word : List ℕ) → last ≡ indexed.Positional word → length (indexed_words (before ++ last ∷ [])) ≡ suc (positional_count (map indexed_view before))
+indexed_append [] last word is = ap (λ x. length (indexed_words (x ∷ []))) is
+indexed_append (indexed.Option i v ∷ before) last word is = let rest = indexed_append before last word is in omega (arith, rest)
+indexed_append (indexed.Several i vs ∷ before) last word is = let rest = indexed_append before last word is in omega (arith, rest)
+indexed_append (indexed.Positional w ∷ before) last word is = let rest = indexed_append before last word is in omega (arith, rest)
+
+-- the last word is a positional, after those before it
+pub argument_last : (said before : List Indexed) (last : Indexed) (word : List ℕ) (count : ℕ) → last ≡ indexed.Positional word → count ≡ length (filter (λ x. taken.is_positional x) said) → said ≡ before ++ last ∷ []
+    → IsCounted (Some (place.Argument count)) × (spec.role_of (map indexed_view before) (indexed_view last) ≡ place_view (place.Argument count))
+argument_last said before last word count is counted are =
+    let many : count ≡ suc (positional_count (map indexed_view before)) = counted ∙ index_counted said ∙ ap (λ l. length (indexed_words l)) are ∙ indexed_append before last word is in
+    let one : positional_count (map indexed_view before) ≡ count - 1 = omega (arith, many) in
+    (omega (arith, many), ap (λ x. spec.role_of (map indexed_view before) (indexed_view x)) is ∙ ap (λ n. spec.argument n) one)
+
+pub counted_last : (said : List Indexed) (r : Option Place) → IsLastPlace said r → IsCounted r
+counted_last said None is = tt
+counted_last said (Some place) is = is.0
+
+nothing_more : {X : Type 0} (l : List X) → l ++ [] ≡ l
+nothing_more [] = refl
+nothing_more (x ∷ l) = ap (λ m. x ∷ m) (nothing_more l)
+
+-- no positional has this index
+pub no_words_past : {P : Type 0} (ps : List (rust_positional.Positional P)) (typed : List ℕ) (i : ℕ) (l : List (List ℕ)) → length ps ≤ i → l ≡ l ++ words_so (map positional_view ps) typed i
+no_words_past ps typed i l past = sym (nothing_more l) ∙ ap (λ m. l ++ m) (sym (none ps i past))
+  where
+    none : {P : Type 0} (ps : List (rust_positional.Positional P)) (i : ℕ) → length ps ≤ i → words_so (map positional_view ps) typed i ≡ []
+    none [] i past = refl
+    none (p ∷ ps) zero past = absurd (omega (arith, past))
+    none (p ∷ ps) (suc i) past = none ps i (omega (arith, past))
+
+-- the same by the positionals and the indices that calls return
+pub values_given : {F V P M S : Type 0} (o : Options F V P M S) (typed : List ℕ) (r : Option spec.Role) (ps : List Positional) (given owners : List ℕ) (i : Option ℕ) (word : Option (Role F V M S)) (joined : Option (Bor (rust.Declared F V M S)))
+    → ps ≡ (declaration_of o).positionals → given ≡ owners → IsRoleAt (options_of o) r word → IsOptionAt (options_of o) i joined → values_so ps typed word given joined ≡ offered_values (declaration_of o) typed r owners i
+values_given o typed r ps given owners i word joined ps_are same is at =
+    ap (λ qs. values_so qs typed word given joined) ps_are ∙ ap (λ l. values_so (declaration_of o).positionals typed word l joined) same ∙ values_are o typed r owners i word joined is at

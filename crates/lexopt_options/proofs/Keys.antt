@@ -135,6 +135,7 @@ none_before options (stops.unexpected_value option value) (s ∷ l) none = none_
 none_before options (stops.unknown_option name left) l none = none
 none_before options (stops.missing_value index option) l none = none
 none_before options (stops.invalid_value index value) l none = none
+none_before options (stops.invalid_argument index word) l none = none
 none_before options (stops.unexpected_argument word) l none = none
 none_before options (stops.missing_argument count) l none = none
 none_before options (stops.missing_option index) l none = none

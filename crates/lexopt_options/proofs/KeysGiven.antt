@@ -27,6 +27,7 @@ before_fewer (stops.unexpected_value option value) l = no_more l
 before_fewer (stops.unknown_option name left) l = omega arith
 before_fewer (stops.missing_value index option) l = omega arith
 before_fewer (stops.invalid_value index value) l = omega arith
+before_fewer (stops.invalid_argument index word) l = omega arith
 before_fewer (stops.unexpected_argument word) l = omega arith
 before_fewer (stops.missing_argument count) l = omega arith
 before_fewer (stops.missing_option index) l = omega arith

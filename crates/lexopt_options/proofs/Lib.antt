@@ -3,9 +3,10 @@ pub mod ReadNext
 pub mod Keys
 pub mod ReadKeys
 pub mod WholeLines
-pub mod Completing
 pub mod Answering
 pub mod Owners
+pub mod TakenWords
+pub mod Completing
 pub mod Seen
 pub mod Accepted
 pub mod Tables

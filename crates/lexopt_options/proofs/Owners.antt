@@ -6,7 +6,8 @@ use Rattle.std.proofs.lemmas.List.{drop_more}
 use Rattle.std.proofs.lemmas.List.Sums.{sum_by-cons}
 use Rattle.std.proofs.lemmas.Option.{slice_get-get_or, slice_get_within}
 use Rattle.lexopt_options_spec.specs.Declaration as spec
-use Rattle.lexopt_options_spec.specs.Legal.{IsWithin, least, most}
+use Rattle.lexopt_options_spec.specs.Legal.{IsWithin, most}
+use Rattle.lexopt_options_spec.specs.Places.{least}
 use Rattle.lexopt_options_spec.specs.Places.{ArePlaces, AreShares, CanTake, needs, owners}
 use Rattle.lexopt_options_spec.proofs.Shares.{extra, greedy, shares_are_greedy, some_places}
 use Rattle.lexopt_declaration.specs.Models.{positional_view}
@@ -69,6 +70,16 @@ found_later ps spare word k left spare_now left_next spare_next p before within 
           subst (λ l. left_next < total l) rest_is (omega (arith, h, total_cons m rest, left_is, past));
     }
 
+-- there is no such word
+pub nothing_left : (ps : List spec.Positional) (spare word left spare_now k : ℕ) → length ps ≤ k → IsLeft ps spare word k left spare_now → slice_get (owners 0 (greedy ps spare)) word ≡ None
+nothing_left ps spare word left spare_now k past before = before.same ∙ ap (λ l. slice_get (owners k (greedy l spare_now)) left) (drop_all ps k past)
+  where
+    drop_all : (ps : List spec.Positional) (k : ℕ) → length ps ≤ k → drop k ps ≡ []
+    drop_all [] zero past = refl
+    drop_all [] (suc k) past = refl
+    drop_all (p ∷ ps) zero past = absurd (omega (arith, past))
+    drop_all (p ∷ ps) (suc k) past = drop_all ps k (omega (arith, past))
+
 -- there is no other
 pub none_left : (ps : List spec.Positional) (spare word left spare_now k : ℕ) → length ps ≤ k → IsLeft ps spare word k left spare_now → word < total (greedy ps spare) → ⊥
 none_left ps spare word left spare_now k past before inside =
@@ -90,7 +101,7 @@ owners_length k (n ∷ ns) = replicated n k (owners (suc k) ns) ∙ ap (λ m. n 
     replicated zero k rest = omega arith
     replicated (suc n) k rest = ap suc (replicated n k rest) ∙ omega arith
 
-take_get : (n : ℕ) (l : List ℕ) (i : ℕ) → i < n → slice_get (take n l) i ≡ slice_get l i
+pub take_get : (n : ℕ) (l : List ℕ) (i : ℕ) → i < n → slice_get (take n l) i ≡ slice_get l i
 take_get zero l i below = absurd (omega (arith, below))
 take_get (suc n) [] i below = refl
 take_get (suc n) (x ∷ l) zero below = refl
@@ -119,16 +130,46 @@ pub word_inside : (ps : List spec.Positional) (count : ℕ) (places : List ℕ) 
 word_inside ps count places word are below =
     subst (λ l. word < total l) (shares_so ps count places are) (omega (arith, below, are.are_shares.all))
 
+-- the same by how many words there are to spare
+pub place_there : (ps : List spec.Positional) (count : ℕ) (places : List ℕ) (spare word i : ℕ) → ArePlaces ps count places → spare ≡ count - least ps → word < count → slice_get (owners 0 (greedy ps spare)) word ≡ Some i
+    → slice_get places word ≡ Some i
+place_there ps count places spare word i are is below here = place_is ps count places word i are below (ap (λ s. slice_get (owners 0 (greedy ps s)) word) (sym is) ∙ here)
+
+pub no_place : (ps : List spec.Positional) (count : ℕ) (places : List ℕ) (spare word : ℕ) → ArePlaces ps count places → spare ≡ count - least ps → word < count → slice_get (owners 0 (greedy ps spare)) word ≡ None → ⊥
+no_place ps count places spare word are is below none =
+    let inside = word_inside ps count places word are below in
+    let within : word < length (owners 0 (greedy ps spare)) =
+    subst (λ n. word < n) (sym (owners_length 0 (greedy ps (count - least ps))) ∙ ap (λ s. length (owners 0 (greedy ps s))) (sym is)) inside in
+    let some = slice_get-get_or (owners 0 (greedy ps spare)) word 0 within in
+    let e : Some (get_or (owners 0 (greedy ps spare)) word 0) ≡ None = sym some ∙ none in cc
+
+pub viewed_length : {P : Type 0} (ps : List (Positional P)) → length (map positional_view ps) ≡ length ps
+viewed_length [] = refl
+viewed_length (p ∷ ps) = ap suc (viewed_length ps)
+
+-- each word belongs to a positional that is there
+pub owner_within : (ps : List spec.Positional) (k spare word i : ℕ) → slice_get (owners k (greedy ps spare)) word ≡ Some i → i < k + length ps
+owner_within [] k spare word i is = absurd (let e : None ≡ Some i = is in cc)
+owner_within (p ∷ ps) k spare word i is = go (λ n. owner_within ps (suc k) (spare - extra p.count spare) n i) (needs p.count + extra p.count spare) word is
+  where
+    rest : List ℕ
+    rest = owners (suc k) (greedy ps (spare - extra p.count spare))
+
+    go : ((n : ℕ) → slice_get rest n ≡ Some i → i < suc k + length ps) → (m n : ℕ) → slice_get (replicate m k ++ rest) n ≡ Some i → i < k + suc (length ps)
+    go later zero n is = let l = later n is in omega (arith, l)
+    go later (suc m) zero is = let e : Some k ≡ Some i = is in let same : k ≡ i = cc in omega (arith, same)
+    go later (suc m) (suc n) is = go later m n is
+
+pub place_past : {P : Type 0} (positionals : List (Positional P)) (spare word i : ℕ) → length positionals ≤ i → slice_get (owners 0 (greedy (map positional_view positionals) spare)) word ≡ Some i → ⊥
+place_past positionals spare word i past is =
+    let within = owner_within (map positional_view positionals) 0 spare word i is in omega (arith, within, past, viewed_length positionals)
+
 -- ---- the positionals of a declaration
 
 pub viewed : {P : Type 0} (ps : List (Positional P)) (k : ℕ) (x : Positional P) → k < length ps → x ≡ get_or ps k x → positional_view x ≡ get_or (map positional_view ps) k (positional_view x)
 viewed [] k x within is = absurd (omega (arith, within))
 viewed (p ∷ ps) zero x within is = ap positional_view is
 viewed (p ∷ ps) (suc k) x within is = viewed ps k x (omega (arith, within)) is
-
-pub viewed_length : {P : Type 0} (ps : List (Positional P)) → length (map positional_view ps) ≡ length ps
-viewed_length [] = refl
-viewed_length (p ∷ ps) = ap suc (viewed_length ps)
 
 pub has_its_key : {P : Type 0} (ps : List (Positional P)) (k : ℕ) (x : Positional P) → k < length ps → x ≡ get_or ps k x → HasKey ps k x.key
 has_its_key ps k x within is = ap (option_map (λ p. p.key)) (slice_get-get_or ps k x within) ∙ ap (λ p. Some p.key) (sym is)

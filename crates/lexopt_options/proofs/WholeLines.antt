@@ -9,7 +9,9 @@ use Rattle.lexopt_line_spec.proofs.ItemsRead.{says_items}
 use Rattle.lexopt_line_spec.proofs.ReadingSteps.{reads_last}
 use Rattle.lexopt_options_spec.specs.Declaration.{Declaration, is_sound, table}
 use Rattle.lexopt_options_spec.specs.Legal as legal
-use Rattle.lexopt_options_spec.specs.Legal.{Says, SaysFront, are_accepted, least, positional_count}
+use Rattle.lexopt_options_spec.specs.Legal.{Says, SaysFront, are_accepted, positional_count, positional_words}
+use Rattle.lexopt_options_spec.specs.Places.{AreTaken, IsNotTaken, least}
+use Rattle.lexopt_options_spec.proofs.Taken.{words_count}
 use Rattle.lexopt_options_spec.specs.Stops as stops
 use Rattle.lexopt_options_spec.specs.Asking.{all_but_last, first_asked, said_before}
 use Rattle.lexopt_options_spec.specs.Stops.{ReadsUpTo, Stops, StopsAt, required_placeholder}
@@ -28,7 +30,7 @@ use Rattle.lexopt_options.specs.Keys.{AreSaid, asked_view}
 use Rattle.lexopt_options.proofs.Keys.{asked_here}
 use Rattle.lexopt_options.specs.Lines.{IsLineOf, IsLineRead, before_mistake}
 use Rattle.lexopt_options.specs.Mistakes.{AreNames, IsMistake}
-use Rattle.lexopt_options.specs.Reading.{AllSeen, AreSeen, IsEarly, IsFirstUnseen, IsMissing}
+use Rattle.lexopt_options.specs.Reading.{AreSeen, IsEarly, IsFirstUnseen, IsRight, IsWrong}
 
 append_nil : (l : List Item) → l ++ [] ≡ l
 append_nil [] = refl
@@ -47,13 +49,17 @@ pub front_of : (d : Declaration) (words : List (List ℕ)) (l : List legal.Said)
     → SaysFront d words l
 front_of d words l u v w sound is read ends = front d words l v w sound (subst (λ (x : UnreadLine). ReadsUpTo d x l v) is read) ends
 
-pub line_said : (d : Declaration) (words : List (List ℕ)) (l : List legal.Said) (v w : UnreadLine) (count : ℕ) (seen : List ℕ) → is_sound d.options ≡ true
-    → ReadsUpTo d (start d.short_equals words) l v → count ≡ positional_count l → AreSeen d.options l seen → Next v steps.end w → least d.positionals ≤ count → AllSeen d.options seen → are_accepted d.options l ≡ true → Says d words l
-line_said d words l v w count seen sound read counted are_seen ends enough all accepted = record {
+counted_so : (d : Declaration) (l : List legal.Said) (words : List (List ℕ)) → positional_words l ≡ words → positional_count l ≡ length words
+counted_so d l words is = sym (words_count l) ∙ ap length is
+
+pub line_said : (d : Declaration) (words : List (List ℕ)) (l : List legal.Said) (v w : UnreadLine) (own : List (List ℕ)) (seen : List ℕ) → is_sound d.options ≡ true
+    → ReadsUpTo d (start d.short_equals words) l v → positional_words l ≡ own → AreSeen d.options l seen → Next v steps.end w → IsRight d own seen → are_accepted d.options l ≡ true → Says d words l
+line_said d words l v w own seen sound read words_are are_seen ends right accepted = record {
   front = front d words l v w sound read ends;
-  enough = subst (λ n. least d.positionals ≤ n) counted enough;
-  complete = λ i is. sym (are_seen i is) ∙ all i is;
+  enough = subst (λ n. least d.positionals ≤ n) (sym (counted_so d l own words_are)) right.enough;
+  complete = λ i is. sym (are_seen i is) ∙ right.all i is;
   accepted = accepted;
+  taken = subst (AreTaken d.positionals) (sym words_are) right.taken;
 }
 
 pub line_stopped : (d : Declaration) (words : List (List ℕ)) (l : List legal.Said) (u v : UnreadLine) (count : ℕ) (why : stops.Mistake) → u ≡ start d.short_equals words → ReadsUpTo d u l v
@@ -74,26 +80,39 @@ part_stopped d words l u v count why is read counted stops = record {
   stops = stops l counted;
 }
 
--- ---- what is missing at the end
+-- ---- what is wrong at the end
 
--- a positional
-pub lacks_argument : (d : Declaration) (count : ℕ) (seen : List ℕ) (placeholder : Bor (List ℕ)) → count < least d.positionals → placeholder.now ≡ required_placeholder d.positionals count
-    → IsMissing d count seen (mistake.MissingArgument placeholder)
-lacks_argument d count seen placeholder few is = record {
-  why = stops.missing_argument count;
-  told = (count, refl, is);
-  stops = λ u v l step counted are_seen.
-      subst (λ n. Stops d l u (stops.missing_argument n)) (sym counted) (stops.too_few v step (subst (λ n. n < least d.positionals) counted few));
+-- a positional is missing
+pub lacks_argument : (d : Declaration) (words : List (List ℕ)) (seen : List ℕ) (placeholder : Bor (List ℕ)) → length words < least d.positionals → placeholder.now ≡ required_placeholder d.positionals (length words)
+    → IsWrong d words seen (mistake.MissingArgument placeholder)
+lacks_argument d words seen placeholder few is = record {
+  why = stops.missing_argument (length words);
+  told = (length words, refl, is);
+  stops = λ u v l step words_are are_seen.
+      let counted = counted_so d l words words_are in
+      subst (λ n. Stops d l u (stops.missing_argument n)) counted (stops.too_few v step (subst (λ n. n < least d.positionals) (sym counted) few));
 }
 
--- an option
-pub lacks_option : (d : Declaration) (count : ℕ) (seen : List ℕ) (names : Names) (index : ℕ) → least d.positionals ≤ count → IsFirstUnseen d.options seen index → AreNames d.options index names
-    → IsMissing d count seen (mistake.MissingOption names)
-lacks_option d count seen names index enough first are_names = record {
+-- a word is not accepted
+pub refuses_word : (d : Declaration) (words : List (List ℕ)) (seen : List ℕ) (m : Mistake) (index : ℕ) (word : List ℕ) → least d.positionals ≤ length words → IsNotTaken d.positionals words index word
+    → IsMistake d m (stops.invalid_argument index word) → IsWrong d words seen m
+refuses_word d words seen m index word enough unfit told = record {
+  why = stops.invalid_argument index word;
+  told = told;
+  stops = λ u v l step words_are are_seen.
+      stops.not_taken index word v step (subst (λ n. least d.positionals ≤ n) (sym (counted_so d l words words_are)) enough)
+      (subst (λ ws. IsNotTaken d.positionals ws index word) (sym words_are) unfit);
+}
+
+-- an option is missing
+pub lacks_option : (d : Declaration) (words : List (List ℕ)) (seen : List ℕ) (names : Names) (index : ℕ) → least d.positionals ≤ length words → AreTaken d.positionals words → IsFirstUnseen d.options seen index
+    → AreNames d.options index names → IsWrong d words seen (mistake.MissingOption names)
+lacks_option d words seen names index enough taken first are_names = record {
   why = stops.missing_option index;
   told = (index, refl, are_names);
-  stops = λ u v l step counted are_seen.
-      stops.not_complete index v step (subst (λ n. least d.positionals ≤ n) counted enough)
+  stops = λ u v l step words_are are_seen.
+      stops.not_complete index v step (subst (λ n. least d.positionals ≤ n) (sym (counted_so d l words words_are)) enough)
+      (subst (AreTaken d.positionals) (sym words_are) taken)
       (record { here = first.here; absent = sym (are_seen index first.here) ∙ first.absent; first = λ i below needed. sym (are_seen i needed) ∙ first.first i below needed });
 }
 
@@ -105,6 +124,7 @@ before_is d (mistake.UnexpectedValue option value) why l told = ap (λ w. said_b
 before_is d (mistake.MissingValue option placeholder) why l told = ap (λ w. said_before w l) (sym told.1)
 before_is d (mistake.InvalidValue option value values) why l told = ap (λ w. said_before w l) (sym told.1)
 before_is d (mistake.UnexpectedArgument word) why l told = ap (λ w. said_before w l) (sym told)
+before_is d (mistake.InvalidArgument placeholder word values) why l told = ap (λ w. said_before w l) (sym told.1)
 before_is d (mistake.MissingArgument placeholder) why l told = ap (λ w. said_before w l) (sym told.1)
 before_is d (mistake.MissingOption names) why l told = ap (λ w. said_before w l) (sym told.1)
 
@@ -114,6 +134,7 @@ before_other (mistake.UnexpectedValue option value) l other = absurd (other opti
 before_other (mistake.MissingValue option placeholder) l other = refl
 before_other (mistake.InvalidValue option value values) l other = refl
 before_other (mistake.UnexpectedArgument word) l other = refl
+before_other (mistake.InvalidArgument placeholder word values) l other = refl
 before_other (mistake.MissingArgument placeholder) l other = refl
 before_other (mistake.MissingOption names) l other = refl
 
@@ -152,4 +173,4 @@ line_of o words (line.Refused refused) read l says = absurd (nothing_said (decla
 -- where the reading stops before the end, the words mean nothing
 pub nothing_part : (d : Declaration) (words : List (List ℕ)) (l : List legal.Said) (why : stops.Mistake) → IsEarly why → ComesTo d words l why → (said : List legal.Said) → SaysFront d words said → ⊥
 nothing_part d words l why early stops said says =
-    no_front d words l why stops (λ count is. subst IsEarly is early) (λ index is. subst IsEarly is early) (λ index value is. subst IsEarly is early) said says
+    no_front d words l why stops (λ count is. subst IsEarly is early) (λ index is. subst IsEarly is early) (λ index value is. subst IsEarly is early) (λ index word is. subst IsEarly is early) said says

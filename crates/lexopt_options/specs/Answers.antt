@@ -1,9 +1,9 @@
 -- What a program is to do about the words that it was called with. The source is
 -- `docs/behaviour.md`.
 use Rattle.std.specs.Prelude.{◌≡◌, ◌⊎◌, ◌<◌, ◌^◌, ℕ, List, [], ◌∷◌, ◌++◌}
-use Rattle.std.specs.Prelude.{◌==◌, if◌then◌else◌, Option, Some, None, codes}
-use Rattle.std.specs.Prelude.{string_bytes}
-use Rattle.std.specs.List.{flat_map}
+use Rattle.std.specs.Prelude.{Bool, true, false, ◌==◌, if◌then◌else◌, Option, Some, None, codes}
+use Rattle.std.specs.Prelude.{option_map, slice_get, string_bytes, unwrap_or}
+use Rattle.std.specs.List.{flat_map, list_any}
 use Rattle.std.specs.Borrow.{Bor}
 use Rattle.std.specs.Str.{IsUtf8}
 use Rattle.std.specs.Str.Parse.{IsNumeral, digits_value, without_leading_plus}
@@ -18,12 +18,13 @@ use Rattle.lexopt_options.specs.declared.complete.Role.{Role}
 use Rattle.lexopt_options.specs.declared.complete.Role.TheVariants as role
 use Rattle.lexopt_options.specs.declared.options.Options.{Options}
 use Rattle.lexopt_declaration.specs.declared.declaration.Declared.{Declared}
+use Rattle.lexopt_declaration.specs.declared.declaration.Positional.{Positional}
 use Rattle.lexopt_declaration.specs.declared.declaration.Words.{Words}
 use Rattle.lexopt_declaration.specs.declared.declaration.Words.TheVariants.{Files, Directories}
 use Rattle.lexopt_declaration.specs.declared.declaration.Words.TheVariants.{Text, Listed}
 use Rattle.lexopt_declaration.specs.declared.shell.Shell.{Shell}
 use Rattle.lexopt_options.specs.Completions.{IsCompletion}
-use Rattle.lexopt_options.specs.Declarations.{declaration_of}
+use Rattle.lexopt_options.specs.Declarations.{declaration_of, positionals_of}
 use Rattle.lexopt_options.specs.Lines.{IsRefused, LineSays}
 use Rattle.lexopt_declaration.specs.Scripts.{shell_name, shell_script}
 
@@ -50,11 +51,33 @@ names_line Directories = codes "directories\n"
 names_line Text = []
 names_line (Listed values) = []
 
+-- what completes them is the names of files
+abbrev pub are_files : Words → Bool
+are_files Files = true
+are_files words = false
+
+-- or those of directories
+abbrev pub are_directories : Words → Bool
+are_directories Directories = true
+are_directories words = false
+
+-- the words of the positional of this index are completed so
+abbrev pub are_at : {P : Type 0} → (Words → Bool) → List (Positional P) → ℕ → Bool
+are_at are positionals i = unwrap_or (option_map (λ p. are p.words) (slice_get positionals i)) false
+
+-- what completes a word that can belong to the positionals of these indices: the names of files, if
+-- one of them is completed by these; else those of directories, if one is; or none
+abbrev pub arguments_line : {P : Type 0} → List (Positional P) → List ℕ → List ℕ
+arguments_line positionals arguments =
+    if list_any (λ i. are_at are_files positionals i) arguments then codes "files\n" else
+    (if list_any (λ i. are_at are_directories positionals i) arguments then codes "directories\n" else [])
+
 -- what completes a word that is not an option
-abbrev pub word_line : {F V M S : Type 0} → Option (Role F V M S) → List ℕ
-word_line None = []
-word_line (Some role.Argument) = codes "files\n"
-word_line (Some (role.Value option)) = names_line option.now.words
+abbrev pub word_line : {F V P M S : Type 0} → List (Positional P) → Option (Role F V M S) → List ℕ
+    → List ℕ
+word_line positionals None arguments = []
+word_line positionals (Some role.Argument) arguments = arguments_line positionals arguments
+word_line positionals (Some (role.Value option)) arguments = names_line option.now.words
 
 -- what completes the value of an option after `=`
 abbrev pub value_line : Words → List ℕ
@@ -75,15 +98,15 @@ listed_line (b ∷ bs) =
     if b == dash then b ∷ bs ++ line_feed ∷ [] else codes "+" ++ b ∷ bs ++ line_feed ∷ []
 
 -- a line for each spelling, one for each value in a list, and these lines
-abbrev pub completion_text : {F V M S : Type 0} → Completion F V M S → List ℕ
-completion_text c = flat_map (λ s. string_bytes s ++ line_feed ∷ []) c.spellings.items
+abbrev pub completion_text : {F V P M S : Type 0} → List (Positional P) → Completion F V M S → List ℕ
+completion_text positionals c = flat_map (λ s. string_bytes s ++ line_feed ∷ []) c.spellings.items
     ++ flat_map (λ s. listed_line (string_bytes s)) c.values.items
-    ++ word_line c.word ++ joined_line c.joined
+    ++ word_line positionals c.word c.arguments.items ++ joined_line c.joined
 
 abbrev pub IsCompletionText : {F V P M S : Type 0} → Options F V P M S → List (List ℕ) → List ℕ → Type 0
 IsCompletionText o words text = (before : List (List ℕ)) × (typed : List ℕ)
     × (completion : Completion _ _ _ _) × AsksToComplete words before typed
-    × IsCompletion o before typed completion × (text ≡ completion_text completion)
+    × IsCompletion o before typed completion × (text ≡ completion_text (positionals_of o) completion)
 
 -- the script of this shell for the program, and the end of its last line
 abbrev pub script_lines : {F V P M S : Type 0} → Options F V P M S → Shell → List ℕ

@@ -2,13 +2,15 @@
 use Rattle.std.specs.Prelude.{◌≡◌, ◌⊎◌, ◌↔◌, ◌∷◌, ◌++◌, ℕ, Bool, true, false, IsTrue, List, []}
 use Rattle.std.specs.Prelude.{Option, Some, None, filter, length, map, nat_eq, string_bytes}
 use Rattle.std.specs.Borrow.{Bor}
-use Rattle.std.specs.List.{Contains, starts_with}
-use Rattle.lexopt_options_spec.specs.Declaration.{Declaration}
+use Rattle.std.specs.List.{Contains, flat_map, starts_with}
+use Rattle.lexopt_options_spec.specs.Declaration.{Declaration, Positional}
 use Rattle.lexopt_options_spec.specs.Completion as spec
-use Rattle.lexopt_options_spec.specs.Completion.{Completes, HasRole, IsJoined, IsOpen}
+use Rattle.lexopt_options_spec.specs.Completion.{AreOwnersIn, Completes, HasRole, IsJoined, IsOpen}
 use Rattle.lexopt_options_spec.specs.Completion.{joined_by, list_of, offered_values, spellings}
+use Rattle.lexopt_options_spec.specs.Completion.{words_at}
 use Rattle.lexopt_options_spec.specs.Legal as legal
-use Rattle.lexopt_options_spec.specs.Legal.{are_accepted}
+use Rattle.lexopt_options_spec.specs.Legal.{are_accepted, positional_words}
+use Rattle.lexopt_options_spec.proofs.Taken.{CanBeTaken}
 use Rattle.lexopt_declaration.specs.Models.{option_view, words_view}
 use Rattle.lexopt_declaration.specs.declared.declaration.Declared.{Declared}
 use Rattle.lexopt_options.specs.declared.complete.Completion.{Completion}
@@ -18,7 +20,9 @@ use Rattle.lexopt_options.specs.declared.options.Options.{Options}
 use Rattle.lexopt_options.specs.declared.indexed.Indexed.{Indexed}
 use Rattle.lexopt_options.specs.declared.indexed.Indexed.TheVariants as indexed
 use Rattle.lexopt_options.specs.Declarations.{declaration_of, options_of}
-use Rattle.lexopt_options.specs.Roles.{IsOptionAt, IsRoleAt}
+use Rattle.lexopt_options.specs.declared.complete.Place.{Place}
+use Rattle.lexopt_options.specs.Reading.{indexed_view}
+use Rattle.lexopt_options.specs.Roles.{IsCounted, IsOptionAt, IsRoleAt, place_view}
 
 -- exactly the spellings that can come where this was typed after these words, in the order of the
 -- declaration
@@ -38,13 +42,15 @@ pub record IsCompletion {F V P M S : Type 0} (o : Options F V P M S) (words : Li
   pub role : Option spec.Role
   pub has_role : HasRole (declaration_of o) words typed role
   pub word : IsRoleAt (options_of o) role completion.word
+  -- to which positionals it can belong, if it would be one
+  pub arguments : AreOwnersIn (declaration_of o).positionals role completion.arguments.items
   -- of which option a value is typed after `=`
   pub index : Option ℕ
   pub is_joined : IsJoined (declaration_of o) words typed index
   pub joined : IsOptionAt (options_of o) index completion.joined
   -- the values in lists that begin so
   pub values : map string_bytes completion.values.items
-      ≡ offered_values (declaration_of o).options typed role index
+      ≡ offered_values (declaration_of o) typed role completion.arguments.items index
 
 -- ---- values in lists
 
@@ -59,10 +65,16 @@ abbrev pub joined_values : {F V M S : Type 0} → Option (Bor (Declared F V M S)
 joined_values None = []
 joined_values (Some option) = joined_by (Some (option_view option.now))
 
--- those of both that begin with what was typed
-abbrev pub values_so : {F V M S : Type 0} → List ℕ → Option (Role F V M S)
-    → Option (Bor (Declared F V M S)) → List (List ℕ)
-values_so typed word joined = filter (λ v. starts_with nat_eq v typed) (word_values word)
+-- the words in the list of the positional of this index that begin with what was typed
+abbrev pub words_so : List Positional → List ℕ → ℕ → List (List ℕ)
+words_so ps typed i = filter (λ v. starts_with nat_eq v typed) (words_at ps i)
+
+-- all of these that begin so, where a word can belong to the positionals of these indices
+abbrev pub values_so : {F V M S : Type 0} → List Positional → List ℕ → Option (Role F V M S)
+    → List ℕ → Option (Bor (Declared F V M S)) → List (List ℕ)
+values_so ps typed word arguments joined =
+    filter (λ v. starts_with nat_eq v typed) (word_values word)
+    ++ flat_map (words_so ps typed) arguments
     ++ filter (λ v. starts_with nat_eq v typed) (joined_values joined)
 
 -- ---- where an option can come
@@ -71,11 +83,11 @@ values_so typed word joined = filter (λ v. starts_with nat_eq v typed) (word_va
 abbrev pub Opens : Declaration → List (List ℕ) → Bool → Type 0
 Opens d words b = IsTrue b ↔ ((l : List legal.Said) × IsOpen d words l)
 
--- this tells whether a declared option can come after these words: one could, and each option
--- accepts the values that it has
+-- this tells whether a declared option can come after these words: one could, each option accepts
+-- the values that it has, and the positionals can accept the words, with some more after them
 abbrev pub CanCome : Declaration → List (List ℕ) → Bool → Type 0
 CanCome d words b = IsTrue b ↔ ((l : List legal.Said) × IsOpen d words l
-    × (are_accepted d.options l ≡ true))
+    × (are_accepted d.options l ≡ true) × CanBeTaken d.positionals (positional_words l))
 
 -- it is not an option of several values
 abbrev pub is_one : Indexed → Bool
@@ -93,3 +105,10 @@ ends_in_one (s ∷ t ∷ l) = ends_in_one (t ∷ l)
 -- not an option of several values
 abbrev pub TakeAnyWord : List Indexed → List Indexed → Type 0
 TakeAnyWord l m = (length l ≡ length m) × (ends_in_one m ≡ true)
+
+-- what the last of what is read is, if something is read
+abbrev pub IsLastPlace : List Indexed → Option Place → Type 0
+IsLastPlace said None = said ≡ []
+IsLastPlace said (Some place) = IsCounted (Some place) × ((before : List Indexed) × (last : Indexed)
+    × (said ≡ before ++ last ∷ [])
+    × (spec.role_of (map indexed_view before) (indexed_view last) ≡ place_view place))

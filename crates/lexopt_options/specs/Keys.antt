@@ -48,6 +48,12 @@ positional_keys [] = []
 positional_keys (said.Positional key word ∷ l) = key ∷ positional_keys l
 positional_keys (s ∷ l) = positional_keys l
 
+-- the words of the positionals, in order
+abbrev pub said_words : {F V P M S : Type 0} → List (Said F V P M S) → List (List ℕ)
+said_words [] = []
+said_words (said.Positional key word ∷ l) = word ∷ said_words l
+said_words (s ∷ l) = said_words l
+
 -- the positional of this index has this key
 abbrev pub HasKey : {P : Type 0} → List (Positional P) → ℕ → P → Type 0
 HasKey positionals i key = option_map (λ p. p.key) (slice_get positionals i) ≡ Some key

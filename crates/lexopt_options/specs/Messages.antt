@@ -11,7 +11,7 @@ use Rattle.lexopt_declaration.specs.declared.declaration.Names.{Names}
 use Rattle.lexopt_options.specs.declared.mistake.Mistake.{Mistake}
 use Rattle.lexopt_options.specs.declared.mistake.Mistake.TheVariants.{UnknownOption}
 use Rattle.lexopt_options.specs.declared.mistake.Mistake.TheVariants.{UnexpectedValue, MissingValue}
-use Rattle.lexopt_options.specs.declared.mistake.Mistake.TheVariants.{InvalidValue}
+use Rattle.lexopt_options.specs.declared.mistake.Mistake.TheVariants.{InvalidArgument, InvalidValue}
 use Rattle.lexopt_options.specs.declared.mistake.Mistake.TheVariants.{UnexpectedArgument}
 use Rattle.lexopt_options.specs.declared.mistake.Mistake.TheVariants.{MissingArgument, MissingOption}
 use Rattle.lexopt_options.specs.declared.mistake.OptionName.{OptionName}
@@ -38,6 +38,9 @@ message (InvalidValue option value values) = codes "invalid value " ++ (quoted v
     ++ (codes "': one of " ++ list_text (map (λ own. own.now) values.now)))))
 message (UnexpectedArgument word) = unexpected_argument_message word
 message (MissingArgument placeholder) = codes "missing argument " ++ placeholder.now
+message (InvalidArgument placeholder word values) = codes "invalid argument " ++ (quoted word
+    ++ (codes " for " ++ (placeholder.now
+    ++ (codes ": one of " ++ list_text (map (λ own. own.now) values.now)))))
 message (MissingOption names) = codes "missing option '" ++ (names_text names ++ codes "'")
 
 -- where help is, if an option for it is declared

@@ -2,7 +2,7 @@
 use Rattle.std.specs.Prelude.{◌≡◌, ℕ, List, Some, map, option_map, slice_get, string_bytes}
 use Rattle.std.specs.Borrow.{Bor}
 use Rattle.lexopt_spec.specs.UnreadLine.{Tail}
-use Rattle.lexopt_options_spec.specs.Declaration.{Declaration, Declared, listed}
+use Rattle.lexopt_options_spec.specs.Declaration.{Declaration, Declared, Positional, listed}
 use Rattle.lexopt_options_spec.specs.Nearest.{IsHint}
 use Rattle.lexopt_options_spec.specs.Stops as stops
 use Rattle.lexopt_options_spec.specs.Stops.{placeholder_at, required_placeholder}
@@ -12,7 +12,7 @@ use Rattle.lexopt_options.specs.Names.{name_view}
 use Rattle.lexopt_options.specs.declared.mistake.Mistake.{Mistake}
 use Rattle.lexopt_options.specs.declared.mistake.Mistake.TheVariants.{UnknownOption}
 use Rattle.lexopt_options.specs.declared.mistake.Mistake.TheVariants.{UnexpectedValue, MissingValue}
-use Rattle.lexopt_options.specs.declared.mistake.Mistake.TheVariants.{InvalidValue}
+use Rattle.lexopt_options.specs.declared.mistake.Mistake.TheVariants.{InvalidArgument, InvalidValue}
 use Rattle.lexopt_options.specs.declared.mistake.Mistake.TheVariants.{UnexpectedArgument}
 use Rattle.lexopt_options.specs.declared.mistake.Mistake.TheVariants.{MissingArgument, MissingOption}
 
@@ -25,6 +25,12 @@ AreNames options index names = (o : Declared) × (slice_get options index ≡ So
 abbrev pub AreValues : List Declared → ℕ → List (Bor (List ℕ)) → Type 0
 AreValues options index values = (o : Declared) × (slice_get options index ≡ Some o)
     × (o.words ≡ listed (map (λ value. value.now) values))
+
+-- this is the placeholder of the positional of this index, and these are the words that it accepts
+abbrev pub AreWords : List Positional → ℕ → List ℕ → List (Bor (List ℕ)) → Type 0
+AreWords positionals index placeholder values = (p : Positional)
+    × (slice_get positionals index ≡ Some p) × (p.placeholder ≡ placeholder)
+    × (p.words ≡ listed (map (λ value. value.now) values))
 
 -- the mistake is this one of the definitions
 abbrev pub IsMistake : Declaration → Mistake → stops.Mistake → Type 0
@@ -40,6 +46,9 @@ IsMistake d (InvalidValue option value values) m = (index : ℕ)
     × (m ≡ stops.invalid_value index value) × AreNames d.options index option
     × AreValues d.options index values.now
 IsMistake d (UnexpectedArgument word) m = m ≡ stops.unexpected_argument word
+IsMistake d (InvalidArgument placeholder word values) m = (index : ℕ)
+    × (m ≡ stops.invalid_argument index word)
+    × AreWords d.positionals index placeholder.now values.now
 IsMistake d (MissingArgument placeholder) m = (count : ℕ) × (m ≡ stops.missing_argument count)
     × (placeholder.now ≡ required_placeholder d.positionals count)
 IsMistake d (MissingOption names) m = (index : ℕ) × (m ≡ stops.missing_option index)

@@ -1,5 +1,5 @@
 -- What is read from a line, as contracts see it, and what one step of its reading reads.
-use Rattle.std.specs.Prelude.{None, ◌≡◌, ◌<◌, ◌+◌, ◌++◌, ◌∷◌, ℕ, Bool, true, false, List, [], Some}
+use Rattle.std.specs.Prelude.{None, ◌≡◌, ◌≤◌, ◌<◌, length, ◌+◌, ◌++◌, ◌∷◌, ℕ, Bool, true, false, List, [], Some}
 use Rattle.std.specs.Prelude.{Result, Ok, Err, slice_get}
 use Rattle.lexopt_spec.specs.UnreadLine.{UnreadLine, IsLine}
 use Rattle.lexopt_spec.specs.Steps as steps
@@ -12,7 +12,8 @@ use Rattle.lexopt_options_spec.specs.Declaration.{Declaration, has, index_of}
 use Rattle.lexopt_options_spec.specs.Completion.{IsOption}
 use Rattle.lexopt_options_spec.specs.Legal as spec
 use Rattle.lexopt_options_spec.specs.Legal.{IsWithin, counts, is_required, most, occurs}
-use Rattle.lexopt_options_spec.specs.Legal.{positional_count, refused_value, said_item}
+use Rattle.lexopt_options_spec.specs.Legal.{positional_count, positional_words, refused_value, said_item}
+use Rattle.lexopt_options_spec.specs.Places.{AreTaken, least}
 use Rattle.lexopt_options_spec.specs.Stops as stops
 use Rattle.lexopt_options_spec.specs.Stops.{Stops}
 use Rattle.lexopt_items.specs.declared.values.Values.{Values}
@@ -51,6 +52,7 @@ pub record ReadsSaid (d : Declaration) (count : ℕ) (u : UnreadLine) (s : spec.
 -- it is a mistake before the end of the line, and not that a value is not accepted
 abbrev pub IsEarly : stops.Mistake → Type 0
 IsEarly (stops.invalid_value index value) = ⊥
+IsEarly (stops.invalid_argument index word) = ⊥
 IsEarly (stops.missing_argument count) = ⊥
 IsEarly (stops.missing_option index) = ⊥
 IsEarly mistake = Unit {0}
@@ -100,14 +102,20 @@ abbrev pub noted : Bool → ℕ → List ℕ → List ℕ
 noted true index seen = seen ++ index ∷ []
 noted false index seen = seen
 
--- at the end of a line with `count` positionals, of whose required options these were seen,
--- something is missing, and this is what
-pub record IsMissing (d : Declaration) (count : ℕ) (seen : List ℕ) (mistake : Mistake)
+-- at the end of a line with these words of positionals, of whose required options these were seen,
+-- this is wrong: something is missing, or a word is not accepted
+pub record IsWrong (d : Declaration) (words : List (List ℕ)) (seen : List ℕ) (mistake : Mistake)
     : Type 0 where
   pub why : stops.Mistake
   pub told : IsMistake d mistake why
   pub stops : (u v : UnreadLine) (l : List spec.Said) → Next u steps.end v
-      → count ≡ positional_count l → AreSeen d.options l seen → Stops d l u why
+      → positional_words l ≡ words → AreSeen d.options l seen → Stops d l u why
+
+-- nothing is
+pub record IsRight (d : Declaration) (words : List (List ℕ)) (seen : List ℕ) : Type 0 where
+  pub enough : least d.positionals ≤ length words
+  pub taken : AreTaken d.positionals words
+  pub all : AllSeen d.options seen
 
 -- ---- what one option is
 

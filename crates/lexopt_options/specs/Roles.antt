@@ -1,5 +1,5 @@
 -- What a word that is not an option would be, as contracts see it.
-use Rattle.std.specs.Prelude.{◌≡◌, ◌<◌, ℕ, List, Option, Some, None, slice_get}
+use Rattle.std.specs.Prelude.{◌≡◌, ◌<◌, ◌≤◌, ◌-◌, ℕ, List, Option, Some, None, slice_get}
 use Rattle.std.specs.Borrow.{Bor}
 use Rattle.lexopt_options_spec.specs.Completion as spec
 use Rattle.lexopt_declaration.specs.declared.declaration.Declared.{Declared}
@@ -12,7 +12,7 @@ use Rattle.lexopt_options.specs.declared.complete.Role.TheVariants as role
 abbrev pub IsRole : {F V M S : Type 0} → List (Declared F V M S) → spec.Role → Role F V M S
     → Type 0
 IsRole options (spec.value i) (role.Value option) = slice_get options i ≡ Some option.now
-IsRole options spec.argument role.Argument = Unit {0}
+IsRole options (spec.argument n) role.Argument = Unit {0}
 IsRole options r other = ⊥
 
 abbrev pub IsRoleAt : {F V M S : Type 0} → List (Declared F V M S) → Option spec.Role
@@ -32,9 +32,14 @@ IsOptionAt options i option = ⊥
 
 abbrev pub place_view : Place → spec.Role
 place_view (place.Value index) = spec.value index
-place_view place.Argument = spec.argument
+place_view (place.Argument count) = spec.argument (count - 1)
 
 -- there is an option of the index, if it has one, where this is the number of options
 abbrev pub IsDeclared : ℕ → spec.Role → Type 0
 IsDeclared count (spec.value i) = i < count
-IsDeclared count spec.argument = Unit {0}
+IsDeclared count (spec.argument n) = Unit {0}
+
+-- there is a positional, if it is to be one of them
+abbrev pub IsCounted : Option Place → Type 0
+IsCounted (Some (place.Argument count)) = 1 ≤ count
+IsCounted other = Unit {0}

@@ -1,9 +1,10 @@
 //! What a program does about the words that it was called with: its work, or it writes a text, or
 //! it refuses them.
 ghost use Rattle.std.specs.Prelude.{◌≡◌, ◌↔◌, ◌++◌, IfOk, IsTrue, OnOk, string_bytes};
-ghost use Rattle.std.specs.List.{flat_map};
+ghost use Rattle.std.specs.List.{flat_map, list_any};
 ghost use Rattle.std.specs.Option.{MatchOption};
 ghost use Rattle.lexopt_options.specs.Answers.{AsksForScript, IsWidth, completion_text};
+ghost use Rattle.lexopt_options.specs.Answers.{are_at, are_directories, are_files, arguments_line};
 ghost use Rattle.lexopt_options.specs.Answers.{joined_line, listed_line, names_line};
 ghost use Rattle.lexopt_options.specs.Answers.{value_line, word_line};
 
@@ -11,7 +12,7 @@ use crate::complete::{Completion, Role};
 use crate::options::Options;
 use crate::refused::{Line, Refused};
 use crate::said::{Asked, Said};
-use lexopt_declaration::declaration::{Declared, Words};
+use lexopt_declaration::declaration::{Declared, Positional, Words};
 use lexopt_declaration::help::WIDTH;
 use lexopt_declaration::shell::{Script, Shell};
 use lexopt_words::os_string::{OsString, arguments};
@@ -42,13 +43,69 @@ fn names_line(words: Words<'_>) -> &'static str
     }
 }
 
+// Whether the words of the positional argument of this index are completed by the names of files.
+fn is_of_files<P>(positionals: &[Positional<'_, P>], index: usize) -> bool
+    ensures { result ≡ are_at are_files positionals.now index }
+{
+    match positionals.get(index) {
+        Some(positional) => matches!(positional.words, Words::Files),
+        None => false,
+    }
+}
+
+// And whether by the names of directories.
+fn is_of_directories<P>(positionals: &[Positional<'_, P>], index: usize) -> bool
+    ensures { result ≡ are_at are_directories positionals.now index }
+{
+    match positionals.get(index) {
+        Some(positional) => matches!(positional.words, Words::Directories),
+        None => false,
+    }
+}
+
+// Whether the words of one of the positional arguments of these indices are completed by the names
+// of files.
+fn any_of_files<P>(positionals: &[Positional<'_, P>], arguments: &[usize]) -> bool
+    ensures { result ≡ list_any (λ i. are_at are_files positionals.now i) arguments.now }
+{
+    arguments
+        .iter()
+        .any(|index| is_of_files(positionals, *index))
+}
+
+// And whether by the names of directories.
+fn any_of_directories<P>(positionals: &[Positional<'_, P>], arguments: &[usize]) -> bool
+    ensures { result ≡ list_any (λ i. are_at are_directories positionals.now i) arguments.now }
+{
+    arguments
+        .iter()
+        .any(|index| is_of_directories(positionals, *index))
+}
+
+// The line by what completes a word that can belong to the positional arguments of these indices.
+fn arguments_line<P>(positionals: &[Positional<'_, P>], arguments: &[usize]) -> &'static str
+    ensures { result.now ≡ arguments_line positionals.now arguments.now }
+{
+    if any_of_files(positionals, arguments) {
+        "files\n"
+    } else if any_of_directories(positionals, arguments) {
+        "directories\n"
+    } else {
+        ""
+    }
+}
+
 // The line by what completes a word that is not an option.
-fn word_line<F, V, M, S>(word: &Option<Role<'_, F, V, M, S>>) -> &'static str
-    ensures { result.now ≡ word_line word.now }
+fn word_line<F, V, P, M, S>(
+    positionals: &[Positional<'_, P>],
+    word: &Option<Role<'_, F, V, M, S>>,
+    arguments: &[usize],
+) -> &'static str
+    ensures { result.now ≡ word_line positionals.now word.now arguments.now }
 {
     match word {
         Some(Role::Value(option)) => names_line(option.words),
-        Some(Role::Argument) => "files\n",
+        Some(Role::Argument) => arguments_line(positionals, arguments),
         None => "",
     }
 }
@@ -100,11 +157,13 @@ fn push_values(text: &mut String, values: &[String]) -> Result<(), AllocError>
 // What is offered, as the scripts for shells read it: a line for each spelling; one for each value
 // in a list; a line by what completes a word that is not an option; and one by what completes the
 // value typed after `=`.
-fn text_of<F, V, M, S>(
+fn text_of<F, V, P, M, S>(
     alloc: Global,
+    positionals: &[Positional<'_, P>],
     completion: &Completion<'_, F, V, M, S>,
 ) -> Result<String, AllocError>
-    ensures { IfOk result (λ text. string_bytes text ≡ completion_text completion.now) }
+    ensures { IfOk result (λ text.
+        string_bytes text ≡ completion_text positionals.now completion.now) }
 {
     let mut text = String::new(alloc);
     for spelling in &completion.spellings {
@@ -112,7 +171,7 @@ fn text_of<F, V, M, S>(
         text.push('\n')?;
     }
     push_values(&mut text, &completion.values)?;
-    text.push_str(word_line(&completion.word))?;
+    text.push_str(word_line(positionals, &completion.word, &completion.arguments))?;
     text.push_str(joined_line(&completion.joined))?;
     Ok(text)
 }
@@ -186,7 +245,7 @@ impl<F, V, P, M, S> Options<'_, F, V, P, M, S> {
             return Ok(None);
         }
         let completion = self.complete(alloc, before, typed)?;
-        Ok(Some(text_of(alloc, &completion)?))
+        Ok(Some(text_of(alloc, self.positionals(), &completion)?))
     }
 
     // The script of this shell, and the end of its last line.
@@ -261,10 +320,10 @@ impl<'a, F: Copy, V: Copy, P: Copy, M: Copy, S: Copy> Options<'a, F, V, P, M, S>
     ///   `__complete`, then the words before the one that is typed, and then what was typed of it.
     ///   The result is a line for each spelling that can come there, and one for each value in a
     ///   list that can, after `+` unless it begins with a dash. If a word that is not an option can
-    ///   come there, a line `files` follows, or, if that is the value of an option, one by its
-    ///   [`Words`]: `files`, `directories` or none. If what was typed is `--name=`, with or without
-    ///   a value after it, a line `value files`, `value directories` or none follows, by the
-    ///   [`Words`] of that option.
+    ///   come there, a line follows by its [`Words`], those of the option that it is a value of or
+    ///   of the positional arguments that it can belong to: `files`, `directories` or none. If what
+    ///   was typed is `--name=`, with or without a value after it, a line `value files`, `value
+    ///   directories` or none follows, by the [`Words`] of that option.
     /// - All other words are read as by [`Options::read`].
     ///
     /// The only error is that memory ran out.

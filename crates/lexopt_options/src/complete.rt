@@ -1,23 +1,29 @@
 //! What can come where a word is typed, for shells.
-ghost use Rattle.std.specs.Prelude.{◌≡◌, ◌↔◌, ◌∷◌, ◌++◌, ℕ, IfOk, IsTrue, List, MatchOption, []};
-ghost use Rattle.std.specs.Prelude.{◌<◌, Some, length, map, option_map, slice_get, string_bytes};
+ghost use Rattle.std.specs.Prelude.{◌≡◌, ◌↔◌, ◌∷◌, ◌++◌, ℕ, IfOk, IsTrue, List, MatchOption, OnOk, []};
+ghost use Rattle.std.specs.Prelude.{◌<◌, Some, filter, length, nat_eq, map, option_map, slice_get, string_bytes, true};
 ghost use Rattle.lexopt_spec.specs.UnreadLine.{BeginsWith, dash};
+ghost use Rattle.std.specs.List.{flat_map, starts_with};
 ghost use Rattle.lexopt_options_spec.specs.Declaration.{Declaration};
+ghost use Rattle.lexopt_options_spec.specs.Legal.{are_accepted, positional_words};
+ghost use Rattle.lexopt_options_spec.proofs.Taken.{CanBeTaken};
 ghost use Rattle.lexopt_options_spec.specs.Completion as spec;
 ghost use Rattle.lexopt_options_spec.specs.Completion.{HasRole, IsDashedRole, IsOption};
 ghost use Rattle.lexopt_options_spec.specs.Completion.{IsPlainRole};
 ghost use Rattle.lexopt_options.specs.Completions.{CanCome, Opens, TakeAnyWord, ends_in_one};
-ghost use Rattle.lexopt_options.specs.Completions.{is_one, values_so};
+ghost use Rattle.lexopt_options.specs.Completions.{IsLastPlace, is_one, joined_values, values_so};
+ghost use Rattle.lexopt_options.specs.Completions.{word_values, words_so};
+ghost use Rattle.lexopt_declaration.specs.Models.{positional_view};
 ghost use Rattle.lexopt_options.specs.Declarations.{declaration_of};
 ghost use Rattle.lexopt_options.specs.Fronts.{IsPart};
 ghost use Rattle.lexopt_options.specs.Reading.{indexed_view};
 ghost use Rattle.lexopt_options.specs.declared.indexed.Indexed.{Indexed};
-ghost use Rattle.lexopt_options.specs.Roles.{IsDeclared, IsRole, place_view};
+ghost use Rattle.lexopt_options.specs.Roles.{IsCounted, IsDeclared, IsRole, place_view};
 
 use crate::indexed::Indexed;
 use crate::listed::are_accepted;
 use crate::options::Options;
-use lexopt_declaration::declaration::Declared;
+use crate::taken::{can_be_taken, owners_of, word_count};
+use lexopt_declaration::declaration::{Declared, Positional};
 use lexopt_declaration::spellings::{add_joined, add_values, spellings_of};
 use lexopt_words::os_string::OsString;
 use lexopt_words::words::copies;
@@ -39,13 +45,17 @@ pub struct Completion<'a, F, V = Infallible, M = Infallible, S = Infallible> {
     /// The spellings of declared options that can come there and begin with what was typed. If
     /// that is not UTF-8, there are none.
     pub spellings: Vec<String>,
-    /// The values in the list of the option that a word would be a value of, and then, for the
-    /// option whose value is typed after `=`, the words that are it by its long name, `=` and a
-    /// value in its list: those that begin with what was typed, in the order of the list.
+    /// The values in the list of the option that a word would be a value of; then the words in the
+    /// lists of the positional arguments that it can belong to; and then, for the option whose
+    /// value is typed after `=`, the words that are it by its long name, `=` and a value in its
+    /// list: those that begin with what was typed, in the order of the lists.
     pub values: Vec<String>,
     /// What a word that is not an option would be there, if anything: as the empty word would be,
     /// or as the word `--` if a dash was typed first.
     pub word: Option<Role<'a, F, V, M, S>>,
+    /// If such a word would be a positional argument: the indices of those of the declaration that
+    /// it can belong to, with some more words after it or with none.
+    pub arguments: Vec<usize>,
     /// The option whose value is typed there after `=`, if what was typed is a long option with `=`
     /// and an option can come there.
     pub joined: Option<&'a Declared<'a, F, V, M, S>>,
@@ -56,8 +66,8 @@ pub struct Completion<'a, F, V = Infallible, M = Infallible, S = Infallible> {
 enum Place {
     // A value of the option of this index.
     Value(usize),
-    // A positional argument.
-    Argument,
+    // A positional argument: this one of the positional arguments of the line, counted from 1.
+    Argument(usize),
 }
 
 // ---- where an option can come
@@ -107,8 +117,19 @@ fn is_open(dashed: &Option<Vec<Indexed>>, plain: &Option<Vec<Indexed>>) -> bool
     }
 }
 
+// Whether each option accepts the values that it has, and the positional arguments the words, with
+// some more after them.
+fn can_be_legal<F, V, P, M, S>(options: &Options<'_, F, V, P, M, S>, said: &[Indexed]) -> bool
+    ensures { let d = declaration_of options.now in IsTrue result ↔
+        ((are_accepted d.options (map indexed_view said.now) ≡ true)
+        × CanBeTaken d.positionals (positional_words (map indexed_view said.now))) }
+{
+    are_accepted(options.options(), said) && can_be_taken(options.positionals(), said)
+}
+
 // Whether a declared option can come after words from which this is read with `--` after them: one
-// could, and each option accepts the values that it has.
+// could, each option accepts the values that it has, and so do the positional arguments the words,
+// with some more after them.
 fn can_come<F, V, P, M, S>(
     options: &Options<'_, F, V, P, M, S>,
     opens: bool,
@@ -121,36 +142,37 @@ fn can_come<F, V, P, M, S>(
     let Some(dashed) = dashed else {
         return false;
     };
-    opens && are_accepted(options.options(), dashed)
+    opens && can_be_legal(options, dashed)
 }
 
 // ---- a word that is not an option
 
-// What the last word is, by the last of what is read.
-fn place_of(said: &Indexed) -> Place
-    ensures { place_view result ≡ spec.role_of (indexed_view said.now) }
+// What the last word is, where all of this is read, and this is the last of it.
+fn place_of(said: &[Indexed], last: &Indexed) -> Place
+    ensures { (before : List Indexed) → said.now ≡ before ++ last.now ∷ []
+        → IsCounted (Some result)
+        × (spec.role_of (map indexed_view before) (indexed_view last.now) ≡ place_view result) }
 {
-    match said {
+    match last {
         Indexed::Option(index, _) | Indexed::Several(index, _) => Place::Value(*index),
-        Indexed::Positional(_) => Place::Argument,
+        Indexed::Positional(_) => Place::Argument(word_count(said)),
     }
 }
 
 // The same, if something is read.
-fn last_place(mut said: Vec<Indexed>) -> Option<Place>
-    ensures { MatchOption result (said.items ≡ []) (λ place. (before : List Indexed) × (last : Indexed)
-        × (said.items ≡ before ++ last ∷ [])
-        × (spec.role_of (indexed_view last) ≡ place_view place)) }
+fn last_place(said: &[Indexed]) -> Option<Place>
+    ensures { IsLastPlace said.now result }
 {
-    match said.pop() {
-        Some(last) => Some(place_of(&last)),
-        None => None,
+    match said {
+        [.., last] => Some(place_of(said, last)),
+        [] => None,
     }
 }
 
 // What an empty word would be after words from which this is read with it.
-fn plain_place(plain: Option<Vec<Indexed>>) -> Option<Place>
-    ensures { (d : Declaration) (words : List (List ℕ)) → IsPart d (words ++ [] ∷ []) plain
+fn plain_place(plain: &Option<Vec<Indexed>>) -> Option<Place>
+    ensures counted { IsCounted result }
+    ensures role { (d : Declaration) (words : List (List ℕ)) → IsPart d (words ++ [] ∷ []) plain.now
         → IsPlainRole d words (option_map place_view result) }
 {
     match plain {
@@ -160,9 +182,10 @@ fn plain_place(plain: Option<Vec<Indexed>>) -> Option<Place>
 }
 
 // What `--` would be after words from which this is read with it, if it is not the separator.
-fn dashed_place(opens: bool, dashed: Option<Vec<Indexed>>) -> Option<Place>
-    ensures { (d : Declaration) (words : List (List ℕ)) → Opens d words opens
-        → IsPart d (words ++ (dash ∷ dash ∷ []) ∷ []) dashed
+fn dashed_place(opens: bool, dashed: &Option<Vec<Indexed>>) -> Option<Place>
+    ensures counted { IsCounted result }
+    ensures role { (d : Declaration) (words : List (List ℕ)) → Opens d words opens
+        → IsPart d (words ++ (dash ∷ dash ∷ []) ∷ []) dashed.now
         → IsDashedRole d words (option_map place_view result) }
 {
     if opens {
@@ -186,11 +209,13 @@ fn begins_with_dash(typed: &OsString) -> bool
 fn place_after(
     typed: &OsString,
     opens: bool,
-    dashed: Option<Vec<Indexed>>,
-    plain: Option<Vec<Indexed>>,
+    dashed: &Option<Vec<Indexed>>,
+    plain: &Option<Vec<Indexed>>,
 ) -> Option<Place>
-    ensures { (d : Declaration) (words : List (List ℕ)) → Opens d words opens
-        → IsPart d (words ++ (dash ∷ dash ∷ []) ∷ []) dashed → IsPart d (words ++ [] ∷ []) plain
+    ensures counted { IsCounted result }
+    ensures role { (d : Declaration) (words : List (List ℕ)) → Opens d words opens
+        → IsPart d (words ++ (dash ∷ dash ∷ []) ∷ []) dashed.now
+        → IsPart d (words ++ [] ∷ []) plain.now
         → HasRole d words typed.now (option_map place_view result) }
 {
     if begins_with_dash(typed) {
@@ -256,38 +281,107 @@ fn role_of<'a, F, V, M, S>(
 {
     match place {
         Place::Value(index) => Role::Value(option_at(options, index)),
-        Place::Argument => Role::Argument,
+        Place::Argument(_) => Role::Argument,
     }
 }
 
-// The values in lists that begin with what was typed, where a word would be this and a value of
-// this option is typed after `=`.
-fn values_for<F, V, M, S>(
+// Adds the words in the list of the positional argument of this index that begin with what was
+// typed.
+fn add_words_at<P>(
+    alloc: Global,
+    values: &mut Vec<String>,
+    positionals: &[Positional<'_, P>],
+    index: usize,
+    typed: &OsString,
+) -> Result<(), AllocError>
+    ensures { OnOk result (map string_bytes values.new.items ≡ map string_bytes values.old.items
+        ++ words_so (map positional_view positionals.now) typed.now index) }
+{
+    match positionals.get(index) {
+        Some(positional) => add_values(alloc, values, positional.words, typed.as_bytes()),
+        None => Ok(()),
+    }
+}
+
+// The same of the positional arguments of these indices.
+fn add_words<P>(
+    alloc: Global,
+    values: &mut Vec<String>,
+    positionals: &[Positional<'_, P>],
+    arguments: &[usize],
+    typed: &OsString,
+) -> Result<(), AllocError>
+    ensures { OnOk result (map string_bytes values.new.items ≡ map string_bytes values.old.items
+        ++ flat_map (words_so (map positional_view positionals.now) typed.now) arguments.now) }
+{
+    for index in arguments {
+        add_words_at(alloc, values, positionals, *index, typed)?;
+    }
+    Ok(())
+}
+
+// Adds the values in the list of the option that a word would be a value of, if it would be one,
+// that begin with what was typed.
+fn add_word_values<F, V, M, S>(
+    alloc: Global,
+    values: &mut Vec<String>,
+    word: &Option<Role<'_, F, V, M, S>>,
+    typed: &OsString,
+) -> Result<(), AllocError>
+    ensures { OnOk result (map string_bytes values.new.items ≡ map string_bytes values.old.items
+        ++ filter (λ v. starts_with nat_eq v typed.now) (word_values word.now)) }
+{
+    match word {
+        Some(Role::Value(option)) => add_values(alloc, values, option.words, typed.as_bytes()),
+        Some(Role::Argument) | None => Ok(()),
+    }
+}
+
+// Adds the words that are this option with a value of its list, if there is one, and begin with
+// what was typed.
+fn add_joined_values<F, V, M, S>(
+    alloc: Global,
+    values: &mut Vec<String>,
+    joined: &Option<&Declared<'_, F, V, M, S>>,
+    typed: &OsString,
+) -> Result<(), AllocError>
+    ensures { OnOk result (map string_bytes values.new.items ≡ map string_bytes values.old.items
+        ++ filter (λ v. starts_with nat_eq v typed.now) (joined_values joined.now)) }
+{
+    match joined {
+        Some(option) => add_joined(alloc, values, option, typed.as_bytes()),
+        None => Ok(()),
+    }
+}
+
+// The values in lists that begin with what was typed, where a word would be this, or belong to one
+// of the positional arguments of these indices, and a value of this option is typed after `=`.
+fn values_for<F, V, P, M, S>(
     alloc: Global,
     word: &Option<Role<'_, F, V, M, S>>,
+    positionals: &[Positional<'_, P>],
+    arguments: &[usize],
     joined: &Option<&Declared<'_, F, V, M, S>>,
     typed: &OsString,
 ) -> Result<Vec<String>, AllocError>
     ensures { IfOk result (λ values. map string_bytes values.items
-        ≡ values_so typed.now word.now joined.now) }
+        ≡ values_so (map positional_view positionals.now) typed.now word.now arguments.now
+        joined.now) }
 {
     let mut values = Vec::new(alloc);
-    if let Some(Role::Value(option)) = word {
-        add_values(alloc, &mut values, option.words, typed.as_bytes())?;
-    }
-    if let Some(option) = joined {
-        add_joined(alloc, &mut values, option, typed.as_bytes())?;
-    }
+    add_word_values(alloc, &mut values, word, typed)?;
+    add_words(alloc, &mut values, positionals, arguments, typed)?;
+    add_joined_values(alloc, &mut values, joined, typed)?;
     Ok(values)
 }
 
 impl<'a, F, V, P, M, S> Options<'a, F, V, P, M, S> {
     ghost use Rattle.std.specs.Prelude.{◌∷◌, ◌++◌, ℕ, [], IfOk, List, map, string_bytes};
     ghost use Rattle.std.specs.Prelude.{Option, option_map};
-    ghost use Rattle.lexopt_options_spec.specs.Completion.{HasRole, IsJoined};
+    ghost use Rattle.lexopt_options_spec.specs.Completion.{AreOwnersIn, HasRole, IsJoined};
     ghost use Rattle.lexopt_options.specs.Completions.{AreOffered, CanCome, IsCompletion, Opens};
     ghost use Rattle.lexopt_options.specs.Declarations.{declaration_of, options_of};
-    ghost use Rattle.lexopt_options.specs.Roles.{IsOptionAt, IsRoleAt, place_view};
+    ghost use Rattle.lexopt_options.specs.Roles.{IsCounted, IsOptionAt, IsRoleAt, place_view};
     ghost use Rattle.lexopt_options.specs.Fronts.{IsPart};
 
     // What these words mean with this one after them, whether or not something is missing; nothing
@@ -385,11 +479,25 @@ impl<'a, F, V, P, M, S> Options<'a, F, V, P, M, S> {
         }
     }
 
+    // The indices of the positional arguments that a word can belong to, where its place is this.
+    fn arguments(&self, alloc: Global, place: Option<Place>) -> Result<Vec<usize>, AllocError>
+        requires { IsCounted place }
+        ensures { IfOk result (λ owners. AreOwnersIn (declaration_of self.now).positionals
+            (option_map place_view place) owners.items) }
+    {
+        match place {
+            Some(Place::Argument(count)) => owners_of(alloc, self.positionals(), count),
+            Some(Place::Value(_)) | None => Ok(Vec::new(alloc)),
+        }
+    }
+
     /// What can come where a word is typed: after these words, the name of the program not among
     /// them, and this much of it was typed.
     ///
     /// Under options `v|verbose`, a flag, and `o|output` of one value, after `-v` and with `--` it
-    /// is `--verbose` and `--output`; after `-o` no option can come, but a value of `output`.
+    /// is `--verbose` and `--output`; after `-o` no option can come, but a value of `output`. Where
+    /// a word would be a positional argument, nobody knows how many follow: of `SOURCE... DEST` the
+    /// second word can belong to either.
     ///
     /// The only error is that memory ran out.
     pub fn complete(
@@ -400,8 +508,9 @@ impl<'a, F, V, P, M, S> Options<'a, F, V, P, M, S> {
     ) -> Result<Completion<'a, F, V, M, S>, AllocError>
         // What is returned is exactly what can come there: the spellings of declared options that
         // begin with what was typed, and after which some words make a legal line where that option
-        // occurs; what a word that is not an option and begins so would be; of which option a value
-        // is typed after `=`; and the values in the lists of these two that begin so.
+        // occurs; what a word that is not an option and begins so would be, and to which positional
+        // arguments it can belong; of which option a value is typed after `=`; and the values in
+        // the lists of these that begin so.
         ensures { IfOk result (λ completion.
             IsCompletion self.now words.now typed.now completion) }
     {
@@ -409,12 +518,15 @@ impl<'a, F, V, P, M, S> Options<'a, F, V, P, M, S> {
         let plain = self.read_with(alloc, words, "")?;
         let opens = is_open(&dashed, &plain);
         let can_come = can_come(self, opens, &dashed);
-        let word = self.role(words, typed, place_after(typed, opens, dashed, plain));
+        let place = place_after(typed, opens, &dashed, &plain);
+        let word = self.role(words, typed, place);
+        let arguments = self.arguments(alloc, place)?;
         let joined = self.joined(alloc, words, opens, typed)?;
         Ok(Completion {
             spellings: self.spellings_for(alloc, can_come, typed)?,
-            values: values_for(alloc, &word, &joined, typed)?,
+            values: values_for(alloc, &word, self.positionals(), &arguments, &joined, typed)?,
             word,
+            arguments,
             joined,
         })
     }

@@ -46,7 +46,7 @@
 /// Of `one_of`, `directories` and `text` the last counts, as where these are called.
 ///
 /// A line of `positionals` is `once`, `at_most_once`, `any_number` or `at_least_once`, with the key
-/// first; its text may be left out.
+/// first; its text may be left out. `.one_of(..)`, `.directories()` or `.text()` may come after it.
 ///
 /// `about` and `positionals` may be left out; so may `epilogue: ["..", ".."]`, paragraphs at the
 /// end of the help, and after it `short_equals: false`, by which `=` in a cluster is a character
@@ -58,7 +58,8 @@ macro_rules! declare {
         $(, about: $about:expr)?
         , options: [$($option:ident $given:tt $(.$mark:ident $marked:tt)*),* $(,)?]
         $(, positionals: [
-            $($count:ident($key:expr, $placeholder:expr $(, $text:expr)? $(,)?)),* $(,)?
+            $($count:ident($key:expr, $placeholder:expr $(, $text:expr)? $(,)?)
+                $(.$limit:ident $limited:tt)*),* $(,)?
         ])?
         $(, epilogue: [$($paragraph:expr),* $(,)?])?
         $(, short_equals: $short_equals:expr)?
@@ -73,6 +74,7 @@ macro_rules! declare {
                 placeholder: $placeholder,
                 count: $crate::declare!(@$count),
                 help: $crate::declare!(@or "" $(, $text)?),
+                words: $crate::declare!(@words $crate::Words::Files, $(.$limit $limited)*),
             }),*)?],
             epilogue: &[$($($paragraph),*)?],
             short_equals: true $(&& $short_equals)?,

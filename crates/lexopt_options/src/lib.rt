@@ -13,6 +13,7 @@ mod read;
 pub mod refused;
 pub mod said;
 mod table;
+mod taken;
 pub mod usage;
 
 pub use answer::Answer;

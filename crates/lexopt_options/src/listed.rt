@@ -14,8 +14,8 @@ use crate::mistake::Mistake;
 use lexopt_declaration::declaration::{Declared, Words};
 use lexopt_words::os_string::OsString;
 
-// Whether a value is one of these.
-fn is_listed(values: &[&str], value: &OsString) -> bool
+/// Whether a value is one of these.
+pub fn is_listed(values: &[&str], value: &OsString) -> bool
     ensures { result
         ≡ list_any (λ own. pointwise ◌==◌ own.now value.now) values.now }
 {

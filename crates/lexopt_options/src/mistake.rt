@@ -1,9 +1,8 @@
 //! What can be wrong with a line, and what is printed about it.
-ghost use Rattle.std.specs.Prelude.{◌++◌, IfOk, codes, map, option_map};
+ghost use Rattle.std.specs.Prelude.{IfOk, map, option_map};
 ghost use Rattle.lexopt_spec.specs.UnreadLine as unread;
 ghost use Rattle.lexopt_spec.specs.UnreadLine.{Tail};
 ghost use Rattle.lexopt_line_spec.specs.Table.{long, short};
-ghost use Rattle.lexopt_options_spec.specs.Help.{list_text};
 ghost use Rattle.lexopt_options_spec.specs.Nearest.{IsHint};
 ghost use Rattle.std.specs.Fmt.{WritesOnOk};
 ghost use Rattle.std.specs.List.{flat_map};
@@ -12,6 +11,7 @@ ghost use Rattle.lexopt_options.specs.Messages.{escaped};
 ghost use Rattle.lexopt_declaration.specs.Models.{option_view};
 
 use lexopt_declaration::declaration::{Declared, Names};
+use lexopt_declaration::listed::Listed;
 use lexopt_declaration::lookup::long_name_of;
 use lexopt_declaration::nearest::{nearest, only_ending, only_longer};
 use lexopt_words::message::write_unexpected_value;
@@ -54,31 +54,6 @@ fn write_name<W: fmt::Write>(name: &str, f: &mut fmt::Formatter<W>) -> fmt::Resu
         write_escaped(character, f)?;
     }
     Ok(())
-}
-
-// Writes values, each after a comma and a blank.
-fn write_others<W: fmt::Write>(others: &[&str], f: &mut fmt::Formatter<W>) -> fmt::Result
-    ensures { WritesOnOk W.write_str_gives f.old result
-        (flat_map (λ other. codes ", " ++ other) (map (λ other. other.now) others.now)) f.new }
-{
-    for other in others {
-        write!(f, ", {other}")?;
-    }
-    Ok(())
-}
-
-// Writes values with a comma and a blank between them.
-fn write_values<W: fmt::Write>(values: &[&str], f: &mut fmt::Formatter<W>) -> fmt::Result
-    ensures { WritesOnOk W.write_str_gives f.old result
-        (list_text (map (λ value. value.now) values.now)) f.new }
-{
-    match values {
-        [first, others @ ..] => {
-            f.write_str(first)?;
-            write_others(others, f)
-        }
-        [] => Ok(()),
-    }
 }
 
 impl fmt::Display for OptionName {
@@ -144,8 +119,17 @@ pub enum Mistake<'a> {
     /// Fewer positional arguments than are required: the placeholder, in the declaration, of the
     /// first that is missing.
     MissingArgument(&'a str),
+    /// A positional argument does not accept a word. No positional argument is missing.
+    InvalidArgument {
+        /// The placeholder of the positional argument.
+        placeholder: &'a str,
+        /// The first word that the positional argument which it belongs to does not accept.
+        word: OsString,
+        /// The words that it accepts.
+        values: &'a [&'a str],
+    },
     /// A required option does not occur: the names of the first such option of the declaration. No
-    /// positional argument is missing.
+    /// positional argument is missing, and each accepts its words.
     MissingOption(Names<'a>),
 }
 
@@ -173,14 +157,26 @@ impl fmt::Display for Mistake<'_> {
                 values,
             } => {
                 let value = Quoted::new(value.as_bytes());
-                write!(f, "invalid value {value} for '{option}': one of ")?;
-                write_values(values, f)
+                let values = Listed(values);
+                write!(f, "invalid value {value} for '{option}': one of {values}")
             }
             Mistake::UnexpectedArgument(word) => {
                 let word = Quoted::new(word.as_bytes());
                 write!(f, "unexpected argument {word}")
             }
             Mistake::MissingArgument(placeholder) => write!(f, "missing argument {placeholder}"),
+            Mistake::InvalidArgument {
+                placeholder,
+                word,
+                values,
+            } => {
+                let word = Quoted::new(word.as_bytes());
+                let values = Listed(values);
+                write!(
+                    f,
+                    "invalid argument {word} for {placeholder}: one of {values}"
+                )
+            }
             Mistake::MissingOption(names) => write!(f, "missing option '{names}'"),
         }
     }

@@ -1,6 +1,6 @@
 //! What a program declares, and can declare.
 ghost use Rattle.std.specs.Prelude.{◌≡◌, true, map};
-ghost use Rattle.lexopt_options_spec.specs.Declaration.{are_clear, is_sound};
+ghost use Rattle.lexopt_options_spec.specs.Declaration.{are_clear, are_listable, is_sound};
 ghost use Rattle.lexopt_declaration.specs.Models.{option_view, positional_view};
 
 use lexopt_declaration::declaration::{
@@ -10,18 +10,19 @@ use lexopt_declaration::help;
 use std::alloc::{AllocError, Global};
 use std::convert::Infallible;
 
-/// What a program declares, where all of its options can be declared together, and one positional
-/// argument at most may occur more than once.
+/// What a program declares, where all of its options can be declared together, one positional
+/// argument at most may occur more than once, and each list of words can be declared.
 pub struct Options<'a, F, V = Infallible, P = Infallible, M = Infallible, S = Infallible> {
     declaration: &'a Declaration<'a, F, V, P, M, S>,
     ghost sound: { is_sound (map option_view declaration.now.options.now) ≡ true },
     ghost clear: { are_clear (map positional_view declaration.now.positionals.now) ≡ true },
+    ghost listable: { are_listable (map positional_view declaration.now.positionals.now) ≡ true },
 }
 
 impl<'a, F, V, P, M, S> Options<'a, F, V, P, M, S> {
     ghost use Rattle.std.specs.Prelude.{◌≡◌, IfOk, MatchResult, map, string_bytes, true};
     ghost use Rattle.lexopt_options_spec.specs.Declarable.{can_be_declared};
-    ghost use Rattle.lexopt_options_spec.specs.Declaration.{are_clear, is_sound};
+    ghost use Rattle.lexopt_options_spec.specs.Declaration.{are_clear, are_listable, is_sound};
     ghost use Rattle.lexopt_options_spec.specs.Help.{IsHelp, IsUsage};
     ghost use Rattle.lexopt_declaration.specs.Models.{option_view, positional_view};
     ghost use Rattle.lexopt_declaration.specs.Faults.{IsDeclarationError};
@@ -36,6 +37,7 @@ impl<'a, F, V, P, M, S> Options<'a, F, V, P, M, S> {
         requires options { can_be_declared (map option_view declaration.now.options.now) ≡ true }
         requires positionals { are_clear (map positional_view declaration.now.positionals.now)
             ≡ true }
+        requires lists { are_listable (map positional_view declaration.now.positionals.now) ≡ true }
         ensures declaration { declaration_of result ≡ declaration_view declaration.now }
         ensures options { options_of result ≡ declaration.now.options.now }
         ensures positionals { positionals_of result ≡ declaration.now.positionals.now }
@@ -47,7 +49,8 @@ impl<'a, F, V, P, M, S> Options<'a, F, V, P, M, S> {
     /// What a program declares, where that is known only when it runs.
     ///
     /// The error names the first option that cannot be declared after those before it; or, if there
-    /// is none, the second positional argument that may occur more than once.
+    /// is none, the second positional argument that may occur more than once; or, if there is none,
+    /// the first positional argument whose list of words cannot be declared.
     pub fn try_new(
         declaration: &'a Declaration<'a, F, V, P, M, S>,
     ) -> Result<Options<'a, F, V, P, M, S>, DeclarationError<'a>>
@@ -98,6 +101,7 @@ impl<'a, F, V, P, M, S> Options<'a, F, V, P, M, S> {
         ensures same { result.now ≡ positionals_of self.now }
         ensures view { map positional_view result.now ≡ (declaration_of self.now).positionals }
         ensures clear { are_clear (map positional_view result.now) ≡ true }
+        ensures listable { are_listable (map positional_view result.now) ≡ true }
     {
         self.declaration.positionals
     }
@@ -125,7 +129,7 @@ impl<'a, F, V, P, M, S> Options<'a, F, V, P, M, S> {
     }
 
     /// The help: the usage line; what the program does; one entry for each positional argument that
-    /// has a text; one entry for each option that is not hidden; and the paragraphs of the
+    /// has a text or a list; one entry for each option that is not hidden; and the paragraphs of the
     /// epilogue. All are in the order in which they are declared, with an empty line between these
     /// parts. Each line ends with a line feed.
     ///
@@ -137,9 +141,9 @@ impl<'a, F, V, P, M, S> Options<'a, F, V, P, M, S> {
     ///   DEST                  where to
     ///
     ///   -v, --verbose         tell more; twice, still more
-    ///   -j, --jobs=COUNT      how many files at a time, from 1 to 64; 4 if it is left
-    ///                         out
-    ///   -o, --owner=USER      who is to own the copies
+    ///   -j, --jobs=COUNT      how many at a time, from 1 to 64
+    ///   -o, --owner=USER      who owns the copies
+    ///       --backup=WHEN     one of always, never
     ///       --suffix=SUFFIX   what a backup ends with
     ///
     /// A file is never copied onto itself.

@@ -1,10 +1,10 @@
-//! The keys of the positional arguments of a line.
-ghost use Rattle.std.specs.Prelude.{◌≡◌, ◌≤◌, ◌<◌, ℕ, List, Some, filter, length, map};
+//! Which positional argument each word of a line belongs to, and its key.
+ghost use Rattle.std.specs.Prelude.{◌≡◌, ◌≤◌, ◌<◌, ◌-◌, ℕ, List, Some, filter, length, map};
 ghost use Rattle.std.specs.Prelude.{slice_get, true};
 ghost use Rattle.lexopt_options_spec.specs.Legal as legal;
 ghost use Rattle.lexopt_options_spec.specs.Places as spec;
-ghost use Rattle.lexopt_options_spec.specs.Places.{ArePlaces};
-ghost use Rattle.lexopt_options_spec.proofs.Shares.{extra};
+ghost use Rattle.lexopt_options_spec.specs.Places.{ArePlaces, least, owners};
+ghost use Rattle.lexopt_options_spec.proofs.Shares.{extra, greedy};
 ghost use Rattle.lexopt_declaration.specs.Models.{count_view, positional_view};
 ghost use Rattle.lexopt_declaration.specs.declared.declaration.Declared.{Declared};
 ghost use Rattle.lexopt_options.specs.Keys as keys;
@@ -36,29 +36,52 @@ fn extra(count: Count, spare: usize) -> usize
     }
 }
 
-// The key of the positional argument that a word belongs to, where it is the word of this index,
-// counted from 0, of `count`.
-fn key_of<P: Copy>(positionals: &[Positional<'_, P>], count: usize, word: usize) -> Option<P>
-    ensures { (places : List ℕ) → ArePlaces (map positional_view positionals.now) count places
-        → word < count → (key : P) × (i : ℕ) × (result ≡ Some key)
-        × (slice_get places word ≡ Some i) × HasKey positionals.now i key }
+/// The index of the positional argument that the word of this index, counted from 0, belongs to,
+/// where there are `spare` words more than are required: nothing, if there is no such word.
+pub fn place_of<P>(positionals: &[Positional<'_, P>], spare: usize, word: usize) -> Option<usize>
+    ensures { result ≡ slice_get (owners 0 (greedy (map positional_view positionals.now) spare)) word }
 {
-    let mut spare = count.saturating_sub(least_of(positionals));
+    let mut spare = spare;
     let mut left = word;
-    for positional in positionals {
+    for (index, positional) in positionals.iter().enumerate() {
         let needed = needs(positional.count);
         if left < needed {
-            return Some(positional.key);
+            return Some(index);
         }
         left -= needed;
         let more = extra(positional.count, spare);
         if left < more {
-            return Some(positional.key);
+            return Some(index);
         }
         left -= more;
         spare -= more;
     }
     None
+}
+
+/// How many of `count` words are not required.
+pub fn spare_of<P>(positionals: &[Positional<'_, P>], count: usize) -> usize
+    ensures { result ≡ count - least (map positional_view positionals.now) }
+{
+    count.saturating_sub(least_of(positionals))
+}
+
+// The key of the positional argument that a word belongs to, where it is the word of this index,
+// counted from 0, and there are `spare` words more than are required.
+fn key_of<P: Copy>(positionals: &[Positional<'_, P>], spare: usize, word: usize) -> Option<P>
+    ensures { (places : List ℕ) (count : ℕ)
+        → ArePlaces (map positional_view positionals.now) count places
+        → spare ≡ count - least (map positional_view positionals.now) → word < count
+        → (key : P) × (i : ℕ) × (result ≡ Some key)
+        × (slice_get places word ≡ Some i) × HasKey positionals.now i key }
+{
+    match place_of(positionals, spare, word) {
+        Some(index) => match positionals.get(index) {
+            Some(positional) => Some(positional.key),
+            None => None,
+        },
+        None => None,
+    }
 }
 
 // Whether this is a positional argument.
@@ -68,30 +91,33 @@ fn is_positional<F, V, P, M, S>(own: &Said<F, V, P, M, S>) -> bool
     matches!(own, Said::Positional(_, _))
 }
 
-// How many positional arguments are among these.
-fn count_of<F, V, P, M, S>(said: &[Said<F, V, P, M, S>]) -> usize
+/// How many positional arguments are among these.
+pub fn count_of<F, V, P, M, S>(said: &[Said<F, V, P, M, S>]) -> usize
     ensures { result ≡ length (filter (λ own. keys.is_positional own) said.now) }
 {
     said.iter().filter(|own| is_positional(own)).count()
 }
 
 // Gives a positional argument the key of the one that it belongs to, where it is the word of this
-// index, counted from 0, of `count`. Returns whether it is a positional argument.
+// index, counted from 0, and there are `spare` words more than are required. Returns whether it is
+// a positional argument.
 fn give_key<F, V, P: Copy, M, S>(
     positionals: &[Positional<'_, P>],
-    count: usize,
+    spare: usize,
     word: usize,
     own: &mut Said<F, V, P, M, S>,
 ) -> bool
     ensures kind { result ≡ keys.is_positional own.old }
     ensures same { IsSame own.old own.new }
-    ensures given { (places : List ℕ) → ArePlaces (map positional_view positionals.now) count places
+    ensures given { (places : List ℕ) (count : ℕ)
+        → ArePlaces (map positional_view positionals.now) count places
+        → spare ≡ count - least (map positional_view positionals.now)
         → (keys.is_positional own.old ≡ true → word < count)
         → IsGiven positionals.now places word own.old own.new }
 {
     match own {
         Said::Positional(key, _) => {
-            if let Some(other) = key_of(positionals, count, word) {
+            if let Some(other) = key_of(positionals, spare, word) {
                 *key = other;
             }
             true
@@ -122,10 +148,10 @@ fn give_all<F, V, P: Copy, M, S>(
     if positionals.len() < 2 {
         return;
     }
-    let count = count_of(said);
+    let spare = spare_of(positionals, count_of(said));
     let mut word = 0usize;
     for own in said.iter_mut() {
-        if give_key(positionals, count, word, own) {
+        if give_key(positionals, spare, word, own) {
             word += 1;
         }
     }

@@ -1,6 +1,6 @@
 //! Reading a line by a declaration.
 ghost use Rattle.std.specs.Prelude.{◌≡◌, ◌≢◌, ◌≤◌, ◌↔◌, ◌∷◌, ◌++◌, ℕ, List, [], IfOk, OnOk};
-ghost use Rattle.std.specs.Prelude.{IsTrue, None, Some, map, true};
+ghost use Rattle.std.specs.Prelude.{IsTrue, None, Some, length, map, true};
 ghost use Rattle.std.specs.Option.{MatchOption};
 ghost use Rattle.lexopt_spec.specs.UnreadLine.{IsLine, Tail, UnreadLine};
 ghost use Rattle.lexopt_spec.specs.Steps as steps;
@@ -11,7 +11,7 @@ ghost use Rattle.lexopt_options_spec.specs.Declaration.{has, index_of};
 ghost use Rattle.lexopt_options_spec.specs.Asking as asking;
 ghost use Rattle.lexopt_options_spec.specs.Asking.{asked_by, first_asked};
 ghost use Rattle.lexopt_options_spec.specs.Legal as legal;
-ghost use Rattle.lexopt_options_spec.specs.Legal.{are_accepted, is_required, least, most};
+ghost use Rattle.lexopt_options_spec.specs.Legal.{IsWithin, are_accepted, is_required, most};
 ghost use Rattle.lexopt_options_spec.specs.Legal.{positional_count};
 ghost use Rattle.lexopt_options_spec.specs.Stops as stops;
 ghost use Rattle.lexopt_options_spec.specs.Stops.{ReadsUpTo, StopsAt};
@@ -24,12 +24,13 @@ ghost use Rattle.lexopt_declaration.specs.Lookups.{names_at};
 ghost use Rattle.lexopt_declaration.specs.declared.declaration.Positional.{Positional};
 ghost use Rattle.lexopt_options.specs.Declarations.{declaration_of, options_of, positionals_of};
 ghost use Rattle.lexopt_options.specs.Keys.{AllFirst, AreSaid, asked_view, positional_keys};
+ghost use Rattle.lexopt_options.specs.Keys.{said_words};
 ghost use Rattle.lexopt_options.specs.Kinds as kinds;
 ghost use Rattle.lexopt_options.specs.Mistakes.{IsMistake};
 ghost use Rattle.lexopt_options.specs.Lines.{IsLineRead, before_mistake};
 ghost use Rattle.lexopt_options.specs.Fronts.{IsPart};
 ghost use Rattle.lexopt_options.specs.Reading.{AllSeen, AreAll, AreSeen, ComesNext, IsAtMostOne};
-ghost use Rattle.lexopt_options.specs.Reading.{IsFirstUnseen, IsMissing, IsOne, IsRead};
+ghost use Rattle.lexopt_options.specs.Reading.{IsFirstUnseen, IsOne, IsRead, IsRight, IsWrong};
 ghost use Rattle.lexopt_options.specs.Reading.{IsReadByKey, StopsBy, indexed_view, noted};
 
 use crate::indexed::Indexed;
@@ -39,6 +40,7 @@ use crate::options::Options;
 use crate::places::{first_key, give_keys};
 use crate::refused::{Line, Refused};
 use crate::said::{Asked, Said, Told};
+use crate::taken::invalid_argument;
 use lexopt_base::parser::{Found, Parser};
 use lexopt_base::refusal::Refusal;
 use lexopt_declaration::declaration as declared;
@@ -372,24 +374,29 @@ fn missing_option<'a, F, V, M, S>(
     None
 }
 
-// What is missing at the end of a line with `count` positional arguments, where these are the
-// indices of the required options that occur.
-fn missing<'a, F, V, P, M, S>(
+// What is wrong at the end of a line with `count` positional arguments, if something is missing or a
+// word is not accepted, where these are the indices of the required options that occur.
+fn wrong_at_end<'a, F, V, P, M, S>(
     options: &Options<'a, F, V, P, M, S>,
+    said: &[Said<F, V, P, M, S>],
     count: usize,
     seen: &[usize],
-) -> Option<Mistake<'a>>
-    ensures { MatchOption result ((least (declaration_of options.now).positionals ≤ count)
-        × AllSeen (declaration_of options.now).options seen.now)
-        (IsMissing (declaration_of options.now) count seen.now) }
+) -> Result<Option<Mistake<'a>>, AllocError>
+    ensures { IfOk result (λ found. count ≡ length (said_words said.now)
+        → IsWithin count (most (declaration_of options.now).positionals) → MatchOption found
+        (IsRight (declaration_of options.now) (said_words said.now) seen.now)
+        (IsWrong (declaration_of options.now) (said_words said.now) seen.now)) }
 {
     if count < least_of(options.positionals()) {
         let placeholder = argument_placeholder(options.positionals(), count);
-        return Some(Mistake::MissingArgument(placeholder));
+        return Ok(Some(Mistake::MissingArgument(placeholder)));
+    }
+    if let Some(mistake) = invalid_argument(options.positionals(), said)? {
+        return Ok(Some(mistake));
     }
     match missing_option(options.options(), seen) {
-        Some(names) => Some(Mistake::MissingOption(names)),
-        None => None,
+        Some(names) => Ok(Some(Mistake::MissingOption(names))),
+        None => Ok(None),
     }
 }
 
@@ -519,7 +526,7 @@ fn end<'a, F: Drop, V: Drop, P: Copy, M: Drop, S: Drop>(
     mut said: Vec<Said<F, V, P, M, S>>,
     count: usize,
     seen: &[usize],
-) -> Line<'a, F, V, P, M, S>
+) -> Result<Line<'a, F, V, P, M, S>, AllocError>
     ensures { (words : List (List ℕ)) (l : List legal.Said) (u v : UnreadLine)
         → ReadsUpTo (declaration_of options.now)
         (start (declaration_of options.now).short_equals words) l u → Next u steps.end v
@@ -528,13 +535,13 @@ fn end<'a, F: Drop, V: Drop, P: Copy, M: Drop, S: Drop>(
         → AreSaid (options_of options.now) l said.items
         → AllFirst (positionals_of options.now) (positional_keys said.items)
         → are_accepted (declaration_of options.now).options l ≡ true
-        → IsLineRead options.now words result }
+        → IfOk result (λ line. IsLineRead options.now words line) }
 {
-    match missing(options, count, seen) {
-        Some(mistake) => stop(options, said, mistake),
+    match wrong_at_end(options, &said, count, seen)? {
+        Some(mistake) => Ok(stop(options, said, mistake)),
         None => {
             give_keys(options.positionals(), &mut said);
-            Line::Said(said)
+            Ok(Line::Said(said))
         }
     }
 }
@@ -570,7 +577,7 @@ fn read_keys<'a, F: Copy, V: Copy, P: Copy, M: Copy, S: Copy>(
                 said.push(Said::Positional(key, word))?;
                 count += 1;
             }
-            Outcome::End => return Ok(end(options, said, count, &seen)),
+            Outcome::End => return end(options, said, count, &seen),
             Outcome::Mistake(mistake) => return Ok(stop(options, said, mistake)),
         }
     }
@@ -642,9 +649,9 @@ impl<'a, F: Copy, V: Copy, P: Copy, M: Copy, S: Copy> Options<'a, F, V, P, M, S>
         alloc: Global,
         words: Vec<OsString>,
     ) -> Result<Line<'a, F, V, P, M, S>, AllocError>
-        // The list is the one that the words legally spell, by declared options alone, with as many
-        // positional arguments as are declared, and each option by its key; and they ask for
-        // nothing. Or they ask for the help or the version before any mistake. Or their reading
+        // The list is the one that the words legally spell, by declared options alone, with each
+        // that is required, with as many positional arguments as are declared, and with values and
+        // words that these accept; each option by its key; and they ask for nothing. Or they ask for the help or the version before any mistake. Or their reading
         // comes to this mistake, before which this was read and nothing was asked for.
         ensures line { IfOk result (λ line. IsLineRead self.now words.items line) }
 

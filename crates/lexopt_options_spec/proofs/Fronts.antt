@@ -18,9 +18,11 @@ use Rattle.lexopt_line_spec.proofs.ReadingSteps.{says_positional, reads_last, re
 use Rattle.lexopt_line_spec.proofs.RunAccounts.{step_line}
 use Rattle.lexopt_line_spec.proofs.WholeLines.{said_shows, shown_said}
 use Rattle.lexopt_options_spec.specs.Declaration.{Declaration, Declared, index_of, is_sound, table}
-use Rattle.lexopt_options_spec.specs.Legal.{Said, said_item, positional, positional_count, occurs, least, most, IsWithin, SaysFront, Says, are_accepted, refused_value}
-use Rattle.lexopt_options_spec.specs.Stops.{Mistake, ReadsUpTo, Stops, not_declared, value_of_flag, no_value, not_accepted, one_too_many, too_few, not_complete, StopsAt, invalid_value, missing_argument, missing_option}
+use Rattle.lexopt_options_spec.specs.Legal.{Said, said_item, positional, positional_count, positional_words, occurs, most, IsWithin, SaysFront, Says, are_accepted, refused_value}
+use Rattle.lexopt_options_spec.specs.Places.{AreTaken, least}
+use Rattle.lexopt_options_spec.specs.Stops.{Mistake, ReadsUpTo, Stops, not_declared, value_of_flag, no_value, not_accepted, one_too_many, too_few, not_taken, not_complete, StopsAt, invalid_argument, invalid_value, missing_argument, missing_option}
 use Rattle.lexopt_options_spec.proofs.Sound.{whole_names}
+use Rattle.lexopt_options_spec.proofs.Taken.{not_both}
 use Rattle.lexopt_options_spec.proofs.Lists.{Later, split, first_none, first_is, same_somes, count_append}
 
 -- ---- an option by its name
@@ -91,21 +93,21 @@ above n k (Some m) is within = let e : m ≡ n = (let f : Some m ≡ Some n = is
 
 stops_front : (d : Declaration) (words : List (List ℕ)) (before : List Said) (mistake other : Mistake) (there : ComesTo d words before mistake) → mistake ≡ other
     → ((count : ℕ) → other ≡ missing_argument count → ⊥) → ((index : ℕ) → other ≡ missing_option index → ⊥) → ((index : ℕ) (value : List ℕ) → other ≡ invalid_value index value → ⊥)
-    → Stops d before there.there other → (l : List Said) → SaysFront d words l → ⊥
-stops_front d words before mistake other there is not neither nor (not_declared name v step none) l says =
+    → ((index : ℕ) (word : List ℕ) → other ≡ invalid_argument index word → ⊥) → Stops d before there.there other → (l : List Said) → SaysFront d words l → ⊥
+stops_front d words before mistake other there is not neither nor never (not_declared name v step none) l says =
     let t = table d.options in
     let r = option_reading t there.there v name (step_line next there.there (option_reply name) v there.read.line step) step in
     let e = ends d words before mistake there l says r.0 (item_after name r.1 ∷ items_said r.1) r.2 in
     let rest = later d words before mistake there l says (item_after name r.1 ∷ items_said r.1) e.items_are in
     first_none (said_item d.options) (item_after name r.1) (items_said r.1) rest.later (undeclared d.options name (item_after name r.1) (item_of name r.1) none) rest.are
-stops_front d words before mistake other there is not neither nor (value_of_flag option value v step) l says =
+stops_front d words before mistake other there is not neither nor never (value_of_flag option value v step) l says =
     let e = ends d words before mistake there l says (steps.unexpected option value) _ (reads_last (table d.options) there.there v (steps.unexpected option value) tt step) in
     let f : steps.unexpected option value ≡ steps.end = e.final_is in cc
-stops_front d words before mistake other there is not neither nor (no_value name index option call v w step found due takes) l says =
+stops_front d words before mistake other there is not neither nor never (no_value name index option call v w step found due takes) l says =
     let e = ends d words before mistake there l says (steps.missing (Some option)) _
     (reads_refused (table d.options) there.there v w name (kind (table d.options) name) call (steps.missing (Some option)) refl due tt step takes) in
     let f : steps.missing (Some option) ≡ steps.end = e.final_is in cc
-stops_front d words before mistake other there is not neither nor (one_too_many word v step limit) l says =
+stops_front d words before mistake other there is not neither nor never (one_too_many word v step limit) l says =
     let t = table d.options in
     let r = some_reading t v (step_line next there.there (steps.positional word) v there.read.line step) in
     let e = ends d words before mistake there l says r.0 _ (says_positional t there.there v word step r.0 r.1 r.2) in
@@ -114,15 +116,16 @@ stops_front d words before mistake other there is not neither nor (one_too_many 
     let count : positional_count l ≡ positional_count before + suc (positional_count first.0) =
     ap positional_count rest.all_are ∙ count_append before rest.later ∙ ap (λ m. positional_count before + positional_count m) first.1 ∙ ap (λ n. positional_count before + n) (omega arith) in
     above (positional_count before) (positional_count first.0) (most d.positionals) limit (subst (λ n. IsWithin n (most d.positionals)) count says.within)
-stops_front d words before mistake other there is not neither nor (not_accepted s index value v read option refused) l says = absurd (nor index value refl)
-stops_front d words before mistake other there is not neither nor (too_few v step few) l says = absurd (not (positional_count before) refl)
-stops_front d words before mistake other there is not neither nor (not_complete index v step enough first) l says = absurd (neither index refl)
+stops_front d words before mistake other there is not neither nor never (not_accepted s index value v read option refused) l says = absurd (nor index value refl)
+stops_front d words before mistake other there is not neither nor never (too_few v step few) l says = absurd (not (positional_count before) refl)
+stops_front d words before mistake other there is not neither nor never (not_complete index v step enough taken first) l says = absurd (neither index refl)
+stops_front d words before mistake other there is not neither nor never (not_taken index word v step enough unfit) l says = absurd (never index word refl)
 
--- these words mean no front of a line, but where a positional or an option is missing, or a value is not accepted
+-- these words mean no front of a line, but where a positional or an option is missing, or a value or a word is not accepted
 pub no_front : (d : Declaration) (words : List (List ℕ)) (before : List Said) (mistake : Mistake) → ComesTo d words before mistake
     → ((count : ℕ) → mistake ≡ missing_argument count → ⊥) → ((index : ℕ) → mistake ≡ missing_option index → ⊥) → ((index : ℕ) (value : List ℕ) → mistake ≡ invalid_value index value → ⊥)
-    → (l : List Said) → SaysFront d words l → ⊥
-no_front d words before mistake there not neither nor l says = stops_front d words before mistake mistake there refl not neither nor there.stops l says
+    → ((index : ℕ) (word : List ℕ) → mistake ≡ invalid_argument index word → ⊥) → (l : List Said) → SaysFront d words l → ⊥
+no_front d words before mistake there not neither nor never l says = stops_front d words before mistake mistake there refl not neither nor never there.stops l says
 
 -- where something is missing, what was read is all that is read
 front_is : (d : Declaration) (words : List (List ℕ)) (before : List Said) (mistake : Mistake) (there : ComesTo d words before mistake) (v : UnreadLine) → Next there.there steps.end v
@@ -149,9 +152,12 @@ stops_whole d words before mistake other there is (too_few v step few) l says =
     let same = front_is d words before mistake there v step l says.front in
     let enough : least d.positionals ≤ positional_count before = subst (λ m. least d.positionals ≤ positional_count m) same says.enough in
     omega arith
-stops_whole d words before mistake other there is (not_complete index v step enough first) l says =
+stops_whole d words before mistake other there is (not_complete index v step enough taken first) l says =
     let same = front_is d words before mistake there v step l says.front in
     false≢true (sym first.absent ∙ ap (occurs index) (sym same) ∙ says.complete index first.here)
+stops_whole d words before mistake other there is (not_taken index word v step enough unfit) l says =
+    let same = front_is d words before mistake there v step l says.front in
+    not_both d.positionals (positional_words before) index word unfit (subst (λ m. AreTaken d.positionals (positional_words m)) same says.taken)
 stops_whole d words before mistake other there is (not_accepted s index value v read option refused) l says =
     let t = table d.options in
     let r = some_reading t v read.line in
@@ -161,13 +167,13 @@ stops_whole d words before mistake other there is (not_accepted s index value v 
     let accepted : are_accepted d.options (before ++ s ∷ more.later) ≡ true = subst (λ m. are_accepted d.options m ≡ true) (rest.all_are ∙ ap (λ m. before ++ m) more.all_are) says.accepted in
     not_refused d.options before s more.later value accepted refused
 stops_whole d words before mistake other there is (not_declared name v step none) l says =
-    stops_front d words before mistake other there is (λ count same. cc) (λ index same. cc) (λ index value same. cc) (not_declared name v step none) l says.front
+    stops_front d words before mistake other there is (λ count same. cc) (λ index same. cc) (λ index value same. cc) (λ index word same. cc) (not_declared name v step none) l says.front
 stops_whole d words before mistake other there is (value_of_flag option value v step) l says =
-    stops_front d words before mistake other there is (λ count same. cc) (λ index same. cc) (λ index value same. cc) (value_of_flag option value v step) l says.front
+    stops_front d words before mistake other there is (λ count same. cc) (λ index same. cc) (λ index value same. cc) (λ index word same. cc) (value_of_flag option value v step) l says.front
 stops_whole d words before mistake other there is (no_value name index option call v w step found due takes) l says =
-    stops_front d words before mistake other there is (λ count same. cc) (λ index same. cc) (λ index value same. cc) (no_value name index option call v w step found due takes) l says.front
+    stops_front d words before mistake other there is (λ count same. cc) (λ index same. cc) (λ index value same. cc) (λ index word same. cc) (no_value name index option call v w step found due takes) l says.front
 stops_whole d words before mistake other there is (one_too_many word v step limit) l says =
-    stops_front d words before mistake other there is (λ count same. cc) (λ index same. cc) (λ index value same. cc) (one_too_many word v step limit) l says.front
+    stops_front d words before mistake other there is (λ count same. cc) (λ index same. cc) (λ index value same. cc) (λ index word same. cc) (one_too_many word v step limit) l says.front
 
 -- nothing is read by words whose reading stops
 pub nothing_said : (d : Declaration) (words : List (List ℕ)) (before : List Said) (mistake : Mistake) → StopsAt d words before mistake → (l : List Said) → Says d words l → ⊥

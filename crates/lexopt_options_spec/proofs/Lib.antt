@@ -13,6 +13,7 @@ pub mod Stands
 pub mod OpenWords
 pub mod Offered
 pub mod Tables
+pub mod Taken
 pub mod Labels
 pub mod LabelTexts
 pub mod Wrapping

@@ -8,10 +8,11 @@ use Rattle.std.proofs.lemmas.Bool.{false≢true, eqb-true, eq-eqb, lt-ltb}
 use Rattle.std.proofs.lemmas.List.Elements.{Contains-append_left, Contains-append_right, Contains-append_cases}
 use Rattle.lexopt_line_spec.specs.Table.{Name, short, long}
 use Rattle.lexopt_options_spec.specs.Declaration.{Declaration, Declared, has_name, is_short, is_long, index_of, is_sound}
-use Rattle.lexopt_options_spec.specs.Legal.{Said, are_accepted}
+use Rattle.lexopt_options_spec.specs.Legal.{Said, are_accepted, positional_words}
 use Rattle.lexopt_options_spec.specs.Completion.{spelling, names_of, spellings, AreText, IsOpen, CanStand}
 use Rattle.lexopt_options_spec.proofs.Sound.{found, either}
 use Rattle.lexopt_options_spec.proofs.Stands.{AreNamed, can_stand}
+use Rattle.lexopt_options_spec.proofs.Taken.{AreFilled}
 
 pub cons_cases : {X : Type 0} (x : X) (xs : List X) (s : X) → Contains (x ∷ xs) s → (x ≡ s) ⊎ Contains xs s
 cons_cases x xs s (zero, within, is) = inl is
@@ -133,12 +134,12 @@ an_index : (name : Name) (os : List Declared) → list_any (has_name name) os �
 an_index name os is = (position_or_len (has_name name) os, ap (λ (b : Bool). if b then Some (position_or_len (has_name name) os) else None) (lt-ltb _ _ (any_within (has_name name) os is)))
 
 pub offered_stands : (d : Declaration) (words : List (List ℕ)) (l : List Said) (s : List ℕ) → is_sound d.options ≡ true → AreText d.options → AreNamed d.options → IsOpen d words l
-    → are_accepted d.options l ≡ true → Contains (spellings d.options) s
+    → are_accepted d.options l ≡ true → AreFilled d.positionals (positional_words l) → Contains (spellings d.options) s
     → CanStand d words s
-offered_stands d words l s sound text names is accepted has =
+offered_stands d words l s sound text names is accepted filled has =
     let n = named d.options s has in
     let i = an_index n.name d.options n.among in
-    subst (CanStand d words) (sym n.is) (can_stand d words l n.name i.0 sound text names is accepted i.1 (text n.name n.among))
+    subst (CanStand d words) (sym n.is) (can_stand d words l n.name i.0 sound text names is accepted filled i.1 (text n.name n.among))
 
 pub stands_offered : (d : Declaration) (words : List (List ℕ)) (s : List ℕ) → CanStand d words s → Contains (spellings d.options) s
 stands_offered d words s stands =

@@ -95,7 +95,7 @@ pub one_help : (d : Declaration) (width : ℕ) (s t : List ℕ) → IsHelp d wid
 one_help d width s t a b =
     let usage = one_usage d width a.usage b.usage a.usage_first b.usage_first in
     let about = one_paragraph width d.about a.about b.about a.about_next b.about_next in
-    let positionals = same_texts (λ (p : Positional). IsEntry width p.placeholder p.help) (λ p. one_entry width p.placeholder p.help) (described d.positionals) a.positionals b.positionals a.each_positional b.each_positional in
+    let positionals = same_texts (λ (p : Positional). IsEntry width p.placeholder (told_of p.help p.words)) (λ p. one_entry width p.placeholder (told_of p.help p.words)) (described d.positionals) a.positionals b.positionals a.each_positional b.each_positional in
     let options = same_texts (λ (o : Declared). IsEntry width (label o) (told_of o.help o.words)) (λ o. one_entry width (label o) (told_of o.help o.words)) (visible d.options) a.options b.options a.each_option b.each_option in
     let epilogue = same_texts (IsParagraph width) (one_paragraph width) d.epilogue a.epilogue b.epilogue a.each_paragraph b.each_paragraph in
     cc (a.written, b.written)
@@ -129,7 +129,7 @@ pub some_help : (d : Declaration) (width : ℕ) → (text : List ℕ) × IsHelp 
 some_help d width =
     let u = some_usage d width in
     let a = some_paragraph width d.about in
-    let ps = some_texts (λ (p : Positional). IsEntry width p.placeholder p.help) (λ p. some_entry width p.placeholder p.help) (described d.positionals) in
+    let ps = some_texts (λ (p : Positional). IsEntry width p.placeholder (told_of p.help p.words)) (λ p. some_entry width p.placeholder (told_of p.help p.words)) (described d.positionals) in
     let os = some_texts (λ (o : Declared). IsEntry width (label o) (told_of o.help o.words)) (λ o. some_entry width (label o) (told_of o.help o.words)) (visible d.options) in
     let es = some_texts (IsParagraph width) (some_paragraph width) d.epilogue in (
       u.0 ++ a.0 ++ set_apart (concat ps.0) ++ set_apart (concat os.0) ++ flat_map set_apart es.0,

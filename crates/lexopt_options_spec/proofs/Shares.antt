@@ -4,7 +4,8 @@ use Rattle.std.proofs.lemmas.Bool.{eqb-true, false≢true}
 use Rattle.std.proofs.lemmas.List.Sums.{sum_by-cons}
 use Rattle.std.specs.List.{AllZip, list_any, sum_by}
 use Rattle.lexopt_options_spec.specs.Declaration.{Count, Positional, once, at_most_once, any_number, at_least_once, has_to_occur, may_repeat}
-use Rattle.lexopt_options_spec.specs.Legal.{IsWithin, least, most, required}
+use Rattle.lexopt_options_spec.specs.Legal.{IsWithin, most}
+use Rattle.lexopt_options_spec.specs.Places.{least, required}
 use Rattle.lexopt_options_spec.specs.Places.{AreFirst, ArePlaces, AreShares, CanTake, NoneSpare, has_room, needs, owners}
 
 -- ---- to each as many as can
@@ -45,7 +46,7 @@ least_small (p ∷ ps) = subst (λ n. n ≤ length (p ∷ ps)) (sym (least_cons 
     go any_number rest = omega arith
     go at_least_once rest = omega arith
 
-least_fits : (ps : List Positional) → IsWithin (least ps) (most ps)
+pub least_fits : (ps : List Positional) → IsWithin (least ps) (most ps)
 least_fits ps = go (list_any (λ p. may_repeat p.count) ps)
   where
     go : (b : Bool) → IsWithin (least ps) (if b then None else Some (length ps))

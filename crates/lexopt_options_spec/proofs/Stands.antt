@@ -1,7 +1,7 @@
 -- Where an option can come.
 use Rattle.std.proofs.lemmas.Bool.{and_from, and_parts, eq-eqb, false≢true}
 use Rattle.std.proofs.lemmas.List.Elements.{Contains-append_right}
-use Rattle.std.proofs.Common.{◌≡◌, ◌≢◌, ◌<◌, ◌≤◌, ◌+◌, ◌-◌, ◌||◌, Contains, is_none, position, ℕ, zero, suc, Bool, true, false, List, [], ◌∷◌, ◌++◌, map, length, filter, slice_get, slice_index_or, Option, Some, None, if◌then◌else◌, encode_utf8, refl, sym, ap, subst, ◌∙◌, arith, inr, append_assoc, length-append}
+use Rattle.std.proofs.Common.{◌≡◌, ◌≢◌, ◌<◌, ◌≤◌, ◌+◌, ◌||◌, Contains, is_none, position, ℕ, zero, suc, Bool, true, false, List, [], ◌∷◌, ◌++◌, map, length, slice_get, slice_index_or, Some, None, encode_utf8, refl, sym, ap, subst, ◌∙◌, arith, inr, append_assoc, length-append}
 use Rattle.std.specs.Char.{IsScalar}
 use Rattle.std.specs.List.{list_all, list_any}
 use Rattle.std.specs.Option.{option_map}
@@ -15,14 +15,16 @@ use Rattle.lexopt_line_spec.proofs.Existence.{only_one}
 use Rattle.lexopt_line_spec.proofs.Names.{spelled_shows}
 use Rattle.lexopt_line_spec.proofs.SpellerTests.{dash_first, some_bytes}
 use Rattle.lexopt_line_spec.proofs.SpellerSound.{not_plain}
-use Rattle.lexopt_options_spec.specs.Declaration.{Declaration, Declared, Positional, fault, faults, has_name, has_to_occur, index_of, is_sound, list_fault, may_repeat, table}
-use Rattle.lexopt_options_spec.specs.Legal.{Said, option, several, positional, said_item, positional_count, least, most, IsWithin, SaysFront, accepts_at, are_accepted, is_required, occurs, refused_value}
+use Rattle.lexopt_options_spec.specs.Declaration.{Declaration, Declared, fault, faults, has_name, index_of, is_sound, list_fault, table}
+use Rattle.lexopt_options_spec.specs.Legal.{Said, option, several, positional, said_item, positional_count, positional_words, most, IsWithin, SaysFront, accepts_at, are_accepted, is_required, occurs, refused_value}
+use Rattle.lexopt_options_spec.specs.Places.{AreTaken, least}
 use Rattle.lexopt_options_spec.specs.Legal as legal
 use Rattle.lexopt_options_spec.specs.Completion.{spelling, AreText, IsOption, IsOpen, IsText, CanStand}
-use Rattle.lexopt_options_spec.proofs.Lists.{count_append, first_same, same_somes}
+use Rattle.lexopt_options_spec.proofs.Lists.{first_same, same_somes}
 use Rattle.lexopt_options_spec.proofs.Listed.{accepted_append, accepted_front, accepts_here, list_good, one_accepted, option_there, single_accepted, slice_get_at, value_fits, value_for, value_plain}
 use Rattle.lexopt_options_spec.proofs.Sound.{IsGoodName, found, good}
 use Rattle.lexopt_options_spec.proofs.Tables.{kind_of_name, none_before, position_here}
+use Rattle.lexopt_options_spec.proofs.Taken.{AreFilled, CanBeTaken, can_be_taken, words_append, words_count, words_same}
 use Rattle.lexopt_options_spec.proofs.OpenLines.{OpenLine, Parts, open_to_the_end, up_to_separator, dashes, goes_on, parts}
 
 -- ---- words that are not values
@@ -77,11 +79,6 @@ spelled_group t on (long name) v tail text is plain calm =
     lines.long_option name name name nothing (item_for (kind t (long name)) v (long name)) (values_of (kind t (long name)) v ++ tail) refl (name_alone is.0 refl refl) is.1 (text, refl)
     (completed (kind t (long name)) v (long name) tail plain calm) refl
 
--- this many empty words
-blanks : ℕ → List (List ℕ)
-blanks zero = []
-blanks (suc n) = [] ∷ blanks n
-
 -- the option, and then a line
 spelled_line : (t : Table) (on : Bool) (name : Name) (v : List ℕ) (tail : List (List ℕ)) (items : List Item) → IsText name → IsGoodName name → ¬ BeginsWith dash v → ¬ IsNormalIn false tail → Line exact t on tail items
     → Line exact t on (spelling name ∷ values_of (kind t name) v ++ tail) (item_for (kind t name) v name ∷ items)
@@ -110,12 +107,12 @@ is_option i one v = refl
 is_option i optional v = refl
 is_option i several v = refl
 
-counts_none : (i : ℕ) (k : Kind) (v : List ℕ) (l : List Said) → positional_count (said_for i k v ∷ l) ≡ positional_count l
+words_none : (i : ℕ) (k : Kind) (v : List ℕ) (l : List Said) → positional_words (said_for i k v ∷ l) ≡ positional_words l
 unfolding said_for
-counts_none i flag v l = omega arith
-counts_none i one v l = omega arith
-counts_none i optional v l = omega arith
-counts_none i several v l = omega arith
+words_none i flag v l = refl
+words_none i one v l = refl
+words_none i optional v l = refl
+words_none i several v l = refl
 
 occurs_once : (i : ℕ) (k : Kind) (v : List ℕ) (l : List Said) → occurs i (said_for i k v ∷ l) ≡ true
 unfolding said_for
@@ -252,12 +249,12 @@ required_are options i (o ∷ os) named items l are is = go o.required (required
     go true rest = ap (λ z. z ∷ map (said_item options) (required_items os named.1 items)) (is_said options named.0.0 i o.kind (value_for o.words) are.0.index) ∙ ap (λ zs. Some (said_for i o.kind (value_for o.words)) ∷ zs) rest
     go false rest = rest
 
-required_counts : (i : ℕ) (os : List Declared) (l : List Said) → positional_count (required_said i os l) ≡ positional_count l
-required_counts i [] l = refl
-required_counts i (o ∷ os) l = go o.required (required_counts (suc i) os l)
+required_no_words : (i : ℕ) (os : List Declared) (l : List Said) → positional_words (required_said i os l) ≡ positional_words l
+required_no_words i [] l = refl
+required_no_words i (o ∷ os) l = go o.required (required_no_words (suc i) os l)
   where
-    go : (b : Bool) → positional_count (required_said (suc i) os l) ≡ positional_count l → positional_count (with_said b i o.kind (value_for o.words) (required_said (suc i) os l)) ≡ positional_count l
-    go true rest = counts_none i o.kind (value_for o.words) (required_said (suc i) os l) ∙ rest
+    go : (b : Bool) → positional_words (required_said (suc i) os l) ≡ positional_words l → positional_words (with_said b i o.kind (value_for o.words) (required_said (suc i) os l)) ≡ positional_words l
+    go true rest = words_none i o.kind (value_for o.words) (required_said (suc i) os l) ∙ rest
     go false rest = rest
 
 required_occur : (i : ℕ) (os : List Declared) (l : List Said) (j : ℕ) → is_required os j ≡ true → occurs (i + j) (required_said i os l) ≡ true
@@ -290,11 +287,6 @@ words_said : (options : List Declared) (words : List (List ℕ)) → map (said_i
 words_said options [] = refl
 words_said options (w ∷ ws) = ap (λ l. Some (positional w) ∷ l) (words_said options ws)
 
-blank_count : (n : ℕ) → positional_count (map positional (blanks n)) ≡ n
-unfolding blanks
-blank_count zero = refl
-blank_count (suc n) = let rest = blank_count n in omega arith
-
 -- two lists in a row
 both_said : (options : List Declared) (xs ys : List Item) (l m : List Said) → map (said_item options) xs ≡ map (λ s. Some s) l → map (said_item options) ys ≡ map (λ s. Some s) m
     → map (said_item options) (xs ++ ys) ≡ map (λ s. Some s) (l ++ m)
@@ -304,31 +296,6 @@ both_said options (x ∷ xs) ys [] m is other = absurd (let e : said_item option
 both_said options (x ∷ xs) ys (s ∷ l) m is other =
     let parts = first_same (said_item options x) (Some s) (map (said_item options) xs) (map (λ s. Some s) l) is in
     ap (λ z. z ∷ map (said_item options) (xs ++ ys)) parts.0 ∙ ap (λ zs. Some s ∷ zs) (both_said options xs ys l m parts.1 other)
-
--- ---- how many positionals
-
-filter_small : (p : Positional → Bool) (ps : List Positional) → length (filter p ps) ≤ length ps
-filter_small p [] = omega arith
-filter_small p (x ∷ ps) = small (p x) (filter_small p ps)
-  where
-    small : (b : Bool) → length (filter p ps) ≤ length ps → length (if b then x ∷ filter p ps else filter p ps) ≤ suc (length ps)
-    small true le = omega arith
-    small false le = omega arith
-
-least_within : (ps : List Positional) → IsWithin (least ps) (most ps)
-least_within ps = within (list_any (λ p. may_repeat p.count) ps)
-  where
-    within : (b : Bool) → IsWithin (least ps) (if b then None else Some (length ps))
-    within true = tt
-    within false = filter_small (λ p. has_to_occur p.count) ps
-
--- as many more as are missing
-enough_within : (ps : List Positional) (n : ℕ) → IsWithin n (most ps) → IsWithin (n + (least ps - n)) (most ps)
-enough_within ps n within = go (most ps) within (least_within ps)
-  where
-    go : (limit : Option ℕ) → IsWithin n limit → IsWithin (least ps) limit → IsWithin (n + (least ps - n)) limit
-    go None a b = tt
-    go (Some m) a b = omega arith
 
 -- ---- where the words are open, each declared option can come
 
@@ -368,27 +335,29 @@ open_line d words l is = go (parts exact (table d.options) d.short_equals words 
         absurd (longer l (positional dashes) [] (sym (later_positionals d words before rest (dashes ∷ []) front l l is.front are items_are opens is.with_separator)))
 
 pub can_stand : (d : Declaration) (words : List (List ℕ)) (l : List Said) (name : Name) (i : ℕ) → is_sound d.options ≡ true → AreText d.options → AreNamed d.options → IsOpen d words l
-    → are_accepted d.options l ≡ true → index_of d.options name ≡ Some i → IsText name → CanStand d words (spelling name)
-can_stand d words l name i sound utf8 names is accepted found text =
+    → are_accepted d.options l ≡ true → AreFilled d.positionals (positional_words l) → index_of d.options name ≡ Some i → IsText name → CanStand d words (spelling name)
+can_stand d words l name i sound utf8 names is accepted filled found text =
     let t = table d.options in
     let k = kind t name in
     let here = option_there d.options name i found in
     let o = here.0 in
     let v = value_for o.words in
     let listed = list_good d.options i o sound here.1 in
-    let n = least d.positionals - positional_count l in
+    let more_words = filled.more in
     let opens = open_line d words l is in
     let named = good d.options name i sound found in
     let are = named_so d.options [] d.options names sound utf8 refl sound in
-    let positionals : List Item = map spec.positional (blanks n) in
-    let end : Line exact t d.short_equals (dashes ∷ blanks n) positionals = separator (blanks n) in
-    let more = required_words d.options names (dashes ∷ blanks n) in
+    let positionals : List Item = map spec.positional more_words in
+    let end : Line exact t d.short_equals (dashes ∷ more_words) positionals = separator more_words in
+    let more = required_words d.options names (dashes ∷ more_words) in
     let more_items = required_items d.options names positionals in
-    let more_said = required_said 0 d.options (map positional (blanks n)) in
-    let calm = required_calm d.options 0 d.options names (dashes ∷ blanks n) are (dashes_calm (blanks n)) in
+    let more_said = required_said 0 d.options (map positional more_words) in
+    let calm = required_calm d.options 0 d.options names (dashes ∷ more_words) are (dashes_calm more_words) in
     let rest = values_of k v ++ more in
-    let counted : positional_count (l ++ said_for i k v ∷ more_said) ≡ positional_count l + n =
-    count_append l (said_for i k v ∷ more_said) ∙ ap (λ m. positional_count l + m) (counts_none i k v more_said ∙ required_counts 0 d.options (map positional (blanks n)) ∙ blank_count n) in
+    let all_words : positional_words (l ++ said_for i k v ∷ more_said) ≡ positional_words l ++ more_words =
+    words_append l (said_for i k v ∷ more_said) ∙ ap (λ ws. positional_words l ++ ws) (words_none i k v more_said ∙ required_no_words 0 d.options (map positional more_words) ∙ words_same more_words) in
+    let counted : positional_count (l ++ said_for i k v ∷ more_said) ≡ length (positional_words l ++ more_words) =
+    sym (words_count (l ++ said_for i k v ∷ more_said)) ∙ ap length all_words in
     record {
       name = name;
       index = i;
@@ -404,18 +373,19 @@ can_stand d words l name i sound utf8 names is accepted found text =
         front = record {
           items = is.front.items ++ item_for k v name ∷ more_items;
           spelled = goes_on exact t d.short_equals words (spelling name ∷ rest) is.front.items (item_for k v name ∷ more_items) (not_normal name text rest) opens
-              (spelled_line t d.short_equals name v more more_items text named (value_plain o.words listed) calm (required_line d.options d.short_equals 0 d.options names (dashes ∷ blanks n) positionals are (dashes_calm (blanks n)) end));
+              (spelled_line t d.short_equals name v more more_items text named (value_plain o.words listed) calm (required_line d.options d.short_equals 0 d.options names (dashes ∷ more_words) positionals are (dashes_calm more_words) end));
           said = both_said d.options is.front.items (item_for k v name ∷ more_items) l (said_for i k v ∷ more_said) is.front.said
               (both_said d.options (item_for k v name ∷ []) more_items (said_for i k v ∷ []) more_said
-              (ap (λ s. s ∷ []) (is_said d.options name i k v found)) (required_are d.options 0 d.options names positionals (map positional (blanks n)) are (words_said d.options (blanks n))));
-          within = subst (λ m. IsWithin m (most d.positionals)) (sym counted) (enough_within d.positionals (positional_count l) is.front.within);
+              (ap (λ s. s ∷ []) (is_said d.options name i k v found)) (required_are d.options 0 d.options names positionals (map positional more_words) are (words_said d.options more_words)));
+          within = subst (λ m. IsWithin m (most d.positionals)) (sym counted) filled.within;
         };
-        enough = subst (λ m. least d.positionals ≤ m) (sym counted) (omega arith);
+        enough = subst (λ m. least d.positionals ≤ m) (sym counted) filled.enough;
         complete = λ j is_needed. occurs_after j l (said_for i k v ∷ more_said) (occurs_later j (said_for i k v) more_said
-            (subst (λ m. occurs m more_said ≡ true) (omega arith) (required_occur 0 d.options (map positional (blanks n)) j is_needed)));
+            (subst (λ m. occurs m more_said ≡ true) (omega arith) (required_occur 0 d.options (map positional more_words) j is_needed)));
         accepted = accepted_append d.options l (said_for i k v ∷ more_said) accepted
             (accepted_more d.options i k v more_said (accepts_here d.options i o v here.1 (value_fits o.words listed))
-            (required_accepted d.options 0 d.options names (map positional (blanks n)) are (words_accepted d.options (blanks n))));
+            (required_accepted d.options 0 d.options names (map positional more_words) are (words_accepted d.options more_words)));
+        taken = subst (AreTaken d.positionals) (sym all_words) filled.taken;
       };
     }
 
@@ -428,6 +398,16 @@ same_later (x ∷ l) s ss ts is = same_later l s ss ts (first_same x x (l ++ s �
 no_positional : (i : ℕ) (s : Said) (ss : List Said) (w : List ℕ) (ws : List (List ℕ)) → IsOption i s → s ∷ ss ≡ map positional (w ∷ ws) → ⊥
 no_positional i s ss w ws is same =
     let e : s ≡ positional w = (first_same s (positional w) ss (map positional ws) same).0 in subst (IsOption i) e is
+
+-- the words before it are accepted, with some more words
+pub stands_taken : (d : Declaration) (words : List (List ℕ)) (s : List ℕ) → (stands : CanStand d words s) → CanBeTaken d.positionals (positional_words stands.before)
+stands_taken d words s stands =
+    let later : List Said = stands.said ∷ stands.later in
+    let all = words_append stands.before later in
+    let front = stands.line_says.front in
+    can_be_taken d.positionals (positional_words stands.before) (positional_words later)
+    (subst (λ n. IsWithin n (most d.positionals)) (sym (words_count (stands.before ++ later)) ∙ ap length all) front.within)
+    (subst (AreTaken d.positionals) all stands.line_says.taken)
 
 -- the values before it are accepted
 pub stands_accepted : (d : Declaration) (words : List (List ℕ)) (s : List ℕ) → (stands : CanStand d words s) → are_accepted d.options stands.before ≡ true

@@ -1,17 +1,19 @@
 -- What can come where a word is typed, after the words before it.
 -- The source is `docs/behaviour.md`.
-use Rattle.std.specs.Prelude.{◌≡◌, ◌++◌, ◌==◌, ◌&&◌, ℕ}
+use Rattle.std.specs.Prelude.{◌≡◌, ◌<◌, ◌++◌, ◌==◌, ◌&&◌, ℕ}
 use Rattle.std.specs.Prelude.{Bool, true, false, nat_eq, List, [], ◌∷◌, map, Option, Some, None}
-use Rattle.std.specs.Prelude.{encode_utf8, filter, slice_get}
+use Rattle.std.specs.Prelude.{encode_utf8, filter, slice_get, unwrap_or}
 use Rattle.std.specs.Char.{IsScalar}
-use Rattle.std.specs.List.{flat_map, list_any, starts_with}
-use Rattle.std.specs.Option.{option_to_list}
+use Rattle.std.specs.List.{Contains, flat_map, list_any, starts_with}
+use Rattle.std.specs.Option.{option_map, option_to_list}
 use Rattle.std.specs.Str.{IsUtf8}
 use Rattle.lexopt_spec.specs.UnreadLine.{dash, equals, BeginsWith}
 use Rattle.lexopt_line_spec.specs.Table.{Name, short, long}
 use Rattle.lexopt_options_spec.specs.Declaration.{Declaration, Declared, has, has_name, index_of}
-use Rattle.lexopt_options_spec.specs.Declaration.{Words, listed}
-use Rattle.lexopt_options_spec.specs.Legal.{Said, option, several, positional, Says, SaysFront}
+use Rattle.lexopt_options_spec.specs.Declaration.{Positional, Words, listed}
+use Rattle.lexopt_options_spec.specs.Legal.{IsWithin, Said, Says, SaysFront, most, option}
+use Rattle.lexopt_options_spec.specs.Legal.{positional, positional_count, several}
+use Rattle.lexopt_options_spec.specs.Places.{ArePlaces}
 
 -- the word that is an option of this name, and nothing else
 abbrev pub spelling : Name → List ℕ
@@ -76,13 +78,14 @@ AreText options = (name : Name) → list_any (has_name name) options ≡ true �
 pub data Role : Type 0 where
   -- a value of the option of this index
   value : ℕ → Role
-  argument : Role
+  -- a positional, after this many of them
+  argument : ℕ → Role
 
--- what the last word is, by the last of what is read
-abbrev pub role_of : Said → Role
-role_of (option i v) = value i
-role_of (several i values) = value i
-role_of (positional word) = argument
+-- what the last word is, by the last of what is read, after these
+abbrev pub role_of : List Said → Said → Role
+role_of before (option i v) = value i
+role_of before (several i values) = value i
+role_of before (positional word) = argument (positional_count before)
 
 -- the empty word, which is not an option, would be this after these words; or nothing is read with
 -- it
@@ -90,7 +93,7 @@ abbrev pub IsPlainRole : Declaration → List (List ℕ) → Option Role → Typ
 IsPlainRole d words None =
     (before : List Said) (s : Said) → ¬ SaysFront d (words ++ [] ∷ []) (before ++ s ∷ [])
 IsPlainRole d words (Some role) = (before : List Said) × (s : Said)
-    × SaysFront d (words ++ [] ∷ []) (before ++ s ∷ []) × (role_of s ≡ role)
+    × SaysFront d (words ++ [] ∷ []) (before ++ s ∷ []) × (role_of before s ≡ role)
 
 -- the word `--` would be this after these words, and not the separator; or nothing is read with it
 -- that is not read without it
@@ -100,7 +103,7 @@ IsDashedRole d words None = (before : List Said) (s : Said)
     → SaysFront d words (before ++ s ∷ [])
 IsDashedRole d words (Some role) = (before : List Said) × (s : Said)
     × SaysFront d (words ++ (dash ∷ dash ∷ []) ∷ []) (before ++ s ∷ [])
-    × (¬ SaysFront d words (before ++ s ∷ [])) × (role_of s ≡ role)
+    × (¬ SaysFront d words (before ++ s ∷ [])) × (role_of before s ≡ role)
 
 -- A word that is not an option, and longer than what was typed of it, would be this: by the empty
 -- word, or by `--` where a dash was typed first.
@@ -126,6 +129,34 @@ IsJoined d words typed (Some i) = (l : List Said) × (s : Said)
     × (is_long_with_equals typed ≡ true) × IsOpen d words l × SaysFront d (typed ∷ []) (s ∷ [])
     × IsOption i s
 
+-- ---- to which positional a word can belong
+
+-- of some number of words, the one of index n belongs to the positional of index i
+pub record CanOwn (ps : List Positional) (n i : ℕ) : Type 0 where
+  pub count : ℕ
+  pub longer : n < count
+  pub within : IsWithin count (most ps)
+  pub places : List ℕ
+  pub are_places : ArePlaces ps count places
+  pub here : slice_get places n ≡ Some i
+
+-- each of these numbers is less than the next
+abbrev pub IsAscending : List ℕ → Type 0
+IsAscending [] = Unit {0}
+IsAscending (i ∷ []) = Unit {0}
+IsAscending (i ∷ j ∷ l) = (i < j) × IsAscending (j ∷ l)
+
+-- the positionals of these indices are those to which the word of index n can belong
+pub record AreOwners (ps : List Positional) (n : ℕ) (owners : List ℕ) : Type 0 where
+  pub sound : (i : ℕ) → Contains owners i → CanOwn ps n i
+  pub complete : (i : ℕ) → CanOwn ps n i → Contains owners i
+  pub in_order : IsAscending owners
+
+-- the same, where the word has this role: none, if that is not to be a positional
+abbrev pub AreOwnersIn : List Positional → Option Role → List ℕ → Type 0
+AreOwnersIn ps (Some (argument n)) owners = AreOwners ps n owners
+AreOwnersIn ps role owners = owners ≡ []
+
 -- ---- values in lists
 
 -- the values of a list
@@ -150,18 +181,23 @@ joined_by (Some o) = joined_words o.long_name (list_of o.words)
 -- the values in the list of the option that a word is a value of
 abbrev pub values_at : List Declared → Option Role → List (List ℕ)
 values_at options None = []
-values_at options (Some argument) = []
+values_at options (Some (argument n)) = []
 values_at options (Some (value i)) = listed_by (slice_get options i)
+
+-- the values in the list of the positional of this index
+abbrev pub words_at : List Positional → ℕ → List (List ℕ)
+words_at ps i = unwrap_or (option_map (λ p. list_of p.words) (slice_get ps i)) []
 
 -- the words that are the option of this index, with `=` and a value of its list
 abbrev pub joined_at : List Declared → Option ℕ → List (List ℕ)
 joined_at options None = []
 joined_at options (Some i) = joined_by (slice_get options i)
 
--- Where a word would have this role, and a value of the option of this index is typed after `=`,
--- these values in lists can come, in order: those that begin with what was typed; the latter with
--- their option before them.
-abbrev pub offered_values : List Declared → List ℕ → Option Role → Option ℕ → List (List ℕ)
-offered_values options typed role index =
-    filter (λ v. starts_with nat_eq v typed) (values_at options role)
-    ++ filter (λ v. starts_with nat_eq v typed) (joined_at options index)
+-- Where a word would have this role, or belong to one of the positionals of these indices, and a
+-- value of the option of this index is typed after `=`, these values in lists can come, in order:
+-- those that begin with what was typed; the last ones with their option before them.
+abbrev pub offered_values : Declaration → List ℕ → Option Role → List ℕ → Option ℕ → List (List ℕ)
+offered_values d typed role owners index =
+    filter (λ v. starts_with nat_eq v typed) (values_at d.options role)
+    ++ filter (λ v. starts_with nat_eq v typed) (flat_map (words_at d.positionals) owners)
+    ++ filter (λ v. starts_with nat_eq v typed) (joined_at d.options index)

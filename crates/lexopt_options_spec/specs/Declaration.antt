@@ -16,7 +16,8 @@ pub data Asked : Type 0 where
   -- for this text
   for_version : List ℕ → Asked
 
--- what the values of an option may be, and what a shell completes them by
+-- what the values of an option or the words of a positional may be, and what a shell completes them
+-- by
 pub data Words : Type 0 where
   -- any; by the names of files
   files : Words
@@ -27,7 +28,7 @@ pub data Words : Type 0 where
   -- these and no others; by these
   listed : List (List ℕ) → Words
 
--- a value may be this
+-- a value or a word may be this
 abbrev pub accepts : Words → List ℕ → Bool
 accepts (listed words) value = list_any (λ w. pointwise ◌==◌ w value) words
 accepts words value = true
@@ -74,8 +75,10 @@ may_repeat at_least_once = true
 pub record Positional : Type 0 where
   pub placeholder : List ℕ
   pub count : Count
-  -- what the help tells of it: it has no entry if this has no word
+  -- what the help tells of it: it has no entry if this has no word and it has no list
   pub help : List ℕ
+  -- what its words may be
+  pub words : Words
 
 pub record Declaration : Type 0 where
   -- the program's name
@@ -239,6 +242,10 @@ are_clear [] = true
 are_clear (p ∷ ps) =
     if may_repeat p.count then not (list_any (λ q. may_repeat q.count) ps) else are_clear ps
 
+-- the list of each of these positionals that has one can be declared
+abbrev pub are_listable : List Positional → Bool
+are_listable positionals = list_all (λ p. is_none (list_fault p.words)) positionals
+
 -- this option, counted from 0, is the first that cannot be declared after those before it, and why
 pub record IsFirstFault (options : List Declared) (index : ℕ) (reason : Reason) : Type 0 where
   pub here : slice_get (faults [] options) index ≡ Some (Some reason)
@@ -250,3 +257,10 @@ pub record IsSecondRepeated (positionals : List Positional) (index : ℕ) : Type
   pub here : slice_get positionals index ≡ Some positional
   pub repeats : may_repeat positional.count ≡ true
   pub before : length (filter (λ p. may_repeat p.count) (take index positionals)) ≡ 1
+
+-- this positional, counted from 0, is the first whose list cannot be declared
+pub record IsFirstBadList (positionals : List Positional) (index : ℕ) : Type 0 where
+  pub positional : Positional
+  pub here : slice_get positionals index ≡ Some positional
+  pub bad : list_fault positional.words ≡ Some bad_list
+  pub before : are_listable (take index positionals) ≡ true

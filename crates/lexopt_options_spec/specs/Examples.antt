@@ -1,7 +1,8 @@
 -- What the worked examples declare.
 use Rattle.std.specs.Prelude.{ℕ, List, [], ◌∷◌, Option, None, Some, codes, false, true}
 use Rattle.lexopt_line_spec.specs.Table.{Kind, one}
-use Rattle.lexopt_options_spec.specs.Declaration.{Declared, Words, files, listed}
+use Rattle.lexopt_options_spec.specs.Declaration.{Declaration, Declared, Positional, Words, files}
+use Rattle.lexopt_options_spec.specs.Declaration.{listed, once}
 
 -- a required option
 abbrev pub demanded_option : Option ℕ → Option (List ℕ) → Kind → List ℕ → Declared
@@ -22,8 +23,32 @@ abbrev pub option_of : Option (List ℕ) → Words → Declared
 option_of name words =
     record (demanded_option (Some 0x6D) name one (codes "MODE")) { words = words }
 
+-- a positional that occurs once
+abbrev pub positional_of : List ℕ → List ℕ → Words → Positional
+positional_of placeholder help words =
+    record { placeholder = placeholder; count = once; help = help; words = words }
+
+-- these options and positionals
+abbrev pub declaration_of : List Declared → List Positional → Declaration
+declaration_of options positionals = record {
+  program = codes "pack";
+  about = [];
+  options = options;
+  positionals = positionals;
+  epilogue = [];
+  short_equals = true;
+}
+
 -- options without a list, with one, and with one and no long name
 abbrev pub listed_options : List Declared
 listed_options = option_of (Some (codes "out")) files
     ∷ option_of (Some (codes "mode")) (listed (codes "fast" ∷ codes "slow" ∷ codes "slower" ∷ []))
     ∷ option_of None (listed (codes "tar" ∷ [])) ∷ []
+
+-- two positionals, each with a list
+abbrev pub listed_positionals : List Positional
+listed_positionals = positional_of (codes "HOW") [] (listed (codes "fast" ∷ codes "slow" ∷ []))
+    ∷ positional_of (codes "FORM") [] (listed (codes "tar" ∷ codes "zip" ∷ [])) ∷ []
+
+abbrev pub lists : Declaration
+lists = declaration_of listed_options listed_positionals

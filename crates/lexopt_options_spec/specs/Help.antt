@@ -293,7 +293,7 @@ abbrev pub list_text : List (List ℕ) → List ℕ
 list_text [] = []
 list_text (value ∷ values) = value ++ flat_map (λ other. codes ", " ++ other) values
 
--- what the help tells of an option with this text: the values in its list too
+-- what the help tells of an option or a positional with this text: the values in its list too
 abbrev pub told_of : List ℕ → Words → List ℕ
 told_of [] (listed values) = codes "one of " ++ list_text values
 told_of help (listed values) = help ++ codes ": one of " ++ list_text values
@@ -301,9 +301,10 @@ told_of help words = help
 
 -- ---- the whole text
 
--- the positionals whose help has a word
+-- the positionals of which the help tells something
 abbrev pub described : List Positional → List Positional
-described positionals = filter (λ p. not (length (words_of p.help) == 0)) positionals
+described positionals =
+    filter (λ p. not (length (words_of (told_of p.help p.words)) == 0)) positionals
 
 -- a part of the help, after an empty line: nothing, if the part is empty
 abbrev pub set_apart : List ℕ → List ℕ
@@ -321,7 +322,8 @@ pub record IsHelp (d : Declaration) (width : ℕ) (text : List ℕ) : Type 0 whe
   pub usage_first : IsUsage width d usage
   pub about_next : IsParagraph width d.about about
   pub each_positional :
-      AllZip (λ p. IsEntry width p.placeholder p.help) (described d.positionals) positionals
+      AllZip (λ p. IsEntry width p.placeholder (told_of p.help p.words)) (described d.positionals)
+      positionals
   pub each_option :
       AllZip (λ o. IsEntry width (label o) (told_of o.help o.words)) (visible d.options) options
   pub each_paragraph : AllZip (IsParagraph width) d.epilogue epilogue

@@ -1,7 +1,7 @@
 -- Which words mean what, under a declaration: from items to words, with no call and no state.
 -- The source is `docs/behaviour.md`.
 use Rattle.std.specs.Prelude.{◌≡◌, ◌≤◌, ◌+◌, ◌==◌, ℕ, Bool, true, false, List, [], ◌∷◌, length}
-use Rattle.std.specs.Prelude.{filter, map, Option, Some, None, if◌then◌else◌, is_none, not}
+use Rattle.std.specs.Prelude.{map, Option, Some, None, if◌then◌else◌, is_none, not}
 use Rattle.std.specs.Prelude.{option_and_then, position, slice_get, unwrap_or}
 use Rattle.std.specs.List.{list_all, list_any}
 use Rattle.std.specs.Option.{option_map}
@@ -9,7 +9,8 @@ use Rattle.lexopt_line_spec.specs.Table as spec
 use Rattle.lexopt_line_spec.specs.Table.{Item}
 use Rattle.lexopt_line_spec.specs.Spelling.{Spells}
 use Rattle.lexopt_options_spec.specs.Declaration.{Declared, Declaration, Positional, accepts}
-use Rattle.lexopt_options_spec.specs.Declaration.{has_to_occur, index_of, may_repeat, table}
+use Rattle.lexopt_options_spec.specs.Declaration.{index_of, may_repeat, table}
+use Rattle.lexopt_options_spec.specs.Places.{AreTaken, least}
 
 -- what is read from a line, in order: an option by its index in the declaration, whichever of its
 -- names was typed, with its value if it has one; an option of several values with all of them; or a
@@ -39,21 +40,19 @@ abbrev pub positional_count : List Said → ℕ
 positional_count [] = 0
 positional_count (s ∷ ss) = counts s + positional_count ss
 
--- those that cannot be left out
-abbrev pub required : List Positional → List Positional
-required ps = filter (λ p. has_to_occur p.count) ps
-
--- at least this many positionals have to occur
-abbrev pub least : List Positional → ℕ
-least ps = length (required ps)
-
--- and at most: there is no limit if one of them may occur more than once
+-- at most this many positionals may occur: there is no limit if one of them may occur more than once
 abbrev pub most : List Positional → Option ℕ
 most ps = if list_any (λ p. may_repeat p.count) ps then None else Some (length ps)
 
 abbrev pub IsWithin : ℕ → Option ℕ → Type 0
 IsWithin n None = Unit {0}
 IsWithin n (Some limit) = n ≤ limit
+
+-- their words, in order
+abbrev pub positional_words : List Said → List (List ℕ)
+positional_words [] = []
+positional_words (positional word ∷ l) = word ∷ positional_words l
+positional_words (s ∷ l) = positional_words l
 
 -- ---- which options there are
 
@@ -101,10 +100,11 @@ pub record SaysFront (d : Declaration) (words : List (List ℕ)) (l : List Said)
   pub said : map (said_item d.options) items ≡ map (λ s. Some s) l
   pub within : IsWithin (positional_count l) (most d.positionals)
 
--- and as many positionals as are declared, and each option that is required, with values that the
--- options accept
+-- and as many positionals as are declared, and each option that is required, with values and words
+-- that the options and the positionals accept
 pub record Says (d : Declaration) (words : List (List ℕ)) (l : List Said) : Type 0 where
   pub front : SaysFront d words l
   pub enough : least d.positionals ≤ positional_count l
   pub complete : (i : ℕ) → is_required d.options i ≡ true → occurs i l ≡ true
   pub accepted : are_accepted d.options l ≡ true
+  pub taken : AreTaken d.positionals (positional_words l)

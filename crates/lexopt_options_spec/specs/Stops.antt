@@ -12,8 +12,9 @@ use Rattle.lexopt_line_spec.specs.Readings.{IsDue, ReadsItems, option_reply, sta
 use Rattle.lexopt_options_spec.specs.Declaration.{Declaration, Declared, Positional, index_of}
 use Rattle.lexopt_options_spec.specs.Declaration.{table}
 use Rattle.lexopt_options_spec.specs.Legal.{IsWithin, Said, are_accepted, is_option, is_required}
-use Rattle.lexopt_options_spec.specs.Legal.{least, most, occurs, positional_count, refused_value, required}
-use Rattle.lexopt_options_spec.specs.Legal.{said_item}
+use Rattle.lexopt_options_spec.specs.Legal.{most, occurs, positional_count, positional_words}
+use Rattle.lexopt_options_spec.specs.Legal.{refused_value, said_item}
+use Rattle.lexopt_options_spec.specs.Places.{AreTaken, IsNotTaken, least, required}
 
 -- what is wrong with a line
 pub data Mistake : Type 0 where
@@ -27,6 +28,8 @@ pub data Mistake : Type 0 where
   invalid_value : ℕ → List ℕ → Mistake
   -- one positional more than are declared
   unexpected_argument : List ℕ → Mistake
+  -- the positional of this index does not accept this word
+  invalid_argument : ℕ → List ℕ → Mistake
   -- fewer positionals than are required: this many are there
   missing_argument : ℕ → Mistake
   -- the option of this index is required and is not there
@@ -68,9 +71,14 @@ pub data Stops (d : Declaration) (l : List Said) (u : UnreadLine) : Mistake → 
   too_few : (v : UnreadLine) → Next u steps.end v → positional_count l < least d.positionals
       → Stops d l u (missing_argument (positional_count l))
   -- no positional is missing
+  not_taken : (index : ℕ) (word : List ℕ) (v : UnreadLine) → Next u steps.end v
+      → least d.positionals ≤ positional_count l
+      → IsNotTaken d.positionals (positional_words l) index word
+      → Stops d l u (invalid_argument index word)
+  -- and each word is accepted
   not_complete : (index : ℕ) (v : UnreadLine) → Next u steps.end v
-      → least d.positionals ≤ positional_count l → IsFirstMissing d.options l index
-      → Stops d l u (missing_option index)
+      → least d.positionals ≤ positional_count l → AreTaken d.positionals (positional_words l)
+      → IsFirstMissing d.options l index → Stops d l u (missing_option index)
 
 -- These words are read up to this mistake, and mean this before it, where each option accepts the
 -- values that it has.

@@ -6,7 +6,7 @@ ghost use Rattle.lexopt_options_spec.specs.Declaration.{directories, files, list
 ghost use Rattle.lexopt_options_spec.specs.Help.{below, columns, described, help_column, label_of};
 ghost use Rattle.lexopt_options_spec.specs.Help.{line_feed, mark_of, option_mark, paragraph};
 ghost use Rattle.lexopt_options_spec.specs.Help.{set_apart, told_of, usage_words, words_of};
-ghost use Rattle.lexopt_options_spec.specs.Examples.{demanded_option};
+ghost use Rattle.lexopt_options_spec.specs.Examples.{demanded_option, positional_of};
 
 /// The labels of options with one name and with both.
 pub fn labels_look_so()
@@ -47,9 +47,9 @@ pub fn usage_lines_have_these_words()
       program = codes "pack";
       about = codes "Packs.";
       options = [];
-      positionals = record { placeholder = codes "MODE"; count = once; help = [] }
-          ∷ record { placeholder = codes "TARGET"; count = at_most_once; help = [] }
-          ∷ record { placeholder = codes "FILE"; count = any_number; help = [] } ∷ [];
+      positionals = record { placeholder = codes "MODE"; count = once; help = []; words = files }
+          ∷ record { placeholder = codes "TARGET"; count = at_most_once; help = []; words = files }
+          ∷ record { placeholder = codes "FILE"; count = any_number; help = []; words = files } ∷ [];
       epilogue = [];
       short_equals = true;
     }) ≡ codes "pack" ∷ codes "MODE" ∷ codes "[TARGET]" ∷ codes "[FILE]..." ∷ [] }
@@ -107,8 +107,8 @@ pub fn usage_lines_show_what_is_required()
       program = codes "pack";
       about = [];
       options = demanded_option (Some 0x75) (Some (codes "user")) one (codes "NAME") ∷ [];
-      positionals = record { placeholder = codes "SOURCE"; count = at_least_once; help = [] }
-          ∷ record { placeholder = codes "DEST"; count = once; help = [] } ∷ [];
+      positionals = record { placeholder = codes "SOURCE"; count = at_least_once; help = []; words = files }
+          ∷ record { placeholder = codes "DEST"; count = once; help = []; words = files } ∷ [];
       epilogue = [];
       short_equals = true;
     }) ≡ codes "pack" ∷ codes "--user=NAME" ∷ codes "SOURCE..." ∷ codes "DEST" ∷ [] }
@@ -132,11 +132,13 @@ pub fn usage_lines_show_what_is_required()
     }) ≡ codes "pack" ∷ [] }
 {}
 
-/// A positional is described if there is a word in its help.
+/// A positional is described if there is a word in its help, or if it has a list.
 pub fn positionals_are_described()
-    ensures one_of_two { described (record { placeholder = codes "MODE"; count = once; help = codes " " }
-        ∷ record { placeholder = codes "FILE"; count = any_number; help = codes "to pack" } ∷ [])
-        ≡ record { placeholder = codes "FILE"; count = any_number; help = codes "to pack" } ∷ [] }
+    ensures one_of_two { described (positional_of (codes "MODE") (codes " ") files
+        ∷ positional_of (codes "FILE") (codes "to pack") files ∷ [])
+        ≡ positional_of (codes "FILE") (codes "to pack") files ∷ [] }
+    ensures list { described (positional_of (codes "MODE") [] (listed (codes "fast" ∷ [])) ∷ [])
+        ≡ positional_of (codes "MODE") [] (listed (codes "fast" ∷ [])) ∷ [] }
 {}
 
 /// The values in an option's list are told after its help, or alone if that is empty.

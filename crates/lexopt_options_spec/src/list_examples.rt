@@ -1,9 +1,11 @@
 //! Worked examples of lists of values, computed by the definitions.
 ghost use Rattle.std.specs.Prelude.{◌≡◌, ◌∷◌, [], None, Some, codes, false, true};
 ghost use Rattle.lexopt_options_spec.specs.Completion.{argument, offered_values, value};
-ghost use Rattle.lexopt_options_spec.specs.Declaration.{accepts, bad_list, directories, files};
-ghost use Rattle.lexopt_options_spec.specs.Declaration.{list_fault, listed, text};
-ghost use Rattle.lexopt_options_spec.specs.Examples.{listed_options};
+ghost use Rattle.lexopt_options_spec.specs.Declaration.{IsFirstBadList, accepts, are_listable};
+ghost use Rattle.lexopt_options_spec.specs.Declaration.{bad_list};
+ghost use Rattle.lexopt_options_spec.specs.Declaration.{directories, files, list_fault, listed, text};
+ghost use Rattle.lexopt_options_spec.specs.Examples.{listed_positionals, lists, positional_of};
+ghost use Rattle.lexopt_options_spec.specs.Places.{refused_word};
 
 /// A value in a list is accepted, and no other; without a list, any value is.
 pub fn values_are_accepted()
@@ -41,30 +43,86 @@ pub fn lists_are_refused()
 
 /// The values in the list of the option that a word is a value of.
 pub fn values_in_lists_are_offered()
-    ensures all { offered_values listed_options [] (Some (value 1)) None
+    ensures all { offered_values lists [] (Some (value 1)) [] None
         ≡ codes "fast" ∷ codes "slow" ∷ codes "slower" ∷ [] }
-    ensures begun { offered_values listed_options (codes "slow") (Some (value 1)) None
+    ensures begun { offered_values lists (codes "slow") (Some (value 1)) [] None
         ≡ codes "slow" ∷ codes "slower" ∷ [] }
-    ensures inside { offered_values listed_options (codes "low") (Some (value 1)) None ≡ [] }
-    ensures more { offered_values listed_options (codes "fasts") (Some (value 1)) None ≡ [] }
-    ensures another_list { offered_values listed_options [] (Some (value 2)) None
+    ensures inside { offered_values lists (codes "low") (Some (value 1)) [] None ≡ [] }
+    ensures more { offered_values lists (codes "fasts") (Some (value 1)) [] None ≡ [] }
+    ensures another_list { offered_values lists [] (Some (value 2)) [] None
         ≡ codes "tar" ∷ [] }
-    ensures no_list { offered_values listed_options [] (Some (value 0)) None ≡ [] }
-    ensures no_option { offered_values listed_options [] (Some (value 3)) None ≡ [] }
-    ensures positional { offered_values listed_options [] (Some argument) None ≡ [] }
-    ensures nothing { offered_values listed_options [] None None ≡ [] }
+    ensures no_list { offered_values lists [] (Some (value 0)) [] None ≡ [] }
+    ensures no_option { offered_values lists [] (Some (value 3)) [] None ≡ [] }
+    ensures positional { offered_values lists [] (Some (argument 0)) [] None ≡ [] }
+    ensures nothing { offered_values lists [] None [] None ≡ [] }
 {}
 
 /// The words that are an option by its long name, with `=` and a value of its list.
 pub fn joined_values_are_offered()
-    ensures all { offered_values listed_options (codes "--mode=") None (Some 1)
+    ensures all { offered_values lists (codes "--mode=") None [] (Some 1)
         ≡ codes "--mode=fast" ∷ codes "--mode=slow" ∷ codes "--mode=slower" ∷ [] }
-    ensures begun { offered_values listed_options (codes "--mode=f") None (Some 1)
+    ensures begun { offered_values lists (codes "--mode=f") None [] (Some 1)
         ≡ codes "--mode=fast" ∷ [] }
-    ensures inside { offered_values listed_options (codes "--mode=low") None (Some 1) ≡ [] }
-    ensures no_list { offered_values listed_options (codes "--out=") None (Some 0) ≡ [] }
-    ensures no_long_name { offered_values listed_options [] None (Some 2) ≡ [] }
-    ensures no_option { offered_values listed_options (codes "--mode=") None (Some 3) ≡ [] }
-    ensures after_values { offered_values listed_options [] (Some (value 2)) (Some 1)
+    ensures inside { offered_values lists (codes "--mode=low") None [] (Some 1) ≡ [] }
+    ensures no_list { offered_values lists (codes "--out=") None [] (Some 0) ≡ [] }
+    ensures no_long_name { offered_values lists [] None [] (Some 2) ≡ [] }
+    ensures no_option { offered_values lists (codes "--mode=") None [] (Some 3) ≡ [] }
+    ensures after_values { offered_values lists [] (Some (value 2)) [] (Some 1)
         ≡ codes "tar" ∷ codes "--mode=fast" ∷ codes "--mode=slow" ∷ codes "--mode=slower" ∷ [] }
+{}
+
+/// The values in the lists of the positionals that a word can belong to.
+pub fn words_in_lists_are_offered()
+    ensures one { offered_values lists [] (Some (argument 0)) (0 ∷ []) None
+        ≡ codes "fast" ∷ codes "slow" ∷ [] }
+    ensures two { offered_values lists [] (Some (argument 1)) (0 ∷ 1 ∷ []) None
+        ≡ codes "fast" ∷ codes "slow" ∷ codes "tar" ∷ codes "zip" ∷ [] }
+    ensures begun { offered_values lists (codes "z") (Some (argument 1)) (0 ∷ 1 ∷ []) None
+        ≡ codes "zip" ∷ [] }
+    ensures no_positional { offered_values lists [] (Some (argument 2)) (2 ∷ []) None ≡ [] }
+    ensures before_options { offered_values lists [] (Some (argument 0)) (0 ∷ []) (Some 1)
+        ≡ codes "fast" ∷ codes "slow" ∷ codes "--mode=fast" ∷ codes "--mode=slow"
+        ∷ codes "--mode=slower" ∷ [] }
+{}
+
+/// The first word that its positional does not accept.
+pub fn words_are_refused()
+    ensures first { refused_word listed_positionals (0 ∷ 1 ∷ []) (codes "low" ∷ codes "tar" ∷ [])
+        ≡ Some (0, codes "low") }
+    ensures second { refused_word listed_positionals (0 ∷ 1 ∷ []) (codes "slow" ∷ codes "rar" ∷ [])
+        ≡ Some (1, codes "rar") }
+    ensures both { refused_word listed_positionals (0 ∷ 1 ∷ []) (codes "low" ∷ codes "rar" ∷ [])
+        ≡ Some (0, codes "low") }
+    ensures neither { refused_word listed_positionals (0 ∷ 1 ∷ []) (codes "slow" ∷ codes "tar" ∷ [])
+        ≡ None }
+    ensures another_list { refused_word listed_positionals (1 ∷ []) (codes "slow" ∷ [])
+        ≡ Some (1, codes "slow") }
+    ensures no_positional { refused_word listed_positionals (2 ∷ []) (codes "low" ∷ []) ≡ None }
+    ensures fewer { refused_word listed_positionals (0 ∷ 1 ∷ []) (codes "fast" ∷ []) ≡ None }
+{}
+
+/// The lists of these positionals can be declared, and of those one cannot.
+pub fn lists_of_positionals_are_declared()
+    ensures all { are_listable listed_positionals ≡ true }
+    ensures none { are_listable (positional_of (codes "FILE") [] files ∷ []) ≡ true }
+    ensures empty { are_listable (positional_of (codes "HOW") [] (listed []) ∷ []) ≡ false }
+    ensures last { are_listable (positional_of (codes "FILE") [] files
+        ∷ positional_of (codes "HOW") [] (listed (codes "-" ∷ [])) ∷ []) ≡ false }
+{}
+
+/// The first positional whose list cannot be declared.
+pub fn bad_lists_are_found()
+    ensures first { IsFirstBadList (positional_of (codes "HOW") [] (listed []) ∷ []) 0 }
+    ensures last { IsFirstBadList (positional_of (codes "FILE") [] files
+        ∷ positional_of (codes "HOW") [] (listed (codes "-" ∷ [])) ∷ []) 1 }
+{}
+
+/// What is not.
+pub fn no_other_list_is_bad()
+    ensures not_one_that_can_be_declared { IsFirstBadList
+        (positional_of (codes "HOW") [] (listed (codes "fast" ∷ [])) ∷ []) 0 → ⊥ }
+    ensures not_the_second { IsFirstBadList (positional_of (codes "HOW") [] (listed [])
+        ∷ positional_of (codes "FORM") [] (listed []) ∷ []) 1 → ⊥ }
+    ensures none_past_the_end { IsFirstBadList (positional_of (codes "FILE") [] files ∷ []) 1
+        → ⊥ }
 {}

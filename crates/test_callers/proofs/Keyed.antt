@@ -116,7 +116,7 @@ known_role options None None is = tt
 known_role options (Some r) None is = tt
 known_role options None (Some r) is = absurd is
 known_role options (Some (completion.value i)) (Some (role.Value option)) is = (i, is)
-known_role options (Some completion.argument) (Some (role.Value option)) is = absurd is
+known_role options (Some (completion.argument n)) (Some (role.Value option)) is = absurd is
 known_role options (Some r) (Some role.Argument) is = tt
 
 -- ---- a value that is converted

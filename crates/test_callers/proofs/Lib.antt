@@ -3,3 +3,4 @@ mod Pairs
 pub mod Tool
 pub mod Keyed
 pub mod Completed
+pub mod Printed

@@ -96,6 +96,8 @@ stopped_by words before (mistake.MissingValue option placeholder) why is stopped
 stopped_by words before (mistake.InvalidValue own value values) why (index, same, (d, here, short, long), are) stopped =
     (index, subst (Stopped words before) same stopped, (d, here, names_are d own short long), are)
 stopped_by words before (mistake.UnexpectedArgument word) why is stopped = subst (Stopped words before) is stopped
+stopped_by words before (mistake.InvalidArgument placeholder word values) why (index, same, (p, here, placed, are)) stopped =
+    (index, subst (Stopped words before) same stopped, p, here, placed, are)
 stopped_by words before (mistake.MissingArgument placeholder) why is stopped = (is.0, subst (Stopped words before) is.1 stopped, is.2)
 stopped_by words before (mistake.MissingOption own) why (index, same, (d, here, short, long)) stopped =
     (index, subst (Stopped words before) same stopped, d, here, names_are d own short long)

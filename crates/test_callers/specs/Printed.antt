@@ -1,9 +1,9 @@
 -- What is printed of declared options, and which of two cannot be declared, in plain data.
-use Rattle.std.specs.Prelude.{◌≡◌, ◌⊎◌, ◌&&◌, zero, suc, ℕ, Bool, true, false, List, [], ◌∷◌, ◌++◌}
-use Rattle.std.specs.Prelude.{map, Option, Some, None, codes, encode_utf8}
+use Rattle.std.specs.Prelude.{◌≡◌, ◌≢◌, ◌⊎◌, ◌&&◌, zero, suc, ℕ, Bool, true, false, List, []}
+use Rattle.std.specs.Prelude.{◌∷◌, ◌++◌, map, Option, Some, None, codes, encode_utf8}
 use Rattle.std.specs.Prelude.{string_bytes, nat_lt, ◌==◌, ◌||◌, if◌then◌else◌}
 use Rattle.anyhow.specs.Error.{error_message}
-use Rattle.std.specs.List.{flat_map}
+use Rattle.std.specs.List.{flat_map, list_all}
 use Rattle.std.specs.Str.{chars}
 use Rattle.lexopt_spec.specs.Text.{quoted, quoted_character}
 use Rattle.lexopt_words.specs.Message as words
@@ -11,7 +11,8 @@ use Rattle.lexopt_words.specs.declared.error.Error.{Error}
 use Rattle.lexopt_words.specs.declared.error.Error.TheVariants as error
 use Rattle.lexopt_line_spec.specs.Table.{flag, one}
 use Rattle.lexopt_options_spec.specs.Declaration as spec
-use Rattle.lexopt_options_spec.specs.Declaration.{IsFirstFault, are_clear, is_sound}
+use Rattle.lexopt_options_spec.specs.Declaration.{IsFirstFault, are_clear, are_listable}
+use Rattle.lexopt_options_spec.specs.Declaration.{is_sound}
 use Rattle.lexopt_options_spec.specs.Help.{IsUsage, list_text}
 use Rattle.lexopt_declaration.specs.declared.declaration.Count.{Count}
 use Rattle.lexopt_declaration.specs.declared.declaration.Count.TheVariants as count
@@ -41,6 +42,12 @@ names_line (Short c) = codes "-" ++ encode_utf8 c
 names_line (Long name) = codes "--" ++ name.now
 names_line (Both c name) = codes "--" ++ name.now
 
+-- why a list cannot be declared
+abbrev pub list_reason : List ℕ
+list_reason =
+    codes "the list of its values is empty, or one of them is empty, begins with '-' or '=', "
+    ++ codes "or has a blank or a control character in it"
+
 abbrev pub reason_line : Reason → List ℕ
 reason_line reason.DashName = codes "its character is '-'"
 reason_line reason.EmptyName = codes "its name is empty"
@@ -49,9 +56,7 @@ reason_line reason.ReplacementInName = codes "its name has U+FFFD in it"
 reason_line reason.BlankOrControlInName =
     codes "its name has a blank or a control character in it"
 reason_line reason.BadPlaceholder = codes "its placeholder is empty or begins with '-' or '='"
-reason_line reason.BadList =
-    codes "the list of its values is empty, or one of them is empty, begins with '-' or '=', "
-    ++ codes "or has a blank or a control character in it"
+reason_line reason.BadList = list_reason
 reason_line reason.SameName = codes "an option before it has one of its names"
 
 abbrev pub declaration_line : DeclarationError → List ℕ
@@ -59,6 +64,8 @@ declaration_line (refusal.Option option reason) =
     codes "option '" ++ (names_line option ++ (codes "': " ++ reason_line reason))
 declaration_line (refusal.Positional placeholder) = codes "positional argument "
     ++ (placeholder.now ++ codes ": one before it may occur more than once too")
+declaration_line (refusal.BadList placeholder) =
+    codes "positional argument " ++ (placeholder.now ++ (codes ": " ++ list_reason))
 
 -- ---- a line that is refused
 
@@ -85,6 +92,9 @@ mistake_line (mistake.InvalidValue option value values) = codes "invalid value "
     ++ (codes "': one of " ++ list_text (map (λ v. v.now) values.now)))))
 mistake_line (mistake.UnexpectedArgument word) = codes "unexpected argument " ++ quoted word
 mistake_line (mistake.MissingArgument placeholder) = codes "missing argument " ++ placeholder.now
+mistake_line (mistake.InvalidArgument placeholder word values) = codes "invalid argument "
+    ++ (quoted word ++ (codes " for " ++ (placeholder.now
+    ++ (codes ": one of " ++ list_text (map (λ v. v.now) values.now)))))
 mistake_line (mistake.MissingOption names) =
     codes "missing option '" ++ (names_line names ++ codes "'")
 
@@ -185,6 +195,7 @@ IsFaultOf character name placeholder values fault = (index : ℕ)
 abbrev pub IsUsageWith : {F V P M S : Type 0} → ℕ → Declaration F V P M S → List ℕ → Type 0
 IsUsageWith width d text = (is_sound (map option_view d.options.now) ≡ true)
     × (are_clear (map positional_view d.positionals.now) ≡ true)
+    × (are_listable (map positional_view d.positionals.now) ≡ true)
     × IsUsage width (declaration_view d) text
 
 -- not all of it can be declared together, and the text is what is printed of the error
@@ -194,13 +205,13 @@ IsErrorWith d text = (error : DeclarationError) × IsDeclarationError d error
 
 -- ---- an option and two positionals, declared together
 
-abbrev pub one_option : ℕ → List spec.Declared
-one_option character = record {
+abbrev pub one_option : ℕ → List ℕ → List spec.Declared
+one_option character help = record {
   short_name = Some character;
   long_name = None;
   kind = flag;
   placeholder = [];
-  help = [];
+  help = help;
   asks = None;
   hidden = false;
   required = false;
@@ -214,17 +225,27 @@ count_of count.AtMostOnce = spec.at_most_once
 count_of count.AnyNumber = spec.any_number
 count_of count.AtLeastOnce = spec.at_least_once
 
-abbrev pub two_words : Count → Count → List spec.Positional
-two_words first second =
-    record { placeholder = codes "FROM"; count = count_of first; help = [] }
-    ∷ record { placeholder = codes "TO"; count = count_of second; help = [] } ∷ []
+abbrev pub two_words : List ℕ → Count → Count → List (List ℕ) → List spec.Positional
+two_words help first second values = record {
+  placeholder = codes "FROM";
+  count = count_of first;
+  help = help;
+  words = spec.directories;
+}
+    ∷ record {
+      placeholder = codes "TO";
+      count = count_of second;
+      help = help;
+      words = spec.listed values;
+    }
+    ∷ []
 
-abbrev pub small_tool : ℕ → Count → Count → spec.Declaration
-small_tool character first second = record {
+abbrev pub small_tool : ℕ → List ℕ → Count → Count → List (List ℕ) → spec.Declaration
+small_tool character help first second values = record {
   program = codes "small";
   about = [];
-  options = one_option character;
-  positionals = two_words first second;
+  options = one_option character help;
+  positionals = two_words help first second values;
   epilogue = [];
   short_equals = true;
 }
@@ -236,18 +257,26 @@ repeats count.AtMostOnce = false
 repeats count.AnyNumber = true
 repeats count.AtLeastOnce = true
 
--- The option can be declared, and not both positionals may occur more than once. The text is the
--- usage line in this width.
-abbrev pub IsUsageOf : ℕ → ℕ → Count → Count → List ℕ → Type 0
-IsUsageOf width character first second text = (is_sound (one_option character) ≡ true)
-    × ((repeats first && repeats second) ≡ false)
-    × IsUsage width (small_tool character first second) text
+-- there is one of these, and each can stand in a list
+abbrev pub CanBeListed : List (List ℕ) → Type 0
+CanBeListed values = (values ≢ []) × (list_all spec.is_listable values ≡ true)
+
+-- The option can be declared, not both positionals may occur more than once, and the list of the
+-- second can be declared. The text is the usage line in this width.
+abbrev pub IsUsageOf : ℕ → ℕ → List ℕ → Count → Count → List (List ℕ) → List ℕ → Type 0
+IsUsageOf width character help first second values text =
+    (is_sound (one_option character help) ≡ true)
+    × ((repeats first && repeats second) ≡ false) × CanBeListed values
+    × IsUsage width (small_tool character help first second values) text
 
 -- The option cannot be declared, for the reason in the text. Or it can be declared, and both
--- positionals may occur more than once: the text says so of the second.
-abbrev pub IsErrorOf : ℕ → Count → Count → List ℕ → Type 0
-IsErrorOf character first second text = ((reason : Reason)
-    × IsFirstFault (one_option character) 0 (reason_of reason)
+-- positionals may occur more than once: the text says so of the second. Or not both may, and the
+-- list of the second cannot be declared: the text says so.
+abbrev pub IsErrorOf : ℕ → List ℕ → Count → Count → List (List ℕ) → List ℕ → Type 0
+IsErrorOf character help first second values text = ((reason : Reason)
+    × IsFirstFault (one_option character help) 0 (reason_of reason)
     × (text ≡ codes "option '-" ++ (encode_utf8 character ++ (codes "': " ++ reason_line reason))))
-    ⊎ ((is_sound (one_option character) ≡ true) × ((repeats first && repeats second) ≡ true)
+    ⊎ ((is_sound (one_option character help) ≡ true) × ((repeats first && repeats second) ≡ true)
     × (text ≡ codes "positional argument TO: one before it may occur more than once too"))
+    ⊎ ((is_sound (one_option character help) ≡ true) × ((repeats first && repeats second) ≡ false)
+    × (¬ CanBeListed values) × (text ≡ codes "positional argument TO: " ++ list_reason))

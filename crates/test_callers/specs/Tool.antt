@@ -1,9 +1,9 @@
 -- The tool that `declared.rt` declares, by the grammar and by plain data.
-use Rattle.std.specs.Prelude.{◌≡◌, ℕ, List, [], ◌∷◌, Option, Some, None, codes, true, false}
+use Rattle.std.specs.Prelude.{◌≡◌, ℕ, List, [], ◌∷◌, Option, Some, None, codes, Bool, true, false}
 use Rattle.std.specs.Prelude.{◌⊎◌, ◌++◌, ◌-◌, ◌==◌, if◌then◌else◌, Contains, filter, length}
 use Rattle.std.specs.Prelude.{nat_eq, option_map}
 use Rattle.std.specs.Prelude.{map, slice_get, string_bytes}
-use Rattle.std.specs.List.{AllZip, flat_map, starts_with}
+use Rattle.std.specs.List.{AllZip, flat_map, list_any, starts_with}
 use Rattle.lexopt_declaration.specs.declared.declaration.Names.{Names}
 use Rattle.lexopt_declaration.specs.declared.declaration.Names.TheVariants as names
 use Rattle.lexopt_declaration.specs.Scripts.{bash_script, fish_script, zsh_script}
@@ -12,11 +12,11 @@ use Rattle.lexopt_line_spec.specs.Table.{Kind, flag, one, optional, several, sho
 use Rattle.lexopt_options_spec.specs.Declaration.{Declaration, Declared, once}
 use Rattle.lexopt_options_spec.specs.Declaration.{at_most_once, any_number, for_help, for_version}
 use Rattle.lexopt_options_spec.specs.Declaration as spec
-use Rattle.lexopt_options_spec.specs.Declaration.{files, listed}
+use Rattle.lexopt_options_spec.specs.Declaration.{Positional, directories, files, listed}
 use Rattle.lexopt_options_spec.specs.Asking.{AskFor, first_asked, said_before}
 use Rattle.lexopt_options_spec.specs.Completion as completion
-use Rattle.lexopt_options_spec.specs.Completion.{Completes, HasRole, IsJoined, offered_values}
-use Rattle.lexopt_options_spec.specs.Completion.{spellings}
+use Rattle.lexopt_options_spec.specs.Completion.{AreOwnersIn, Completes, HasRole, IsJoined}
+use Rattle.lexopt_options_spec.specs.Completion.{offered_values, spellings}
 use Rattle.lexopt_options_spec.specs.Help.{IsHelp, Line as HelpLine, Wraps, below}
 use Rattle.lexopt_options_spec.specs.Legal as legal
 use Rattle.lexopt_options_spec.specs.Legal.{Says}
@@ -78,14 +78,27 @@ tool_options = plain (Some 118) (Some (codes "verbose")) flag [] (codes "tell mo
     }
     ∷ []
 
+abbrev pub tool_positionals : List Positional
+tool_positionals = record {
+  placeholder = codes "FROM";
+  count = once;
+  help = codes "one";
+  words = directories;
+}
+    ∷ record {
+      placeholder = codes "TO";
+      count = at_most_once;
+      help = codes "two";
+      words = listed (codes "here" ∷ codes "there" ∷ []);
+    }
+    ∷ record { placeholder = codes "MORE"; count = any_number; help = []; words = files } ∷ []
+
 abbrev pub tool : Declaration
 tool = record {
   program = codes "tool";
   about = codes "Works.";
   options = tool_options;
-  positionals = record { placeholder = codes "FROM"; count = once; help = codes "one" }
-      ∷ record { placeholder = codes "TO"; count = at_most_once; help = codes "two" }
-      ∷ record { placeholder = codes "MORE"; count = any_number; help = [] } ∷ [];
+  positionals = tool_positionals;
   epilogue = codes "End." ∷ [];
   short_equals = true;
 }
@@ -164,6 +177,10 @@ StoppedBy words before (mistake.InvalidValue own value values) = (index : ℕ)
     × (o.words ≡ listed (map (λ v. v.now) values.now)))
 StoppedBy words before (mistake.UnexpectedArgument word) =
     Stopped words before (stops.unexpected_argument word)
+StoppedBy words before (mistake.InvalidArgument placeholder word values) = (index : ℕ)
+    × Stopped words before (stops.invalid_argument index word)
+    × (p : Positional) × (slice_get tool_positionals index ≡ Some p)
+    × (p.placeholder ≡ placeholder.now) × (p.words ≡ listed (map (λ v. v.now) values.now))
 StoppedBy words before (mistake.MissingArgument placeholder) = (count : ℕ)
     × Stopped words before (stops.missing_argument count)
     × (placeholder.now ≡ required_placeholder tool.positionals count)
@@ -206,7 +223,7 @@ AreBoth x y = ⊥
 abbrev pub IsSameRole : Option completion.Role → Option (Role Flag Value Maybe Values) → Type 0
 IsSameRole None None = Unit {0}
 IsSameRole (Some (completion.value i)) (Some (role.Value option)) = Unit {0}
-IsSameRole (Some completion.argument) (Some role.Argument) = Unit {0}
+IsSameRole (Some (completion.argument n)) (Some role.Argument) = Unit {0}
 IsSameRole r found = ⊥
 
 -- ---- the usage line
@@ -237,15 +254,47 @@ line_of start spec.directories = start ++ codes "directories\n"
 line_of start spec.text = []
 line_of start (spec.listed values) = []
 
+-- these are completed by the names of files
+abbrev pub are_files : spec.Words → Bool
+are_files spec.files = true
+are_files spec.directories = false
+are_files spec.text = false
+are_files (spec.listed values) = false
+
+-- or by those of directories
+abbrev pub are_directories : spec.Words → Bool
+are_directories spec.files = false
+are_directories spec.directories = true
+are_directories spec.text = false
+are_directories (spec.listed values) = false
+
 abbrev pub line_at : List ℕ → Option Declared → List ℕ
 line_at start None = []
 line_at start (Some o) = line_of start o.words
 
--- the line for a word that is not an option
-abbrev pub role_line : Option completion.Role → List ℕ
-role_line None = []
-role_line (Some completion.argument) = codes "files\n"
-role_line (Some (completion.value i)) = line_at [] (slice_get tool_options i)
+-- the words of a positional are completed by the names of files
+abbrev pub by_files : Option Positional → Bool
+by_files None = false
+by_files (Some p) = are_files p.words
+
+-- or by those of directories
+abbrev pub by_directories : Option Positional → Bool
+by_directories None = false
+by_directories (Some p) = are_directories p.words
+
+-- the line for a word that can belong to the positionals of these indices: `files`, if this is the
+-- line of one of them; else `directories`, if this is the line of one; else none
+abbrev pub owners_line : List ℕ → List ℕ
+owners_line owners =
+    if list_any (λ i. by_files (slice_get tool_positionals i)) owners then codes "files\n" else
+    (if list_any (λ i. by_directories (slice_get tool_positionals i)) owners
+    then codes "directories\n" else [])
+
+-- the line for a word that is not an option, and can belong to these if it is a positional
+abbrev pub role_line : Option completion.Role → List ℕ → List ℕ
+role_line None owners = []
+role_line (Some (completion.argument n)) owners = owners_line owners
+role_line (Some (completion.value i)) owners = line_at [] (slice_get tool_options i)
 
 -- the line for a value after `=`
 abbrev pub index_line : Option ℕ → List ℕ
@@ -258,9 +307,9 @@ plus_line [] = 43 ∷ 10 ∷ []
 plus_line (b ∷ bs) = if b == 45 then b ∷ bs ++ 10 ∷ [] else 43 ∷ b ∷ bs ++ 10 ∷ []
 
 -- The words ask what can be typed. The text has a line for each spelling, and one for each value in
--- a list. If a word is possible that is not an option, a line `files` follows, or the line by what
--- completes the values of the option whose value it is; and if a value is typed after `=`, the line
--- by what completes it.
+-- a list. If a word is possible that is not an option, the line follows by what completes the
+-- values of the option whose value it is, or the words of the positionals that it can belong to;
+-- and if a value is typed after `=`, the line by what completes it.
 pub record IsOffer (words : List (List ℕ)) (text : List ℕ) : Type 0 where
   pub before : List (List ℕ)
   pub typed : List ℕ
@@ -270,11 +319,13 @@ pub record IsOffer (words : List (List ℕ)) (text : List ℕ) : Type 0 where
   pub complete : (s : List ℕ) → Completes tool before typed s → Contains offered s
   pub role : Option completion.Role
   pub word : HasRole tool before typed role
+  pub owners : List ℕ
+  pub arguments : AreOwnersIn tool_positionals role owners
   pub index : Option ℕ
   pub joined : IsJoined tool before typed index
   pub written : text ≡ flat_map (λ s. s ++ 10 ∷ []) offered
-      ++ flat_map plus_line (offered_values tool_options typed role index)
-      ++ role_line role ++ index_line index
+      ++ flat_map plus_line (offered_values tool typed role owners index)
+      ++ role_line role owners ++ index_line index
 
 -- they ask for the script of this shell
 abbrev pub IsScript : List (List ℕ) → List ℕ → Type 0

@@ -3,7 +3,7 @@
 //! plain data, so that no such definition can become weaker unnoticed.
 ghost use Rattle.std.specs.Prelude.{◌≡◌, ℕ, Contains, IfOk, List, Option, map, string_bytes};
 ghost use Rattle.lexopt_options_spec.specs.Completion as completion;
-ghost use Rattle.lexopt_options_spec.specs.Completion.{Completes, HasRole, IsJoined};
+ghost use Rattle.lexopt_options_spec.specs.Completion.{AreOwnersIn, Completes, HasRole, IsJoined};
 ghost use Rattle.lexopt_options_spec.specs.Completion.{offered_values};
 ghost use Rattle.lexopt_options_spec.specs.Declaration as spec;
 ghost use Rattle.lexopt_options_spec.specs.Help.{IsHelp};
@@ -140,18 +140,21 @@ static TOOL: Declaration<'static, Flag, Value, Word, Maybe, Values> = Declaratio
             placeholder: "FROM",
             count: Count::Once,
             help: "one",
+            words: Words::Directories,
         },
         Positional {
             key: Word::To,
             placeholder: "TO",
             count: Count::AtMostOnce,
             help: "two",
+            words: Words::Listed(&["here", "there"]),
         },
         Positional {
             key: Word::More,
             placeholder: "MORE",
             count: Count::AnyNumber,
             help: "",
+            words: Words::Files,
         },
     ],
     epilogue: &["End."],
@@ -186,9 +189,14 @@ pub fn complete(
         × HasRole tool words.now typed.now role × IsSameRole role c.word) }
     ensures joined { IfOk result (λ c. (index : Option ℕ)
         × IsJoined tool words.now typed.now index × AreBoth index c.joined) }
-    ensures values { IfOk result (λ c. (role : Option completion.Role) × (index : Option ℕ)
-        × HasRole tool words.now typed.now role × IsJoined tool words.now typed.now index
-        × (map string_bytes c.values.items ≡ offered_values tool_options typed.now role index)) }
+    ensures arguments { IfOk result (λ c. (role : Option completion.Role)
+        × HasRole tool words.now typed.now role
+        × AreOwnersIn tool.positionals role c.arguments.items) }
+    ensures values { IfOk result (λ c. (role : Option completion.Role) × (owners : List ℕ)
+        × (index : Option ℕ) × HasRole tool words.now typed.now role
+        × AreOwnersIn tool.positionals role owners × IsJoined tool words.now typed.now index
+        × (map string_bytes c.values.items
+        ≡ offered_values tool typed.now role owners index)) }
 {
     Options::new(&TOOL).complete(alloc, words, typed)
 }

@@ -10,7 +10,7 @@ ghost use Rattle.test_callers.specs.Printed.{report_line, two_options};
 use crate::declared::{Flag, Value, Word};
 use lexopt_options::{
     Count, Declaration, DeclarationError, Declared, Mistake, Names, Options, Positional, Reason,
-    Refused, Report, UsageError,
+    Refused, Report, UsageError, Words,
 };
 use std::alloc::{AllocError, Global};
 
@@ -113,32 +113,37 @@ fn usage_or_error_of<'a>(
     }
 }
 
-/// Declares an option and two positional arguments. Returns the usage line if they can be declared
-/// together, and what is printed of the error if they cannot.
+/// Declares an option and two positional arguments, the second with a list of words. Returns the
+/// usage line if they can be declared together, and what is printed of the error if they cannot.
 pub fn usage_or_error(
     alloc: Global,
     width: usize,
     character: char,
+    help: &str,
     first: Count,
     second: Count,
+    values: &[&str],
 ) -> Result<Result<String, String>, AllocError>
-    ensures { IfOk result (λ told. MatchResult told
-        (λ text. IsUsageOf width character first second (string_bytes text))
-        (λ text. IsErrorOf character first second (string_bytes text))) }
+    ensures { let listed = map (λ value. value.now) values.now in
+        IfOk result (λ told. MatchResult told
+        (λ text. IsUsageOf width character help.now first second listed (string_bytes text))
+        (λ text. IsErrorOf character help.now first second listed (string_bytes text))) }
 {
-    let options = [Declared::flag(Flag::Verbose, Names::Short(character), "")];
+    let options = [Declared::flag(Flag::Verbose, Names::Short(character), help)];
     let positionals = [
         Positional {
             key: Word::From,
             placeholder: "FROM",
             count: first,
-            help: "",
+            help,
+            words: Words::Directories,
         },
         Positional {
             key: Word::To,
             placeholder: "TO",
             count: second,
-            help: "",
+            help,
+            words: Words::Listed(values),
         },
     ];
     let declaration: Declaration<'_, Flag, Value, Word> = Declaration {

@@ -195,9 +195,9 @@ static MARKED: Archive<'static> = declare! {
         version(Names::Long("version"), "archive 1.0").required(),
     ],
     positionals: [
-        once(Word::Source, "SOURCE", "what to pack"),
-        at_most_once(Word::Target, "TARGET"),
-        any_number(Word::File, "FILE", "more of them"),
+        once(Word::Source, "SOURCE", "what to pack").one_of(&["a", "b"]),
+        at_most_once(Word::Target, "TARGET").directories(),
+        any_number(Word::File, "FILE", "more of them").text(),
         at_least_once(Word::File, "LAST", "the last ones"),
     ],
 };
@@ -216,9 +216,9 @@ fn is_made_by_calls(alloc: Global) -> Result<bool, AllocError> {
         Declared::version(Names::Long("version"), "archive 1.0").required(),
     ];
     let positionals = [
-        Positional::once(Word::Source, "SOURCE", "what to pack"),
-        Positional::at_most_once(Word::Target, "TARGET", ""),
-        Positional::any_number(Word::File, "FILE", "more of them"),
+        Positional::once(Word::Source, "SOURCE", "what to pack").one_of(&["a", "b"]),
+        Positional::at_most_once(Word::Target, "TARGET", "").directories(),
+        Positional::any_number(Word::File, "FILE", "more of them").text(),
         Positional::at_least_once(Word::File, "LAST", "the last ones"),
     ];
     let made = archive(&options, &positionals);

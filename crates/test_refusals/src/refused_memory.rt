@@ -859,6 +859,16 @@ static OWN: Declaration<'static, Flag, Value, Word> = declare! {
     positionals: [at_least_once(Word::File, "FILE"), once(Word::Target, "TARGET")],
 };
 
+// Arguments with lists of words, of which the first may be left out.
+static CHOOSE: Declaration<'static, Flag, Value, Word> = declare! {
+    program: "choose",
+    options: [flag(Flag::Verbose, Names::Both('v', "verbose"), "tell more")],
+    positionals: [
+        at_most_once(Word::File, "HOW", "how fast").one_of(&["fast", "slow"]),
+        once(Word::Target, "FORM").one_of(&["tar"]),
+    ],
+};
+
 // Adds the answer.
 fn write_answer(
     answer: &Answer<'_, Flag, Value, Word>,
@@ -989,5 +999,25 @@ fn declared_missing(rt: HostRuntime) -> Result<(), Fail> {
         Options::new(&OWN),
         b"a\n-v\nb",
         "own: missing option '--user'\nTry 'own --help' for more information.",
+    )
+}
+
+#[test]
+fn declared_argument(rt: HostRuntime) -> Result<(), Fail> {
+    answers_so(
+        rt.alloc(),
+        Options::new(&CHOOSE),
+        b"-v\nmedium\ntar",
+        "choose: invalid argument \"medium\" for HOW: one of fast, slow",
+    )
+}
+
+#[test]
+fn declared_owners(rt: HostRuntime) -> Result<(), Fail> {
+    answers_so(
+        rt.alloc(),
+        Options::new(&CHOOSE),
+        b"__complete\n",
+        "-v\n--verbose\n+fast\n+slow\n+tar\n",
     )
 }

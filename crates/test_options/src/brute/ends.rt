@@ -1,7 +1,7 @@
 //! The end of a line: what is missing, what is asked for, and which positional argument each word
 //! belongs to.
-use crate::brute::plain::{Item, Place, Plan, Typed, text_of};
-use lexopt_options::{Asked, Count, Kind, Names};
+use crate::brute::plain::{Item, Place, Plan, PlanWord, Typed, text_of};
+use lexopt_options::{Asked, Count, Kind, Names, Words};
 use std::alloc::{AllocError, Global};
 
 /// How many positional arguments are among these.
@@ -50,7 +50,81 @@ pub fn name_of(alloc: Global, names: Names<'_>) -> Result<String, AllocError> {
     }
 }
 
-/// What is missing at the end of a line.
+// The words that a positional argument accepts, if it has a list.
+fn list_of(own: &PlanWord) -> Option<&'static [&'static str]> {
+    match own.words {
+        Words::Listed(values) => Some(values),
+        _ => None,
+    }
+}
+
+// The mistake that this positional argument does not accept a word, if it does not.
+fn unfit(
+    alloc: Global,
+    plan: &'static Plan,
+    place: Place,
+    word: &str,
+) -> Result<Option<String>, AllocError> {
+    for own in plan.positionals {
+        if let (true, Some(list)) = (own.key == place, list_of(own)) {
+            if !list.iter().any(|value| *value == word) {
+                let placeholder = own.placeholder;
+                let list = list.join(alloc, ", ")?;
+                return Ok(Some(format!(in alloc;
+                    "invalid argument \"{word}\" for {placeholder}: one of {list}"
+                )?));
+            }
+        }
+    }
+    Ok(None)
+}
+
+// The mistake of the first word that its positional argument does not accept.
+fn first_unfit(
+    alloc: Global,
+    plan: &'static Plan,
+    items: &[Item<'_>],
+) -> Result<Option<String>, AllocError> {
+    let places = places_of(alloc, plan, count_of(items))?;
+    let mut words = 0usize;
+    for item in items {
+        if let (Item::Word(word), Some(place)) = (item, places.get(words)) {
+            if let Some(mistake) = unfit(alloc, plan, *place, word)? {
+                return Ok(Some(mistake));
+            }
+            words = words.saturating_add(1);
+        }
+    }
+    Ok(None)
+}
+
+/// The places in the declaration of the positional arguments that the word after `count` others can
+/// belong to, with some more words after it or with none; and the words in their lists.
+pub fn owners_after(
+    alloc: Global,
+    plan: &'static Plan,
+    count: usize,
+) -> Result<(Vec<usize>, Vec<&'static str>), AllocError> {
+    let mut owners = Vec::new(alloc);
+    let mut words = Vec::new(alloc);
+    for (place, own) in plan.positionals.iter().enumerate() {
+        let mut can_own = false;
+        for more in 0..6usize {
+            let whole = count.saturating_add(1).saturating_add(more);
+            let places = places_of(alloc, plan, whole)?;
+            can_own |= places.len() == whole && places.get(count) == Some(&own.key);
+        }
+        if can_own {
+            owners.push(place)?;
+            for word in list_of(own).unwrap_or(&[]) {
+                words.push(*word)?;
+            }
+        }
+    }
+    Ok((owners, words))
+}
+
+/// What is wrong at the end of a line.
 pub fn missing(
     alloc: Global,
     plan: &'static Plan,
@@ -58,6 +132,9 @@ pub fn missing(
 ) -> Result<Option<String>, AllocError> {
     if let Some(placeholder) = missing_argument(plan, count_of(items)) {
         return Ok(Some(format!(in alloc; "missing argument {placeholder}")?));
+    }
+    if let Some(mistake) = first_unfit(alloc, plan, items)? {
+        return Ok(Some(mistake));
     }
     let Some(names) = missing_option(plan, items) else {
         return Ok(None);

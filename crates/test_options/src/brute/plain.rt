@@ -2,7 +2,7 @@
 //! calls nothing of the library. It reads words of ASCII without `=` in a cluster and without
 //! characters that messages escape, and gives no hints.
 use crate::brute::ends::{count_of, may_repeat, missing, name_of};
-use lexopt_options::{Declaration, Kind, Names, Words};
+use lexopt_options::{Declaration, Kind, Names, Positional, Words};
 use std::alloc::{AllocError, Global};
 
 /// The key of an option.
@@ -23,6 +23,8 @@ pub enum Place {
 
 pub type Plan = Declaration<'static, Key, Key, Place, Key, Key>;
 
+pub type PlanWord = Positional<'static, Place>;
+
 /// What is read.
 #[derive(Debug, PartialEq, Eq, Drop)]
 pub enum Item<'w> {
@@ -38,7 +40,7 @@ pub struct Reading<'w> {
     pub items: Vec<Item<'w>>,
     /// Why the words cannot be read on.
     pub mistake: Option<String>,
-    /// What is missing at the end, if the words can be read to it.
+    /// What is wrong at the end, if the words can be read to it.
     pub missing: Option<String>,
 }
 
@@ -395,12 +397,17 @@ pub fn read<'w>(
     })
 }
 
-/// What can come after these words, whatever lists of values accept.
-pub fn left_after(alloc: Global, plan: &'static Plan, words: &[&str]) -> Result<Left, AllocError> {
+/// What can come after these words, whatever lists accept, and how many positional arguments are
+/// among them.
+pub fn left_after(
+    alloc: Global,
+    plan: &'static Plan,
+    words: &[&str],
+) -> Result<(Left, usize), AllocError> {
     let mut reader = new_reader(alloc, plan, false);
     match reader.read_words(words)? {
-        Some(_) => Ok(Left::Nothing),
-        None => Ok(reader.left()),
+        Some(_) => Ok((Left::Nothing, 0)),
+        None => Ok((reader.left(), count_of(&reader.items))),
     }
 }
 

@@ -36,7 +36,7 @@ pub static MORE_WORDS: [&str; 13] = [
     "x",
 ];
 
-/// What is tried first after a spelling: most lines are legal with one of these.
+/// What is tried first after a spelling: most lines that can be legal are legal with one of these.
 pub static TAILS: [&[&str]; 19] = [
     &[],
     &["a"],
@@ -66,7 +66,7 @@ pub static SPELLINGS: [&str; 7] = ["-v", "--verbose", "-x", "-u", "--user", "-h"
 pub static FRONTS: [&str; 6] = ["", "-", "--", "--u", "--user=", "u"];
 
 // An option with a list of values is required, and there are two arguments, of which the first may
-// occur more than once.
+// occur more than once, and the second has a list of words.
 static SOURCES: Plan = declare! {
     program: "sources",
     options: [
@@ -76,10 +76,11 @@ static SOURCES: Plan = declare! {
             .required(),
         help(Names::Both('h', "help")),
     ],
-    positionals: [at_least_once(Place::First, "SOURCE"), once(Place::Second, "DEST")],
+    positionals: [at_least_once(Place::First, "SOURCE"), once(Place::Second, "DEST").one_of(&["a", "u"])],
 };
 
-// Two options are required, one of them by a character alone. No help is declared.
+// Two options are required, one of them by a character alone. No help is declared. The first
+// argument, which may be left out, has a list of words.
 static RENAME: Plan = declare! {
     program: "rename",
     options: [
@@ -87,10 +88,13 @@ static RENAME: Plan = declare! {
         flag(Key::Verbose, Names::Both('v', "verbose"), ""),
         value(Key::User, Names::Both('u', "user"), "NAME", "").hidden().required(),
     ],
-    positionals: [at_most_once(Place::First, "OLD"), once(Place::Second, "NEW")],
+    positionals: [
+        at_most_once(Place::First, "OLD").one_of(&["a"]),
+        once(Place::Second, "NEW"),
+    ],
 };
 
-// No option is required, and one has several values.
+// No option is required, and one has several values. Two of three arguments have lists of words.
 static OPEN: Plan = declare! {
     program: "open",
     options: [
@@ -100,8 +104,8 @@ static OPEN: Plan = declare! {
         help(Names::Long("help")),
     ],
     positionals: [
-        once(Place::First, "FILE"),
-        at_most_once(Place::Second, "SECOND"),
+        once(Place::First, "FILE").one_of(&["u", "a"]),
+        at_most_once(Place::Second, "SECOND").one_of(&["a"]),
         any_number(Place::Third, "REST"),
     ],
 };

@@ -1,4 +1,5 @@
 //! The spellings and values that are offered, beside the plain reader.
+use crate::brute::ends::owners_after;
 use crate::brute::plain::{
     Item, Key, Left, Place, Plan, Reading, Typed, ends_in_option, left_after, list_at, place_of,
     read,
@@ -7,7 +8,7 @@ use crate::brute::plans::{FRONTS, MORE_WORDS, SPELLINGS, TAILS, WORDS, plans};
 use crate::brute::words_of;
 use lexopt_options::{Options, OsString};
 use std::alloc::{AllocError, Global};
-use test_helpers::lists::{list_of, numbers_of};
+use test_helpers::lists::list_of;
 
 type KeyOptions = Options<'static, Key, Key, Place, Key, Key>;
 
@@ -71,8 +72,8 @@ fn joined(
     Ok(words)
 }
 
-// Whether a spelling can come after these words: with at most three words after it some line is
-// legal in which it is its option.
+// Whether a spelling can come after these words: with one of the tails, or with at most two words,
+// after it some line is legal in which it is its option.
 fn can_come(
     alloc: Global,
     plan: &'static Plan,
@@ -92,7 +93,9 @@ fn can_come(
             return Ok(true);
         }
     }
-    for number in 0..numbers_of(MORE_WORDS.len()) {
+    // The numbers of the lists of at most two of the words.
+    let base = MORE_WORDS.len().saturating_add(1);
+    for number in 0..base.saturating_mul(base) {
         if let Some(after) = list_of(alloc, &MORE_WORDS, number)? {
             let words = joined(alloc, before, spelling.text, &after)?;
             if goes_on(&front, spelling.place, &read(alloc, plan, &words)?) {
@@ -137,24 +140,38 @@ fn joined_option(plan: &Plan, typed: &'static str) -> Option<(usize, &'static st
     Some((place_of(plan, Typed::Long(name))?, name))
 }
 
-// The values in lists that can come, where this can come next and this was typed.
+// Adds the texts that begin with what was typed.
+fn add_begun(
+    alloc: Global,
+    values: &mut Vec<String>,
+    texts: &[&str],
+    typed: &str,
+) -> Result<(), AllocError> {
+    for text in texts {
+        if text.starts_with(typed) {
+            values.push(String::from_str(alloc, text)?)?;
+        }
+    }
+    Ok(())
+}
+
+// The values in lists that can come, where this can come next and this was typed, and a word can
+// belong to positional arguments that accept these words.
 fn values_of(
     alloc: Global,
     plan: &Plan,
     left: Left,
+    words: &[&str],
     typed: &'static str,
 ) -> Result<Vec<String>, AllocError> {
     let mut values = Vec::new(alloc);
-    let own = match left {
+    match left {
         Left::OptionOrValue(place) | Left::Value(place) | Left::PlainValue(place) => {
-            list_at(plan, place)
+            let own = list_at(plan, place).unwrap_or(&[]);
+            add_begun(alloc, &mut values, own, typed)?;
         }
-        Left::Option | Left::Argument | Left::Nothing => None,
-    };
-    for value in own.unwrap_or(&[]) {
-        if value.starts_with(typed) {
-            values.push(String::from_str(alloc, value)?)?;
-        }
+        Left::Option | Left::Argument => add_begun(alloc, &mut values, words, typed)?,
+        Left::Nothing => {}
     }
     if let (Left::Option | Left::OptionOrValue(_), Some((place, name))) = (
         left,
@@ -167,6 +184,11 @@ fn values_of(
     Ok(values)
 }
 
+// Whether a word would be a positional argument, where this can come next and this was typed.
+fn is_argument(left: Left, typed: &str) -> bool {
+    left == Left::Argument || (left == Left::Option && !typed.starts_with('-'))
+}
+
 // For how many of what can be typed after these words what is offered is right.
 fn right_after(
     alloc: Global,
@@ -175,14 +197,21 @@ fn right_after(
     before: &[&'static str],
 ) -> Result<usize, AllocError> {
     let comers = comers(alloc, plan, before)?;
-    let left = left_after(alloc, plan, before)?;
+    let (left, count) = left_after(alloc, plan, before)?;
+    let (owners, own_words) = owners_after(alloc, plan, count)?;
     let words = words_of(alloc, before)?;
     let mut right = 0usize;
     for typed in FRONTS {
         let word = OsString::from_bytes(alloc, typed.as_bytes())?;
         let completion = options.complete(alloc, &words, &word)?;
+        let arguments: &[usize] = if is_argument(left, typed) {
+            &owners
+        } else {
+            &[]
+        };
         if are_offered(&comers, typed, &completion.spellings)
-            && completion.values == values_of(alloc, plan, left, typed)?
+            && completion.values == values_of(alloc, plan, left, &own_words, typed)?
+            && completion.arguments.as_slice() == arguments
         {
             right = right.saturating_add(1);
         }

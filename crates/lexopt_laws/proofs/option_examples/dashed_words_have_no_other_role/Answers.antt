@@ -16,8 +16,8 @@ pub returns-clause-value_due : goal.returns-clause-value_due
 returns-clause-value_due c none = worked.says_no_value _ (none [] (option 1 (Some (codes "--"))) worked.value_dashes)
 
 pub returns-clause-not_an_argument : goal.returns-clause-not_an_argument
-returns-clause-not_an_argument c role =
-    let e : value 1 ≡ argument = worked.dashed_is (sample [] true) (codes "-o" ∷ []) [] (option 1 (Some (codes "--"))) worked.value_dashes argument role in cc
+returns-clause-not_an_argument c n role =
+    let e : value 1 ≡ argument n = worked.dashed_is (sample [] true) (codes "-o" ∷ []) [] (option 1 (Some (codes "--"))) worked.value_dashes (argument n) role in cc
 
 pub returns-clause-first_value_due : goal.returns-clause-first_value_due
 returns-clause-first_value_due c role (before, s, says, unsaid, is) = worked.no_several_dashes (before ++ s ∷ []) says

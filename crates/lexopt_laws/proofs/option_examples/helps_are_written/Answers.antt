@@ -1,7 +1,7 @@
 use Rattle.std.proofs.Common.{List, ℕ, [], ◌∷◌, ◌++◌, true, codes, refl, lit≤, lit<}
 use Rattle.bstr.proofs.Computing.{computing}
 use Rattle.lexopt_options_spec.specs.Help.{columns, label, told_of, IsParagraph, IsEntry, IsUsage}
-use Rattle.lexopt_laws.specs.Sample.{listed_mode, verbose, output, backup, exclude, asks_for_help, sample, sample_options, files, described_files, mode, target}
+use Rattle.lexopt_laws.specs.Sample.{listed_mode, mode_in_list, verbose, output, backup, exclude, asks_for_help, sample, sample_options, files, described_files, mode, target}
 use Rattle.lexopt_laws.proofs.WorkedLines.{fits}
 use Rattle.lexopt_laws.proofs.option_examples.helps_are_written.Goals as goal
 
@@ -223,6 +223,37 @@ returns-clause-hidden_option c = record {
   usage_first = usage_without_options;
   about_next = no_about;
   each_positional = tt;
+  each_option = tt;
+  each_paragraph = tt;
+  written = refl;
+}
+
+usage_of_mode : IsUsage 80 (record (sample (mode_in_list ∷ []) true) { options = []; about = [] }) (codes "Usage: example_archive MODE\n")
+unfolding columns computing
+usage_of_mode = record {
+  lines = (codes "example_archive" ∷ codes "MODE" ∷ []) ∷ [];
+  wrapped = record { in_order = refl; fit = (fits (lit< tt) (lit≤ tt), tt); full = tt };
+  written = refl;
+}
+
+mode_entry : IsEntry 80 mode_in_list.placeholder (told_of mode_in_list.help mode_in_list.words) (codes "  MODE                  one of fast, slow\n")
+unfolding columns computing
+mode_entry = record {
+  lines = (codes "one" ∷ codes "of" ∷ codes "fast," ∷ codes "slow" ∷ []) ∷ [];
+  wrapped = record { in_order = refl; fit = (fits (lit< tt) (lit≤ tt), tt); full = tt };
+  written = refl;
+}
+
+pub returns-clause-list_of_a_positional : goal.returns-clause-list_of_a_positional
+returns-clause-list_of_a_positional c = record {
+  usage = codes "Usage: example_archive MODE\n";
+  about = [];
+  positionals = codes "  MODE                  one of fast, slow\n" ∷ [];
+  options = [];
+  epilogue = [];
+  usage_first = usage_of_mode;
+  about_next = no_about;
+  each_positional = (mode_entry, tt);
   each_option = tt;
   each_paragraph = tt;
   written = refl;

@@ -58,7 +58,7 @@ pub returns-clause-after_the_separator : goal.returns-clause-after_the_separator
 unfolding kind computing
 returns-clause-after_the_separator c a ask =
     let says : Says (asking_sample (files ∷ []) true) (codes "--" ∷ codes "--help" ∷ []) (positional (codes "--help") ∷ []) =
-    whole_of (spec.positional (codes "--help") ∷ []) (separator (codes "--help" ∷ [])) refl tt (lit≤ tt) refl refl in
+    whole_of refl (spec.positional (codes "--help") ∷ []) (separator (codes "--help" ∷ [])) refl tt (lit≤ tt) refl refl in
     let e : None ≡ Some a = asked_of_list _ _ _ a says ask in cc
 
 -- `--mode=medium --help`

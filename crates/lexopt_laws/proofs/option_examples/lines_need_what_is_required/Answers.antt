@@ -4,6 +4,7 @@ use Rattle.lexopt_options_spec.specs.Legal.{option}
 use Rattle.lexopt_options_spec.specs.Stops.{StopsAt, missing_argument, missing_option, not_complete, too_few}
 use Rattle.lexopt_options_spec.proofs.Fronts.{nothing_said}
 use Rattle.lexopt_laws.specs.Sample.{demanding_sample, sample, sources}
+use Rattle.lexopt_laws.proofs.AnyWords.{any_taken}
 use Rattle.lexopt_laws.proofs.Missing.{is_first_missing}
 use Rattle.lexopt_laws.proofs.OneStop.{one_stop}
 use Rattle.lexopt_laws.proofs.WorkedRequired.{has_user, lacks_both, lacks_user}
@@ -16,7 +17,7 @@ returns-clause-without_it c l says = nothing_said _ _ (option 0 None ∷ []) (mi
 pub returns-clause-without_words : goal.returns-clause-without_words
 returns-clause-without_words c l says =
     let stops : StopsAt (demanding_sample [] true) [] [] (missing_option 4) =
-    at_first (not_complete 4 _ (inl (next_word refl refl (no_word refl refl refl))) (lit≤ tt) (is_first_missing _ _ 4 refl)) in
+    at_first (not_complete 4 _ (inl (next_word refl refl (no_word refl refl refl))) (lit≤ tt) (any_taken refl (lit≤ tt)) (is_first_missing _ _ 4 refl)) in
     nothing_said _ _ [] (missing_option 4) stops l says
 
 pub returns-clause-with_it : goal.returns-clause-with_it

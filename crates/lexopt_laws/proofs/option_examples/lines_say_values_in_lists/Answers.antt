@@ -14,14 +14,14 @@ returns-clause-joined c = says_fast
 -- `-mslow`
 pub returns-clause-attached : goal.returns-clause-attached
 unfolding kind computing
-returns-clause-attached c = whole_of (spec.option (short 0x6D) (Some (codes "slow")) ∷ [])
+returns-clause-attached c = whole_of refl (spec.option (short 0x6D) (Some (codes "slow")) ∷ [])
     (cluster_line (codes "mslow") _ refl (last_of 0x6D (codes "slow") (attached (codes "slow")) _ refl (value_after 0x73 (codes "low") refl) (attached_value (codes "slow") refl refl refl)) no_words)
     refl (lit≤ tt) (lit≤ tt) refl refl
 
 -- `-b --backup=bak`
 pub returns-clause-left_out : goal.returns-clause-left_out
 unfolding kind computing
-returns-clause-left_out c = whole_of (spec.option (short 0x62) None ∷ spec.option (long (codes "backup")) (Some (codes "bak")) ∷ [])
+returns-clause-left_out c = whole_of refl (spec.option (short 0x62) None ∷ spec.option (long (codes "backup")) (Some (codes "bak")) ∷ [])
     (cluster_line (codes "b") _ refl (last_of 0x62 [] nothing _ refl (nothing_more refl refl) (no_optional refl refl refl))
     (joined_line (codes "backup") (codes "bak") _ refl (codes "backup", (refl, refl)) (joined_optional (codes "bak") refl refl refl) no_words))
     refl (lit≤ tt) (lit≤ tt) refl refl
@@ -29,18 +29,18 @@ returns-clause-left_out c = whole_of (spec.option (short 0x62) None ∷ spec.opt
 -- `-x c a`
 pub returns-clause-several_values : goal.returns-clause-several_values
 unfolding kind computing
-returns-clause-several_values c = whole_of (spec.many (short 0x78) (codes "c" ∷ codes "a" ∷ []) ∷ [])
+returns-clause-several_values c = whole_of refl (spec.many (short 0x78) (codes "c" ∷ codes "a" ∷ []) ∷ [])
     (cluster_line (codes "x") _ refl
     (last_of 0x78 [] nothing _ refl (nothing_more refl refl) (several_words (codes "c" ∷ codes "a" ∷ []) refl (plain_front_is _ [] refl refl) (some _ _) refl)) no_words)
     refl (lit≤ tt) (lit≤ tt) refl refl
 
 pub returns-clause-positional : goal.returns-clause-positional
-returns-clause-positional c = whole_of (spec.positional (codes "medium") ∷ []) (plain_line (codes "medium") refl no_words) refl tt (lit≤ tt) refl refl
+returns-clause-positional c = whole_of refl (spec.positional (codes "medium") ∷ []) (plain_line (codes "medium") refl no_words) refl tt (lit≤ tt) refl refl
 
 -- `--mode=fast`
 pub returns-clause-required : goal.returns-clause-required
 unfolding kind computing
-returns-clause-required c = whole_of (spec.option (long (codes "mode")) (Some (codes "fast")) ∷ [])
+returns-clause-required c = whole_of refl (spec.option (long (codes "mode")) (Some (codes "fast")) ∷ [])
     (joined_line (codes "mode") (codes "fast") _ refl (codes "mode", (refl, refl)) (joined_value (codes "fast") refl refl refl) no_words)
     refl (lit≤ tt) (lit≤ tt) refl refl
 

@@ -6,6 +6,9 @@ use Rattle.lexopt_laws.proofs.option_examples.plain_words_have_roles.Goals as go
 pub returns-clause-after_a_flag : goal.returns-clause-after_a_flag
 returns-clause-after_a_flag c = (option 0 None ∷ [], positional [], worked.flag_empty, refl)
 
+pub returns-clause-after_a_positional : goal.returns-clause-after_a_positional
+returns-clause-after_a_positional c = (positional (codes "a") ∷ [], positional [], worked.positional_empty, refl)
+
 pub returns-clause-no_more_positionals : goal.returns-clause-no_more_positionals
 returns-clause-no_more_positionals c before s says = worked.no_flag_empty (before ++ s ∷ []) says
 

@@ -1,7 +1,8 @@
-use Rattle.std.proofs.Common.{◌≡◌, [], ◌∷◌, true, false, codes, refl, sym, lit<, true≢false}
+use Rattle.std.proofs.Common.{◌≡◌, [], ◌∷◌, true, false, codes, refl, sym, lit<, lit≤, true≢false}
 use Rattle.std.proofs.lemmas.Str.{IsUtf8-from_is_utf8}
 use Rattle.lexopt_line_spec.proofs.Computing.{computing}
 use Rattle.lexopt_options_spec.proofs.Offered.{offered_stands}
+use Rattle.lexopt_laws.proofs.AnyWords.{any_filled}
 use Rattle.lexopt_laws.proofs.WorkedOpen as worked
 use Rattle.lexopt_laws.proofs.WorkedOpen.{sample_named, sample_text, not_offered, no_utf8}
 use Rattle.lexopt_laws.proofs.WorkedRequired.{demanding_named, demanding_text, open_without_user}
@@ -12,7 +13,7 @@ unfolding computing
 returns-clause-front c = record {
   text = IsUtf8-from_is_utf8 (codes "--out") refl;
   begins = refl;
-  stands = offered_stands _ _ _ _ refl sample_text sample_named worked.at_the_start refl (3, lit< tt, refl);
+  stands = offered_stands _ _ _ _ refl sample_text sample_named worked.at_the_start refl (any_filled refl refl (lit≤ tt)) (3, lit< tt, refl);
 }
 
 pub returns-clause-whole : goal.returns-clause-whole
@@ -20,7 +21,7 @@ unfolding computing
 returns-clause-whole c = record {
   text = IsUtf8-from_is_utf8 (codes "-v") refl;
   begins = refl;
-  stands = offered_stands _ _ _ _ refl sample_text sample_named worked.at_the_start refl (0, lit< tt, refl);
+  stands = offered_stands _ _ _ _ refl sample_text sample_named worked.at_the_start refl (any_filled refl refl (lit≤ tt)) (0, lit< tt, refl);
 }
 
 pub returns-clause-nothing : goal.returns-clause-nothing
@@ -28,7 +29,7 @@ unfolding computing
 returns-clause-nothing c = record {
   text = IsUtf8-from_is_utf8 [] refl;
   begins = refl;
-  stands = offered_stands _ _ _ _ refl sample_text sample_named worked.after_a_flag refl (5, lit< tt, refl);
+  stands = offered_stands _ _ _ _ refl sample_text sample_named worked.after_a_flag refl (any_filled refl refl (lit≤ tt)) (5, lit< tt, refl);
 }
 
 pub returns-clause-required : goal.returns-clause-required
@@ -36,7 +37,7 @@ unfolding computing
 returns-clause-required c = record {
   text = IsUtf8-from_is_utf8 (codes "--us") refl;
   begins = refl;
-  stands = offered_stands _ _ _ _ refl demanding_text demanding_named open_without_user refl (9, lit< tt, refl);
+  stands = offered_stands _ _ _ _ refl demanding_text demanding_named open_without_user refl (any_filled refl refl (lit≤ tt)) (9, lit< tt, refl);
 }
 
 pub returns-clause-another : goal.returns-clause-another

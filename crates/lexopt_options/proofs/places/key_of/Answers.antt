@@ -1,42 +1,19 @@
-use Rattle.std.proofs.Common.{◌-◌, arith, map, refl}
-use Rattle.lexopt_options_spec.specs.Legal.{least}
+use Rattle.std.proofs.Common.{◌∙◌, map, refl, sym}
 use Rattle.lexopt_declaration.specs.Models.{positional_view}
-use Rattle.lexopt_options.proofs.Owners.{found_here, found_later, has_its_key, none_left, place_is, viewed, viewed_length, word_inside}
+use Rattle.lexopt_options.proofs.Owners.{has_its_key, no_place, place_past, place_there}
 use Rattle.lexopt_options.proofs.places.key_of.Goals as goal
 
-pub returns-then-left-needed : goal.returns-then-left-needed
-returns-then-left-needed g c = λ places are below.
+pub returns-in-Some-get : goal.returns-in-Some-get
+returns-in-Some-get g c = λ places count are spare below.
     let rust = c.args.positionals.now in
-    let ps = map positional_view rust in
-    let k = c.loop-positional.positional-index in
-    let item = c.positional-item.result in
-    let found = found_here ps (c.args.count - least ps) c.args.word k c.loop-positional.left c.loop-positional.spare (positional_view item) c.loop-positional.invariant (omega (arith, c.loop-positional-test.true, viewed_length rust))
-    (viewed rust k item c.loop-positional-test.true c.positional-item.is) (omega (arith, c.if-left-needed.true, c.needs-needed.ensures)) in
-    (item.key, k, refl, place_is ps c.args.count places c.args.word k are below found, has_its_key rust k item c.loop-positional-test.true c.positional-item.is)
+    let i = c.in-Some.index in
+    let at = c.in-Some-get.ensures.lookup in
+    (c.in-Some-get.positional.now.key, i, refl, place_there (map positional_view rust) count places c.args.spare c.args.word i are spare below (sym c.place_of.ensures ∙ c.in-Some.is), has_its_key rust i c.in-Some-get.positional.now at.3.0 at.1)
 
-pub returns-then-left-more : goal.returns-then-left-more
-returns-then-left-more g c = λ places are below.
-    let rust = c.args.positionals.now in
-    let ps = map positional_view rust in
-    let k = c.loop-positional.positional-index in
-    let item = c.positional-item.result in
-    let found = found_here ps (c.args.count - least ps) c.args.word k c.loop-positional.left c.loop-positional.spare (positional_view item) c.loop-positional.invariant (omega (arith, c.loop-positional-test.true, viewed_length rust))
-    (viewed rust k item c.loop-positional-test.true c.positional-item.is) (omega (arith, c.if-left-needed.false, c.if-left-more.true, c.needs-needed.ensures, c.extra-more.ensures)) in
-    (item.key, k, refl, place_is ps c.args.count places c.args.word k are below found, has_its_key rust k item c.loop-positional-test.true c.positional-item.is)
+pub returns-in-None-get : goal.returns-in-None-get
+returns-in-None-get g c = λ places count are spare below.
+    absurd (place_past c.args.positionals.now c.args.spare c.args.word c.in-Some.index c.in-None-get.ensures.lookup.3 (sym c.place_of.ensures ∙ c.in-Some.is))
 
-pub loop-positional-preserved : goal.loop-positional-preserved
-loop-positional-preserved g c =
-    let rust = c.args.positionals.now in
-    let ps = map positional_view rust in
-    let k = c.loop-positional.positional-index in
-    let item = c.positional-item.result in
-    found_later ps (c.args.count - least ps) c.args.word k c.loop-positional.left c.loop-positional.spare _ _ (positional_view item) c.loop-positional.invariant (omega (arith, c.loop-positional-test.true, viewed_length rust))
-    (viewed rust k item c.loop-positional-test.true c.positional-item.is) (omega (arith, c.if-left-needed.false, c.if-left-more.false, c.needs-needed.ensures, c.extra-more.ensures))
-    (omega (arith, c.needs-needed.ensures, c.extra-more.ensures)) (omega (arith, c.extra-more.ensures))
-
-pub returns : goal.returns
-returns g c = λ places are below.
-    let rust = c.args.positionals.now in
-    let ps = map positional_view rust in
-    absurd (none_left ps (c.args.count - least ps) c.args.word c.loop-positional.left c.loop-positional.spare c.loop-positional.positional-index (omega (arith, c.loop-positional-test.false, viewed_length rust)) c.loop-positional.invariant
-    (word_inside ps c.args.count places c.args.word are below))
+pub returns-in-None : goal.returns-in-None
+returns-in-None g c = λ places count are spare below.
+    absurd (no_place (map positional_view c.args.positionals.now) count places c.args.spare c.args.word are spare below (sym c.place_of.ensures ∙ c.in-None.is))

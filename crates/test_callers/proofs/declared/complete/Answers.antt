@@ -1,7 +1,7 @@
 use Rattle.std.proofs.Common.{◌≡◌, subst, map, string_bytes}
 use Rattle.std.proofs.lemmas.Result.{IfOk-weaker}
 use Rattle.lexopt_options_spec.specs.Declaration.{Declaration}
-use Rattle.lexopt_options_spec.specs.Completion.{HasRole, IsJoined, offered_values}
+use Rattle.lexopt_options_spec.specs.Completion.{AreOwnersIn, HasRole, IsJoined, offered_values}
 use Rattle.lexopt_options.specs.Declarations.{options_of}
 use Rattle.lexopt_options.specs.Completions.{AreOffered}
 use Rattle.test_callers.proofs.Completed.{both, in_order, same_role}
@@ -32,12 +32,22 @@ returns-clause-joined c =
     IfOk-weaker c.complete.result _ _ (λ done is. (is.index, subst (λ (d : Declaration). IsJoined d c.args.words.now c.args.typed.now is.index) c.new.ensures.declaration is.is_joined, both (options_of c.new.result) is.index done.joined is.joined))
     c.complete.ensures
 
+pub returns-clause-arguments : goal.returns-clause-arguments
+returns-clause-arguments c =
+    IfOk-weaker c.complete.result _ _ (λ done is. (
+      is.role,
+      subst (λ (d : Declaration). HasRole d c.args.words.now c.args.typed.now is.role) c.new.ensures.declaration is.has_role,
+      subst (λ (d : Declaration). AreOwnersIn d.positionals is.role done.arguments.items) c.new.ensures.declaration is.arguments,
+    )) c.complete.ensures
+
 pub returns-clause-values : goal.returns-clause-values
 returns-clause-values c =
     IfOk-weaker c.complete.result _ _ (λ done is. (
       is.role,
+      done.arguments.items,
       is.index,
       subst (λ (d : Declaration). HasRole d c.args.words.now c.args.typed.now is.role) c.new.ensures.declaration is.has_role,
+      subst (λ (d : Declaration). AreOwnersIn d.positionals is.role done.arguments.items) c.new.ensures.declaration is.arguments,
       subst (λ (d : Declaration). IsJoined d c.args.words.now c.args.typed.now is.index) c.new.ensures.declaration is.is_joined,
-      subst (λ (d : Declaration). map string_bytes done.values.items ≡ offered_values d.options c.args.typed.now is.role is.index) c.new.ensures.declaration is.values,
+      subst (λ (d : Declaration). map string_bytes done.values.items ≡ offered_values d c.args.typed.now is.role done.arguments.items is.index) c.new.ensures.declaration is.values,
     )) c.complete.ensures

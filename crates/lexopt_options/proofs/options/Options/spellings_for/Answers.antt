@@ -13,5 +13,5 @@ returns-then-not-can_come g c = λ words opens.
 
 pub returns-in-Some : goal.returns-in-Some
 returns-in-Some g c =
-    offered_all (declaration_of c.args.self.now) c.args.typed.now c.spellings_of.result _ c.as_bytes.result.now c.args.can_come c.args.self.now.sound (all_named (options_of c.args.self.now)) (c.to_str.ensures.exactly_on_utf8.0 (subst IsSome (sym c.in-Some.is) refl)) c.if-not-can_come.false
+    offered_all (declaration_of c.args.self.now) c.args.typed.now c.spellings_of.result _ c.as_bytes.result.now c.args.can_come c.args.self.now.sound c.args.self.now.listable (all_named (options_of c.args.self.now)) (c.to_str.ensures.exactly_on_utf8.0 (subst IsSome (sym c.in-Some.is) refl)) c.if-not-can_come.false
     c.options.ensures.view c.as_bytes.ensures c.spellings_of.ensures.text c.spellings_of.ensures.spellings

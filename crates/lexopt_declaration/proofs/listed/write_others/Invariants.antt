@@ -1,7 +1,7 @@
 use Rattle.std.proofs.Common.{◌++◌, List, ℕ, Bor, codes, map, take}
 use Rattle.std.specs.List.{flat_map}
 use Rattle.std.specs.Fmt.{HasWritten, IsPlainFormatter}
-use Rattle.lexopt_options.proofs.mistake.write_others.Given as goal
+use Rattle.lexopt_declaration.proofs.listed.write_others.Given as goal
 
 abbrev pub invariant-loop-other : goal.invariant-loop-other
 invariant-loop-other g l = IsPlainFormatter l.fn.f

@@ -1,0 +1,38 @@
+//! The values in a list, as they are printed.
+ghost use Rattle.std.specs.Prelude.{◌++◌, codes, map};
+ghost use Rattle.std.specs.Fmt.{WritesOnOk};
+ghost use Rattle.std.specs.List.{flat_map};
+
+use std::fmt;
+
+/// Values, printed with a comma and a blank between them.
+#[derive(Debug, Clone, Copy)]
+pub struct Listed<'a>(pub &'a [&'a str]);
+
+impl fmt::Display for Listed<'_> {
+    ghost use Rattle.std.specs.Prelude.{Some, map};
+    ghost use Rattle.lexopt_options_spec.specs.Help.{list_text};
+
+    ghost output = { λ listed. Some (list_text (map (λ value. value.now) listed.0.now)) };
+
+    fn fmt<W: fmt::Write>(&self, f: &mut fmt::Formatter<W>) -> fmt::Result {
+        match self.0 {
+            [first, others @ ..] => {
+                f.write_str(first)?;
+                write_others(others, f)
+            }
+            [] => Ok(()),
+        }
+    }
+}
+
+// Writes values, each after a comma and a blank.
+fn write_others<W: fmt::Write>(others: &[&str], f: &mut fmt::Formatter<W>) -> fmt::Result
+    ensures { WritesOnOk W.write_str_gives f.old result
+        (flat_map (λ other. codes ", " ++ other) (map (λ other. other.now) others.now)) f.new }
+{
+    for other in others {
+        write!(f, ", {other}")?;
+    }
+    Ok(())
+}

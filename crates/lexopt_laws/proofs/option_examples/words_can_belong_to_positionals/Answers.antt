@@ -1,0 +1,11 @@
+use Rattle.lexopt_laws.proofs.OwnedWords.{owns_new, owns_old, owns_target}
+use Rattle.lexopt_laws.proofs.option_examples.words_can_belong_to_positionals.Goals as goal
+
+pub returns-clause-first : goal.returns-clause-first
+returns-clause-first c = owns_old
+
+pub returns-clause-second : goal.returns-clause-second
+returns-clause-second c = owns_new
+
+pub returns-clause-later : goal.returns-clause-later
+returns-clause-later c = owns_target

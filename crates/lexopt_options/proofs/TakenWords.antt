@@ -1,0 +1,453 @@
+-- Which words the positionals of a line accept, word by word.
+use Rattle.std.proofs.Common.{Vec, Result, Ok, Err, IfOk, MatchOption, ◌≡◌, ◌==◌, is_none, ◌↔◌, ◌≤◌, ◌<◌, ◌+◌, ◌-◌, ◌||◌, ℕ, zero, suc, Bool, true, false, List, [], ◌∷◌, length, take, drop, map, get_or, filter, Option, Some, None, slice_get, cond, option_map, unwrap_or, refl, sym, ap, subst, ◌∙◌, ◌++◌, ⊎_elim, arith}
+use Rattle.std.specs.List.{Contains, list_any}
+use Rattle.std.proofs.lemmas.List.Elements.{Contains-append_cases, Contains-append_left, Contains-append_right}
+use Rattle.std.specs.Global.{Global}
+use Rattle.std.specs.Option.{option_eq}
+use Rattle.std.proofs.lemmas.Bool.{cases_lt, eq-eqb, eqb-true, false≢true}
+use Rattle.std.proofs.lemmas.List.{drop_more}
+use Rattle.std.proofs.lemmas.Option.{get_or_from_slice_get, slice_get_within}
+use Rattle.lexopt_options_spec.specs.Completion.{AreOwners, CanOwn, IsAscending}
+use Rattle.lexopt_options_spec.specs.Declaration as spec
+use Rattle.lexopt_options_spec.specs.Legal as legal
+use Rattle.lexopt_options_spec.specs.Legal.{IsWithin, most, positional_count, positional_words}
+use Rattle.lexopt_options_spec.specs.Places.{AreShares, AreTaken, ArePlaces, IsNotTaken, least, owners, refused_word, takes_at}
+use Rattle.lexopt_options_spec.proofs.Shares.{greedy, greedy_are_shares, least_fits, shares_are_greedy, some_places}
+use Rattle.lexopt_options_spec.proofs.Taken.{CanBeTaken, owned_soon, refused_take, taken_soon}
+use Rattle.lexopt_options.proofs.Owners.{owner_within, take_get}
+use Rattle.lexopt_declaration.specs.Models.{positional_view, words_view}
+use Rattle.lexopt_declaration.specs.declared.declaration.Declared.{Declared}
+use Rattle.lexopt_declaration.specs.declared.declaration.Positional.{Positional}
+use Rattle.lexopt_declaration.specs.declared.declaration.Words.{Words}
+use Rattle.lexopt_declaration.specs.declared.declaration.Words.TheVariants as words
+use Rattle.lexopt_options.specs.declared.indexed.Indexed.{Indexed}
+use Rattle.lexopt_options.specs.declared.indexed.Indexed.TheVariants as indexed
+use Rattle.lexopt_options.specs.declared.said.Said.{Said}
+use Rattle.lexopt_options.specs.declared.said.Said.TheVariants as said
+use Rattle.lexopt_options.specs.declared.mistake.Mistake.{Mistake}
+use Rattle.std.specs.declared.alloc.AllocError.{AllocError}
+use Rattle.lexopt_options.specs.Keys as keys
+use Rattle.lexopt_options.specs.Keys.{AreSaid, said_words}
+use Rattle.lexopt_options.specs.Reading.{indexed_view}
+use Rattle.lexopt_options.specs.Taken as taken
+use Rattle.lexopt_options.specs.Taken.{has_list, indexed_words}
+
+-- ---- by how many words there are to spare
+
+-- the places of so many words are those with so many to spare
+shares_so : (ps : List spec.Positional) (count : ℕ) (places : List ℕ) → ArePlaces ps count places → places ≡ take count (owners 0 (greedy ps (count - least ps)))
+shares_so ps count places are =
+    are.placed ∙ ap (λ s. take count (owners 0 s)) (shares_are_greedy ps (count - least ps) are.shares (subst (λ n. AreShares ps n are.shares) (omega arith) are.are_shares))
+
+greedy_places : (ps : List spec.Positional) (s : ℕ) → IsWithin (least ps + s) (most ps) → ArePlaces ps (least ps + s) (take (least ps + s) (owners 0 (greedy ps s)))
+greedy_places ps s within = record {
+  shares = greedy ps s;
+  are_shares = subst (λ n. AreShares ps n (greedy ps s)) (omega arith) (greedy_are_shares ps s within);
+  placed = refl;
+}
+
+enough_within : (limit : Option ℕ) (n m : ℕ) → IsWithin n limit → IsWithin m limit → IsWithin (m + (n - m)) limit
+enough_within None n m a b = tt
+enough_within (Some limit) n m a b = omega (arith, a, b)
+
+-- as many words can be to spare
+pub record CanSpare (ps : List spec.Positional) (count s : ℕ) : Type 0 where
+  pub low : count - least ps ≤ s
+  pub high : s ≤ count
+  pub within : IsWithin (least ps + s) (most ps)
+
+pub spare_taken : (ps : List spec.Positional) (words : List (List ℕ)) → CanBeTaken ps words → (s : ℕ) × CanSpare ps (length words) s × (refused_word ps (owners 0 (greedy ps s)) words ≡ None)
+spare_taken ps words can =
+    let soon = taken_soon ps words can in
+    let c = soon.0 in
+    let n = c.count in
+    let long = c.longer in
+    let small = soon.1 in
+    let is = shares_so ps n c.places c.are_places in (
+      n - least ps,
+      record { low = omega (arith, long); high = omega (arith, small); within = enough_within (most ps) n (least ps) c.within (least_fits ps) },
+      sym (refused_take ps (owners 0 (greedy ps (n - least ps))) words n long) ∙ ap (λ l. refused_word ps l words) (sym is) ∙ c.none,
+    )
+
+pub taken_spare : (ps : List spec.Positional) (words : List (List ℕ)) (s : ℕ) → CanSpare ps (length words) s → refused_word ps (owners 0 (greedy ps s)) words ≡ None → CanBeTaken ps words
+taken_spare ps words s can none =
+    let low = can.low in
+    let long : length words ≤ least ps + s = omega (arith, low) in
+    record {
+      count = least ps + s;
+      longer = long;
+      within = can.within;
+      places = take (least ps + s) (owners 0 (greedy ps s));
+      are_places = greedy_places ps s can.within;
+      none = refused_take ps (owners 0 (greedy ps s)) words (least ps + s) long ∙ none;
+    }
+
+pub spare_owned : (ps : List spec.Positional) (n i : ℕ) → CanOwn ps n i → (s : ℕ) × CanSpare ps (suc n) s × (slice_get (owners 0 (greedy ps s)) n ≡ Some i)
+spare_owned ps n i can =
+    let soon = owned_soon ps n i can in
+    let c = soon.0 in
+    let m = c.count in
+    let long = c.longer in
+    let small = soon.1 in
+    let is = shares_so ps m c.places c.are_places in (
+      m - least ps,
+      record { low = omega (arith, long); high = omega (arith, small); within = enough_within (most ps) m (least ps) c.within (least_fits ps) },
+      sym (take_get m (owners 0 (greedy ps (m - least ps))) n long) ∙ ap (λ l. slice_get l n) (sym is) ∙ c.here,
+    )
+
+pub owned_spare : (ps : List spec.Positional) (n i s : ℕ) → CanSpare ps (suc n) s → slice_get (owners 0 (greedy ps s)) n ≡ Some i → CanOwn ps n i
+owned_spare ps n i s can is =
+    let low = can.low in
+    let long : n < least ps + s = omega (arith, low) in
+    record {
+      count = least ps + s;
+      longer = long;
+      within = can.within;
+      places = take (least ps + s) (owners 0 (greedy ps s));
+      are_places = greedy_places ps s can.within;
+      here = take_get (least ps + s) (owners 0 (greedy ps s)) n long ∙ is;
+    }
+
+-- ---- the words of a line, in turn
+
+refused_none : (ps : List spec.Positional) (places : List ℕ) → refused_word ps places [] ≡ None
+refused_none ps [] = refl
+refused_none ps (i ∷ places) = refl
+
+places_none : (places : List ℕ) (n : ℕ) → slice_get places n ≡ None → drop n places ≡ []
+places_none [] zero is = refl
+places_none [] (suc n) is = refl
+places_none (p ∷ places) zero is = absurd (let e : Some p ≡ None = is in cc)
+places_none (p ∷ places) (suc n) is = places_none places n is
+
+places_some : (places : List ℕ) (n i : ℕ) → slice_get places n ≡ Some i → drop n places ≡ i ∷ drop (n + 1) places
+places_some places n i is =
+    let within = slice_get_within places n i is in
+    drop_more places n 0 within ∙ ap (λ x. x ∷ drop (n + 1) places) (get_or_from_slice_get places n i 0 is)
+
+drop_more_past : (places : List ℕ) (n : ℕ) → drop n places ≡ [] → drop (suc n) places ≡ []
+drop_more_past [] n is = refl
+drop_more_past (p ∷ places) zero is = absurd (let e : p ∷ places ≡ [] = is in cc)
+drop_more_past (p ∷ places) (suc n) is = drop_more_past places n is
+
+drop_past : (places : List ℕ) (n : ℕ) → drop n places ≡ [] → drop (n + 1) places ≡ []
+drop_past places n is = let same : n + 1 ≡ suc n = omega arith in ap (λ m. drop m places) same ∙ drop_more_past places n is
+
+-- what is refused of all words is refused of those that are left
+pub record IsAt (ps : List spec.Positional) (places : List ℕ) (all rest : List (List ℕ)) (n : ℕ) : Type 0 where
+  pub same : refused_word ps places all ≡ refused_word ps (drop n places) rest
+
+pub at_first : (ps : List spec.Positional) (places : List ℕ) (all : List (List ℕ)) → IsAt ps places all all 0
+at_first ps places all = record { same = refl }
+
+pub at_end : (ps : List spec.Positional) (places : List ℕ) (all rest : List (List ℕ)) (n : ℕ) → IsAt ps places all rest n → rest ≡ [] → refused_word ps places all ≡ None
+at_end ps places all rest n at is = at.same ∙ ap (refused_word ps (drop n places)) is ∙ refused_none ps (drop n places)
+
+pub at_same : (ps : List spec.Positional) (places : List ℕ) (all rest : List (List ℕ)) (n m : ℕ) → n ≡ m → IsAt ps places all rest n → IsAt ps places all rest m
+at_same ps places all rest n m same at = subst (IsAt ps places all rest) same at
+
+-- what comes next is not a word
+pub at_later : (ps : List spec.Positional) (places : List ℕ) (all rest later : List (List ℕ)) (n : ℕ) → IsAt ps places all rest n → rest ≡ later → IsAt ps places all later n
+at_later ps places all rest later n at same = subst (λ l. IsAt ps places all l n) same at
+
+-- there is no place for a word
+pub at_no_place : (ps : List spec.Positional) (places : List ℕ) (all rest later : List (List ℕ)) (w : List ℕ) (n : ℕ) → IsAt ps places all rest n → rest ≡ w ∷ later → slice_get places n ≡ None → IsAt ps places all later (n + 1)
+at_no_place ps places all rest later w n at is none =
+    let here = places_none places n none in
+    record { same = at.same ∙ ap (λ l. refused_word ps l rest) here ∙ sym (ap (λ l. refused_word ps l later) (drop_past places n here)) }
+
+at_place : (ps : List spec.Positional) (places : List ℕ) (all rest later : List (List ℕ)) (w : List ℕ) (n i : ℕ) → IsAt ps places all rest n → rest ≡ w ∷ later → slice_get places n ≡ Some i
+    → refused_word ps places all ≡ cond (takes_at ps i w) (refused_word ps (drop (n + 1) places) later) (Some (i, w))
+at_place ps places all rest later w n i at is here = at.same ∙ ap (refused_word ps (drop n places)) is ∙ ap (λ l. refused_word ps l (w ∷ later)) (places_some places n i here)
+
+-- a word is accepted
+pub at_next : (ps : List spec.Positional) (places : List ℕ) (all rest later : List (List ℕ)) (w : List ℕ) (n i : ℕ) → IsAt ps places all rest n → rest ≡ w ∷ later → slice_get places n ≡ Some i → takes_at ps i w ≡ true
+    → IsAt ps places all later (n + 1)
+at_next ps places all rest later w n i at is here takes =
+    record { same = at_place ps places all rest later w n i at is here ∙ ap (λ (b : Bool). cond b (refused_word ps (drop (n + 1) places) later) (Some (i, w))) takes }
+
+-- or it is not
+pub at_refused : (ps : List spec.Positional) (places : List ℕ) (all rest later : List (List ℕ)) (w : List ℕ) (n i : ℕ) → IsAt ps places all rest n → rest ≡ w ∷ later → slice_get places n ≡ Some i → takes_at ps i w ≡ false
+    → refused_word ps places all ≡ Some (i, w)
+at_refused ps places all rest later w n i at is here takes =
+    at_place ps places all rest later w n i at is here ∙ ap (λ (b : Bool). cond b (refused_word ps (drop (n + 1) places) later) (Some (i, w))) takes
+
+-- ---- the words that were read by keys
+
+said_front : {F V P M S : Type 0} (xs : List (Said F V P M S)) (k : ℕ) (x : Said F V P M S) → k < length xs → x ≡ get_or xs k x → said_words (drop k xs) ≡ said_words (x ∷ drop (k + 1) xs)
+said_front xs k x within is = ap said_words (drop_more xs k x within ∙ ap (λ y. y ∷ drop (k + 1) xs) (sym is))
+
+pub said_word : {F V P M S : Type 0} (xs : List (Said F V P M S)) (k : ℕ) (x : Said F V P M S) (key : P) (w : List ℕ) → k < length xs → x ≡ get_or xs k x → x ≡ said.Positional key w → said_words (drop k xs) ≡ w ∷ said_words (drop (k + 1) xs)
+said_word xs k x key w within is word = said_front xs k x within is ∙ ap (λ y. said_words (y ∷ drop (k + 1) xs)) word
+
+pub said_no_word : {F V P M S : Type 0} (xs : List (Said F V P M S)) (k : ℕ) (x : Said F V P M S) → k < length xs → x ≡ get_or xs k x → ((key : P) (w : List ℕ) → x ≡ said.Positional key w → ⊥)
+    → said_words (drop k xs) ≡ said_words (drop (k + 1) xs)
+said_no_word {F} {V} {P} {M} {S} xs k x within is other = said_front xs k x within is ∙ go x other
+  where
+    go : (y : Said F V P M S) → ((key : P) (w : List ℕ) → y ≡ said.Positional key w → ⊥) → said_words (y ∷ drop (k + 1) xs) ≡ said_words (drop (k + 1) xs)
+    go (said.Flag key) other = refl
+    go (said.Value key word) other = refl
+    go (said.Maybe key value) other = refl
+    go (said.Values key values) other = refl
+    go (said.Positional key word) other = absurd (other key word refl)
+
+pub said_past : {F V P M S : Type 0} (xs : List (Said F V P M S)) (k : ℕ) → length xs ≤ k → said_words (drop k xs) ≡ []
+said_past [] zero past = refl
+said_past [] (suc k) past = refl
+said_past (x ∷ xs) zero past = absurd (omega (arith, past))
+said_past (x ∷ xs) (suc k) past = said_past xs k (omega (arith, past))
+
+-- there are at least as many words as have come
+pub said_count : {F V P M S : Type 0} (xs : List (Said F V P M S)) → length (said_words xs) ≤ length xs
+said_count [] = omega arith
+said_count (said.Flag key ∷ xs) = let rest = said_count xs in omega (arith, rest)
+said_count (said.Value key word ∷ xs) = let rest = said_count xs in omega (arith, rest)
+said_count (said.Maybe key value ∷ xs) = let rest = said_count xs in omega (arith, rest)
+said_count (said.Values key values ∷ xs) = let rest = said_count xs in omega (arith, rest)
+said_count (said.Positional key word ∷ xs) = let rest = said_count xs in omega (arith, rest)
+
+-- the words of what was read
+pub words_are : {F V P M S : Type 0} (options : List (Declared F V M S)) (l : List legal.Said) (xs : List (Said F V P M S)) → AreSaid options l xs → positional_words l ≡ said_words xs
+words_are options [] [] are = refl
+words_are options [] (x ∷ xs) are = absurd are
+words_are options (s ∷ l) [] are = absurd are
+words_are options (s ∷ l) (said.Flag key ∷ xs) are = ap (λ t. positional_words (t ∷ l)) are.0.1 ∙ words_are options l xs are.1
+words_are options (s ∷ l) (said.Value key word ∷ xs) are = ap (λ t. positional_words (t ∷ l)) are.0.2 ∙ words_are options l xs are.1
+words_are options (s ∷ l) (said.Maybe key value ∷ xs) are = ap (λ t. positional_words (t ∷ l)) are.0.2 ∙ words_are options l xs are.1
+words_are options (s ∷ l) (said.Values key values ∷ xs) are = ap (λ t. positional_words (t ∷ l)) are.0.2 ∙ words_are options l xs are.1
+words_are options (s ∷ l) (said.Positional key word ∷ xs) are = ap (λ t. positional_words (t ∷ l)) are.0 ∙ ap (λ ws. word ∷ ws) (words_are options l xs are.1)
+
+-- ---- the words that were read by indices
+
+index_front : (xs : List Indexed) (k : ℕ) (x : Indexed) → k < length xs → x ≡ get_or xs k x → indexed_words (drop k xs) ≡ indexed_words (x ∷ drop (k + 1) xs)
+index_front xs k x within is = ap indexed_words (drop_more xs k x within ∙ ap (λ y. y ∷ drop (k + 1) xs) (sym is))
+
+pub index_word : (xs : List Indexed) (k : ℕ) (x : Indexed) (w : List ℕ) → k < length xs → x ≡ get_or xs k x → x ≡ indexed.Positional w → indexed_words (drop k xs) ≡ w ∷ indexed_words (drop (k + 1) xs)
+index_word xs k x w within is word = index_front xs k x within is ∙ ap (λ y. indexed_words (y ∷ drop (k + 1) xs)) word
+
+pub index_no_word : (xs : List Indexed) (k : ℕ) (x : Indexed) → k < length xs → x ≡ get_or xs k x → ((w : List ℕ) → x ≡ indexed.Positional w → ⊥) → indexed_words (drop k xs) ≡ indexed_words (drop (k + 1) xs)
+index_no_word xs k x within is other = index_front xs k x within is ∙ go x other
+  where
+    go : (y : Indexed) → ((w : List ℕ) → y ≡ indexed.Positional w → ⊥) → indexed_words (y ∷ drop (k + 1) xs) ≡ indexed_words (drop (k + 1) xs)
+    go (indexed.Option index value) other = refl
+    go (indexed.Several index values) other = refl
+    go (indexed.Positional word) other = absurd (other word refl)
+
+pub index_past : (xs : List Indexed) (k : ℕ) → length xs ≤ k → indexed_words (drop k xs) ≡ []
+index_past [] zero past = refl
+index_past [] (suc k) past = refl
+index_past (x ∷ xs) zero past = absurd (omega (arith, past))
+index_past (x ∷ xs) (suc k) past = index_past xs k (omega (arith, past))
+
+pub index_counted : (xs : List Indexed) → length (filter (λ x. taken.is_positional x) xs) ≡ length (indexed_words xs)
+index_counted [] = refl
+index_counted (indexed.Option index value ∷ xs) = index_counted xs
+index_counted (indexed.Several index values ∷ xs) = index_counted xs
+index_counted (indexed.Positional word ∷ xs) = ap suc (index_counted xs)
+
+pub index_words_are : (xs : List Indexed) → positional_words (map indexed_view xs) ≡ indexed_words xs
+index_words_are [] = refl
+index_words_are (indexed.Option index value ∷ xs) = index_words_are xs
+index_words_are (indexed.Several index values ∷ xs) = index_words_are xs
+index_words_are (indexed.Positional word ∷ xs) = ap (λ ws. word ∷ ws) (index_words_are xs)
+
+-- ---- where there are no lists
+
+or_none : (a b : Bool) → (a || b) ≡ false → (a ≡ false) × (b ≡ false)
+or_none false b is = (refl, is)
+or_none true b is = absurd (false≢true (sym is))
+
+takes_any : {P : Type 0} (ps : List (Positional P)) (i : ℕ) (w : List ℕ) → list_any (λ p. has_list p) ps ≡ false → takes_at (map positional_view ps) i w ≡ true
+takes_any [] i w none = refl
+takes_any (p ∷ ps) zero w none = go p.words (or_none (has_list p) (list_any (λ p. has_list p) ps) none).0
+  where
+    go : (ws : Words) → taken.is_list ws ≡ false → spec.accepts (words_view ws) w ≡ true
+    go words.Files is = refl
+    go words.Directories is = refl
+    go words.Text is = refl
+    go (words.Listed values) is = absurd (false≢true (sym is))
+takes_any (p ∷ ps) (suc i) w none = takes_any ps i w (or_none (has_list p) (list_any (λ p. has_list p) ps) none).1
+
+takes_all : {P : Type 0} (ps : List (Positional P)) (places : List ℕ) (ws : List (List ℕ)) → list_any (λ p. has_list p) ps ≡ false → refused_word (map positional_view ps) places ws ≡ None
+takes_all ps [] ws none = refl
+takes_all ps (i ∷ places) [] none = refl
+takes_all ps (i ∷ places) (w ∷ ws) none =
+    ap (λ (b : Bool). cond b (refused_word (map positional_view ps) places ws) (Some (i, w))) (takes_any ps i w none) ∙ takes_all ps places ws none
+
+pub all_taken : {P : Type 0} (ps : List (Positional P)) (ws : List (List ℕ)) → list_any (λ p. has_list p) ps ≡ false → IsWithin (length ws) (most (map positional_view ps)) → AreTaken (map positional_view ps) ws
+all_taken ps ws none within =
+    let some = some_places (map positional_view ps) (length ws) within in record { places = some.0; are_places = some.1; none = takes_all ps some.0 ws none }
+
+-- ---- at the end of a line
+
+so_many : (ps : List spec.Positional) (ws : List (List ℕ)) (places : List ℕ) → ArePlaces ps (length ws) places → refused_word ps places ws ≡ refused_word ps (owners 0 (greedy ps (length ws - least ps))) ws
+so_many ps ws places are = ap (λ l. refused_word ps l ws) (shares_so ps (length ws) places are) ∙ refused_take ps (owners 0 (greedy ps (length ws - least ps))) ws (length ws) (omega arith)
+
+pub are_taken : (ps : List spec.Positional) (ws : List (List ℕ)) (spare : ℕ) → IsWithin (length ws) (most ps) → spare ≡ length ws - least ps → refused_word ps (owners 0 (greedy ps spare)) ws ≡ None → AreTaken ps ws
+are_taken ps ws spare within is none =
+    let some = some_places ps (length ws) within in
+    record { places = some.0; are_places = some.1; none = so_many ps ws some.0 some.1 ∙ ap (λ s. refused_word ps (owners 0 (greedy ps s)) ws) (sym is) ∙ none }
+
+pub not_taken : (ps : List spec.Positional) (ws : List (List ℕ)) (spare i : ℕ) (w : List ℕ) → IsWithin (length ws) (most ps) → spare ≡ length ws - least ps → refused_word ps (owners 0 (greedy ps spare)) ws ≡ Some (i, w)
+    → IsNotTaken ps ws i w
+not_taken ps ws spare i w within is refused =
+    let some = some_places ps (length ws) within in
+    record { places = some.0; are_places = some.1; refused = so_many ps ws some.0 some.1 ∙ ap (λ s. refused_word ps (owners 0 (greedy ps s)) ws) (sym is) ∙ refused }
+
+-- ---- the positional of an index
+
+view_here : {P : Type 0} (ps : List (Positional P)) (i : ℕ) (x : Positional P) → i < length ps → x ≡ get_or ps i x → slice_get (map positional_view ps) i ≡ Some (positional_view x)
+view_here [] i x within is = absurd (omega (arith, within))
+view_here (p ∷ ps) zero x within is = ap (λ q. Some (positional_view q)) (sym is)
+view_here (p ∷ ps) (suc i) x within is = view_here ps i x (omega (arith, within)) is
+
+pub takes_here : {P : Type 0} (ps : List (Positional P)) (i : ℕ) (x : Positional P) (w : List ℕ) → i < length ps → x ≡ get_or ps i x → takes_at (map positional_view ps) i w ≡ spec.accepts (words_view x.words) w
+takes_here ps i x w within is = ap (λ o. unwrap_or (option_map (λ p. spec.accepts p.words w) o) true) (view_here ps i x within is)
+
+pub takes_past : {P : Type 0} (ps : List (Positional P)) (i : ℕ) (w : List ℕ) → length ps ≤ i → takes_at (map positional_view ps) i w ≡ true
+takes_past [] i w past = refl
+takes_past (p ∷ ps) zero w past = absurd (omega (arith, past))
+takes_past (p ∷ ps) (suc i) w past = takes_past ps i w (omega (arith, past))
+
+-- what is refused of the positional is refused of the one of its index
+pub refusal_here : {P : Type 0} (ps : List (Positional P)) (i : ℕ) (x : Positional P) (w : List ℕ) (found : Option Mistake) → i < length ps → x ≡ get_or ps i x → taken.IsRefusal x w found → taken.IsRefusalAt ps i w found
+refusal_here ps i x w None within is so = takes_here ps i x w within is ∙ so
+refusal_here ps i x w (Some m) within is so = (
+  takes_here ps i x w within is ∙ so.0,
+  λ d are. so.1 d i (ap (λ l. slice_get l i) are ∙ view_here ps i x within is),
+)
+
+-- ---- the positionals to which a word can belong
+
+ascending_end : (l : List ℕ) (n : ℕ) → IsAscending l → ((i : ℕ) → Contains l i → i < n) → IsAscending (l ++ n ∷ [])
+ascending_end [] n up below = tt
+ascending_end (i ∷ []) n up below = (below i (zero, omega arith, refl), tt)
+ascending_end (i ∷ j ∷ l) n up below = (up.0, ascending_end (j ∷ l) n up.1 (λ m has. below m (Contains-append_right (i ∷ []) (j ∷ l) m has)))
+
+-- of those of an index below this one, these are the ones to which the last of so many words can belong
+pub record OwnersUpTo (ps : List spec.Positional) (count below : ℕ) (owners : List ℕ) : Type 0 where
+  pub sound : (i : ℕ) → Contains owners i → (i < below) × CanOwn ps (count - 1) i
+  pub complete : (i : ℕ) → i < below → CanOwn ps (count - 1) i → Contains owners i
+  pub in_order : IsAscending owners
+
+pub no_owners : (ps : List spec.Positional) (count : ℕ) (owners : List ℕ) → owners ≡ [] → OwnersUpTo ps count 0 owners
+no_owners ps count owners none = record {
+  sound = λ i has. absurd (let h = subst (λ l. Contains l i) none has in let low = h.1 in omega (arith, low));
+  complete = λ i low own. absurd (omega (arith, low));
+  in_order = subst IsAscending (sym none) tt;
+}
+
+pub one_owner : (ps : List spec.Positional) (count n : ℕ) (owners more : List ℕ) → OwnersUpTo ps count n owners → CanOwn ps (count - 1) n → more ≡ owners ++ n ∷ [] → OwnersUpTo ps count (n + 1) more
+one_owner ps count n owners more are own is = subst (OwnersUpTo ps count (n + 1)) (sym is) (record {
+  sound = λ i has. ⊎_elim
+      (λ old. let s = are.sound i old in let low = s.0 in (omega (arith, low), s.1))
+      (λ new. let same = one_of n i new in (omega (arith, same), subst (CanOwn ps (count - 1)) same own))
+      (Contains-append_cases owners (n ∷ []) i has);
+  complete = λ i low can. ⊎_elim
+      (λ below. Contains-append_left owners (n ∷ []) i (are.complete i below can))
+      (λ past. let same : n ≡ i = omega (arith, low, past) in Contains-append_right owners (n ∷ []) i (zero, omega arith, same))
+      (cases_lt i n);
+  in_order = ascending_end owners n are.in_order (λ i has. (are.sound i has).0);
+})
+  where
+    one_of : (n i : ℕ) → Contains (n ∷ []) i → n ≡ i
+    one_of n i (zero, low, is) = is
+    one_of n i (suc k, low, is) = absurd (omega (arith, low))
+
+pub not_owner : (ps : List spec.Positional) (count n : ℕ) (owners : List ℕ) → OwnersUpTo ps count n owners → ¬ CanOwn ps (count - 1) n → OwnersUpTo ps count (n + 1) owners
+not_owner ps count n owners are none = record {
+  sound = λ i has. let s = are.sound i has in let low = s.0 in (omega (arith, low), s.1);
+  complete = λ i low can. ⊎_elim
+      (λ below. are.complete i below can)
+      (λ past. absurd (let same : i ≡ n = omega (arith, low, past) in none (subst (CanOwn ps (count - 1)) same can)))
+      (cases_lt i n);
+  in_order = are.in_order;
+}
+
+pub owners_are : (ps : List spec.Positional) (count n : ℕ) (owners more : Vec ℕ Global) → owners ≡ more → OwnersUpTo ps count n owners.items → OwnersUpTo ps count n more.items
+owners_are ps count n owners more same are = subst (λ (v : Vec ℕ Global). OwnersUpTo ps count n v.items) same are
+
+-- each owner is one of the positionals
+owned_within : (ps : List spec.Positional) (n i : ℕ) → CanOwn ps n i → i < length ps
+owned_within ps n i can = let s = spare_owned ps n i can in let w = owner_within ps 0 s.0 n i s.2 in omega (arith, w)
+
+pub all_owners : (ps : List spec.Positional) (count n : ℕ) (owners : List ℕ) → OwnersUpTo ps count n owners → length ps ≤ n → AreOwners ps (count - 1) owners
+all_owners ps count n owners are past = record {
+  sound = λ i has. (are.sound i has).1;
+  complete = λ i can. are.complete i (let w = owned_within ps (count - 1) i can in omega (arith, w, past)) can;
+  in_order = are.in_order;
+}
+
+-- ---- the numbers of words to spare that are tried
+
+-- as many words can be to spare exactly if they are from the first to the last of these numbers
+pub can_spare : (ps : List spec.Positional) (count low high s : ℕ) → low ≡ count - least ps → ((s : ℕ) → (s ≤ high) ↔ ((s ≤ count) × IsWithin (least ps + s) (most ps))) → low ≤ s → s ≤ high → CanSpare ps count s
+can_spare ps count low high s low_is most_are above below =
+    let both = (most_are s).0 below in record { low = omega (arith, low_is, above); high = both.0; within = both.1 }
+
+pub spare_within : (ps : List spec.Positional) (count high s : ℕ) → ((s : ℕ) → (s ≤ high) ↔ ((s ≤ count) × IsWithin (least ps + s) (most ps))) → CanSpare ps count s → s ≤ high
+spare_within ps count high s most_are can = (most_are s).1 (can.high, can.within)
+
+-- one is found
+pub taken_found : (ps : List spec.Positional) (words : List (List ℕ)) (count low high s : ℕ) → count ≡ length words → low ≡ count - least ps → ((s : ℕ) → (s ≤ high) ↔ ((s ≤ count) × IsWithin (least ps + s) (most ps))) → low ≤ s → s ≤ high
+    → refused_word ps (owners 0 (greedy ps s)) words ≡ None → CanBeTaken ps words
+taken_found ps words count low high s counted low_is most_are above below none =
+    taken_spare ps words s (subst (λ n. CanSpare ps n s) counted (can_spare ps count low high s low_is most_are above below)) none
+
+-- or none
+pub taken_never : (ps : List spec.Positional) (words : List (List ℕ)) (count high past : ℕ) → count ≡ length words → ((s : ℕ) → (s ≤ high) ↔ ((s ≤ count) × IsWithin (least ps + s) (most ps))) → high < past
+    → ((s : ℕ) → count - least ps ≤ s → s < past → ¬ (refused_word ps (owners 0 (greedy ps s)) words ≡ None)) → ¬ CanBeTaken ps words
+taken_never ps words count high past counted most_are over none can =
+    let there = spare_taken ps words can in
+    let spares = subst (λ n. CanSpare ps n there.0) (sym counted) there.1 in
+    let within = spare_within ps count high there.0 most_are spares in
+    none there.0 spares.low (omega (arith, over, within)) there.2
+
+pub owned_found : (ps : List spec.Positional) (count low high s i : ℕ) → 1 ≤ count → low ≡ count - least ps → ((s : ℕ) → (s ≤ high) ↔ ((s ≤ count) × IsWithin (least ps + s) (most ps))) → low ≤ s → s ≤ high
+    → slice_get (owners 0 (greedy ps s)) (count - 1) ≡ Some i → CanOwn ps (count - 1) i
+owned_found ps count low high s i some low_is most_are above below is =
+    let one : count ≡ suc (count - 1) = omega (arith, some) in
+    owned_spare ps (count - 1) i s (subst (λ n. CanSpare ps n s) one (can_spare ps count low high s low_is most_are above below)) is
+
+pub owned_never : (ps : List spec.Positional) (count high past i : ℕ) → 1 ≤ count → ((s : ℕ) → (s ≤ high) ↔ ((s ≤ count) × IsWithin (least ps + s) (most ps))) → high < past
+    → ((s : ℕ) → count - least ps ≤ s → s < past → ¬ (slice_get (owners 0 (greedy ps s)) (count - 1) ≡ Some i)) → ¬ CanOwn ps (count - 1) i
+owned_never ps count high past i some most_are over none can =
+    let one : suc (count - 1) ≡ count = omega (arith, some) in
+    let there = spare_owned ps (count - 1) i can in
+    let spares = subst (λ n. CanSpare ps n there.0) one there.1 in
+    let within = spare_within ps count high there.0 most_are spares in
+    none there.0 spares.low (omega (arith, over, within)) there.2
+
+-- none of those before, and not this one
+pub and_not : (P : ℕ → Type 0) (low n : ℕ) → ((s : ℕ) → low ≤ s → s < n → ¬ P s) → ¬ P n → (s : ℕ) → low ≤ s → s < n + 1 → ¬ P s
+and_not P low n before not s above below = ⊎_elim (λ less. before s above less) (λ past. let same : n ≡ s = omega (arith, below, past) in λ is. not (subst P (sym same) is)) (cases_lt s n)
+
+pub is_nothing : (o : Option (ℕ × List ℕ)) → is_none o ≡ true → o ≡ None
+is_nothing None is = refl
+is_nothing (Some p) is = absurd (false≢true is)
+
+pub same_option : (o : Option ℕ) (i : ℕ) → option_eq ◌==◌ o (Some i) ≡ true → o ≡ Some i
+same_option None i is = absurd (false≢true is)
+same_option (Some j) i is = ap (λ n. Some n) (eqb-true j i is)
+
+pub same_place : (o : Option ℕ) (i : ℕ) → o ≡ Some i → option_eq ◌==◌ o (Some i) ≡ true
+same_place None i is = absurd (let e : None ≡ Some i = is in cc)
+same_place (Some j) i is = let e : Some j ≡ Some i = is in let same : j ≡ i = cc in eq-eqb j i same
+
+pub said_counted : {F V P M S : Type 0} (xs : List (Said F V P M S)) → length (filter (λ x. keys.is_positional x) xs) ≡ length (said_words xs)
+said_counted [] = refl
+said_counted (said.Flag key ∷ xs) = said_counted xs
+said_counted (said.Value key word ∷ xs) = said_counted xs
+said_counted (said.Maybe key value ∷ xs) = said_counted xs
+said_counted (said.Values key values ∷ xs) = said_counted xs
+said_counted (said.Positional key word ∷ xs) = ap suc (said_counted xs)
+
+-- what is found of the words of a line
+pub invalid_so : {P : Type 0} (ps : List (Positional P)) (ws : List (List ℕ)) (spare : ℕ) (r : Result (Option Mistake) AllocError) → spare ≡ length ws - least (map positional_view ps)
+    → IfOk r (λ found. MatchOption found (refused_word (map positional_view ps) (owners 0 (greedy (map positional_view ps) spare)) ws ≡ None)
+    (λ mistake. (i : ℕ) × (w : List ℕ) × (refused_word (map positional_view ps) (owners 0 (greedy (map positional_view ps) spare)) ws ≡ Some (i, w)) × taken.IsInvalid ps i w mistake))
+    → IfOk r (λ found. IsWithin (length ws) (most (map positional_view ps)) → MatchOption found (AreTaken (map positional_view ps) ws)
+    (λ mistake. (i : ℕ) × (w : List ℕ) × IsNotTaken (map positional_view ps) ws i w × taken.IsInvalid ps i w mistake))
+invalid_so ps ws spare (Ok None) is found = λ within. are_taken (map positional_view ps) ws spare within is found
+invalid_so ps ws spare (Ok (Some m)) is (i, w, refused, invalid) = λ within. (i, w, not_taken (map positional_view ps) ws spare i w within is refused, invalid)
+invalid_so ps ws spare (Err e) is found = tt

@@ -1,0 +1,11 @@
+use Rattle.std.proofs.Common.{◌≤◌, drop, map}
+use Rattle.lexopt_declaration.specs.Models.{positional_view}
+use Rattle.lexopt_options_spec.specs.Places.{owners}
+use Rattle.lexopt_options_spec.proofs.Shares.{greedy}
+use Rattle.lexopt_options.specs.Taken.{indexed_words}
+use Rattle.lexopt_options.proofs.TakenWords.{IsAt}
+use Rattle.lexopt_options.proofs.taken.are_taken.Given as goal
+
+abbrev pub invariant-loop-own : goal.invariant-loop-own
+invariant-loop-own g l = let ps = map positional_view l.positionals in
+    (l.index ≤ l.own-index) × IsAt ps (owners 0 (greedy ps l.spare)) (indexed_words l.said) (indexed_words (drop l.own-index l.said)) l.index

@@ -1,0 +1,7 @@
+use Rattle.std.proofs.Common.{map}
+use Rattle.lexopt_declaration.specs.Models.{positional_view}
+use Rattle.lexopt_options.proofs.TakenWords.{OwnersUpTo}
+use Rattle.lexopt_options.proofs.taken.owners_of.Given as goal
+
+abbrev pub invariant-loop-index : goal.invariant-loop-index
+invariant-loop-index g l = OwnersUpTo (map positional_view l.positionals) l.count l.index l.owners.items

@@ -1,0 +1,53 @@
+-- Which words positionals accept, as contracts see it.
+use Rattle.std.specs.Prelude.{◌≡◌, ℕ, Bool, true, false, List, [], ◌∷◌, Option, Some, map, slice_get}
+use Rattle.std.specs.Option.{MatchOption}
+use Rattle.lexopt_options_spec.specs.Declaration.{Declaration, accepts}
+use Rattle.lexopt_options_spec.specs.Places.{takes_at}
+use Rattle.lexopt_options_spec.specs.Stops as stops
+use Rattle.lexopt_declaration.specs.Models.{positional_view, words_view}
+use Rattle.lexopt_declaration.specs.declared.declaration.Positional.{Positional}
+use Rattle.lexopt_declaration.specs.declared.declaration.Words.{Words}
+use Rattle.lexopt_declaration.specs.declared.declaration.Words.TheVariants.{Listed}
+use Rattle.lexopt_options.specs.declared.indexed.Indexed.{Indexed}
+use Rattle.lexopt_options.specs.declared.indexed.Indexed.TheVariants as indexed
+use Rattle.lexopt_options.specs.declared.mistake.Mistake.{Mistake}
+use Rattle.lexopt_options.specs.Mistakes.{IsMistake}
+
+abbrev pub is_list : Words → Bool
+is_list (Listed values) = true
+is_list words = false
+
+abbrev pub has_list : {P : Type 0} → Positional P → Bool
+has_list p = is_list p.words
+
+-- wherever these are declared, this is the mistake that the positional of this index does not accept
+-- this word
+abbrev pub IsInvalid : {P : Type 0} → List (Positional P) → ℕ → List ℕ → Mistake → Type 0
+IsInvalid positionals index word mistake = (d : Declaration)
+    → d.positionals ≡ map positional_view positionals
+    → IsMistake d mistake (stops.invalid_argument index word)
+
+-- the positional accepts this word; or this is, wherever it is declared, the mistake that it does
+-- not
+abbrev pub IsRefusal : {P : Type 0} → Positional P → List ℕ → Option Mistake → Type 0
+IsRefusal p word found = MatchOption found (accepts (words_view p.words) word ≡ true)
+    (λ mistake. (accepts (words_view p.words) word ≡ false)
+    × ((d : Declaration) (i : ℕ) → slice_get d.positionals i ≡ Some (positional_view p)
+    → IsMistake d mistake (stops.invalid_argument i word)))
+
+-- the same of the positional of this index
+abbrev pub IsRefusalAt : {P : Type 0} → List (Positional P) → ℕ → List ℕ → Option Mistake → Type 0
+IsRefusalAt positionals index word found = MatchOption found
+    (takes_at (map positional_view positionals) index word ≡ true)
+    (λ mistake. (takes_at (map positional_view positionals) index word ≡ false)
+    × IsInvalid positionals index word mistake)
+
+abbrev pub is_positional : Indexed → Bool
+is_positional (indexed.Positional word) = true
+is_positional own = false
+
+-- the words of the positionals, in order
+abbrev pub indexed_words : List Indexed → List (List ℕ)
+indexed_words [] = []
+indexed_words (indexed.Positional word ∷ l) = word ∷ indexed_words l
+indexed_words (own ∷ l) = indexed_words l

@@ -1,0 +1,307 @@
+-- Which words are accepted by the positionals that they belong to.
+use Rattle.std.proofs.Common.{◌≡◌, ◌≤◌, ◌<◌, ◌+◌, ◌-◌, ◌⊎◌, ℕ, zero, suc, Bool, true, false, List, [], ◌∷◌, ◌++◌, map, length, max, min, take, replicate, slice_get, Option, Some, None, is_none, cond, unwrap_or, refl, sym, ap, subst, ◌∙◌, arith, inl, inr, ⊎_elim, length-append}
+use Rattle.std.proofs.lemmas.Bool.{and_parts, cases_lt, false≢true}
+use Rattle.std.proofs.lemmas.List.Sums.{sum_by-cons}
+use Rattle.std.specs.List.{sum_by}
+use Rattle.std.specs.Option.{option_map}
+use Rattle.lexopt_options_spec.specs.Completion.{CanOwn}
+use Rattle.lexopt_options_spec.specs.Declaration.{Count, Positional, once, at_most_once, any_number, at_least_once, are_listable, list_fault}
+use Rattle.lexopt_options_spec.specs.Legal.{IsWithin, Said, option, several, positional, most, positional_count, positional_words}
+use Rattle.lexopt_options_spec.specs.Places.{AreShares, AreTaken, ArePlaces, IsNotTaken, least, needs, owners, refused_word, takes_at}
+use Rattle.lexopt_options_spec.proofs.Listed.{value_fits, value_for}
+use Rattle.lexopt_options_spec.proofs.Shares.{extra, greedy, greedy_are_shares, least_fits, one_places, shares_are_greedy, some_places}
+use Rattle.lexopt_options_spec.proofs.Sound.{no_fault}
+
+-- ---- the words of what is read
+
+pub words_count : (l : List Said) → length (positional_words l) ≡ positional_count l
+words_count [] = refl
+words_count (option i v ∷ l) = let rest = words_count l in omega (arith, rest)
+words_count (several i vs ∷ l) = let rest = words_count l in omega (arith, rest)
+words_count (positional w ∷ l) = let rest = words_count l in omega (arith, rest)
+
+pub words_append : (l m : List Said) → positional_words (l ++ m) ≡ positional_words l ++ positional_words m
+words_append [] m = refl
+words_append (option i v ∷ l) m = words_append l m
+words_append (several i vs ∷ l) m = words_append l m
+words_append (positional w ∷ l) m = ap (λ ws. w ∷ ws) (words_append l m)
+
+pub words_same : (words : List (List ℕ)) → positional_words (map positional words) ≡ words
+words_same [] = refl
+words_same (w ∷ ws) = ap (λ l. w ∷ l) (words_same ws)
+
+-- ---- either all are accepted, or one is the first that is not
+
+some_pair : (p q : ℕ × List ℕ) → Some p ≡ Some q → (p.0 ≡ q.0) × (p.1 ≡ q.1)
+some_pair p q same = let e : p ≡ q = ap (λ o. unwrap_or o p) same in (ap (λ (r : ℕ × List ℕ). r.0) e, ap (λ (r : ℕ × List ℕ). r.1) e)
+
+some_none : (p : ℕ × List ℕ) → Some p ≡ None → ⊥
+some_none p same = let e : Some p ≡ None = same in cc
+
+pub one_refused : (ps : List Positional) (words : List (List ℕ)) (i j : ℕ) (w v : List ℕ) → IsNotTaken ps words i w → IsNotTaken ps words j v → (i ≡ j) × (w ≡ v)
+one_refused ps words i j w v a b =
+    let same = one_places ps (length words) a.places b.places a.are_places b.are_places in
+    some_pair (i, w) (j, v) (sym a.refused ∙ ap (λ places. refused_word ps places words) same ∙ b.refused)
+
+pub not_both : (ps : List Positional) (words : List (List ℕ)) (i : ℕ) (w : List ℕ) → IsNotTaken ps words i w → AreTaken ps words → ⊥
+not_both ps words i w a b =
+    let same = one_places ps (length words) a.places b.places a.are_places b.are_places in
+    some_none (i, w) (sym a.refused ∙ ap (λ places. refused_word ps places words) same ∙ b.none)
+
+pub taken_or_not : (ps : List Positional) (words : List (List ℕ)) → IsWithin (length words) (most ps) → AreTaken ps words ⊎ ((i : ℕ) × (w : List ℕ) × IsNotTaken ps words i w)
+taken_or_not ps words within = let some = some_places ps (length words) within in go some.0 some.1 (refused_word ps some.0 words) refl
+  where
+    go : (places : List ℕ) → ArePlaces ps (length words) places → (found : Option (ℕ × List ℕ)) → refused_word ps places words ≡ found → AreTaken ps words ⊎ ((i : ℕ) × (w : List ℕ) × IsNotTaken ps words i w)
+    go places are None is = inl (record { places = places; are_places = are; none = is })
+    go places are (Some found) is = inr (found.0, found.1, record { places = places; are_places = are; refused = is })
+
+-- ---- where more words come after them
+
+-- with some more words, each of these belongs to a positional that accepts it
+pub record CanBeTaken (ps : List Positional) (words : List (List ℕ)) : Type 0 where
+  pub count : ℕ
+  pub longer : length words ≤ count
+  pub within : IsWithin count (most ps)
+  pub places : List ℕ
+  pub are_places : ArePlaces ps count places
+  pub none : refused_word ps places words ≡ None
+
+none_first : (b : Bool) (o : Option (ℕ × List ℕ)) (p : ℕ × List ℕ) → cond b o (Some p) ≡ None → (b ≡ true) × (o ≡ None)
+none_first true o p is = (refl, is)
+none_first false o p is = absurd (some_none p is)
+
+taken_first : (b : Bool) (o : Option (ℕ × List ℕ)) (p : ℕ × List ℕ) → b ≡ true → o ≡ None → cond b o (Some p) ≡ None
+taken_first true o p is none = none
+taken_first false o p is none = absurd (false≢true is)
+
+-- the words before others are accepted too
+refused_front : (ps : List Positional) (places : List ℕ) (words more : List (List ℕ)) → refused_word ps places (words ++ more) ≡ None → refused_word ps places words ≡ None
+refused_front ps [] words more is = refl
+refused_front ps (i ∷ places) [] more is = refl
+refused_front ps (i ∷ places) (w ∷ words) more is =
+    let parts = none_first (takes_at ps i w) (refused_word ps places (words ++ more)) (i, w) is in
+    taken_first (takes_at ps i w) (refused_word ps places words) (i, w) parts.0 (refused_front ps places words more parts.1)
+
+pub can_be_taken : (ps : List Positional) (words more : List (List ℕ)) → IsWithin (length (words ++ more)) (most ps) → AreTaken ps (words ++ more) → CanBeTaken ps words
+can_be_taken ps words more within taken = record {
+  count = length (words ++ more);
+  longer = (let e = length-append words more in omega (arith, e));
+  within = within;
+  places = taken.places;
+  are_places = taken.are_places;
+  none = refused_front ps taken.places words more taken.none;
+}
+
+-- the places of later words do not matter
+pub refused_take : (ps : List Positional) (places : List ℕ) (words : List (List ℕ)) (n : ℕ) → length words ≤ n → refused_word ps (take n places) words ≡ refused_word ps places words
+refused_take ps [] words zero small = refl
+refused_take ps [] words (suc n) small = refl
+refused_take ps (i ∷ places) [] zero small = refl
+refused_take ps (i ∷ places) [] (suc n) small = refl
+refused_take ps (i ∷ places) (w ∷ words) zero small = absurd (omega (arith, small))
+refused_take ps (i ∷ places) (w ∷ words) (suc n) small =
+    ap (λ o. cond (takes_at ps i w) o (Some (i, w))) (refused_take ps places words n (omega (arith, small)))
+
+-- ---- words for the places that are left
+
+-- a word that the positional of this index accepts
+sample : List Positional → ℕ → List ℕ
+sample ps i = unwrap_or (option_map (λ p. value_for p.words) (slice_get ps i)) []
+
+sample_fits : (ps : List Positional) (i : ℕ) → are_listable ps ≡ true → takes_at ps i (sample ps i) ≡ true
+unfolding sample
+sample_fits [] i good = refl
+sample_fits (p ∷ ps) zero good =
+    let parts = and_parts (is_none (list_fault p.words)) (are_listable ps) good in value_fits p.words (no_fault (list_fault p.words) parts.0)
+sample_fits (p ∷ ps) (suc i) good =
+    let parts = and_parts (is_none (list_fault p.words)) (are_listable ps) good in sample_fits ps i parts.1
+
+-- for each place that has no word
+fill : List Positional → List ℕ → List (List ℕ) → List (List ℕ)
+fill ps [] words = []
+fill ps (i ∷ places) [] = sample ps i ∷ fill ps places []
+fill ps (i ∷ places) (w ∷ words) = fill ps places words
+
+fill_length : (ps : List Positional) (places : List ℕ) (words : List (List ℕ)) → length words ≤ length places → length (words ++ fill ps places words) ≡ length places
+unfolding fill
+fill_length ps [] [] small = refl
+fill_length ps [] (w ∷ words) small = absurd (omega (arith, small))
+fill_length ps (i ∷ places) [] small = let rest = fill_length ps places [] (omega arith) in omega (arith, rest)
+fill_length ps (i ∷ places) (w ∷ words) small = let rest = fill_length ps places words (omega (arith, small)) in omega (arith, rest)
+
+fill_fits : (ps : List Positional) (places : List ℕ) (words : List (List ℕ)) → are_listable ps ≡ true → refused_word ps places words ≡ None → refused_word ps places (words ++ fill ps places words) ≡ None
+unfolding fill
+fill_fits ps [] words good none = refl
+fill_fits ps (i ∷ places) [] good none = taken_first (takes_at ps i (sample ps i)) (refused_word ps places (fill ps places [])) (i, sample ps i) (sample_fits ps i good) (fill_fits ps places [] good (empty ps places))
+  where
+    empty : (ps : List Positional) (places : List ℕ) → refused_word ps places [] ≡ None
+    empty ps [] = refl
+    empty ps (i ∷ places) = refl
+fill_fits ps (i ∷ places) (w ∷ words) good none =
+    let parts = none_first (takes_at ps i w) (refused_word ps places words) (i, w) none in
+    taken_first (takes_at ps i w) (refused_word ps places (words ++ fill ps places words)) (i, w) parts.0 (fill_fits ps places words good parts.1)
+
+replicate_length : (n i : ℕ) → length (replicate n i) ≡ n
+replicate_length zero i = refl
+replicate_length (suc n) i = let rest = replicate_length n i in omega (arith, rest)
+
+owners_length : (i : ℕ) (shares : List ℕ) → length (owners i shares) ≡ sum_by (λ n. n) shares
+owners_length i [] = refl
+owners_length i (n ∷ shares) =
+    let first = sum_by-cons (λ n. n) n shares in
+    let one = replicate_length n i in
+    let rest = owners_length (suc i) shares in
+    let all = length-append (replicate n i) (owners (suc i) shares) in
+    omega (arith, first, one, rest, all)
+
+take_all : {X : Type 0} (n : ℕ) (l : List X) → length l ≤ n → take n l ≡ l
+take_all zero [] small = refl
+take_all (suc n) [] small = refl
+take_all zero (x ∷ l) small = absurd (omega (arith, small))
+take_all (suc n) (x ∷ l) small = ap (λ m. x ∷ m) (take_all n l (omega (arith, small)))
+
+-- the more words of a line that is legal
+pub record AreFilled (ps : List Positional) (words : List (List ℕ)) : Type 0 where
+  pub more : List (List ℕ)
+  pub enough : least ps ≤ length (words ++ more)
+  pub within : IsWithin (length (words ++ more)) (most ps)
+  pub taken : AreTaken ps (words ++ more)
+
+least_within : (ps : List Positional) (n : ℕ) → IsWithin n (most ps) → IsWithin (max n (least ps)) (most ps)
+least_within ps n within = go (most ps) within (least_fits ps)
+  where
+    go : (limit : Option ℕ) → IsWithin n limit → IsWithin (least ps) limit → IsWithin (max n (least ps)) limit
+    go None a b = tt
+    go (Some m) a b = omega (arith, a, b)
+
+pub filled : (ps : List Positional) (words : List (List ℕ)) → are_listable ps ≡ true → CanBeTaken ps words → AreFilled ps words
+filled ps words good can =
+    let n = max can.count (least ps) in
+    let all = owners 0 can.are_places.shares in
+    let long : length all ≡ n = owners_length 0 can.are_places.shares ∙ can.are_places.are_shares.all in
+    let fits : length words ≤ length all = (let l = can.longer in omega (arith, long, l)) in
+    let more = fill ps all words in
+    let counted : length (words ++ more) ≡ n = fill_length ps all words fits ∙ long in
+    let none : refused_word ps all words ≡ None = sym (refused_take ps all words can.count can.longer) ∙ ap (λ places. refused_word ps places words) (sym can.are_places.placed) ∙ can.none in
+    record {
+      more = more;
+      enough = omega (arith, counted);
+      within = subst (λ m. IsWithin m (most ps)) (sym counted) (least_within ps can.count can.within);
+      taken = record {
+        places = all;
+        are_places = record {
+          shares = can.are_places.shares;
+          are_shares = subst (λ m. AreShares ps m can.are_places.shares) (omega (arith, counted)) can.are_places.are_shares;
+          placed = sym (take_all (length (words ++ more)) all (omega (arith, counted, long)));
+        };
+        none = fill_fits ps all words good none;
+      };
+    }
+
+-- ---- how many words have to be looked at
+
+take_replicate : (k n i : ℕ) (rest : List ℕ) → k ≤ n → take k (replicate n i ++ rest) ≡ replicate k i
+take_replicate zero n i rest small = refl
+take_replicate (suc k) zero i rest small = absurd (omega (arith, small))
+take_replicate (suc k) (suc n) i rest small = ap (λ l. i ∷ l) (take_replicate k n i rest (omega (arith, small)))
+
+one_more : (k s i : ℕ) (rest : List ℕ) → suc k ≤ s → take (suc k) (replicate (0 + min 1 s) i ++ rest) ≡ i ∷ take k rest
+one_more k s i rest small = let one : 0 + min 1 s ≡ 1 = omega (arith, small) in ap (λ n. take (suc k) (replicate n i ++ rest)) one
+
+-- the owners of the first words are the same, once there are as many words to spare
+same_owners : (ps : List Positional) (i k s t : ℕ) → k ≤ s → k ≤ t → take k (owners i (greedy ps s)) ≡ take k (owners i (greedy ps t))
+same_owners [] i k s t a b = refl
+same_owners (p ∷ ps) i zero s t a b = refl
+same_owners (p ∷ ps) i (suc k) s t a b = go p.count (λ r q. same_owners ps (suc i) k r q)
+  where
+    go : (c : Count) → ((r q : ℕ) → k ≤ r → k ≤ q → take k (owners (suc i) (greedy ps r)) ≡ take k (owners (suc i) (greedy ps q))) → take (suc k) (owners i ((needs c + extra c s) ∷ greedy ps (s - extra c s))) ≡ take (suc k) (owners i ((needs c + extra c t) ∷ greedy ps (t - extra c t)))
+    go once later = ap (λ l. i ∷ l) (later (s - 0) (t - 0) (omega (arith, a)) (omega (arith, b)))
+    go at_most_once later =
+        one_more k s i (owners (suc i) (greedy ps (s - min 1 s))) a
+        ∙ ap (λ l. i ∷ l) (later (s - min 1 s) (t - min 1 t) (omega (arith, a)) (omega (arith, b)))
+        ∙ sym (one_more k t i (owners (suc i) (greedy ps (t - min 1 t))) b)
+    go any_number later = take_replicate (suc k) (0 + s) i _ (omega (arith, a)) ∙ sym (take_replicate (suc k) (0 + t) i _ (omega (arith, b)))
+    go at_least_once later = take_replicate (suc k) (1 + s) i _ (omega (arith, a)) ∙ sym (take_replicate (suc k) (1 + t) i _ (omega (arith, b)))
+
+take_take : {X : Type 0} (k n : ℕ) (l : List X) → k ≤ n → take k (take n l) ≡ take k l
+take_take zero n l small = refl
+take_take (suc k) zero l small = absurd (omega (arith, small))
+take_take (suc k) (suc n) [] small = refl
+take_take (suc k) (suc n) (x ∷ l) small = ap (λ m. x ∷ m) (take_take k n l (omega (arith, small)))
+
+-- so many words are enough to see to which positional each of the first ones can belong
+pub record FewerPlaces (ps : List Positional) (k : ℕ) (places : List ℕ) : Type 0 where
+  pub count : ℕ
+  pub longer : k ≤ count
+  pub small : count ≤ k + least ps
+  pub within : IsWithin count (most ps)
+  pub others : List ℕ
+  pub are_places : ArePlaces ps count others
+  pub same : take k others ≡ take k places
+
+less_within : (limit : Option ℕ) (n m : ℕ) → n ≤ m → IsWithin m limit → IsWithin n limit
+less_within None n m small within = tt
+less_within (Some limit) n m small within = omega (arith, small, within)
+
+pub fewer_places : (ps : List Positional) (k count : ℕ) (places : List ℕ) → k ≤ count → IsWithin count (most ps) → ArePlaces ps count places → FewerPlaces ps k places
+fewer_places ps k count places longer within are = ⊎_elim
+    (λ (below : count < k + least ps). record { count = count; longer = longer; small = omega (arith, below); within = within; others = places; are_places = are; same = refl })
+    (λ (big : k + least ps ≤ count). many big)
+    (cases_lt count (k + least ps))
+  where
+    many : k + least ps ≤ count → FewerPlaces ps k places
+    many big =
+        let n = k + least ps in
+        let within_less = less_within (most ps) n count big within in
+        let shares = greedy_are_shares ps k (subst (λ m. IsWithin m (most ps)) (omega arith) within_less) in
+        let their : are.shares ≡ greedy ps (count - least ps) =
+        shares_are_greedy ps (count - least ps) are.shares (subst (λ m. AreShares ps m are.shares) (omega (arith, big)) are.are_shares) in
+        record {
+          count = n;
+          longer = omega arith;
+          small = omega arith;
+          within = within_less;
+          others = take n (owners 0 (greedy ps k));
+          are_places = record { shares = greedy ps k; are_shares = subst (λ m. AreShares ps m (greedy ps k)) (omega arith) shares; placed = refl };
+          same = take_take k n (owners 0 (greedy ps k)) (omega arith)
+              ∙ same_owners ps 0 k k (count - least ps) (omega arith) (omega (arith, big))
+              ∙ ap (λ s. take k (owners 0 s)) (sym their)
+              ∙ sym (take_take k count (owners 0 are.shares) longer)
+              ∙ ap (λ l. take k l) (sym are.placed);
+        }
+
+-- so few words are enough to see whether these can be accepted
+pub taken_soon : (ps : List Positional) (words : List (List ℕ)) → CanBeTaken ps words → (fewer : CanBeTaken ps words) × (fewer.count ≤ length words + least ps)
+taken_soon ps words can =
+    let few = fewer_places ps (length words) can.count can.places can.longer can.within can.are_places in (
+      record {
+        count = few.count;
+        longer = few.longer;
+        within = few.within;
+        places = few.others;
+        are_places = few.are_places;
+        none = sym (refused_take ps few.others words (length words) (omega arith)) ∙ ap (λ l. refused_word ps l words) few.same ∙ refused_take ps can.places words (length words) (omega arith) ∙ can.none;
+      },
+      few.small,
+    )
+
+slice_get_take : (n k : ℕ) (l : List ℕ) → n < k → slice_get (take k l) n ≡ slice_get l n
+slice_get_take n zero l small = absurd (omega (arith, small))
+slice_get_take n (suc k) [] small = refl
+slice_get_take zero (suc k) (x ∷ l) small = refl
+slice_get_take (suc n) (suc k) (x ∷ l) small = slice_get_take n k l (omega (arith, small))
+
+-- and to see to which positional a word can belong
+pub owned_soon : (ps : List Positional) (n i : ℕ) → CanOwn ps n i → (fewer : CanOwn ps n i) × (fewer.count ≤ suc n + least ps)
+owned_soon ps n i can =
+    let few = fewer_places ps (suc n) can.count can.places (let l = can.longer in omega (arith, l)) can.within can.are_places in (
+      record {
+        count = few.count;
+        longer = (let l = few.longer in omega (arith, l));
+        within = few.within;
+        places = few.others;
+        are_places = few.are_places;
+        here = sym (slice_get_take n (suc n) few.others (omega arith)) ∙ ap (λ l. slice_get l n) few.same ∙ slice_get_take n (suc n) can.places (omega arith) ∙ can.here;
+      },
+      few.small,
+    )
