@@ -197,7 +197,7 @@ no_name name word item is of = subst (IsOf name) is of
 some_same : {X : Type 0} (x y : X) → Some x ≡ Some y → x ≡ y
 some_same x y is = cc
 
--- a positional is no option
+-- a positional is not an option
 no_option : (word : List ℕ) (index : ℕ) (s : Said) → Some (positional word) ≡ Some s → is_option index s ≡ true → ⊥
 no_option word index s is of = false≢true (ap (is_option index) (some_same (positional word) s is) ∙ of)
 

@@ -34,7 +34,7 @@ use Rattle.lexopt_options.specs.Taken.{has_list, indexed_words}
 
 -- ---- by how many words there are to spare
 
--- the places of so many words are those with so many to spare
+-- the places of words, by how many there are more than are required
 shares_so : (ps : List spec.Positional) (count : ℕ) (places : List ℕ) → ArePlaces ps count places → places ≡ take count (owners 0 (greedy ps (count - least ps)))
 shares_so ps count places are =
     are.placed ∙ ap (λ s. take count (owners 0 s)) (shares_are_greedy ps (count - least ps) are.shares (subst (λ n. AreShares ps n are.shares) (omega arith) are.are_shares))
@@ -324,7 +324,7 @@ ascending_end [] n up below = tt
 ascending_end (i ∷ []) n up below = (below i (zero, omega arith, refl), tt)
 ascending_end (i ∷ j ∷ l) n up below = (up.0, ascending_end (j ∷ l) n up.1 (λ m has. below m (Contains-append_right (i ∷ []) (j ∷ l) m has)))
 
--- of those of an index below this one, these are the ones to which the last of so many words can belong
+-- of the positionals before this index, these are the ones to which the last of `count` words can belong
 pub record OwnersUpTo (ps : List spec.Positional) (count below : ℕ) (owners : List ℕ) : Type 0 where
   pub sound : (i : ℕ) → Contains owners i → (i < below) × CanOwn ps (count - 1) i
   pub complete : (i : ℕ) → i < below → CanOwn ps (count - 1) i → Contains owners i

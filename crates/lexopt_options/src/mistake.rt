@@ -123,7 +123,7 @@ pub enum Mistake<'a> {
     InvalidArgument {
         /// The placeholder of the positional argument.
         placeholder: &'a str,
-        /// The first word that the positional argument which it belongs to does not accept.
+        /// The first word that is not accepted by the positional argument that it belongs to.
         word: OsString,
         /// The words that it accepts.
         values: &'a [&'a str],

@@ -229,7 +229,7 @@ take_take (suc k) zero l small = absurd (omega (arith, small))
 take_take (suc k) (suc n) [] small = refl
 take_take (suc k) (suc n) (x ∷ l) small = ap (λ m. x ∷ m) (take_take k n l (omega (arith, small)))
 
--- so many words are enough to see to which positional each of the first ones can belong
+-- the first k words belong to the same positionals in a line with at most k words more than are required
 pub record FewerPlaces (ps : List Positional) (k : ℕ) (places : List ℕ) : Type 0 where
   pub count : ℕ
   pub longer : k ≤ count
@@ -270,7 +270,7 @@ fewer_places ps k count places longer within are = ⊎_elim
               ∙ ap (λ l. take k l) (sym are.placed);
         }
 
--- so few words are enough to see whether these can be accepted
+-- such a line shows whether these words can be accepted
 pub taken_soon : (ps : List Positional) (words : List (List ℕ)) → CanBeTaken ps words → (fewer : CanBeTaken ps words) × (fewer.count ≤ length words + least ps)
 taken_soon ps words can =
     let few = fewer_places ps (length words) can.count can.places can.longer can.within can.are_places in (
@@ -291,7 +291,7 @@ slice_get_take n (suc k) [] small = refl
 slice_get_take zero (suc k) (x ∷ l) small = refl
 slice_get_take (suc n) (suc k) (x ∷ l) small = slice_get_take n k l (omega (arith, small))
 
--- and to see to which positional a word can belong
+-- and to which positional a word can belong
 pub owned_soon : (ps : List Positional) (n i : ℕ) → CanOwn ps n i → (fewer : CanOwn ps n i) × (fewer.count ≤ suc n + least ps)
 owned_soon ps n i can =
     let few = fewer_places ps (suc n) can.count can.places (let l = can.longer in omega (arith, l)) can.within can.are_places in (

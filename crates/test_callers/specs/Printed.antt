@@ -257,7 +257,7 @@ repeats count.AtMostOnce = false
 repeats count.AnyNumber = true
 repeats count.AtLeastOnce = true
 
--- there is one of these, and each can stand in a list
+-- the list is not empty, and each of these can be in it
 abbrev pub CanBeListed : List (List ℕ) → Type 0
 CanBeListed values = (values ≢ []) × (list_all spec.is_listable values ≡ true)
 
