@@ -119,3 +119,14 @@ pub none_refused : {F V M S : Type 0} (options : List (Declared F V M S)) (i : �
 none_refused options i values at =
     first_there (λ value. not (accepts_at (map option_view options) i value)) values
     ∙ ap is_none (ap (λ x. position (λ (value : List ℕ). not (unwrap_or (option_map (λ p. spec.accepts p.words value) x) true)) values) (view_at options i None at) ∙ none_never values)
+
+not_true : (b : Bool) → not b ≡ true → b ≡ false
+not_true true is = absurd (false≢true is)
+not_true false is = refl
+
+-- the place of the first of several that is not accepted
+pub place_refused : (words : spec.Words) (values : List (List ℕ)) (place : ℕ) (value : List ℕ) → Some place ≡ position (λ value. not (spec.accepts words value)) values → value ≡ get_or values place value
+    → (slice_get values place ≡ Some value) × (spec.accepts words value ≡ false)
+place_refused words values place value found is =
+    let first = position-Some (λ value. not (spec.accepts words value)) values place value (sym found) in
+    (at_place values place value first.0 is, not_true (spec.accepts words value) (ap (λ v. not (spec.accepts words v)) is ∙ first.1))

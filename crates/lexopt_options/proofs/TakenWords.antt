@@ -7,6 +7,8 @@ use Rattle.std.specs.Option.{option_eq}
 use Rattle.std.proofs.lemmas.Bool.{cases_lt, eq-eqb, eqb-true, false≢true}
 use Rattle.std.proofs.lemmas.List.{drop_more}
 use Rattle.std.proofs.lemmas.Option.{get_or_from_slice_get, slice_get_within}
+use Rattle.lexopt_options.specs.Declarations.{declaration_of, positionals_of}
+use Rattle.lexopt_options.specs.declared.options.Options.{Options}
 use Rattle.lexopt_options_spec.specs.Completion.{AreOwners, CanOwn, IsAscending}
 use Rattle.lexopt_options_spec.specs.Declaration as spec
 use Rattle.lexopt_options_spec.specs.Legal as legal
@@ -26,6 +28,8 @@ use Rattle.lexopt_options.specs.declared.said.Said.{Said}
 use Rattle.lexopt_options.specs.declared.said.Said.TheVariants as said
 use Rattle.lexopt_options.specs.declared.mistake.Mistake.{Mistake}
 use Rattle.std.specs.declared.alloc.AllocError.{AllocError}
+use Rattle.lexopt_options_spec.specs.Stops as stops
+use Rattle.lexopt_options.specs.Mistakes.{IsMistake}
 use Rattle.lexopt_options.specs.Keys as keys
 use Rattle.lexopt_options.specs.Keys.{AreSaid, said_words}
 use Rattle.lexopt_options.specs.Reading.{indexed_view}
@@ -451,3 +455,15 @@ pub invalid_so : {P : Type 0} (ps : List (Positional P)) (ws : List (List ℕ)) 
 invalid_so ps ws spare (Ok None) is found = λ within. are_taken (map positional_view ps) ws spare within is found
 invalid_so ps ws spare (Ok (Some m)) is (i, w, refused, invalid) = λ within. (i, w, not_taken (map positional_view ps) ws spare i w within is refused, invalid)
 invalid_so ps ws spare (Err e) is found = tt
+
+-- the same of the positionals of a declaration
+pub invalid_line : {F V P M S : Type 0} (o : Options F V P M S) (ps : List (Positional P)) (ws : List (List ℕ)) (r : Result (Option Mistake) AllocError) → ps ≡ positionals_of o
+    → IfOk r (λ found. IsWithin (length ws) (most (map positional_view ps)) → MatchOption found (AreTaken (map positional_view ps) ws)
+    (λ mistake. (i : ℕ) × (w : List ℕ) × IsNotTaken (map positional_view ps) ws i w × taken.IsInvalid ps i w mistake))
+    → IfOk r (λ found. IsWithin (length ws) (most (declaration_of o).positionals) → MatchOption found (AreTaken (declaration_of o).positionals ws)
+    (λ mistake. (i : ℕ) × (w : List ℕ) × IsNotTaken (declaration_of o).positionals ws i w × IsMistake (declaration_of o) mistake (stops.invalid_argument i w)))
+invalid_line o ps ws (Ok None) is found = λ within. subst (λ qs. AreTaken (map positional_view qs) ws) is (found (subst (λ qs. IsWithin (length ws) (most (map positional_view qs))) (sym is) within))
+invalid_line o ps ws (Ok (Some m)) is found = λ within.
+    let own = found (subst (λ qs. IsWithin (length ws) (most (map positional_view qs))) (sym is) within) in
+    (own.0, own.1, subst (λ qs. IsNotTaken (map positional_view qs) ws own.0 own.1) is own.2, own.3 (declaration_of o) (ap (map positional_view) (sym is)))
+invalid_line o ps ws (Err e) is found = tt

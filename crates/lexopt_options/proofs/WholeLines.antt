@@ -30,7 +30,7 @@ use Rattle.lexopt_options.specs.Keys.{AreSaid, asked_view}
 use Rattle.lexopt_options.proofs.Keys.{asked_here}
 use Rattle.lexopt_options.specs.Lines.{IsLineOf, IsLineRead, before_mistake}
 use Rattle.lexopt_options.specs.Mistakes.{AreNames, IsMistake}
-use Rattle.lexopt_options.specs.Reading.{AreSeen, IsEarly, IsFirstUnseen, IsRight, IsWrong}
+use Rattle.lexopt_options.specs.Reading.{AllSeen, AreSeen, IsEarly, IsFirstUnseen}
 
 append_nil : (l : List Item) → l ++ [] ≡ l
 append_nil [] = refl
@@ -51,6 +51,13 @@ front_of d words l u v w sound is read ends = front d words l v w sound (subst (
 
 counted_so : (d : Declaration) (l : List legal.Said) (words : List (List ℕ)) → positional_words l ≡ words → positional_count l ≡ length words
 counted_so d l words is = sym (words_count l) ∙ ap length is
+
+-- nothing is wrong at the end of a line with these words of positionals, of whose required options these
+-- were seen
+pub record IsRight (d : Declaration) (words : List (List ℕ)) (seen : List ℕ) : Type 0 where
+  pub enough : least d.positionals ≤ length words
+  pub taken : AreTaken d.positionals words
+  pub all : AllSeen d.options seen
 
 pub line_said : (d : Declaration) (words : List (List ℕ)) (l : List legal.Said) (v w : UnreadLine) (own : List (List ℕ)) (seen : List ℕ) → is_sound d.options ≡ true
     → ReadsUpTo d (start d.short_equals words) l v → positional_words l ≡ own → AreSeen d.options l seen → Next v steps.end w → IsRight d own seen → are_accepted d.options l ≡ true → Says d words l
@@ -81,6 +88,15 @@ part_stopped d words l u v count why is read counted stops = record {
 }
 
 -- ---- what is wrong at the end
+
+-- at the end of a line with these words of positionals, of whose required options these were seen,
+-- this is wrong: something is missing, or a word is not accepted
+pub record IsWrong (d : Declaration) (words : List (List ℕ)) (seen : List ℕ) (mistake : Mistake)
+    : Type 0 where
+  pub why : stops.Mistake
+  pub told : IsMistake d mistake why
+  pub stops : (u v : UnreadLine) (l : List legal.Said) → Next u steps.end v
+      → positional_words l ≡ words → AreSeen d.options l seen → Stops d l u why
 
 -- a positional is missing
 pub lacks_argument : (d : Declaration) (words : List (List ℕ)) (seen : List ℕ) (placeholder : Bor (List ℕ)) → length words < least d.positionals → placeholder.now ≡ required_placeholder d.positionals (length words)

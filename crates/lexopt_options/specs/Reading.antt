@@ -1,5 +1,5 @@
 -- What is read from a line, as contracts see it, and what one step of its reading reads.
-use Rattle.std.specs.Prelude.{None, ◌≡◌, ◌≤◌, ◌<◌, length, ◌+◌, ◌++◌, ◌∷◌, ℕ, Bool, true, false, List, [], Some}
+use Rattle.std.specs.Prelude.{None, ◌≡◌, ◌<◌, ◌+◌, ◌++◌, ◌∷◌, ℕ, Bool, true, false, List, [], Some}
 use Rattle.std.specs.Prelude.{Result, Ok, Err, slice_get}
 use Rattle.lexopt_spec.specs.UnreadLine.{UnreadLine, IsLine}
 use Rattle.lexopt_spec.specs.Steps as steps
@@ -13,7 +13,6 @@ use Rattle.lexopt_options_spec.specs.Completion.{IsOption}
 use Rattle.lexopt_options_spec.specs.Legal as spec
 use Rattle.lexopt_options_spec.specs.Legal.{IsWithin, counts, is_required, most, occurs}
 use Rattle.lexopt_options_spec.specs.Legal.{positional_count, positional_words, refused_value, said_item}
-use Rattle.lexopt_options_spec.specs.Places.{AreTaken, least}
 use Rattle.lexopt_options_spec.specs.Stops as stops
 use Rattle.lexopt_options_spec.specs.Stops.{Stops}
 use Rattle.lexopt_items.specs.declared.values.Values.{Values}
@@ -102,21 +101,6 @@ abbrev pub noted : Bool → ℕ → List ℕ → List ℕ
 noted true index seen = seen ++ index ∷ []
 noted false index seen = seen
 
--- at the end of a line with these words of positionals, of whose required options these were seen,
--- this is wrong: something is missing, or a word is not accepted
-pub record IsWrong (d : Declaration) (words : List (List ℕ)) (seen : List ℕ) (mistake : Mistake)
-    : Type 0 where
-  pub why : stops.Mistake
-  pub told : IsMistake d mistake why
-  pub stops : (u v : UnreadLine) (l : List spec.Said) → Next u steps.end v
-      → positional_words l ≡ words → AreSeen d.options l seen → Stops d l u why
-
--- nothing is
-pub record IsRight (d : Declaration) (words : List (List ℕ)) (seen : List ℕ) : Type 0 where
-  pub enough : least d.positionals ≤ length words
-  pub taken : AreTaken d.positionals words
-  pub all : AllSeen d.options seen
-
 -- ---- what one option is
 
 -- the option is read with its values, or it is a mistake that it has none
@@ -136,17 +120,11 @@ IsReadByKey d options index count u (Err mistake) v = StopsByKey d count u mista
 
 -- ---- the values that an option accepts
 
--- wherever this option is declared, it accepts the values that it has here
-abbrev pub Accepts : {F V M S : Type 0} → Declared F V M S → (ℕ → spec.Said) → Type 0
-Accepts option said = (d : Declaration) (i : ℕ) → slice_get d.options i ≡ Some (option_view option)
-    → refused_value d.options (said i) ≡ None
-
--- wherever it is declared, this is the mistake that it does not accept one of them
-abbrev pub IsRefusal : {F V M S : Type 0} → Declared F V M S → (ℕ → spec.Said) → Mistake → Type 0
-IsRefusal option said mistake = (value : List ℕ) × ((d : Declaration) (i : ℕ)
+-- wherever this option is declared, this is the mistake that it does not accept a value
+abbrev pub IsInvalidValue : {F V M S : Type 0} → Declared F V M S → List ℕ → Mistake → Type 0
+IsInvalidValue option value mistake = (d : Declaration) (i : ℕ)
     → slice_get d.options i ≡ Some (option_view option)
-    → (refused_value d.options (said i) ≡ Some value)
-    × IsMistake d mistake (stops.invalid_value i value))
+    → IsMistake d mistake (stops.invalid_value i value)
 
 -- ---- the values of an option
 

@@ -1,25 +1,25 @@
 //! Which values an option accepts.
-ghost use Rattle.std.specs.Prelude.{◌≡◌, MatchResult, Some, is_none, map, not, position};
+ghost use Rattle.std.specs.Prelude.{◌≡◌, false, is_none, map, not, position};
 ghost use Rattle.std.specs.Cmp.Lexicographic.{pointwise};
 ghost use Rattle.std.specs.Prelude.{◌==◌};
 ghost use Rattle.std.specs.List.{list_all, list_any};
 ghost use Rattle.lexopt_options_spec.specs.Declaration as spec;
-ghost use Rattle.lexopt_options_spec.specs.Legal as legal;
 ghost use Rattle.lexopt_options_spec.specs.Legal.{refused_value};
 ghost use Rattle.lexopt_declaration.specs.Models.{option_view, words_view};
-ghost use Rattle.lexopt_options.specs.Reading.{Accepts, IsRefusal, indexed_view};
+ghost use Rattle.lexopt_options.specs.Reading.{IsInvalidValue, indexed_view};
 
 use crate::indexed::Indexed;
 use crate::mistake::Mistake;
 use lexopt_declaration::declaration::{Declared, Words};
 use lexopt_words::os_string::OsString;
 
-/// Whether a value is one of these.
-pub fn is_listed(values: &[&str], value: &OsString) -> bool
+/// Whether a value is one of these. It is not inlined, since few options have a list.
+#[inline(never)]
+pub fn is_listed(values: &[&str], value: &[u8]) -> bool
     ensures { result
         ≡ list_any (λ own. pointwise ◌==◌ own.now value.now) values.now }
 {
-    values.iter().any(|own| own.as_bytes() == value.as_bytes())
+    values.iter().any(|own| own.as_bytes() == value)
 }
 
 /// Whether a value may be this.
@@ -27,7 +27,7 @@ pub fn accepts(words: Words<'_>, value: &OsString) -> bool
     ensures { result ≡ spec.accepts (words_view words.entry) value.now }
 {
     match words {
-        Words::Listed(values) => is_listed(values, value),
+        Words::Listed(values) => is_listed(values, value.as_bytes()),
         Words::Files | Words::Directories | Words::Text => true,
     }
 }
@@ -37,73 +37,27 @@ pub fn refused_place(words: Words<'_>, values: &[OsString]) -> Option<usize>
     ensures { result
         ≡ position (λ value. not (spec.accepts (words_view words.entry) value)) values.now }
 {
-    values.iter().position(|value| !accepts(words, value))
+    match words {
+        Words::Listed(_) => values.iter().position(|value| !accepts(words, value)),
+        Words::Files | Words::Directories | Words::Text => None,
+    }
 }
 
-/// The value, or the mistake that the option does not accept it.
-pub fn check<'a, F, V, M, S>(
+/// The mistake that an option does not accept a value.
+pub fn invalid_value<'a, F, V, M, S>(
     option: &'a Declared<'a, F, V, M, S>,
     value: OsString,
-) -> Result<OsString, Mistake<'a>>
-    ensures { MatchResult result
-        (λ same. (same ≡ value) × Accepts option.now (λ i. legal.option i (Some value)))
-        (IsRefusal option.now (λ i. legal.option i (Some value))) }
+) -> Mistake<'a>
+    requires { spec.accepts (words_view option.now.words) value ≡ false }
+    ensures { IsInvalidValue option.now value result }
 {
     match option.words {
-        Words::Listed(values) => {
-            if is_listed(values, &value) {
-                return Ok(value);
-            }
-            Err(Mistake::InvalidValue {
-                option: option.names,
-                value,
-                values,
-            })
-        }
-        Words::Files | Words::Directories | Words::Text => Ok(value),
-    }
-}
-
-/// The same of a value that may be left out.
-pub fn check_maybe<'a, F, V, M, S>(
-    option: &'a Declared<'a, F, V, M, S>,
-    value: Option<OsString>,
-) -> Result<Option<OsString>, Mistake<'a>>
-    ensures { MatchResult result
-        (λ same. (same ≡ value) × Accepts option.now (λ i. legal.option i value))
-        (IsRefusal option.now (λ i. legal.option i value)) }
-{
-    match value {
-        Some(value) => match check(option, value) {
-            Ok(value) => Ok(Some(value)),
-            Err(mistake) => Err(mistake),
+        Words::Listed(values) => Mistake::InvalidValue {
+            option: option.names,
+            value,
+            values,
         },
-        None => Ok(None),
-    }
-}
-
-/// The same of several values: the first that is not accepted counts.
-pub fn check_all<'a, F, V, M, S>(
-    option: &'a Declared<'a, F, V, M, S>,
-    mut values: Vec<OsString>,
-) -> Result<Vec<OsString>, Mistake<'a>>
-    ensures { MatchResult result
-        (λ same. (same ≡ values) × Accepts option.now (λ i. legal.several i values.items))
-        (IsRefusal option.now (λ i. legal.several i values.items)) }
-{
-    match option.words {
-        Words::Listed(own) => match refused_place(option.words, &values) {
-            Some(place) => {
-                let value = values.swap_remove(place);
-                Err(Mistake::InvalidValue {
-                    option: option.names,
-                    value,
-                    values: own,
-                })
-            }
-            None => Ok(values),
-        },
-        Words::Files | Words::Directories | Words::Text => Ok(values),
+        Words::Files | Words::Directories | Words::Text => unreachable!(),
     }
 }
 

@@ -1,12 +1,18 @@
 //! What a program declares, and can declare.
 ghost use Rattle.std.specs.Prelude.{◌≡◌, true, map};
+ghost use Rattle.std.specs.List.{list_any};
 ghost use Rattle.lexopt_options_spec.specs.Declaration.{are_clear, are_listable, is_sound};
+ghost use Rattle.lexopt_options_spec.specs.Legal as legal;
+ghost use Rattle.lexopt_options_spec.specs.Places as places;
+ghost use Rattle.lexopt_options.specs.Taken.{has_list};
 ghost use Rattle.lexopt_declaration.specs.Models.{option_view, positional_view};
 
+use crate::taken::any_has_list;
 use lexopt_declaration::declaration::{
     Declaration, DeclarationError, Declared, Positional, are_text, declaration_fault,
 };
 use lexopt_declaration::help;
+use lexopt_declaration::positionals::{least_of, most_of};
 use std::alloc::{AllocError, Global};
 use std::convert::Infallible;
 
@@ -14,13 +20,60 @@ use std::convert::Infallible;
 /// argument at most may occur more than once, and each list of words can be declared.
 pub struct Options<'a, F, V = Infallible, P = Infallible, M = Infallible, S = Infallible> {
     declaration: &'a Declaration<'a, F, V, P, M, S>,
+    // What each line is checked for at its end, found once.
+    least: usize,
+    most: Option<usize>,
+    has_lists: bool,
+    has_required: bool,
     ghost sound: { is_sound (map option_view declaration.now.options.now) ≡ true },
     ghost clear: { are_clear (map positional_view declaration.now.positionals.now) ≡ true },
     ghost listable: { are_listable (map positional_view declaration.now.positionals.now) ≡ true },
+    ghost least_is: { least ≡ places.least (map positional_view declaration.now.positionals.now) },
+    ghost most_is: { most ≡ legal.most (map positional_view declaration.now.positionals.now) },
+    ghost lists: { has_lists
+        ≡ list_any (λ p. has_list p) declaration.now.positionals.now },
+    ghost required: { has_required
+        ≡ list_any (λ o. o.required) declaration.now.options.now },
+}
+
+// Whether this option is required.
+fn is_required<F, V, M, S>(option: &Declared<'_, F, V, M, S>) -> bool
+    ensures { result ≡ option.now.required }
+{
+    option.required
+}
+
+// Whether one of these is required.
+fn any_is_required<F, V, M, S>(options: &[Declared<'_, F, V, M, S>]) -> bool
+    ensures { result ≡ list_any (λ o. o.required) options.now }
+{
+    options.iter().any(|option| is_required(option))
+}
+
+// What a program declares, where all of it can be declared.
+fn checked<'a, F, V, P, M, S>(
+    declaration: &'a Declaration<'a, F, V, P, M, S>,
+) -> Options<'a, F, V, P, M, S>
+    requires sound { is_sound (map option_view declaration.now.options.now) ≡ true }
+    requires clear { are_clear (map positional_view declaration.now.positionals.now) ≡ true }
+    requires listable { are_listable (map positional_view declaration.now.positionals.now) ≡ true }
+    ensures { result.declaration.now ≡ declaration.now }
+{
+    Options {
+        declaration,
+        least: least_of(declaration.positionals),
+        most: most_of(declaration.positionals),
+        has_lists: any_has_list(declaration.positionals),
+        has_required: any_is_required(declaration.options),
+    }
 }
 
 impl<'a, F, V, P, M, S> Options<'a, F, V, P, M, S> {
     ghost use Rattle.std.specs.Prelude.{◌≡◌, IfOk, MatchResult, map, string_bytes, true};
+    ghost use Rattle.std.specs.List.{list_any};
+    ghost use Rattle.lexopt_options_spec.specs.Legal as legal;
+    ghost use Rattle.lexopt_options_spec.specs.Places as places;
+    ghost use Rattle.lexopt_options.specs.Taken.{has_list};
     ghost use Rattle.lexopt_options_spec.specs.Declarable.{can_be_declared};
     ghost use Rattle.lexopt_options_spec.specs.Declaration.{are_clear, are_listable, is_sound};
     ghost use Rattle.lexopt_options_spec.specs.Help.{IsHelp, IsUsage};
@@ -43,7 +96,7 @@ impl<'a, F, V, P, M, S> Options<'a, F, V, P, M, S> {
         ensures positionals { positionals_of result ≡ declaration.now.positionals.now }
     {
         are_text(declaration.options);
-        Options { declaration }
+        checked(declaration)
     }
 
     /// What a program declares, where that is known only when it runs.
@@ -63,7 +116,7 @@ impl<'a, F, V, P, M, S> Options<'a, F, V, P, M, S> {
         if let Some(error) = declaration_fault(declaration) {
             return Err(error);
         }
-        Ok(Options { declaration })
+        Ok(checked(declaration))
     }
 
     /// Whether `=` in a cluster separates an option from its value.
@@ -104,6 +157,34 @@ impl<'a, F, V, P, M, S> Options<'a, F, V, P, M, S> {
         ensures listable { are_listable (map positional_view result.now) ≡ true }
     {
         self.declaration.positionals
+    }
+
+    // How many positional arguments are required.
+    pub(crate) fn least(&self) -> usize
+        ensures { result ≡ places.least (declaration_of self.now).positionals }
+    {
+        self.least
+    }
+
+    // How many there may be at most, if there is a limit.
+    pub(crate) fn most(&self) -> Option<usize>
+        ensures { result ≡ legal.most (declaration_of self.now).positionals }
+    {
+        self.most
+    }
+
+    // Whether one of them has a list.
+    pub(crate) fn has_lists(&self) -> bool
+        ensures { result ≡ list_any (λ p. has_list p) (positionals_of self.now) }
+    {
+        self.has_lists
+    }
+
+    // Whether an option is required.
+    pub(crate) fn has_required(&self) -> bool
+        ensures { result ≡ list_any (λ o. o.required) (options_of self.now) }
+    {
+        self.has_required
     }
 
     /// The usage line: the name of the program; `[OPTION]...` if an option that is neither hidden

@@ -1,6 +1,7 @@
 //! Reading a line by a declaration.
 ghost use Rattle.std.specs.Prelude.{◌≡◌, ◌≢◌, ◌≤◌, ◌↔◌, ◌∷◌, ◌++◌, ℕ, List, [], IfOk, OnOk};
-ghost use Rattle.std.specs.Prelude.{IsTrue, None, Some, length, map, true};
+ghost use Rattle.std.specs.Prelude.{IsTrue, None, Some, false, map, true};
+ghost use Rattle.std.specs.List.{list_any};
 ghost use Rattle.std.specs.Option.{MatchOption};
 ghost use Rattle.lexopt_spec.specs.UnreadLine.{IsLine, Tail, UnreadLine};
 ghost use Rattle.lexopt_spec.specs.Steps as steps;
@@ -13,6 +14,7 @@ ghost use Rattle.lexopt_options_spec.specs.Asking.{asked_by, first_asked};
 ghost use Rattle.lexopt_options_spec.specs.Legal as legal;
 ghost use Rattle.lexopt_options_spec.specs.Legal.{IsWithin, are_accepted, is_required, most};
 ghost use Rattle.lexopt_options_spec.specs.Legal.{positional_count};
+ghost use Rattle.lexopt_options_spec.specs.Places.{least};
 ghost use Rattle.lexopt_options_spec.specs.Stops as stops;
 ghost use Rattle.lexopt_options_spec.specs.Stops.{ReadsUpTo, StopsAt};
 ghost use Rattle.lexopt_declaration.specs.Models.{option_view};
@@ -26,15 +28,16 @@ ghost use Rattle.lexopt_options.specs.Declarations.{declaration_of, options_of, 
 ghost use Rattle.lexopt_options.specs.Keys.{AllFirst, AreSaid, asked_view, positional_keys};
 ghost use Rattle.lexopt_options.specs.Keys.{said_words};
 ghost use Rattle.lexopt_options.specs.Kinds as kinds;
-ghost use Rattle.lexopt_options.specs.Mistakes.{IsMistake};
+ghost use Rattle.lexopt_options.specs.Taken.{has_list};
+ghost use Rattle.lexopt_options.specs.Mistakes.{AreNames, IsMistake};
 ghost use Rattle.lexopt_options.specs.Lines.{IsLineRead, before_mistake};
 ghost use Rattle.lexopt_options.specs.Fronts.{IsPart};
 ghost use Rattle.lexopt_options.specs.Reading.{AllSeen, AreAll, AreSeen, ComesNext, IsAtMostOne};
-ghost use Rattle.lexopt_options.specs.Reading.{IsFirstUnseen, IsOne, IsRead, IsRight, IsWrong};
+ghost use Rattle.lexopt_options.specs.Reading.{IsFirstUnseen, IsOne, IsRead};
 ghost use Rattle.lexopt_options.specs.Reading.{IsReadByKey, StopsBy, indexed_view, noted};
 
 use crate::indexed::Indexed;
-use crate::listed::{check, check_all, check_maybe};
+use crate::listed::{accepts, invalid_value, refused_place};
 use crate::mistake::{Mistake, OptionName, long_hint, short_hint};
 use crate::options::Options;
 use crate::places::{first_key, give_keys};
@@ -48,7 +51,7 @@ use lexopt_declaration::declaration::{Declared, Names};
 use lexopt_declaration::lookup::{
     help_names_of, index_of_long, index_of_short, option_placeholder,
 };
-use lexopt_declaration::positionals::{argument_placeholder, least_of, most_of};
+use lexopt_declaration::positionals::argument_placeholder;
 use lexopt_items::kinds::Kind;
 use lexopt_items::values::{Values, read_values};
 use lexopt_words::os_string::OsString;
@@ -191,24 +194,37 @@ fn read_told<'a, F: Copy, V: Copy, P: Copy, M: Copy, S: Copy>(
         declared::Kind::Help => Ok(Ok(Told::Asked(Asked::Help))),
         declared::Kind::Version(text) => Ok(Ok(Told::Asked(Asked::Version(text)))),
         declared::Kind::Value(key, _) => match read_values(alloc, parser, Kind::One) {
-            Ok(values) => match check(option, one_of(values)) {
-                Ok(value) => Ok(Ok(Told::Said(Said::Value(key, value)))),
-                Err(mistake) => Ok(Err(mistake)),
-            },
+            Ok(values) => {
+                let value = one_of(values);
+                if accepts(option.words, &value) {
+                    Ok(Ok(Told::Said(Said::Value(key, value))))
+                } else {
+                    Ok(Err(invalid_value(option, value)))
+                }
+            }
             Err(refused) => Ok(Err(missing_value(options, index, refused)?)),
         },
         declared::Kind::Maybe(key, _) => match read_values(alloc, parser, Kind::Optional) {
-            Ok(values) => match check_maybe(option, at_most_one_of(values)) {
-                Ok(value) => Ok(Ok(Told::Said(Said::Maybe(key, value)))),
-                Err(mistake) => Ok(Err(mistake)),
+            Ok(values) => match at_most_one_of(values) {
+                Some(value) => {
+                    if accepts(option.words, &value) {
+                        Ok(Ok(Told::Said(Said::Maybe(key, Some(value)))))
+                    } else {
+                        Ok(Err(invalid_value(option, value)))
+                    }
+                }
+                None => Ok(Ok(Told::Said(Said::Maybe(key, None)))),
             },
             Err(refused) => Ok(Err(missing_value(options, index, refused)?)),
         },
         declared::Kind::Values(key, _) => match read_values(alloc, parser, Kind::Several) {
-            Ok(values) => match check_all(option, all_of(values)) {
-                Ok(values) => Ok(Ok(Told::Said(Said::Values(key, values)))),
-                Err(mistake) => Ok(Err(mistake)),
-            },
+            Ok(values) => {
+                let mut values = all_of(values);
+                match refused_place(option.words, &values) {
+                    Some(place) => Ok(Err(invalid_value(option, values.swap_remove(place)))),
+                    None => Ok(Ok(Told::Said(Said::Values(key, values)))),
+                }
+            }
             Err(refused) => Ok(Err(missing_value(options, index, refused)?)),
         },
     }
@@ -329,7 +345,7 @@ fn read_line<'a, F, V, P, M, S>(
         → parser.old ≡ start (declaration_of options.now).short_equals words
         → IfOk result (λ found. IsPart (declaration_of options.now) words found) }
 {
-    let limit = most_of(options.positionals());
+    let limit = options.most();
     let mut said = Vec::with_capacity(alloc, room)?;
     let mut count = 0usize;
     loop {
@@ -357,8 +373,10 @@ fn is_among(index: usize, seen: &[usize]) -> bool
     seen.contains(&index)
 }
 
-// The names of the first required option whose index is not among these.
-fn missing_option<'a, F, V, M, S>(
+// The names of the first required option whose index is not among these. It is not inlined, since
+// few programs have required options.
+#[inline(never)]
+fn first_unseen<'a, F, V, M, S>(
     options: &'a [Declared<'a, F, V, M, S>],
     seen: &[usize],
 ) -> Option<Names<'a>>
@@ -374,34 +392,23 @@ fn missing_option<'a, F, V, M, S>(
     None
 }
 
-// What is wrong at the end of a line with `count` positional arguments, if something is missing or a
-// word is not accepted, where these are the indices of the required options that occur.
-fn wrong_at_end<'a, F, V, P, M, S>(
+// The same of the options of a declaration.
+fn missing_option<'a, F, V, P, M, S>(
     options: &Options<'a, F, V, P, M, S>,
-    said: &[Said<F, V, P, M, S>],
-    count: usize,
     seen: &[usize],
-) -> Result<Option<Mistake<'a>>, AllocError>
-    ensures { IfOk result (λ found. count ≡ length (said_words said.now)
-        → IsWithin count (most (declaration_of options.now).positionals) → MatchOption found
-        (IsRight (declaration_of options.now) (said_words said.now) seen.now)
-        (IsWrong (declaration_of options.now) (said_words said.now) seen.now)) }
+) -> Option<Names<'a>>
+    ensures { MatchOption result (AllSeen (declaration_of options.now).options seen.now)
+        (λ names. (index : ℕ) × IsFirstUnseen (declaration_of options.now).options seen.now index
+        × AreNames (declaration_of options.now).options index names) }
 {
-    if count < least_of(options.positionals()) {
-        let placeholder = argument_placeholder(options.positionals(), count);
-        return Ok(Some(Mistake::MissingArgument(placeholder)));
+    if !options.has_required() {
+        return None;
     }
-    if let Some(mistake) = invalid_argument(options.positionals(), said)? {
-        return Ok(Some(mistake));
-    }
-    match missing_option(options.options(), seen) {
-        Some(names) => Ok(Some(Mistake::MissingOption(names))),
-        None => Ok(None),
-    }
+    first_unseen(options.options(), seen)
 }
 
-// Adds an index to a list. It is not inlined, since few options are required.
-#[inline(never)]
+// Adds an index to a list.
+#[inline(always)]
 fn add_index(index: usize, seen: &mut Vec<usize>) -> Result<(), AllocError>
     ensures { OnOk result (seen.new.items ≡ seen.old.items ++ index ∷ []) }
 {
@@ -423,7 +430,9 @@ fn note<F, V, M, S>(
     }
 }
 
-// A refused line.
+// A refused line. A call of this, or of what else is always inlined here, would be handed what was
+// read, which then stayed in memory and not in registers while the line is read.
+#[inline(always)]
 fn refuse<'a, F, V, P: Copy, M, S>(
     options: &Options<'a, F, V, P, M, S>,
     mut before: Vec<Said<F, V, P, M, S>>,
@@ -467,6 +476,7 @@ fn said_before<F: Drop, V: Drop, P: Drop, M: Drop, S: Drop>(
 }
 
 // A line that stops at a mistake, where all of this was read before it.
+#[inline(always)]
 fn stop<'a, F: Drop, V: Drop, P: Copy, M: Drop, S: Drop>(
     options: &Options<'a, F, V, P, M, S>,
     said: Vec<Said<F, V, P, M, S>>,
@@ -519,8 +529,55 @@ where
     }
 }
 
-// A line that was read to its end. It is not inlined, since a line ends once.
-#[inline(never)]
+// A line that was read to its end, where something may be missing or a word may be in no list.
+#[inline(always)]
+fn end_checked<'a, F: Drop, V: Drop, P: Copy, M: Drop, S: Drop>(
+    options: &Options<'a, F, V, P, M, S>,
+    mut said: Vec<Said<F, V, P, M, S>>,
+    count: usize,
+    seen: &[usize],
+) -> Result<Line<'a, F, V, P, M, S>, AllocError>
+    ensures { (words : List (List ℕ)) (l : List legal.Said) (u v : UnreadLine)
+        → ReadsUpTo (declaration_of options.now)
+        (start (declaration_of options.now).short_equals words) l u → Next u steps.end v
+        → count ≡ positional_count l → AreSeen (declaration_of options.now).options l seen.now
+        → first_asked (declaration_of options.now).options l ≡ None
+        → AreSaid (options_of options.now) l said.items
+        → AllFirst (positionals_of options.now) (positional_keys said.items)
+        → are_accepted (declaration_of options.now).options l ≡ true
+        → IfOk result (λ line. IsLineRead options.now words line) }
+{
+    if count < options.least() {
+        let placeholder = argument_placeholder(options.positionals(), count);
+        return Ok(stop(options, said, Mistake::MissingArgument(placeholder)));
+    }
+    if let Some(mistake) = invalid_argument(options, &said)? {
+        return Ok(stop(options, said, mistake));
+    }
+    if let Some(names) = missing_option(options, seen) {
+        return Ok(stop(options, said, Mistake::MissingOption(names)));
+    }
+    give_keys(options.positionals(), &mut said);
+    Ok(Line::Said(said))
+}
+
+// Whether nothing can be missing from a line with `count` positional arguments, and no word is to be
+// looked up in a list.
+fn is_complete<F, V, P, M, S>(options: &Options<'_, F, V, P, M, S>, count: usize) -> bool
+    ensures { IsTrue result → (least (declaration_of options.now).positionals ≤ count)
+        × (list_any (λ p. has_list p) (positionals_of options.now) ≡ false)
+        × (list_any (λ o. o.required) (options_of options.now) ≡ false) }
+{
+    if options.least() > count {
+        return false;
+    }
+    if options.has_lists() {
+        return false;
+    }
+    !options.has_required()
+}
+
+// A line that was read to its end.
 fn end<'a, F: Drop, V: Drop, P: Copy, M: Drop, S: Drop>(
     options: &Options<'a, F, V, P, M, S>,
     mut said: Vec<Said<F, V, P, M, S>>,
@@ -537,12 +594,11 @@ fn end<'a, F: Drop, V: Drop, P: Copy, M: Drop, S: Drop>(
         → are_accepted (declaration_of options.now).options l ≡ true
         → IfOk result (λ line. IsLineRead options.now words line) }
 {
-    match wrong_at_end(options, &said, count, seen)? {
-        Some(mistake) => Ok(stop(options, said, mistake)),
-        None => {
-            give_keys(options.positionals(), &mut said);
-            Ok(Line::Said(said))
-        }
+    if is_complete(options, count) {
+        give_keys(options.positionals(), &mut said);
+        Ok(Line::Said(said))
+    } else {
+        end_checked(options, said, count, seen)
     }
 }
 
@@ -558,7 +614,7 @@ fn read_keys<'a, F: Copy, V: Copy, P: Copy, M: Copy, S: Copy>(
         → parser.old ≡ start (declaration_of options.now).short_equals words
         → IfOk result (λ line. IsLineRead options.now words line) }
 {
-    let limit = most_of(options.positionals());
+    let limit = options.most();
     let mut said = Vec::with_capacity(alloc, room)?;
     let mut seen = Vec::new(alloc);
     let mut count = 0usize;

@@ -10,7 +10,10 @@ ghost use Rattle.lexopt_options_spec.specs.Places.{refused_word, takes_at};
 ghost use Rattle.lexopt_options_spec.proofs.Shares.{greedy};
 ghost use Rattle.lexopt_options_spec.proofs.Taken.{CanBeTaken};
 ghost use Rattle.lexopt_declaration.specs.Models.{positional_view};
+ghost use Rattle.lexopt_options_spec.specs.Stops as stops;
+ghost use Rattle.lexopt_options.specs.Declarations.{declaration_of};
 ghost use Rattle.lexopt_options.specs.Keys.{said_words};
+ghost use Rattle.lexopt_options.specs.Mistakes.{IsMistake};
 ghost use Rattle.lexopt_options.specs.Taken as taken;
 ghost use Rattle.lexopt_options.specs.Taken.{IsInvalid, IsRefusal, IsRefusalAt};
 ghost use Rattle.lexopt_options.specs.Taken.{indexed_words};
@@ -18,6 +21,7 @@ ghost use Rattle.lexopt_options.specs.Taken.{indexed_words};
 use crate::indexed::Indexed;
 use crate::listed::{accepts, is_listed};
 use crate::mistake::Mistake;
+use crate::options::Options;
 use crate::places::{count_of, place_of, spare_of};
 use crate::said::Said;
 use lexopt_declaration::declaration::{Positional, Words};
@@ -35,8 +39,8 @@ fn has_list<P>(positional: &Positional<'_, P>) -> bool
     }
 }
 
-// Whether one of these has a list.
-fn any_has_list<P>(positionals: &[Positional<'_, P>]) -> bool
+/// Whether one of these has a list.
+pub fn any_has_list<P>(positionals: &[Positional<'_, P>]) -> bool
     ensures { result ≡ list_any (λ p. taken.has_list p) positionals.now }
 {
     positionals.iter().any(|positional| has_list(positional))
@@ -53,7 +57,7 @@ fn refusal<'a, P>(
 {
     match positional.words {
         Words::Listed(values) => {
-            if is_listed(values, word) {
+            if is_listed(values, word.as_bytes()) {
                 return Ok(None);
             }
             Ok(Some(Mistake::InvalidArgument {
@@ -82,6 +86,7 @@ fn refusal_at<'a, P>(
 
 // The mistake of the first of these words that its positional argument does not accept, where there
 // are `spare` words more than are required.
+#[inline(always)]
 fn first_refusal<'a, F, V, P, M, S>(
     positionals: &'a [Positional<'a, P>],
     said: &[Said<F, V, P, M, S>],
@@ -112,19 +117,20 @@ fn first_refusal<'a, F, V, P, M, S>(
 ///
 /// The only error is that memory ran out.
 pub fn invalid_argument<'a, F, V, P, M, S>(
-    positionals: &'a [Positional<'a, P>],
+    options: &Options<'a, F, V, P, M, S>,
     said: &[Said<F, V, P, M, S>],
 ) -> Result<Option<Mistake<'a>>, AllocError>
-    ensures { let ps = map positional_view positionals.now in IfOk result (λ found.
+    ensures { let ps = (declaration_of options.now).positionals in IfOk result (λ found.
         IsWithin (length (said_words said.now)) (most ps)
         → MatchOption found (AreTaken ps (said_words said.now))
         (λ mistake. (i : ℕ) × (word : List ℕ) × IsNotTaken ps (said_words said.now) i word
-        × IsInvalid positionals.now i word mistake)) }
+        × IsMistake (declaration_of options.now) mistake (stops.invalid_argument i word))) }
 {
     // Few programs have lists of words.
-    if !any_has_list(positionals) {
+    if !options.has_lists() {
         return Ok(None);
     }
+    let positionals = options.positionals();
     first_refusal(positionals, said, spare_of(positionals, count_of(said)))
 }
 

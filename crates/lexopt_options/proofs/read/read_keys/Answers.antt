@@ -63,7 +63,7 @@ loop-seen-preserved g c =
     let o = c.args.options.now in
     let reads = rw c.in-Positional.is at c.in_ok-index.ensures in
     has_positional o c.args.parser.now c.loop-seen.parser c.read_next.new.parser c.loop-seen.count c.loop-seen.seen.items c.loop-seen.said.items c.push-in-Positional.new.self.items c.in-Positional.word c.first_key-key.result
-    c.loop-seen.invariant reads (subst (λ ps. HasKey ps 0 c.first_key-key.result) c.positionals-in-Positional.ensures.same c.first_key-key.ensures) c.in_ok-push-in-Positional.ensures.items
+    c.loop-seen.invariant reads (subst (λ ps. HasKey ps 0 c.first_key-key.result) c.positionals.ensures.same c.first_key-key.ensures) c.in_ok-push-in-Positional.ensures.items
 
 pub returns-in-End : goal.returns-in-End
 returns-in-End g c = λ words is.

@@ -1,4 +1,4 @@
-use Rattle.std.proofs.Common.{◌≡◌, ◌∙◌, List, None, Some, ap, get_or, refl, subst, sym}
+use Rattle.std.proofs.Common.{◌≡◌, ◌∙◌, List, None, Some, ap, get_or, not, position, refl, subst, sym}
 use Rattle.lexopt_declaration.specs.declared.declaration.Declared.{Declared}
 use Rattle.lexopt_declaration.specs.declared.declaration.Kind.TheVariants as kind
 use Rattle.lexopt_items.specs.declared.kinds.Kind.TheVariants as arity
@@ -8,11 +8,12 @@ use Rattle.lexopt_options.specs.declared.said.Asked.TheVariants as asked
 use Rattle.lexopt_options.specs.declared.said.Said.TheVariants as said
 use Rattle.lexopt_options.specs.declared.said.Told.TheVariants as told
 use Rattle.lexopt_options_spec.specs.Legal as legal
-use Rattle.lexopt_options_spec.specs.Legal.{refused_value}
 use Rattle.lexopt_options.specs.Declarations.{declaration_of, options_of}
 use Rattle.lexopt_options.specs.Reading.{said_with}
 use Rattle.lexopt_options.proofs.Keys.{found_within, kind_is, tells_flag, tells_help, tells_maybe, tells_value, tells_values, tells_version}
-use Rattle.lexopt_options.proofs.Accepted.{viewed}
+use Rattle.lexopt_options_spec.specs.Declaration as spec
+use Rattle.lexopt_declaration.specs.Models.{option_view, words_view}
+use Rattle.lexopt_options.proofs.Accepted.{first_refused, place_refused, value_accepted, value_refused, viewed}
 use Rattle.lexopt_options.proofs.ReadKeys.{by_key, read_so, refused_so}
 use Rattle.lexopt_options.proofs.read.read_told.Goals as goal
 
@@ -43,101 +44,130 @@ returns-in-Version g c = λ count u name step found.
     read_so o count u c.args.parser.now c.args.parser.now name arity.Flag c.args.index (values.AtMostOne None) (indexed.Option c.args.index None) (told.Asked (asked.Version c.in-Version.text))
     (kind_is (options_of o) c.args.index r (kind.Version c.in-Version.text) inside at c.in-Version.is) step found refl refl (tells_version o c.args.index r c.in-Version.text inside at c.in-Version.is) refl
 
-pub returns-in-Ok-check : goal.returns-in-Ok-check
-returns-in-Ok-check g c = λ count u name step found.
+pub returns-then-accepts : goal.returns-then-accepts
+returns-then-accepts g c = λ count u name step found.
     let o = c.args.options.now in
+    let d = declaration_of o in
     let r = c.index-declared-index.result in
     let inside = found_within (options_of o) name c.args.index found in
     let at = subst (λ (os : List (Declared _ _ _ _)). r ≡ get_or os c.args.index r) c.options-declared.ensures.same c.index-declared-index.is in
     let view = viewed (options_of o) c.args.index r inside at in
-    let own = c.in-Ok-check.ensures in
-    read_so o count u c.args.parser.now c.read_values.new.parser name arity.One c.args.index c.in-Ok.values (indexed.Option c.args.index (Some c.in-Ok-check.value)) (told.Said (said.Value c.in-Value.key c.in-Ok-check.value))
-    (kind_is (options_of o) c.args.index r (kind.Value c.in-Value.key c.in-Value.field-1) inside at c.in-Value.is) step found (ap (λ x. legal.option c.args.index (Some x)) own.0 ∙ ap (said_with c.args.index) (sym c.one_of.ensures)) c.in-Ok.ensures.ok (tells_value o c.args.index r c.in-Value.key c.in-Value.field-1 c.in-Ok-check.value inside at c.in-Value.is)
-    (ap (λ x. refused_value (declaration_of o).options (legal.option c.args.index (Some x))) own.0 ∙ own.1 (declaration_of o) c.args.index view)
+    let value = c.one_of-value.result in
+    read_so o count u c.args.parser.now c.read_values.new.parser name arity.One c.args.index c.in-Ok.values (indexed.Option c.args.index (Some value)) (told.Said (said.Value c.in-Value.key value))
+    (kind_is (options_of o) c.args.index r (kind.Value c.in-Value.key c.in-Value.field-1) inside at c.in-Value.is) step found (ap (said_with c.args.index) (sym c.one_of-value.ensures)) c.in-Ok.ensures.ok (tells_value o c.args.index r c.in-Value.key c.in-Value.field-1 value inside at c.in-Value.is)
+    (value_accepted d.options c.args.index (option_view r) value view (sym c.accepts.ensures ∙ c.if-accepts.true))
 
-pub returns-in-Err-check : goal.returns-in-Err-check
-returns-in-Err-check g c = λ count u name step found.
+pub returns-in-Ok : goal.returns-in-Ok
+returns-in-Ok g c = λ count u name step found.
     let o = c.args.options.now in
+    let d = declaration_of o in
     let r = c.index-declared-index.result in
     let inside = found_within (options_of o) name c.args.index found in
     let at = subst (λ (os : List (Declared _ _ _ _)). r ≡ get_or os c.args.index r) c.options-declared.ensures.same c.index-declared-index.is in
     let view = viewed (options_of o) c.args.index r inside at in
-    let refusal = c.in-Err-check.ensures in
-    refused_so o count u c.args.parser.now c.read_values.new.parser name arity.One c.args.index c.in-Ok.values (indexed.Option c.args.index (Some c.one_of.result)) c.in-Err-check.mistake refusal.0
-    (kind_is (options_of o) c.args.index r (kind.Value c.in-Value.key c.in-Value.field-1) inside at c.in-Value.is) step found (ap (said_with c.args.index) (sym c.one_of.ensures)) c.in-Ok.ensures.ok (refusal.1 (declaration_of o) c.args.index view)
+    let value = c.one_of-value.result in
+    refused_so o count u c.args.parser.now c.read_values.new.parser name arity.One c.args.index c.in-Ok.values (indexed.Option c.args.index (Some value)) c.invalid_value.result value
+    (kind_is (options_of o) c.args.index r (kind.Value c.in-Value.key c.in-Value.field-1) inside at c.in-Value.is) step found (ap (said_with c.args.index) (sym c.one_of-value.ensures)) c.in-Ok.ensures.ok
+    (value_refused d.options c.args.index (option_view r) value view (sym c.accepts.ensures ∙ c.if-accepts.false), c.invalid_value.ensures d c.args.index view)
 
-pub returns-in_ok-missing_value-in-Err : goal.returns-in_ok-missing_value-in-Err
-returns-in_ok-missing_value-in-Err g c = λ count u name step found.
+pub returns-in-Value : goal.returns-in-Value
+returns-in-Value g c = λ count u name step found.
     let o = c.args.options.now in
+    let d = declaration_of o in
     let r = c.index-declared-index.result in
     let inside = found_within (options_of o) name c.args.index found in
     let at = subst (λ (os : List (Declared _ _ _ _)). r ≡ get_or os c.args.index r) c.options-declared.ensures.same c.index-declared-index.is in
-    let view = viewed (options_of o) c.args.index r inside at in
-    by_key (declaration_of o) count u _
+    by_key d count u _
     (c.in_ok-missing_value-in-Err.ensures count arity.One u c.args.parser.now name step found (kind_is (options_of o) c.args.index r (kind.Value c.in-Value.key c.in-Value.field-1) inside at c.in-Value.is) c.in-Err.ensures.err)
 
-pub returns-in-Ok-check_maybe : goal.returns-in-Ok-check_maybe
-returns-in-Ok-check_maybe g c = λ count u name step found.
+pub returns-then-accepts-2 : goal.returns-then-accepts-2
+returns-then-accepts-2 g c = λ count u name step found.
     let o = c.args.options.now in
+    let d = declaration_of o in
     let r = c.index-declared-index.result in
     let inside = found_within (options_of o) name c.args.index found in
     let at = subst (λ (os : List (Declared _ _ _ _)). r ≡ get_or os c.args.index r) c.options-declared.ensures.same c.index-declared-index.is in
     let view = viewed (options_of o) c.args.index r inside at in
-    let own = c.in-Ok-check_maybe.ensures in
-    read_so o count u c.args.parser.now c.read_values-in-Maybe.new.parser name arity.Optional c.args.index c.in-Ok-read_values.values (indexed.Option c.args.index c.in-Ok-check_maybe.value) (told.Said (said.Maybe c.in-Maybe.key c.in-Ok-check_maybe.value))
-    (kind_is (options_of o) c.args.index r (kind.Maybe c.in-Maybe.key c.in-Maybe.field-1) inside at c.in-Maybe.is) step found (ap (λ x. legal.option c.args.index x) own.0 ∙ ap (said_with c.args.index) (sym c.at_most_one_of.ensures)) c.in-Ok-read_values.ensures.ok (tells_maybe o c.args.index r c.in-Maybe.key c.in-Maybe.field-1 c.in-Ok-check_maybe.value inside at c.in-Maybe.is)
-    (ap (λ x. refused_value (declaration_of o).options (legal.option c.args.index x)) own.0 ∙ own.1 (declaration_of o) c.args.index view)
+    let value = c.in-Some.value in
+    read_so o count u c.args.parser.now c.read_values-in-Maybe.new.parser name arity.Optional c.args.index c.in-Ok-read_values.values (indexed.Option c.args.index (Some value)) (told.Said (said.Maybe c.in-Maybe.key (Some value)))
+    (kind_is (options_of o) c.args.index r (kind.Maybe c.in-Maybe.key c.in-Maybe.field-1) inside at c.in-Maybe.is) step found (ap (λ x. legal.option c.args.index x) (sym c.in-Some.is) ∙ ap (said_with c.args.index) (sym c.at_most_one_of.ensures)) c.in-Ok-read_values.ensures.ok (tells_maybe o c.args.index r c.in-Maybe.key c.in-Maybe.field-1 (Some value) inside at c.in-Maybe.is)
+    (value_accepted d.options c.args.index (option_view r) value view (sym c.accepts-in-Some.ensures ∙ c.if-accepts-2.true))
 
-pub returns-in-Err-check_maybe : goal.returns-in-Err-check_maybe
-returns-in-Err-check_maybe g c = λ count u name step found.
+pub returns-in-Some : goal.returns-in-Some
+returns-in-Some g c = λ count u name step found.
     let o = c.args.options.now in
+    let d = declaration_of o in
     let r = c.index-declared-index.result in
     let inside = found_within (options_of o) name c.args.index found in
     let at = subst (λ (os : List (Declared _ _ _ _)). r ≡ get_or os c.args.index r) c.options-declared.ensures.same c.index-declared-index.is in
     let view = viewed (options_of o) c.args.index r inside at in
-    let refusal = c.in-Err-check_maybe.ensures in
-    refused_so o count u c.args.parser.now c.read_values-in-Maybe.new.parser name arity.Optional c.args.index c.in-Ok-read_values.values (indexed.Option c.args.index c.at_most_one_of.result) c.in-Err-check_maybe.mistake refusal.0
-    (kind_is (options_of o) c.args.index r (kind.Maybe c.in-Maybe.key c.in-Maybe.field-1) inside at c.in-Maybe.is) step found (ap (said_with c.args.index) (sym c.at_most_one_of.ensures)) c.in-Ok-read_values.ensures.ok (refusal.1 (declaration_of o) c.args.index view)
+    let value = c.in-Some.value in
+    refused_so o count u c.args.parser.now c.read_values-in-Maybe.new.parser name arity.Optional c.args.index c.in-Ok-read_values.values (indexed.Option c.args.index (Some value)) c.invalid_value-else-accepts-2.result value
+    (kind_is (options_of o) c.args.index r (kind.Maybe c.in-Maybe.key c.in-Maybe.field-1) inside at c.in-Maybe.is) step found (ap (λ x. legal.option c.args.index x) (sym c.in-Some.is) ∙ ap (said_with c.args.index) (sym c.at_most_one_of.ensures)) c.in-Ok-read_values.ensures.ok
+    (value_refused d.options c.args.index (option_view r) value view (sym c.accepts-in-Some.ensures ∙ c.if-accepts-2.false), c.invalid_value-else-accepts-2.ensures d c.args.index view)
 
-pub returns-in_ok-missing_value-in-Err-read_values : goal.returns-in_ok-missing_value-in-Err-read_values
-returns-in_ok-missing_value-in-Err-read_values g c = λ count u name step found.
+pub returns-in-Ok-read_values : goal.returns-in-Ok-read_values
+returns-in-Ok-read_values g c = λ count u name step found.
     let o = c.args.options.now in
+    let d = declaration_of o in
     let r = c.index-declared-index.result in
     let inside = found_within (options_of o) name c.args.index found in
     let at = subst (λ (os : List (Declared _ _ _ _)). r ≡ get_or os c.args.index r) c.options-declared.ensures.same c.index-declared-index.is in
-    let view = viewed (options_of o) c.args.index r inside at in
-    by_key (declaration_of o) count u _
+    read_so o count u c.args.parser.now c.read_values-in-Maybe.new.parser name arity.Optional c.args.index c.in-Ok-read_values.values (indexed.Option c.args.index None) (told.Said (said.Maybe c.in-Maybe.key None))
+    (kind_is (options_of o) c.args.index r (kind.Maybe c.in-Maybe.key c.in-Maybe.field-1) inside at c.in-Maybe.is) step found (ap (λ x. legal.option c.args.index x) (sym c.in-None.is) ∙ ap (said_with c.args.index) (sym c.at_most_one_of.ensures)) c.in-Ok-read_values.ensures.ok (tells_maybe o c.args.index r c.in-Maybe.key c.in-Maybe.field-1 None inside at c.in-Maybe.is)
+    refl
+
+pub returns-in-Maybe : goal.returns-in-Maybe
+returns-in-Maybe g c = λ count u name step found.
+    let o = c.args.options.now in
+    let d = declaration_of o in
+    let r = c.index-declared-index.result in
+    let inside = found_within (options_of o) name c.args.index found in
+    let at = subst (λ (os : List (Declared _ _ _ _)). r ≡ get_or os c.args.index r) c.options-declared.ensures.same c.index-declared-index.is in
+    by_key d count u _
     (c.in_ok-missing_value-in-Err-read_values.ensures count arity.Optional u c.args.parser.now name step found (kind_is (options_of o) c.args.index r (kind.Maybe c.in-Maybe.key c.in-Maybe.field-1) inside at c.in-Maybe.is) c.in-Err-read_values.ensures.err)
 
-pub returns-in-Ok-check_all : goal.returns-in-Ok-check_all
-returns-in-Ok-check_all g c = λ count u name step found.
-    let o = c.args.options.now in
-    let r = c.index-declared-index.result in
-    let inside = found_within (options_of o) name c.args.index found in
-    let at = subst (λ (os : List (Declared _ _ _ _)). r ≡ get_or os c.args.index r) c.options-declared.ensures.same c.index-declared-index.is in
-    let view = viewed (options_of o) c.args.index r inside at in
-    let own = c.in-Ok-check_all.ensures in
-    read_so o count u c.args.parser.now c.read_values-in-Values.new.parser name arity.Several c.args.index c.in-Ok-read_values-2.values (indexed.Several c.args.index c.in-Ok-check_all.values) (told.Said (said.Values c.in-Values.key c.in-Ok-check_all.values))
-    (kind_is (options_of o) c.args.index r (kind.Values c.in-Values.key c.in-Values.field-1) inside at c.in-Values.is) step found (ap (λ x. legal.several c.args.index x.items) own.0 ∙ ap (said_with c.args.index) (sym c.all_of.ensures)) c.in-Ok-read_values-2.ensures.ok (tells_values o c.args.index r c.in-Values.key c.in-Values.field-1 c.in-Ok-check_all.values inside at c.in-Values.is)
-    (ap (λ x. refused_value (declaration_of o).options (legal.several c.args.index x.items)) own.0 ∙ own.1 (declaration_of o) c.args.index view)
+pub invalid_value-requires-in-Some-refused_place : goal.invalid_value-requires-in-Some-refused_place
+invalid_value-requires-in-Some-refused_place g c =
+    let words = words_view c.index-declared-index.result.words in
+    (place_refused words c.all_of-values.result.items c.in-Some-refused_place.place c.swap_remove.result (sym c.in-Some-refused_place.is ∙ c.refused_place.ensures ∙ ap (position (λ value. not (spec.accepts words value))) c.deref.ensures.value) c.swap_remove.ensures.value).1
 
-pub returns-in-Err-check_all : goal.returns-in-Err-check_all
-returns-in-Err-check_all g c = λ count u name step found.
+pub returns-in-Some-refused_place : goal.returns-in-Some-refused_place
+returns-in-Some-refused_place g c = λ count u name step found.
     let o = c.args.options.now in
+    let d = declaration_of o in
     let r = c.index-declared-index.result in
     let inside = found_within (options_of o) name c.args.index found in
     let at = subst (λ (os : List (Declared _ _ _ _)). r ≡ get_or os c.args.index r) c.options-declared.ensures.same c.index-declared-index.is in
     let view = viewed (options_of o) c.args.index r inside at in
-    let refusal = c.in-Err-check_all.ensures in
-    refused_so o count u c.args.parser.now c.read_values-in-Values.new.parser name arity.Several c.args.index c.in-Ok-read_values-2.values (indexed.Several c.args.index c.all_of.result) c.in-Err-check_all.mistake refusal.0
-    (kind_is (options_of o) c.args.index r (kind.Values c.in-Values.key c.in-Values.field-1) inside at c.in-Values.is) step found (ap (said_with c.args.index) (sym c.all_of.ensures)) c.in-Ok-read_values-2.ensures.ok (refusal.1 (declaration_of o) c.args.index view)
+    let words = words_view r.words in
+    let items = c.all_of-values.result.items in
+    let first = sym c.in-Some-refused_place.is ∙ c.refused_place.ensures ∙ ap (position (λ value. not (spec.accepts words value))) c.deref.ensures.value in
+    refused_so o count u c.args.parser.now c.read_values-in-Values.new.parser name arity.Several c.args.index c.in-Ok-read_values-2.values (indexed.Several c.args.index c.all_of-values.result) c.invalid_value-in-Some-refused_place.result c.swap_remove.result
+    (kind_is (options_of o) c.args.index r (kind.Values c.in-Values.key c.in-Values.field-1) inside at c.in-Values.is) step found (ap (said_with c.args.index) (sym c.all_of-values.ensures)) c.in-Ok-read_values-2.ensures.ok
+    (first_refused d.options c.args.index (option_view r) items (Some c.in-Some-refused_place.place) view first ∙ (place_refused words items c.in-Some-refused_place.place c.swap_remove.result first c.swap_remove.ensures.value).0, c.invalid_value-in-Some-refused_place.ensures d c.args.index view)
 
-pub returns-in_ok-missing_value-in-Err-read_values-2 : goal.returns-in_ok-missing_value-in-Err-read_values-2
-returns-in_ok-missing_value-in-Err-read_values-2 g c = λ count u name step found.
+pub returns-in-Ok-read_values-2 : goal.returns-in-Ok-read_values-2
+returns-in-Ok-read_values-2 g c = λ count u name step found.
     let o = c.args.options.now in
+    let d = declaration_of o in
     let r = c.index-declared-index.result in
     let inside = found_within (options_of o) name c.args.index found in
     let at = subst (λ (os : List (Declared _ _ _ _)). r ≡ get_or os c.args.index r) c.options-declared.ensures.same c.index-declared-index.is in
     let view = viewed (options_of o) c.args.index r inside at in
-    by_key (declaration_of o) count u _
+    let words = words_view r.words in
+    let items = c.all_of-values.result.items in
+    let all = sym c.in-None-refused_place.is ∙ c.refused_place.ensures ∙ ap (position (λ value. not (spec.accepts words value))) c.deref.ensures.value in
+    read_so o count u c.args.parser.now c.read_values-in-Values.new.parser name arity.Several c.args.index c.in-Ok-read_values-2.values (indexed.Several c.args.index c.all_of-values.result) (told.Said (said.Values c.in-Values.key c.all_of-values.result))
+    (kind_is (options_of o) c.args.index r (kind.Values c.in-Values.key c.in-Values.field-1) inside at c.in-Values.is) step found (ap (said_with c.args.index) (sym c.all_of-values.ensures)) c.in-Ok-read_values-2.ensures.ok (tells_values o c.args.index r c.in-Values.key c.in-Values.field-1 c.all_of-values.result inside at c.in-Values.is)
+    (first_refused d.options c.args.index (option_view r) items None view all)
+
+pub returns : goal.returns
+returns g c = λ count u name step found.
+    let o = c.args.options.now in
+    let d = declaration_of o in
+    let r = c.index-declared-index.result in
+    let inside = found_within (options_of o) name c.args.index found in
+    let at = subst (λ (os : List (Declared _ _ _ _)). r ≡ get_or os c.args.index r) c.options-declared.ensures.same c.index-declared-index.is in
+    by_key d count u _
     (c.in_ok-missing_value-in-Err-read_values-2.ensures count arity.Several u c.args.parser.now name step found (kind_is (options_of o) c.args.index r (kind.Values c.in-Values.key c.in-Values.field-1) inside at c.in-Values.is) c.in-Err-read_values-2.ensures.err)
