@@ -8,6 +8,7 @@ ghost use Rattle.lexopt_options_spec.specs.Completion.{AreOwners, AreOwnersIn, A
 ghost use Rattle.lexopt_options_spec.specs.Declaration.{Asked, Declaration, Declared, Positional};
 ghost use Rattle.lexopt_options_spec.specs.Declaration.{accepts, has_name, index_of, is_sound};
 ghost use Rattle.lexopt_options_spec.specs.Declaration.{are_listable, listed};
+ghost use Rattle.lexopt_options_spec.specs.Leading.{IsSplit, LeadingStopsAt, SaysLeading};
 ghost use Rattle.lexopt_options_spec.specs.Legal.{IsWithin, Said, Says, SaysFront};
 ghost use Rattle.lexopt_options_spec.specs.Legal.{are_accepted, is_option, most, occurs};
 ghost use Rattle.lexopt_options_spec.specs.Legal.{positional_count, positional_words};
@@ -146,4 +147,15 @@ pub fn words_can_belong_to_one_list_of_positionals()
         → AreOwners ps n owners → AreOwners ps n others → owners ≡ others }
     ensures role { (ps : List Positional) (role : Option Role) (owners others : List ℕ)
         → AreOwnersIn ps role owners → AreOwnersIn ps role others → owners ≡ others }
+{}
+
+/// Words have at most one list of leading options and one rest. Where the reading of the options
+/// stops at a mistake, and the options can be declared together, they have none.
+pub fn words_have_one_list_of_leading_options()
+    ensures one { (d : Declaration) (words : List (List ℕ)) (l m : List Said)
+        (rest others : List (List ℕ)) → IsSplit d words l rest → IsSplit d words m others
+        → (l ≡ m) × (rest ≡ others) }
+    ensures none { (d : Declaration) (words : List (List ℕ)) (before l : List Said)
+        (rest : List (List ℕ)) (mistake : Mistake) → is_sound d.options ≡ true
+        → LeadingStopsAt d words before mistake → SaysLeading d words l rest → ⊥ }
 {}

@@ -3,6 +3,7 @@ pub mod ReadNext
 pub mod Keys
 pub mod ReadKeys
 pub mod WholeLines
+pub mod LeadingRead
 pub mod Answering
 pub mod Owners
 pub mod TakenWords

@@ -17,7 +17,7 @@ use Rattle.lexopt_options_spec.specs.Declaration.{Declaration, index_of, is_soun
 use Rattle.lexopt_options_spec.specs.Stops as stops
 use Rattle.lexopt_options.specs.Kinds.{kind_at}
 use Rattle.lexopt_options.specs.Mistakes.{IsMistake}
-use Rattle.lexopt_options.specs.Reading.{StopsBy}
+use Rattle.lexopt_options.specs.Reading.{StopsAtOption}
 use Rattle.lexopt_options.specs.declared.mistake.Mistake.{Mistake}
 use Rattle.lexopt_options.proofs.ReadNext.{kind_of_index}
 use Rattle.lexopt_items.specs.declared.kinds.Kind.{Kind}
@@ -52,13 +52,14 @@ is_named k u v name None read ends = absurd (unnamed_never k u v name read ends)
 is_named k u v name (Some option) read ends = refl
 
 -- a value that is missing
-pub value_missing : (d : Declaration) (count : ℕ) (k : Kind) (u v : UnreadLine) (name : Name) (index : ℕ) (option : String Global) (mistake : Mistake) → is_sound d.options ≡ true
+pub value_missing : (d : Declaration) (k : Kind) (u v : UnreadLine) (name : Name) (index : ℕ) (option : String Global) (mistake : Mistake) → is_sound d.options ≡ true
     → Next u (option_reply name) v → index_of d.options name ≡ Some index → kind_view k ≡ kind_at d.options index → ValuesEndBy k v (MissingValue (Some option))
-    → IsMistake d mistake (stops.missing_value index (string_bytes option)) → StopsBy d count u mistake
-value_missing d count k u v name index option mistake sound step found k_is (inl is) told = absurd (let e : MissingValue (Some option) ≡ OutOfMemory = is in cc)
-value_missing d count k u v name index option mistake sound step found k_is (inr r) told = record {
+    → IsMistake d mistake (stops.missing_value index (string_bytes option)) → StopsAtOption d u mistake
+value_missing d k u v name index option mistake sound step found k_is (inl is) told = absurd (let e : MissingValue (Some option) ≡ OutOfMemory = is in cc)
+value_missing d k u v name index option mistake sound step found k_is (inr r) told = record {
   why = stops.missing_value index (string_bytes option);
   told = told;
   early = tt;
-  stops = λ l counted. stops.no_value name index (string_bytes option) r.0 v r.1 step found (subst (λ (x : spec.Kind). IsDue x r.0) (k_is ∙ kind_of_index d.options name index sound found) r.2) r.3;
+  of_option = tt;
+  stops = λ l. stops.no_value name index (string_bytes option) r.0 v r.1 step found (subst (λ (x : spec.Kind). IsDue x r.0) (k_is ∙ kind_of_index d.options name index sound found) r.2) r.3;
 }

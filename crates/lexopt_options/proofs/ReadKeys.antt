@@ -29,7 +29,7 @@ use Rattle.lexopt_options.specs.Keys.{AllFirst, AreSaid, HasKey, IsSaid, IsTold,
 use Rattle.lexopt_options_spec.specs.Stops as stops
 use Rattle.lexopt_options.specs.declared.mistake.Mistake.{Mistake}
 use Rattle.lexopt_options.specs.Mistakes.{IsMistake}
-use Rattle.lexopt_options.specs.Reading.{StopsBy, StopsByKey, AreSeen, IsReadByKey, ReadsSaid, indexed_view, noted, said_with}
+use Rattle.lexopt_options.specs.Reading.{StopsAtOption, StopsByKey, AreSeen, IsReadByKey, ReadsSaid, indexed_view, noted, said_with}
 use Rattle.lexopt_options.specs.declared.said.Said.TheVariants as variant
 use Rattle.lexopt_declaration.specs.Models.{positional_view}
 use Rattle.lexopt_declaration.specs.declared.declaration.Positional.{Positional}
@@ -197,13 +197,14 @@ pub refused_so : {F V P M S : Type 0} (o : Options F V P M S) (count : ℕ) (u v
 refused_so o count u v w name k index values s m value k_is step found is reads refused = record {
   why = stops.invalid_value index value;
   told = refused.1;
+  of_option = tt;
   stops = λ l line counted. stops.not_accepted (indexed_view s) index value w
       (one_more (declaration_of o) u u w [] 0 (indexed_view s) (nothing_read (declaration_of o) u line) refl (option_said (declaration_of o) 0 u v w name k index s o.sound k_is step found (values, is, reads)))
       (subst (λ x. legal.is_option index x ≡ true) (sym is) (option_is index values)) refused.0;
 }
 
-pub by_key : (d : spec.Declaration) (count : ℕ) (u : UnreadLine) (m : Mistake) → StopsBy d count u m → StopsByKey d count u m
-by_key d count u m by = record { why = by.why; told = by.told; stops = λ l line counted. by.stops l counted }
+pub by_key : (d : spec.Declaration) (count : ℕ) (u : UnreadLine) (m : Mistake) → StopsAtOption d u m → StopsByKey d count u m
+by_key d count u m by = record { why = by.why; told = by.told; of_option = by.of_option; stops = λ l line counted. by.stops l }
 
 -- there are no more positionals than things that are read
 pub count_within : {F V P M S : Type 0} (o : Options F V P M S) (u v : UnreadLine) (count : ℕ) (seen : List ℕ) (said : List (Said F V P M S)) → HasRead o u v count seen said → count ≤ length said

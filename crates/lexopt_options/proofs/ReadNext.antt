@@ -30,7 +30,7 @@ use Rattle.lexopt_base.specs.Refusals.{refusal_reply}
 use Rattle.lexopt_line_spec.proofs.ReplyKinds.{next_reply}
 use Rattle.std.proofs.Common.{inl, inr, String, Global, string_bytes}
 use Rattle.lexopt_base.specs.Replies.{RepliesWith}
-use Rattle.lexopt_options_spec.specs.Declaration.{Declaration, Declared, has_name, index_of, is_sound, table}
+use Rattle.lexopt_options_spec.specs.Declaration.{Declaration, Declared, Positional, has_name, index_of, is_sound, table}
 use Rattle.lexopt_options_spec.specs.Legal as legal
 use Rattle.lexopt_options_spec.specs.Legal.{IsWithin, counts, most, positional_count, said_item}
 use Rattle.lexopt_options_spec.proofs.Lists.{count_append, joined}
@@ -42,7 +42,8 @@ use Rattle.lexopt_items.specs.declared.values.Values.{Values}
 use Rattle.lexopt_items.specs.declared.values.Values.TheVariants.{AtMostOne, All}
 use Rattle.lexopt_items.proofs.ReadsItems.{option_read, positional_read}
 use Rattle.lexopt_options.specs.declared.indexed.Indexed.{Indexed}
-use Rattle.lexopt_options.specs.Reading.{ReadsSaid, indexed_view, said_with}
+use Rattle.lexopt_options.specs.declared.mistake.Mistake.{Mistake}
+use Rattle.lexopt_options.specs.Reading.{ReadsSaid, StopsAtOption, StopsBy, StopsWithin, indexed_view, said_with}
 
 option_item : (d : Declaration) (name : Name) (index : ℕ) (values : Values) → index_of d.options name ≡ Some index → said_item d.options (item_with name values) ≡ Some (said_with index values)
 option_item d name index (AtMostOne value) found = ap (option_map (λ i. legal.option i value)) found
@@ -233,3 +234,20 @@ count_small [] = omega arith
 count_small (legal.option i v ∷ l) = let rest = count_small l in omega arith
 count_small (legal.several i v ∷ l) = let rest = count_small l in omega arith
 count_small (legal.positional w ∷ l) = let rest = count_small l in omega arith
+
+-- what stops the reading, where there may be as many positionals as are declared
+pub by_limit : (d : Declaration) (limit : Option ℕ) (count : ℕ) (u : UnreadLine) (mistake : Mistake) → limit ≡ most d.positionals → StopsWithin d limit count u mistake → StopsBy d count u mistake
+by_limit d limit count u mistake is stops = record { why = stops.why; told = stops.told; early = stops.early; stops = λ l counted. stops.stops l is counted }
+
+-- and one positional more
+pub by_room : (d : Declaration) (limit : Option ℕ) (count : ℕ) (u v : UnreadLine) (word : List ℕ) → limit ≡ most d.positionals → Next u (steps.positional word) v × (limit ≢ Some count)
+    → ReadsSaid d count u (legal.positional word) v
+by_room d limit count u v word is next = positional_said d count u v word (λ full. next.1 (is ∙ full)) next.0
+
+pub at_any : (d : Declaration) (count : ℕ) (u : UnreadLine) (mistake : Mistake) → StopsAtOption d u mistake → StopsBy d count u mistake
+at_any d count u mistake stops = record { why = stops.why; told = stops.told; early = stops.early; stops = λ l counted. stops.stops l }
+
+-- where there is room for one more, a positional is declared
+pub has_room : (ps : List Positional) (limit : Option ℕ) (count : ℕ) → limit ≡ most ps → IsWithin count (most ps) → limit ≢ Some count → 1 ≤ length ps
+has_room [] limit count is within room = absurd (room (is ∙ ap (λ n. Some n) (omega (arith, within))))
+has_room (p ∷ ps) limit count is within room = omega arith

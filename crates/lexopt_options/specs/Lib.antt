@@ -6,6 +6,7 @@ pub mod Taken
 pub mod Messages
 pub mod Mistakes
 pub mod Lines
+pub mod LeadingLines
 pub mod Fronts
 pub mod Names
 pub mod Completions

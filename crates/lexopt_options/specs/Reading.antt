@@ -1,6 +1,6 @@
 -- What is read from a line, as contracts see it, and what one step of its reading reads.
-use Rattle.std.specs.Prelude.{None, ◌≡◌, ◌<◌, ◌+◌, ◌++◌, ◌∷◌, ℕ, Bool, true, false, List, [], Some}
-use Rattle.std.specs.Prelude.{Result, Ok, Err, slice_get}
+use Rattle.std.specs.Prelude.{None, ◌≡◌, ◌≢◌, ◌<◌, ◌+◌, ◌++◌, ◌∷◌, ℕ, Bool, true, false, List, [], Some}
+use Rattle.std.specs.Prelude.{Option, Result, Ok, Err, slice_get}
 use Rattle.lexopt_spec.specs.UnreadLine.{UnreadLine, IsLine}
 use Rattle.lexopt_spec.specs.Steps as steps
 use Rattle.lexopt_spec.specs.Steps.{Next}
@@ -10,6 +10,7 @@ use Rattle.lexopt_line_spec.specs.Table.{Item, Name}
 use Rattle.lexopt_options_spec.specs.Declaration as declared
 use Rattle.lexopt_options_spec.specs.Declaration.{Declaration, has, index_of}
 use Rattle.lexopt_options_spec.specs.Completion.{IsOption}
+use Rattle.lexopt_options_spec.specs.Leading.{IsOfOption}
 use Rattle.lexopt_options_spec.specs.Legal as spec
 use Rattle.lexopt_options_spec.specs.Legal.{IsWithin, counts, is_required, most, occurs}
 use Rattle.lexopt_options_spec.specs.Legal.{positional_count, positional_words, refused_value, said_item}
@@ -56,6 +57,14 @@ IsEarly (stops.missing_argument count) = ⊥
 IsEarly (stops.missing_option index) = ⊥
 IsEarly mistake = Unit {0}
 
+-- whatever was read before, the line cannot be read on at an option, and this is why
+pub record StopsAtOption (d : Declaration) (u : UnreadLine) (mistake : Mistake) : Type 0 where
+  pub why : stops.Mistake
+  pub told : IsMistake d mistake why
+  pub early : IsEarly why
+  pub of_option : IsOfOption why
+  pub stops : (l : List spec.Said) → Stops d l u why
+
 -- after `count` positionals the line cannot be read on, and this is why
 pub record StopsBy (d : Declaration) (count : ℕ) (u : UnreadLine) (mistake : Mistake)
     : Type 0 where
@@ -69,15 +78,28 @@ pub record StopsByKey (d : Declaration) (count : ℕ) (u : UnreadLine) (mistake 
     : Type 0 where
   pub why : stops.Mistake
   pub told : IsMistake d mistake why
+  pub of_option : IsOfOption why
   pub stops : (l : List spec.Said) → IsLine u → count ≡ positional_count l → Stops d l u why
 
--- after `count` positionals this comes next
-abbrev pub ComesNext : Declaration → ℕ → UnreadLine → Outcome → UnreadLine → Type 0
-ComesNext d count u (outcome.Option index) v = (name : Name) × Next u (option_reply name) v
+-- After `count` positionals, of which there may be `limit`, the line cannot be read on, and this is
+-- why. Without a limit it is a mistake of an option, whatever was read before.
+pub record StopsWithin (d : Declaration) (limit : Option ℕ) (count : ℕ) (u : UnreadLine)
+    (mistake : Mistake) : Type 0 where
+  pub why : stops.Mistake
+  pub told : IsMistake d mistake why
+  pub early : IsEarly why
+  pub stops : (l : List spec.Said) → limit ≡ most d.positionals → count ≡ positional_count l
+      → Stops d l u why
+  pub of_option : limit ≡ None → IsOfOption why × ((l : List spec.Said) → Stops d l u why)
+
+-- after `count` positionals, of which there may be `limit`, this comes next
+abbrev pub ComesNext : Declaration → Option ℕ → ℕ → UnreadLine → Outcome → UnreadLine → Type 0
+ComesNext d limit count u (outcome.Option index) v = (name : Name) × Next u (option_reply name) v
     × (index_of d.options name ≡ Some index)
-ComesNext d count u (outcome.Positional word) v = ReadsSaid d count u (spec.positional word) v
-ComesNext d count u outcome.End v = Next u steps.end v
-ComesNext d count u (outcome.Mistake mistake) v = StopsBy d count u mistake
+ComesNext d limit count u (outcome.Positional word) v = Next u (steps.positional word) v
+    × (limit ≢ Some count)
+ComesNext d limit count u outcome.End v = Next u steps.end v
+ComesNext d limit count u (outcome.Mistake mistake) v = StopsWithin d limit count u mistake
 
 -- ---- the end of a line
 

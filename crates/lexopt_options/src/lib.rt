@@ -5,6 +5,7 @@ pub mod answer;
 pub mod complete;
 mod declare;
 mod indexed;
+pub mod leading;
 mod listed;
 pub mod mistake;
 pub mod options;
@@ -18,6 +19,7 @@ pub mod usage;
 
 pub use answer::Answer;
 pub use complete::{Completion, Role};
+pub use leading::Leading;
 pub use mistake::{Mistake, OptionName};
 pub use options::Options;
 pub use refused::{Line, Refused, USAGE_ERROR};

@@ -50,7 +50,9 @@ fn any_is_required<F, V, M, S>(options: &[Declared<'_, F, V, M, S>]) -> bool
     options.iter().any(|option| is_required(option))
 }
 
-// What a program declares, where all of it can be declared.
+// What a program declares, where all of it can be declared. It is not inlined: the loops that check
+// each option before keep their registers.
+#[inline(never)]
 fn checked<'a, F, V, P, M, S>(
     declaration: &'a Declaration<'a, F, V, P, M, S>,
 ) -> Options<'a, F, V, P, M, S>

@@ -34,7 +34,7 @@ ghost use Rattle.lexopt_options.specs.Lines.{IsLineRead, before_mistake};
 ghost use Rattle.lexopt_options.specs.Fronts.{IsPart};
 ghost use Rattle.lexopt_options.specs.Reading.{AllSeen, AreAll, AreSeen, ComesNext, IsAtMostOne};
 ghost use Rattle.lexopt_options.specs.Reading.{IsFirstUnseen, IsOne, IsRead};
-ghost use Rattle.lexopt_options.specs.Reading.{IsReadByKey, StopsBy, indexed_view, noted};
+ghost use Rattle.lexopt_options.specs.Reading.{IsReadByKey, StopsAtOption, indexed_view, noted};
 
 use crate::indexed::Indexed;
 use crate::listed::{accepts, invalid_value, refused_place};
@@ -59,7 +59,7 @@ use std::alloc::{AllocError, Global};
 
 // What comes next in a line.
 #[derive(Drop)]
-enum Outcome<'a> {
+pub enum Outcome<'a> {
     // The option of this index, whose values are not read yet.
     Option(usize),
     // A positional argument.
@@ -95,11 +95,11 @@ fn missing_value<'a, F, V, P, M, S>(
 ) -> Result<Mistake<'a>, AllocError>
     requires { (kind : Kind) × (u v : UnreadLine) × (name : table.Name)
         × Next u (option_reply name) v × (kind ≢ Kind.Flag) × ValuesEndBy kind v refused }
-    ensures { IfOk result (λ mistake. (count : ℕ) (kind : Kind) (u v : UnreadLine)
+    ensures { IfOk result (λ mistake. (kind : Kind) (u v : UnreadLine)
         (name : table.Name) → Next u (option_reply name) v
         → index_of (declaration_of options.now).options name ≡ Some index
         → kind_view kind ≡ kinds.kind_at (declaration_of options.now).options index
-        → ValuesEndBy kind v refused → StopsBy (declaration_of options.now) count u mistake) }
+        → ValuesEndBy kind v refused → StopsAtOption (declaration_of options.now) u mistake) }
 {
     match refused {
         Refusal::MissingValue(option) => {
@@ -173,7 +173,7 @@ fn all_of(values: Values) -> Vec<OsString>
 
 // The option of this index, which was just read, by its key; or the mistake that it has no value,
 // or one that it does not accept.
-fn read_told<'a, F: Copy, V: Copy, P: Copy, M: Copy, S: Copy>(
+pub fn read_told<'a, F: Copy, V: Copy, P: Copy, M: Copy, S: Copy>(
     alloc: Global,
     parser: &mut Parser,
     options: &Options<'a, F, V, P, M, S>,
@@ -277,16 +277,15 @@ fn is_full(limit: Option<usize>, count: usize) -> bool
 }
 
 // What comes next in a line after `count` positional arguments, of which there may be `limit`.
-fn read_next<'a, F, V, P, M, S>(
+pub fn read_next<'a, F, V, P, M, S>(
     alloc: Global,
     parser: &mut Parser,
     options: &Options<'a, F, V, P, M, S>,
     limit: Option<usize>,
     count: usize,
 ) -> Result<Outcome<'a>, AllocError>
-    requires limit { limit ≡ most (declaration_of options.now).positionals }
     ensures { IfOk result (λ outcome.
-        ComesNext (declaration_of options.now) count parser.old outcome parser.new) }
+        ComesNext (declaration_of options.now) limit count parser.old outcome parser.new) }
 {
     match parser.advance() {
         Ok(Found::Short(option)) => match index_of_short(options.options(), option) {
@@ -330,7 +329,7 @@ fn add(said: &mut Vec<Indexed>, item: Indexed) -> Result<(), AllocError>
 }
 
 // How many things a longer line may have before their list grows.
-const FIRST_ROOM: usize = 16;
+pub const FIRST_ROOM: usize = 16;
 
 // Reads a line into a list with room for `room` things from the start: what it means, whether or
 // not something is missing; nothing if no line begins so.
@@ -393,7 +392,7 @@ fn first_unseen<'a, F, V, M, S>(
 }
 
 // The same of the options of a declaration.
-fn missing_option<'a, F, V, P, M, S>(
+pub fn missing_option<'a, F, V, P, M, S>(
     options: &Options<'a, F, V, P, M, S>,
     seen: &[usize],
 ) -> Option<Names<'a>>
@@ -416,7 +415,7 @@ fn add_index(index: usize, seen: &mut Vec<usize>) -> Result<(), AllocError>
 }
 
 // Notes the index of an option that was read, if it is required.
-fn note<F, V, M, S>(
+pub fn note<F, V, M, S>(
     options: &[Declared<'_, F, V, M, S>],
     index: usize,
     seen: &mut Vec<usize>,
@@ -457,7 +456,7 @@ fn refuse<'a, F, V, P: Copy, M, S>(
 
 // What was read before a mistake, where this was read up to it: without the option that was given a
 // value and takes none, if that is the mistake.
-fn said_before<F: Drop, V: Drop, P: Drop, M: Drop, S: Drop>(
+pub fn said_before<F: Drop, V: Drop, P: Drop, M: Drop, S: Drop>(
     mut said: Vec<Said<F, V, P, M, S>>,
     mistake: &Mistake<'_>,
 ) -> Vec<Said<F, V, P, M, S>>
@@ -665,7 +664,7 @@ impl<'a, F, V, P, M, S> Options<'a, F, V, P, M, S> {
     ghost use Rattle.lexopt_options.specs.Declarations.{declaration_of, options_of};
 
     // A parser of these words, of which none is read.
-    fn parser_of(&self, words: Vec<OsString>) -> Parser
+    pub(crate) fn parser_of(&self, words: Vec<OsString>) -> Parser
         ensures { result ≡ start (declaration_of self.now).short_equals words.items }
     {
         let mut parser = Parser::from_vec(words);

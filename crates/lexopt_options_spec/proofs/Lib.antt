@@ -5,6 +5,12 @@ pub mod FaultLemmas
 pub mod Sound
 pub mod Declarable
 pub mod Fronts
+pub mod Cuts
+pub mod LongerLines
+pub mod ReadItems
+pub mod OneLeading
+pub mod LeadingStops
+pub mod LeadingOptions
 pub mod Distance
 pub mod Nearest
 pub mod OpenLines

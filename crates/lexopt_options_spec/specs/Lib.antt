@@ -4,6 +4,7 @@ pub mod Legal
 pub mod Places
 pub mod Stops
 pub mod Asking
+pub mod Leading
 pub mod Nearest
 pub mod Completion
 pub mod Help

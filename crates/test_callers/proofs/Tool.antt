@@ -5,6 +5,10 @@ use Rattle.std.specs.List.{AllZip}
 use Rattle.std.proofs.lemmas.Option.{slice_get-map}
 use Rattle.lexopt_options_spec.specs.Declaration.{Declaration, Declared as SpecDeclared, for_help, for_version}
 use Rattle.lexopt_options_spec.specs.Asking.{AskFor, first_asked, said_before}
+use Rattle.lexopt_options_spec.specs.Leading.{AsksLeading, LeadingStopsAt, SaysLeading}
+use Rattle.lexopt_options.specs.declared.leading.Leading.{Leading}
+use Rattle.lexopt_options.specs.declared.leading.Leading.TheVariants as leading
+use Rattle.lexopt_options.specs.LeadingLines.{IsLeadingOf, IsLeadingRead}
 use Rattle.lexopt_options_spec.specs.Legal as legal
 use Rattle.lexopt_options_spec.specs.Legal.{Says}
 use Rattle.lexopt_options_spec.specs.Places.{ArePlaces}
@@ -34,7 +38,7 @@ use Rattle.test_callers.specs.declared.declared.Value.{Value}
 use Rattle.test_callers.specs.declared.declared.Maybe.{Maybe}
 use Rattle.test_callers.specs.declared.declared.Values.{Values}
 use Rattle.test_callers.specs.declared.declared.Word.{Word}
-use Rattle.test_callers.specs.Tool.{AreKeyed, AreTold, HasNames, IsTold, LineTells, Stopped, StoppedBy, ToolLine, ToolRefused, ToolSays, read_keys, tool, tool_options, word_keys}
+use Rattle.test_callers.specs.Tool.{LeadingStopped, LeadingTells, ToolLeading, AreKeyed, AreTold, HasNames, IsTold, LineTells, Stopped, StoppedBy, ToolLine, ToolRefused, ToolSays, read_keys, tool, tool_options, word_keys}
 
 told : (options : List (Declared Flag Value Maybe Values)) (s : legal.Said) (own : Said Flag Value Word Maybe Values) → IsSaid options s own → IsTold s own
 told options s (said.Flag key) is = (is.0, is.1)
@@ -88,19 +92,19 @@ names_are d (names.Short c) short long = (short, long)
 names_are d (names.Long own) short long = (short, long)
 names_are d (names.Both c own) short long = (short, long)
 
-stopped_by : (words : List (List ℕ)) (before : List (Said Flag Value Word Maybe Values)) (m : Mistake) (why : stops.Mistake) → IsMistake tool m why → Stopped words before why → StoppedBy words before m
-stopped_by words before (mistake.UnknownOption (name.Short c) hint) why is stopped = (is.0, subst (Stopped words before) is.1 stopped, is.2)
-stopped_by words before (mistake.UnknownOption (name.Long own) hint) why is stopped = (is.0, subst (Stopped words before) is.1 stopped, is.2)
-stopped_by words before (mistake.UnexpectedValue option value) why is stopped = subst (Stopped words before) is stopped
-stopped_by words before (mistake.MissingValue option placeholder) why is stopped = (is.0, subst (Stopped words before) is.1 stopped, is.2)
-stopped_by words before (mistake.InvalidValue own value values) why (index, same, (d, here, short, long), are) stopped =
-    (index, subst (Stopped words before) same stopped, (d, here, names_are d own short long), are)
-stopped_by words before (mistake.UnexpectedArgument word) why is stopped = subst (Stopped words before) is stopped
-stopped_by words before (mistake.InvalidArgument placeholder word values) why (index, same, (p, here, placed, are)) stopped =
-    (index, subst (Stopped words before) same stopped, p, here, placed, are)
-stopped_by words before (mistake.MissingArgument placeholder) why is stopped = (is.0, subst (Stopped words before) is.1 stopped, is.2)
-stopped_by words before (mistake.MissingOption own) why (index, same, (d, here, short, long)) stopped =
-    (index, subst (Stopped words before) same stopped, d, here, names_are d own short long)
+stopped_by : (S : stops.Mistake → Type 0) (m : Mistake) (why : stops.Mistake) → IsMistake tool m why → S why → StoppedBy S m
+stopped_by S (mistake.UnknownOption (name.Short c) hint) why is stopped = (is.0, subst S is.1 stopped, is.2)
+stopped_by S (mistake.UnknownOption (name.Long own) hint) why is stopped = (is.0, subst S is.1 stopped, is.2)
+stopped_by S (mistake.UnexpectedValue option value) why is stopped = subst S is stopped
+stopped_by S (mistake.MissingValue option placeholder) why is stopped = (is.0, subst S is.1 stopped, is.2)
+stopped_by S (mistake.InvalidValue own value values) why (index, same, (d, here, short, long), are) stopped =
+    (index, subst S same stopped, (d, here, names_are d own short long), are)
+stopped_by S (mistake.UnexpectedArgument word) why is stopped = subst S is stopped
+stopped_by S (mistake.InvalidArgument placeholder word values) why (index, same, (p, here, placed, are)) stopped =
+    (index, subst S same stopped, p, here, placed, are)
+stopped_by S (mistake.MissingArgument placeholder) why is stopped = (is.0, subst S is.1 stopped, is.2)
+stopped_by S (mistake.MissingOption own) why (index, same, (d, here, short, long)) stopped =
+    (index, subst S same stopped, d, here, names_are d own short long)
 
 pub refused_as : (o : Options Flag Value Word Maybe Values) (words : List (List ℕ)) (r : Refused Flag Value Word Maybe Values) → AreOfTool o → IsRefused o words r → ToolRefused words r
 refused_as o words r its is =
@@ -108,7 +112,7 @@ refused_as o words r its is =
     let own : first_asked tool_options (said_before is.why is.read) ≡ None = subst (λ (d : Declaration). first_asked d.options (said_before is.why is.read) ≡ None) its.view is.own in
     let stops : StopsAt tool words is.read is.why = subst (λ (d : Declaration). StopsAt d words is.read is.why) its.view is.stops in (
       is.program ∙ ap (λ (d : Declaration). d.program) its.view,
-      stopped_by words r.before.items r.mistake is.why (subst (λ (d : Declaration). IsMistake d r.mistake is.why) its.view is.told) (is.read, stops, own, before, keyed o r.before.items its is.keys),
+      stopped_by (Stopped words r.before.items) r.mistake is.why (subst (λ (d : Declaration). IsMistake d r.mistake is.why) its.view is.told) (is.read, stops, own, before, keyed o r.before.items its is.keys),
     )
 
 pub says : (o : Options Flag Value Word Maybe Values) (words : List (List ℕ)) (own : List (Said Flag Value Word Maybe Values)) → AreOfTool o → LineSays o words own → ToolSays words own
@@ -126,3 +130,25 @@ line_tells o l (line.Said own) its is = (subst (λ (d : Declaration). first_aske
 line_tells o l (line.Asked asked.Help) its is = subst (λ (d : Declaration). first_asked d.options l ≡ Some for_help) its.view is
 line_tells o l (line.Asked (asked.Version text)) its is = subst (λ (d : Declaration). first_asked d.options l ≡ Some (for_version text.now)) its.view is
 line_tells o l (line.Refused r) its is = is
+
+-- ---- the options before the first positional
+
+pub leading_is : (o : Options Flag Value Word Maybe Values) (words : List (List ℕ)) (l : Leading Flag Value Word Maybe Values) → AreOfTool o → IsLeadingRead o words l → ToolLeading words l
+leading_is o words (leading.Said own rest) its is =
+    (is.0, subst (λ (d : Declaration). SaysLeading d words is.0 rest.items) its.view is.1, subst (λ (d : Declaration). first_asked d.options is.0 ≡ None) its.view is.2, are_told (options_of o) is.0 own.items is.3)
+leading_is o words (leading.Asked asked.Help) its is = subst (λ (d : Declaration). AsksLeading d words for_help) its.view is
+leading_is o words (leading.Asked (asked.Version text)) its is = subst (λ (d : Declaration). AsksLeading d words (for_version text.now)) its.view is
+leading_is o words (leading.Refused r) its is =
+    let before : AreTold (said_before is.why is.read) r.before.items = are_told (options_of o) _ _ is.before in
+    let own : first_asked tool_options (said_before is.why is.read) ≡ None = subst (λ (d : Declaration). first_asked d.options (said_before is.why is.read) ≡ None) its.view is.own in
+    let stops : LeadingStopsAt tool words is.read is.why = subst (λ (d : Declaration). LeadingStopsAt d words is.read is.why) its.view is.stops in (
+      is.program ∙ ap (λ (d : Declaration). d.program) its.view,
+      stopped_by (LeadingStopped words r.before.items) r.mistake is.why (subst (λ (d : Declaration). IsMistake d r.mistake is.why) its.view is.told) (is.read, stops, own, before),
+    )
+
+pub leading_tells : (o : Options Flag Value Word Maybe Values) (l : List legal.Said) (rest : List (List ℕ)) (leads : Leading Flag Value Word Maybe Values) → AreOfTool o → IsLeadingOf o l rest leads
+    → LeadingTells l rest leads
+leading_tells o l rest (leading.Said own others) its is = (subst (λ (d : Declaration). first_asked d.options l ≡ None) its.view is.0, are_told (options_of o) l own.items is.1, is.2)
+leading_tells o l rest (leading.Asked asked.Help) its is = subst (λ (d : Declaration). first_asked d.options l ≡ Some for_help) its.view is
+leading_tells o l rest (leading.Asked (asked.Version text)) its is = subst (λ (d : Declaration). first_asked d.options l ≡ Some (for_version text.now)) its.view is
+leading_tells o l rest (leading.Refused r) its is = is

@@ -18,6 +18,7 @@ use Rattle.lexopt_options_spec.specs.Completion as completion
 use Rattle.lexopt_options_spec.specs.Completion.{AreOwnersIn, Completes, HasRole, IsJoined}
 use Rattle.lexopt_options_spec.specs.Completion.{offered_values, spellings}
 use Rattle.lexopt_options_spec.specs.Help.{IsHelp, Line as HelpLine, Wraps, below}
+use Rattle.lexopt_options_spec.specs.Leading.{AsksLeading, LeadingStopsAt, SaysLeading}
 use Rattle.lexopt_options_spec.specs.Legal as legal
 use Rattle.lexopt_options_spec.specs.Legal.{Says}
 use Rattle.lexopt_options_spec.specs.Nearest.{IsHint}
@@ -28,6 +29,8 @@ use Rattle.lexopt_options.specs.declared.answer.Answer.{Answer}
 use Rattle.lexopt_options.specs.declared.answer.Answer.TheVariants as answer
 use Rattle.lexopt_options.specs.declared.complete.Role.{Role}
 use Rattle.lexopt_options.specs.declared.complete.Role.TheVariants as role
+use Rattle.lexopt_options.specs.declared.leading.Leading.{Leading}
+use Rattle.lexopt_options.specs.declared.leading.Leading.TheVariants as leading
 use Rattle.lexopt_options.specs.declared.mistake.Mistake.{Mistake}
 use Rattle.lexopt_options.specs.declared.mistake.Mistake.TheVariants as mistake
 use Rattle.lexopt_options.specs.declared.mistake.OptionName.TheVariants as name
@@ -158,39 +161,40 @@ HasNames o (names.Short c) = (o.short_name ≡ Some c) × (o.long_name ≡ None)
 HasNames o (names.Long own) = (o.short_name ≡ None) × (o.long_name ≡ Some own.now)
 HasNames o (names.Both c own) = (o.short_name ≡ Some c) × (o.long_name ≡ Some own.now)
 
-abbrev pub StoppedBy : List (List ℕ) → List (Said Flag Value Word Maybe Values) → Mistake → Type 0
-StoppedBy words before (mistake.UnknownOption (name.Short c) hint) = (left : Tail)
-    × Stopped words before (stops.unknown_option (short c) left)
+-- the reading ends so at this mistake, where S holds of a mistake at which it does
+abbrev pub StoppedBy : (stops.Mistake → Type 0) → Mistake → Type 0
+StoppedBy S (mistake.UnknownOption (name.Short c) hint) = (left : Tail)
+    × S (stops.unknown_option (short c) left)
     × IsHint tool_options (short c) left (option_map (λ text. text.now) hint)
-StoppedBy words before (mistake.UnknownOption (name.Long own) hint) = (left : Tail)
-    × Stopped words before (stops.unknown_option (long (string_bytes own)) left)
+StoppedBy S (mistake.UnknownOption (name.Long own) hint) = (left : Tail)
+    × S (stops.unknown_option (long (string_bytes own)) left)
     × IsHint tool_options (long (string_bytes own)) left (option_map (λ text. text.now) hint)
-StoppedBy words before (mistake.UnexpectedValue option value) =
-    Stopped words before (stops.unexpected_value (string_bytes option) value)
-StoppedBy words before (mistake.MissingValue option placeholder) = (index : ℕ)
-    × Stopped words before (stops.missing_value index (string_bytes option))
+StoppedBy S (mistake.UnexpectedValue option value) =
+    S (stops.unexpected_value (string_bytes option) value)
+StoppedBy S (mistake.MissingValue option placeholder) = (index : ℕ)
+    × S (stops.missing_value index (string_bytes option))
     × (placeholder.now ≡ placeholder_at tool_options index)
-StoppedBy words before (mistake.InvalidValue own value values) = (index : ℕ)
-    × Stopped words before (stops.invalid_value index value)
+StoppedBy S (mistake.InvalidValue own value values) = (index : ℕ)
+    × S (stops.invalid_value index value)
     × ((o : Declared) × (slice_get tool_options index ≡ Some o) × HasNames o own)
     × ((o : Declared) × (slice_get tool_options index ≡ Some o)
     × (o.words ≡ listed (map (λ v. v.now) values.now)))
-StoppedBy words before (mistake.UnexpectedArgument word) =
-    Stopped words before (stops.unexpected_argument word)
-StoppedBy words before (mistake.InvalidArgument placeholder word values) = (index : ℕ)
-    × Stopped words before (stops.invalid_argument index word)
+StoppedBy S (mistake.UnexpectedArgument word) =
+    S (stops.unexpected_argument word)
+StoppedBy S (mistake.InvalidArgument placeholder word values) = (index : ℕ)
+    × S (stops.invalid_argument index word)
     × (p : Positional) × (slice_get tool_positionals index ≡ Some p)
     × (p.placeholder ≡ placeholder.now) × (p.words ≡ listed (map (λ v. v.now) values.now))
-StoppedBy words before (mistake.MissingArgument placeholder) = (count : ℕ)
-    × Stopped words before (stops.missing_argument count)
+StoppedBy S (mistake.MissingArgument placeholder) = (count : ℕ)
+    × S (stops.missing_argument count)
     × (placeholder.now ≡ required_placeholder tool.positionals count)
-StoppedBy words before (mistake.MissingOption own) = (index : ℕ)
-    × Stopped words before (stops.missing_option index)
+StoppedBy S (mistake.MissingOption own) = (index : ℕ)
+    × S (stops.missing_option index)
     × (o : Declared) × (slice_get tool_options index ≡ Some o) × HasNames o own
 
 abbrev pub ToolRefused : List (List ℕ) → Refused Flag Value Word Maybe Values → Type 0
 ToolRefused words r = (r.program.now ≡ codes "tool")
-    × StoppedBy words r.before.items r.mistake
+    × StoppedBy (Stopped words r.before.items) r.mistake
 
 abbrev pub ToolLine : List (List ℕ) → Line Flag Value Word Maybe Values → Type 0
 ToolLine words (line.Said own) = ToolSays words own.items
@@ -205,6 +209,39 @@ LineTells l (line.Asked asked.Help) = first_asked tool_options l ≡ Some for_he
 LineTells l (line.Asked (asked.Version text)) =
     first_asked tool_options l ≡ Some (for_version text.now)
 LineTells l (line.Refused refused) = ⊥
+
+-- ---- the options before the first positional
+
+-- the words are a list that asks for nothing, by the keys, and this rest
+abbrev pub ToolLeads : List (List ℕ) → List (Said Flag Value Word Maybe Values) → List (List ℕ)
+    → Type 0
+ToolLeads words own rest = (l : List legal.Said) × SaysLeading tool words l rest
+    × (first_asked tool_options l ≡ None) × AreTold l own
+
+-- the reading of the options ends at this mistake
+abbrev pub LeadingStopped : List (List ℕ) → List (Said Flag Value Word Maybe Values)
+    → stops.Mistake → Type 0
+LeadingStopped words before why = (read : List legal.Said) × LeadingStopsAt tool words read why
+    × (first_asked tool_options (said_before why read) ≡ None)
+    × AreTold (said_before why read) before
+
+abbrev pub ToolLeading : List (List ℕ) → Leading Flag Value Word Maybe Values → Type 0
+ToolLeading words (leading.Said own rest) = ToolLeads words own.items rest.items
+ToolLeading words (leading.Asked asked.Help) = AsksLeading tool words for_help
+ToolLeading words (leading.Asked (asked.Version text)) =
+    AsksLeading tool words (for_version text.now)
+ToolLeading words (leading.Refused r) = (r.program.now ≡ codes "tool")
+    × StoppedBy (LeadingStopped words r.before.items) r.mistake
+
+-- the options are this list by the keys, and this rest, or what the list asks for first
+abbrev pub LeadingTells : List legal.Said → List (List ℕ) → Leading Flag Value Word Maybe Values
+    → Type 0
+LeadingTells l rest (leading.Said own others) = (first_asked tool_options l ≡ None)
+    × AreTold l own.items × (others.items ≡ rest)
+LeadingTells l rest (leading.Asked asked.Help) = first_asked tool_options l ≡ Some for_help
+LeadingTells l rest (leading.Asked (asked.Version text)) =
+    first_asked tool_options l ≡ Some (for_version text.now)
+LeadingTells l rest (leading.Refused refused) = ⊥
 
 -- ---- what can be typed
 

@@ -7,17 +7,19 @@ ghost use Rattle.lexopt_options_spec.specs.Completion.{AreOwnersIn, Completes, H
 ghost use Rattle.lexopt_options_spec.specs.Completion.{offered_values};
 ghost use Rattle.lexopt_options_spec.specs.Declaration as spec;
 ghost use Rattle.lexopt_options_spec.specs.Help.{IsHelp};
+ghost use Rattle.lexopt_options_spec.specs.Leading.{SaysLeading};
 ghost use Rattle.lexopt_options_spec.specs.Legal as legal;
 ghost use Rattle.lexopt_options_spec.specs.Legal.{Says};
 ghost use Rattle.lexopt_items.specs.Items.{table_view};
-ghost use Rattle.test_callers.specs.Tool.{AreBoth, AreInOrder, IsSameRole, LineTells};
+ghost use Rattle.test_callers.specs.Tool.{AreBoth, AreInOrder, IsSameRole, LeadingTells};
+ghost use Rattle.test_callers.specs.Tool.{LineTells, ToolLeading};
 ghost use Rattle.test_callers.specs.Tool.{IsToolUsage, ToolAnswer, ToolLine, tool};
 ghost use Rattle.test_callers.specs.Tool.{tool_options};
 
 use lexopt_items::items::Table;
 use lexopt_options::{
-    Answer, Completion, Count, Declaration, Declared, Kind, Line, Names, Options, OsString,
-    Positional, Words,
+    Answer, Completion, Count, Declaration, Declared, Kind, Leading, Line, Names, Options,
+    OsString, Positional, Words,
 };
 use std::alloc::{AllocError, Global};
 
@@ -171,6 +173,19 @@ pub fn read_line(
         → IfOk result (λ line. LineTells l line) }
 {
     Options::new(&TOOL).read(alloc, words)
+}
+
+/// Reads the options of a line of the tool up to its first positional.
+pub fn read_leading(
+    alloc: Global,
+    words: Vec<OsString>,
+) -> Result<Leading<'static, Flag, Value, Word, Maybe, Values>, AllocError>
+    ensures leading { IfOk result (λ leading. ToolLeading words.items leading) }
+    ensures answered { (l : List legal.Said) (rest : List (List ℕ))
+        → SaysLeading tool words.items l rest
+        → IfOk result (λ leading. LeadingTells l rest leading) }
+{
+    Options::new(&TOOL).read_leading(alloc, words)
 }
 
 /// What can be typed after these words of a line of the tool.

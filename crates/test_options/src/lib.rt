@@ -15,6 +15,8 @@ mod completions;
 #[cfg(test)]
 mod declarations;
 #[cfg(test)]
+mod leading;
+#[cfg(test)]
 mod listed;
 #[cfg(test)]
 mod offers;

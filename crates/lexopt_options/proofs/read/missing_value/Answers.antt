@@ -18,7 +18,7 @@ unreachable-requires g c =
     unexpected_never r.0 r.2 c.in-UnexpectedValue.option c.in-UnexpectedValue.value r.5 (subst (λ (x : Refusal). ValuesEndBy r.0 r.2 x) c.in-UnexpectedValue.is r.6)
 
 pub returns-in-MissingValue : goal.returns-in-MissingValue
-returns-in-MissingValue g c = λ count kind u v name step found k_is ends.
-    value_missing (declaration_of c.args.options.now) count kind u v name c.args.index c.unwrap-option.result _ c.args.options.now.sound step found k_is
+returns-in-MissingValue g c = λ kind u v name step found k_is ends.
+    value_missing (declaration_of c.args.options.now) kind u v name c.args.index c.unwrap-option.result _ c.args.options.now.sound step found k_is
     (subst (λ (x : Refusal). ValuesEndBy kind v x) (c.in-MissingValue.is ∙ ap MissingValue c.unwrap-option.ensures) ends)
     (c.args.index, refl, c.option_placeholder-placeholder.ensures ∙ ap (λ os. placeholder_at os c.args.index) c.options.ensures.view)

@@ -1,7 +1,9 @@
-use Rattle.std.proofs.Common.{◌≡◌, ◌++◌, ◌∷◌, ◌∙◌, [], List, Ok, ap, arith, subst, sym, ℕ}
+use Rattle.std.proofs.Common.{◌≡◌, ◌≤◌, ◌++◌, ◌∷◌, ◌∙◌, [], List, Ok, ap, arith, length, subst, sym, ℕ}
+use Rattle.std.proofs.lemmas.List.{length-map}
 use Rattle.lexopt_spec.specs.UnreadLine.{UnreadLine}
 use Rattle.lexopt_options_spec.specs.Declaration as spec
-use Rattle.lexopt_options_spec.specs.Legal.{is_required}
+use Rattle.lexopt_declaration.specs.Models.{positional_view}
+use Rattle.lexopt_options_spec.specs.Legal.{IsWithin, is_required, most}
 use Rattle.lexopt_options_spec.specs.Stops.{ReadsUpTo}
 use Rattle.lexopt_options.specs.declared.said.Told.TheVariants as told
 use Rattle.lexopt_options.specs.Declarations.{declaration_of}
@@ -9,7 +11,7 @@ use Rattle.lexopt_options.specs.Keys.{HasKey}
 use Rattle.lexopt_options.specs.Reading.{AreSeen, noted}
 use Rattle.lexopt_options_spec.proofs.Listed.{accepted_append}
 use Rattle.lexopt_options.proofs.ReadKeys.{at_start, count_within, has_option, has_positional, one_unrefused}
-use Rattle.lexopt_options.proofs.ReadNext.{one_more}
+use Rattle.lexopt_options.proofs.ReadNext.{by_limit, by_room, has_room, one_more}
 use Rattle.lexopt_options.proofs.WholeLines.{line_stopped}
 use Rattle.lexopt_options.proofs.read.read_keys.Goals as goal
 
@@ -58,10 +60,26 @@ returns-in-Err g c = λ words is.
     c.stop.ensures words stops.why had.l stops.told (line_stopped d words had.l c.args.parser.now c.loop-seen.parser c.loop-seen.count stops.why is had.read had.counted (λ m counted. stops.stops m had.read.line counted) had.accepted)
     had.none had.are had.firsts
 
+pub first_key-key-requires : goal.first_key-key-requires
+first_key-key-requires g c =
+    let d = declaration_of c.args.options.now in
+    let had = c.loop-seen.invariant in
+    let next = rw c.in-Positional.is at c.in_ok-index.ensures in
+    let some = has_room d.positionals c.most-limit.result c.loop-seen.count c.most-limit.ensures (subst (λ n. IsWithin n (most d.positionals)) (sym had.counted) had.read.within) next.1 in
+    subst (λ n. 1 ≤ n) (sym (ap length c.positionals.ensures.view) ∙ length-map c.positionals.result.now positional_view) some
+
+pub loop-seen-smaller : goal.loop-seen-smaller
+loop-seen-smaller g c =
+    let d = declaration_of c.args.options.now in
+    let next = rw c.in-Positional.is at c.in_ok-index.ensures in
+    (by_room d c.most-limit.result c.loop-seen.count c.loop-seen.parser c.read_next.new.parser c.in-Positional.word c.most-limit.ensures next).shorter
+
 pub loop-seen-preserved : goal.loop-seen-preserved
 loop-seen-preserved g c =
     let o = c.args.options.now in
-    let reads = rw c.in-Positional.is at c.in_ok-index.ensures in
+    let d = declaration_of o in
+    let next = rw c.in-Positional.is at c.in_ok-index.ensures in
+    let reads = by_room d c.most-limit.result c.loop-seen.count c.loop-seen.parser c.read_next.new.parser c.in-Positional.word c.most-limit.ensures next in
     has_positional o c.args.parser.now c.loop-seen.parser c.read_next.new.parser c.loop-seen.count c.loop-seen.seen.items c.loop-seen.said.items c.push-in-Positional.new.self.items c.in-Positional.word c.first_key-key.result
     c.loop-seen.invariant reads (subst (λ ps. HasKey ps 0 c.first_key-key.result) c.positionals.ensures.same c.first_key-key.ensures) c.in_ok-push-in-Positional.ensures.items
 
@@ -77,5 +95,5 @@ pub returns-in-Mistake : goal.returns-in-Mistake
 returns-in-Mistake g c = λ words is.
     let d = declaration_of c.args.options.now in
     let had = c.loop-seen.invariant in
-    let stops = rw c.in-Mistake.is at c.in_ok-index.ensures in
+    let stops = by_limit d c.most-limit.result c.loop-seen.count c.loop-seen.parser c.in-Mistake.mistake c.most-limit.ensures (rw c.in-Mistake.is at c.in_ok-index.ensures) in
     c.stop-in-Mistake.ensures words stops.why had.l stops.told (line_stopped d words had.l c.args.parser.now c.loop-seen.parser c.loop-seen.count stops.why is had.read had.counted stops.stops had.accepted) had.none had.are had.firsts

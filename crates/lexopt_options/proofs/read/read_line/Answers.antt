@@ -5,7 +5,7 @@ use Rattle.lexopt_options_spec.specs.Legal.{positional_count}
 use Rattle.lexopt_options_spec.specs.Stops.{ReadsUpTo}
 use Rattle.lexopt_options.specs.Declarations.{declaration_of}
 use Rattle.lexopt_options.specs.Reading.{indexed_view}
-use Rattle.lexopt_options.proofs.ReadNext.{count_more, count_small, one_more}
+use Rattle.lexopt_options.proofs.ReadNext.{by_limit, by_room, count_more, count_small, one_more}
 use Rattle.lexopt_options.proofs.WholeLines.{front_of, part_stopped, nothing_part}
 use Rattle.lexopt_options.proofs.read.read_line.Goals as goal
 
@@ -34,12 +34,19 @@ loop-said-preserved-in-Continue-branch-6 g c =
       counted = sym (add-zero c.loop-said.count) ∙ count_more l c.loop-said.count 0 s c.loop-said.invariant.counted read.1 ∙ ap positional_count (sym added);
     }
 
+pub loop-said-smaller : goal.loop-said-smaller
+loop-said-smaller g c =
+    let d = declaration_of c.args.options.now in
+    let next = rw c.in-Positional.is at c.in_ok-index.ensures in
+    (by_room d c.most-limit.result c.loop-said.count c.loop-said.parser c.read_next.new.parser c.in-Positional.word c.most-limit.ensures next).shorter
+
 pub loop-said-preserved : goal.loop-said-preserved
 loop-said-preserved g c =
     let d = declaration_of c.args.options.now in
     let l = map indexed_view c.loop-said.said.items in
     let s = legal.positional c.in-Positional.word in
-    let reads = rw c.in-Positional.is at c.in_ok-index.ensures in
+    let next = rw c.in-Positional.is at c.in_ok-index.ensures in
+    let reads = by_room d c.most-limit.result c.loop-said.count c.loop-said.parser c.read_next.new.parser c.in-Positional.word c.most-limit.ensures next in
     let added : map indexed_view c.add-in-Positional.new.said.items ≡ l ++ s ∷ [] = c.in_ok-add-in-Positional.ensures in
     record {
       read = subst (λ (m : List legal.Said). ReadsUpTo d c.args.parser.now m c.read_next.new.parser) (sym added)
@@ -65,6 +72,6 @@ pub returns-in-Mistake : goal.returns-in-Mistake
 returns-in-Mistake g c = λ words is.
     let d = declaration_of c.args.options.now in
     let l = map indexed_view c.loop-said.said.items in
-    let stops = rw c.in-Mistake.is at c.in_ok-index.ensures in
+    let stops = by_limit d c.most-limit.result c.loop-said.count c.loop-said.parser c.in-Mistake.field-0 c.most-limit.ensures (rw c.in-Mistake.is at c.in_ok-index.ensures) in
     nothing_part d words l stops.why stops.early
     (part_stopped d words l c.args.parser.now c.loop-said.parser c.loop-said.count stops.why is c.loop-said.invariant.read c.loop-said.invariant.counted stops.stops)

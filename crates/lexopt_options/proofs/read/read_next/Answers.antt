@@ -1,4 +1,4 @@
-use Rattle.std.proofs.Common.{◌≡◌, ◌∙◌, Ok, Err, List, Some, ℕ, string_bytes, refl, subst, sym, ap}
+use Rattle.std.proofs.Common.{◌≡◌, ◌∙◌, Ok, Err, List, Some, None, ℕ, string_bytes, refl, subst, sym, ap}
 use Rattle.std.proofs.lemmas.Bool.{false≢true}
 use Rattle.lexopt_line_spec.specs.Table.{long, short}
 use Rattle.lexopt_options_spec.specs.Declaration.{index_of}
@@ -8,7 +8,7 @@ use Rattle.lexopt_base.specs.declared.parser.Found.TheVariants as found
 use Rattle.lexopt_base.specs.declared.refusal.Refusal.TheVariants as refused
 use Rattle.lexopt_base.proofs.Refusals.{named}
 use Rattle.lexopt_options.specs.Declarations.{declaration_of}
-use Rattle.lexopt_options.proofs.ReadNext.{answered, never_missing, one_name, positional_said}
+use Rattle.lexopt_options.proofs.ReadNext.{answered, never_missing, one_name}
 use Rattle.lexopt_options.proofs.read.read_next.Goals as goal
 
 pub returns-in-Some : goal.returns-in-Some
@@ -30,8 +30,13 @@ returns-in_ok-mistake-in-None g c =
       why = stops.unknown_option (short c.in-Ok-Short.option) c.advance.new.self.tail;
       told = c.in_ok-mistake-in-None.ensures c.args.parser.now step;
       early = tt;
-      stops = λ l counted. stops.not_declared (short c.in-Ok-Short.option) c.advance.new.self step
+      stops = λ l most_is counted. stops.not_declared (short c.in-Ok-Short.option) c.advance.new.self step
           (sym (ap (λ os. index_of os (short c.in-Ok-Short.option)) c.options.ensures.view) ∙ sym c.index_of_short.ensures ∙ c.in-None.is);
+      of_option = λ none. (
+        tt,
+        λ l. stops.not_declared (short c.in-Ok-Short.option) c.advance.new.self step
+            (sym (ap (λ os. index_of os (short c.in-Ok-Short.option)) c.options.ensures.view) ∙ sym c.index_of_short.ensures ∙ c.in-None.is),
+      );
     }
 
 pub returns-in_ok-mistake-in-None-index_of_long : goal.returns-in_ok-mistake-in-None-index_of_long
@@ -40,13 +45,19 @@ returns-in_ok-mistake-in-None-index_of_long g c =
     let step = named _ _ c.long_name.result.now (answered _ _ _ _ c.advance.ensures is) c.long_name.ensures in
     let name = c.long_name-in-None-index_of_long.result.now in
     let same : c.long_name.result.now ≡ name = one_name _ _ _ _ (answered _ _ _ _ c.advance.ensures is) c.long_name.ensures c.long_name-in-None-index_of_long.ensures in
+    let none : index_of (declaration_of c.args.options.now).options (long c.long_name.result.now) ≡ None =
+    sym (ap (λ os. index_of os (long c.long_name.result.now)) c.options-in-Ok-Long.ensures.view) ∙ sym c.index_of_long.ensures ∙ c.in-None-index_of_long.is in
     record {
       why = stops.unknown_option (long name) c.advance.new.self.tail;
       told = c.in_ok-mistake-in-None-index_of_long.ensures c.advance.new.self.tail;
       early = tt;
-      stops = λ l counted. subst (λ (n : List ℕ). Stops (declaration_of c.args.options.now) l c.args.parser.now (stops.unknown_option (long n) c.advance.new.self.tail)) same
-          (stops.not_declared (long c.long_name.result.now) c.advance.new.self step
-          (sym (ap (λ os. index_of os (long c.long_name.result.now)) c.options-in-Ok-Long.ensures.view) ∙ sym c.index_of_long.ensures ∙ c.in-None-index_of_long.is));
+      stops = λ l most_is counted. subst (λ (n : List ℕ). Stops (declaration_of c.args.options.now) l c.args.parser.now (stops.unknown_option (long n) c.advance.new.self.tail)) same
+          (stops.not_declared (long c.long_name.result.now) c.advance.new.self step none);
+      of_option = λ no_limit. (
+        tt,
+        λ l. subst (λ (n : List ℕ). Stops (declaration_of c.args.options.now) l c.args.parser.now (stops.unknown_option (long n) c.advance.new.self.tail)) same
+            (stops.not_declared (long c.long_name.result.now) c.advance.new.self step none),
+      );
     }
 
 pub returns-then-is_full : goal.returns-then-is_full
@@ -56,14 +67,14 @@ returns-then-is_full g c =
       why = stops.unexpected_argument c.in-Ok-Value.word;
       told = refl;
       early = tt;
-      stops = λ l counted. stops.one_too_many c.in-Ok-Value.word c.advance.new.self (answered _ _ _ _ c.advance.ensures is) (sym c.requires.limit ∙ c.is_full.ensures.0 c.if-is_full.true ∙ ap Some counted);
+      stops = λ l most_is counted. stops.one_too_many c.in-Ok-Value.word c.advance.new.self (answered _ _ _ _ c.advance.ensures is) (sym most_is ∙ c.is_full.ensures.0 c.if-is_full.true ∙ ap Some counted);
+      of_option = λ none. absurd (let e : None ≡ Some c.args.count = sym none ∙ c.is_full.ensures.0 c.if-is_full.true in cc);
     }
 
 pub returns-else-is_full : goal.returns-else-is_full
 returns-else-is_full g c =
     let is : c.advance.result ≡ Ok (found.Value c.in-Ok-Value.word) = cc in
-    positional_said (declaration_of c.args.options.now) c.args.count c.args.parser.now c.advance.new.self c.in-Ok-Value.word
-    (λ full. false≢true (sym c.if-is_full.false ∙ c.is_full.ensures.1 (c.requires.limit ∙ full))) (answered _ _ _ _ c.advance.ensures is)
+    (answered _ _ _ _ c.advance.ensures is, λ full. false≢true (sym c.if-is_full.false ∙ c.is_full.ensures.1 full))
 
 pub returns-in-Ok-End : goal.returns-in-Ok-End
 returns-in-Ok-End g c =
@@ -77,7 +88,8 @@ returns-in-UnexpectedValue g c =
       why = stops.unexpected_value (string_bytes c.in-UnexpectedValue.option) c.in-UnexpectedValue.value;
       told = refl;
       early = tt;
-      stops = λ l counted. stops.value_of_flag (string_bytes c.in-UnexpectedValue.option) c.in-UnexpectedValue.value c.advance.new.self (answered _ _ _ _ c.advance.ensures is);
+      stops = λ l most_is counted. stops.value_of_flag (string_bytes c.in-UnexpectedValue.option) c.in-UnexpectedValue.value c.advance.new.self (answered _ _ _ _ c.advance.ensures is);
+      of_option = λ none. (tt, λ l. stops.value_of_flag (string_bytes c.in-UnexpectedValue.option) c.in-UnexpectedValue.value c.advance.new.self (answered _ _ _ _ c.advance.ensures is));
     }
 
 pub unreachable-requires : goal.unreachable-requires

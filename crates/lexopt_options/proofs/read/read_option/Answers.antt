@@ -6,7 +6,7 @@ use Rattle.lexopt_items.specs.Items.{kind_view}
 use Rattle.lexopt_items.specs.declared.kinds.Kind.TheVariants.{Flag}
 use Rattle.lexopt_items.specs.declared.values.Values.TheVariants.{AtMostOne}
 use Rattle.lexopt_options.specs.declared.indexed.Indexed.TheVariants as indexed
-use Rattle.lexopt_options.proofs.ReadNext.{no_count, option_said}
+use Rattle.lexopt_options.proofs.ReadNext.{at_any, no_count, option_said}
 use Rattle.lexopt_options.proofs.read.read_option.Goals as goal
 
 pub returns-in-Flag : goal.returns-in-Flag
@@ -25,5 +25,6 @@ returns-in-Ok g c = λ count u name step found. (
 
 pub returns-in_ok-missing_value-in-Err : goal.returns-in_ok-missing_value-in-Err
 returns-in_ok-missing_value-in-Err g c = λ count u name step found.
-    c.in_ok-missing_value-in-Err.ensures count c.kind_at-kind.result u c.args.parser.now name step found
-    (c.kind_at-kind.ensures ∙ ap (λ os. kind_at os c.args.index) c.options.ensures.view) c.in-Err.ensures.err
+    at_any (declaration_of c.args.options.now) count u _
+    (c.in_ok-missing_value-in-Err.ensures c.kind_at-kind.result u c.args.parser.now name step found
+    (c.kind_at-kind.ensures ∙ ap (λ os. kind_at os c.args.index) c.options.ensures.view) c.in-Err.ensures.err)

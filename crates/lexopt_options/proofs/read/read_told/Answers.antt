@@ -78,7 +78,7 @@ returns-in-Value g c = λ count u name step found.
     let inside = found_within (options_of o) name c.args.index found in
     let at = subst (λ (os : List (Declared _ _ _ _)). r ≡ get_or os c.args.index r) c.options-declared.ensures.same c.index-declared-index.is in
     by_key d count u _
-    (c.in_ok-missing_value-in-Err.ensures count arity.One u c.args.parser.now name step found (kind_is (options_of o) c.args.index r (kind.Value c.in-Value.key c.in-Value.field-1) inside at c.in-Value.is) c.in-Err.ensures.err)
+    (c.in_ok-missing_value-in-Err.ensures arity.One u c.args.parser.now name step found (kind_is (options_of o) c.args.index r (kind.Value c.in-Value.key c.in-Value.field-1) inside at c.in-Value.is) c.in-Err.ensures.err)
 
 pub returns-then-accepts-2 : goal.returns-then-accepts-2
 returns-then-accepts-2 g c = λ count u name step found.
@@ -125,7 +125,7 @@ returns-in-Maybe g c = λ count u name step found.
     let inside = found_within (options_of o) name c.args.index found in
     let at = subst (λ (os : List (Declared _ _ _ _)). r ≡ get_or os c.args.index r) c.options-declared.ensures.same c.index-declared-index.is in
     by_key d count u _
-    (c.in_ok-missing_value-in-Err-read_values.ensures count arity.Optional u c.args.parser.now name step found (kind_is (options_of o) c.args.index r (kind.Maybe c.in-Maybe.key c.in-Maybe.field-1) inside at c.in-Maybe.is) c.in-Err-read_values.ensures.err)
+    (c.in_ok-missing_value-in-Err-read_values.ensures arity.Optional u c.args.parser.now name step found (kind_is (options_of o) c.args.index r (kind.Maybe c.in-Maybe.key c.in-Maybe.field-1) inside at c.in-Maybe.is) c.in-Err-read_values.ensures.err)
 
 pub invalid_value-requires-in-Some-refused_place : goal.invalid_value-requires-in-Some-refused_place
 invalid_value-requires-in-Some-refused_place g c =
@@ -170,4 +170,4 @@ returns g c = λ count u name step found.
     let inside = found_within (options_of o) name c.args.index found in
     let at = subst (λ (os : List (Declared _ _ _ _)). r ≡ get_or os c.args.index r) c.options-declared.ensures.same c.index-declared-index.is in
     by_key d count u _
-    (c.in_ok-missing_value-in-Err-read_values-2.ensures count arity.Several u c.args.parser.now name step found (kind_is (options_of o) c.args.index r (kind.Values c.in-Values.key c.in-Values.field-1) inside at c.in-Values.is) c.in-Err-read_values-2.ensures.err)
+    (c.in_ok-missing_value-in-Err-read_values-2.ensures arity.Several u c.args.parser.now name step found (kind_is (options_of o) c.args.index r (kind.Values c.in-Values.key c.in-Values.field-1) inside at c.in-Values.is) c.in-Err-read_values-2.ensures.err)

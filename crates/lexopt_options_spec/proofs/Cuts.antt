@@ -1,0 +1,243 @@
+-- A line is read in the same way without words at its end that are left unread.
+use Rattle.std.proofs.Common.{◌≡◌, ◌≢◌, ◌<◌, ℕ, suc, true, false, List, [], ◌∷◌, ◌++◌, length, take, Option, Some, None, refl, sym, ap, subst, ◌∙◌, arith, inl, inr, append_assoc}
+use Rattle.std.proofs.lemmas.List.{take_all}
+use Rattle.lexopt_spec.specs.UnreadLine.{dash, Tail, no_tail, UnreadLine, pending, IsPlainFront, IsNormalIn}
+use Rattle.lexopt_spec.specs.Steps as steps
+use Rattle.lexopt_spec.specs.Steps.{Reply, Next, Value, NextStep, ValueStep, OptionalStep, ReadsShort, ReadsPositional, no_word_left, word_left, ReadsWord, no_word, reads_separator, reads_long, reads_cluster, reads_positional, joined_value, equals_value, next_in_cluster, after_separator, next_word, pending_value, takes_word, nothing_to_take, optional_pending, optional_none, IsOutOfMemory}
+use Rattle.lexopt_spec.specs.Views.{plain_front, available, available_with, without, ValuesStep, no_values, some_values}
+use Rattle.lexopt_spec.specs.Runs as calls
+use Rattle.lexopt_spec.specs.Runs.{Step}
+use Rattle.lexopt_spec.proofs.PlainFronts.{front_only, left_after_front}
+use Rattle.lexopt_line_spec.specs.Table.{Item, Name, Table, kind, positional, option, many}
+use Rattle.lexopt_line_spec.specs.Readings.{ReadsFirst, ReadsItems, first_positional, first_flag, first_one, first_optional, first_several, option_reply}
+use Rattle.lexopt_line_spec.proofs.FullValues.{FullStep, joined_one, attached_first, words_alone, nothing_given, full_step}
+use Rattle.lexopt_line_spec.proofs.ItemsRead.{option_given}
+
+-- the line with these words in place of its own
+abbrev pub with_words : List (List ℕ) → UnreadLine → UnreadLine
+with_words ws u = record u { words = ws }
+
+-- what comes before these words, and what is true of the line without them
+pub record Cut (u : UnreadLine) (tail : List (List ℕ)) (P : UnreadLine → Type 0) : Type 0 where
+  pub before : List (List ℕ)
+  pub words_are : u.words ≡ before ++ tail
+  pub holds : P (with_words before u)
+
+empty_front : (left tail : List (List ℕ)) → left ++ tail ≡ [] → left ≡ []
+empty_front [] tail is = refl
+empty_front (w ∷ left) tail is = absurd (let e : w ∷ (left ++ tail) ≡ [] = is in cc)
+
+-- ---- steps
+
+short_cut : (bytes : List ℕ) (u v : UnreadLine) (r : Reply) (left tail : List (List ℕ)) → v.words ≡ left ++ tail → ReadsShort bytes u r v → Cut u tail (λ x. ReadsShort bytes x r (with_words left v))
+short_cut bytes u v r left tail is reads = record {
+  before = left;
+  words_are = sym (ap (λ (x : UnreadLine). x.words) reads.after_is) ∙ is;
+  holds = record { some = reads.some; reply_is = reads.reply_is; after_is = ap (with_words left) reads.after_is };
+}
+
+positional_cut : (u v : UnreadLine) (r : Reply) (left tail : List (List ℕ)) → v.words ≡ left ++ tail → ReadsPositional u r v → Cut u tail (λ x. ReadsPositional x r (with_words left v))
+positional_cut u v r left tail is (no_word_left none r_is after) = record {
+  before = left;
+  words_are = sym (ap (λ (x : UnreadLine). x.words) after) ∙ is;
+  holds = no_word_left (empty_front left tail (sym is ∙ ap (λ (x : UnreadLine). x.words) after ∙ none)) r_is (ap (with_words left) after);
+}
+positional_cut u v r left tail is (word_left w ws some r_is after) = record {
+  before = w ∷ left;
+  words_are = some ∙ ap (λ l. w ∷ l) (sym (ap (λ (x : UnreadLine). x.words) after) ∙ is);
+  holds = word_left w left refl r_is (ap (with_words left) after);
+}
+
+word_cut : (u v : UnreadLine) (r : Reply) (left tail : List (List ℕ)) → v.words ≡ left ++ tail → ReadsWord u r v → Cut u tail (λ x. ReadsWord x r (with_words left v))
+word_cut u v r left tail is (no_word none r_is after) = record {
+  before = left;
+  words_are = sym (ap (λ (x : UnreadLine). x.words) after) ∙ is;
+  holds = no_word (empty_front left tail (sym is ∙ ap (λ (x : UnreadLine). x.words) after ∙ none)) r_is (ap (with_words left) after);
+}
+word_cut u v r left tail is (reads_separator ws some reads) =
+    let cut = positional_cut (record u { words = ws; ended = true }) v r left tail is reads in
+    record {
+      before = (dash ∷ dash ∷ []) ∷ cut.before;
+      words_are = some ∙ ap (λ l. (dash ∷ dash ∷ []) ∷ l) cut.words_are;
+      holds = reads_separator cut.before refl cut.holds;
+    }
+word_cut u v r left tail is (reads_long text name after ws some other long r_is after_is) = record {
+  before = (dash ∷ dash ∷ text) ∷ left;
+  words_are = some ∙ ap (λ l. (dash ∷ dash ∷ text) ∷ l) (sym (ap (λ (x : UnreadLine). x.words) after_is) ∙ is);
+  holds = reads_long text name after left refl other long r_is (ap (with_words left) after_is);
+}
+word_cut u v r left tail is (reads_cluster bytes ws some other reads) =
+    let cut = short_cut bytes (record u { words = ws }) v r left tail is reads in
+    record {
+      before = (dash ∷ bytes) ∷ cut.before;
+      words_are = some ∙ ap (λ l. (dash ∷ bytes) ∷ l) cut.words_are;
+      holds = reads_cluster bytes cut.before refl other cut.holds;
+    }
+word_cut u v r left tail is (reads_positional w ws some plain r_is after) = record {
+  before = w ∷ left;
+  words_are = some ∙ ap (λ l. w ∷ l) (sym (ap (λ (x : UnreadLine). x.words) after) ∙ is);
+  holds = reads_positional w left refl plain r_is (ap (with_words left) after);
+}
+
+pub step_cut : (u v : UnreadLine) (r : Reply) (left tail : List (List ℕ)) → v.words ≡ left ++ tail → NextStep u r v → Cut u tail (λ x. NextStep x r (with_words left v))
+step_cut u v r left tail is (joined_value value o joins spelled r_is after) = record {
+  before = left;
+  words_are = sym (ap (λ (x : UnreadLine). x.words) after) ∙ is;
+  holds = joined_value value o joins spelled r_is (ap (with_words left) after);
+}
+step_cut u v r left tail is (equals_value value o joins on spelled r_is after) = record {
+  before = left;
+  words_are = sym (ap (λ (x : UnreadLine). x.words) after) ∙ is;
+  holds = equals_value value o joins on spelled r_is (ap (with_words left) after);
+}
+step_cut u v r left tail is (next_in_cluster bytes goes_on not reads) =
+    let cut = short_cut bytes u v r left tail is reads in
+    record { before = cut.before; words_are = cut.words_are; holds = next_in_cluster bytes goes_on not cut.holds }
+step_cut u v r left tail is (after_separator none ended reads) =
+    let cut = positional_cut u v r left tail is reads in
+    record { before = cut.before; words_are = cut.words_are; holds = after_separator none ended cut.holds }
+step_cut u v r left tail is (next_word none not reads) =
+    let cut = word_cut u v r left tail is reads in
+    record { before = cut.before; words_are = cut.words_are; holds = next_word none not cut.holds }
+
+value_cut : (u v : UnreadLine) (r : Reply) (left tail : List (List ℕ)) → v.words ≡ left ++ tail → ValueStep u r v → Cut u tail (λ x. ValueStep x r (with_words left v))
+value_cut u v r left tail is (pending_value value by_equals has r_is after) = record {
+  before = left;
+  words_are = sym (ap (λ (x : UnreadLine). x.words) after) ∙ is;
+  holds = pending_value value by_equals has r_is (ap (with_words left) after);
+}
+value_cut u v r left tail is (takes_word w ws none some r_is after) = record {
+  before = w ∷ left;
+  words_are = some ∙ ap (λ l. w ∷ l) (sym (ap (λ (x : UnreadLine). x.words) after) ∙ is);
+  holds = takes_word w left none refl r_is (ap (with_words left) after);
+}
+value_cut u v r left tail is (nothing_to_take none empty r_is after) = record {
+  before = left;
+  words_are = sym (ap (λ (x : UnreadLine). x.words) after) ∙ is;
+  holds = nothing_to_take none (empty_front left tail (sym is ∙ ap (λ (x : UnreadLine). x.words) after ∙ empty)) r_is (ap (with_words left) after);
+}
+
+optional_cut : (u v : UnreadLine) (r : Reply) (left tail : List (List ℕ)) → v.words ≡ left ++ tail → OptionalStep u r v → Cut u tail (λ x. OptionalStep x r (with_words left v))
+optional_cut u v r left tail is (optional_pending value by_equals has r_is after) = record {
+  before = left;
+  words_are = sym (ap (λ (x : UnreadLine). x.words) after) ∙ is;
+  holds = optional_pending value by_equals has r_is (ap (with_words left) after);
+}
+optional_cut u v r left tail is (optional_none none r_is after) = record {
+  before = left;
+  words_are = sym (ap (λ (x : UnreadLine). x.words) after) ∙ is;
+  holds = optional_none none r_is (ap (with_words left) after);
+}
+
+-- ---- several values
+
+front_cut : (ended : _) (words front left tail : List (List ℕ)) → IsPlainFront ended words front (left ++ tail) → IsPlainFront ended (front ++ left) front left
+front_cut ended words front left tail is = record { words_are = refl; plain = is.plain; longest = longest left is.longest }
+  where
+    longest : (left : List (List ℕ)) → ¬ IsNormalIn ended (left ++ tail) → ¬ IsNormalIn ended left
+    longest [] none = λ h. h
+    longest (w ∷ ws) none = none
+
+-- all values that there are, asked for one more
+pub record AllGiven (u : UnreadLine) (came : List (List ℕ)) (v : UnreadLine) : Type 0 where
+  pub asked : ℕ
+  pub few : length came < asked
+  pub step : ValuesStep asked u (steps.items came) v
+
+given : (u v : UnreadLine) (came : List (List ℕ)) → came ≢ [] → available u ≡ came → v ≡ without (pending u) (length came) u → AllGiven u came v
+given u v came some is after = record {
+  asked = suc (length came);
+  few = omega arith;
+  step = some_values (λ none. some (sym is ∙ none)) (ap steps.items (sym all)) (after ∙ ap (λ (l : List (List ℕ)). without (pending u) (length l) u) (sym all));
+}
+  where
+    all : take (suc (length came)) (available u) ≡ came
+    all = ap (take (suc (length came))) is ∙ take_all (suc (length came)) came (omega arith)
+
+pub joined_given : (u v : UnreadLine) (value : List ℕ) → pending u ≡ Some (value, true) → v ≡ record u { tail = no_tail } → AllGiven u (value ∷ []) v
+joined_given u v value has after =
+    given u v (value ∷ []) (λ none. cc) (ap (λ p. available_with p (plain_front u.ended u.words)) has) (after ∙ ap (λ p. without p 1 u) (sym has))
+
+pub attached_given : (u v : UnreadLine) (value : List ℕ) (front left : List (List ℕ)) → pending u ≡ Some (value, false) → IsPlainFront u.ended u.words front left → v ≡ record u { tail = no_tail; words = left }
+    → AllGiven u (value ∷ front) v
+attached_given u v value front left has is after =
+    given u v (value ∷ front) (λ none. cc) (ap (λ p. available_with p (plain_front u.ended u.words)) has ∙ ap (λ l. value ∷ l) (front_only u.ended u.words front left is))
+    (after ∙ ap (λ (l : List (List ℕ)). record u { tail = no_tail; words = l }) (sym (left_after_front u.ended u.words front left is)) ∙ ap (λ p. without p (suc (length front)) u) (sym has))
+
+pub words_given : (u v : UnreadLine) (front left : List (List ℕ)) → pending u ≡ None → IsPlainFront u.ended u.words front left → front ≢ [] → v ≡ record u { words = left } → AllGiven u front v
+words_given u v [] left has is some after = absurd (some refl)
+words_given u v (w ∷ front) left has is some after =
+    given u v (w ∷ front) some (ap (λ p. available_with p (plain_front u.ended u.words)) has ∙ front_only u.ended u.words (w ∷ front) left is)
+    (after ∙ ap (λ (l : List (List ℕ)). record u { words = l }) (sym (left_after_front u.ended u.words (w ∷ front) left is)) ∙ ap (λ p. without p (suc (length front)) u) (sym has))
+
+pub came_is : (came other : List (List ℕ)) → steps.items came ≡ steps.items other → other ≡ came
+came_is came other is = cc
+
+full_cut : (u v : UnreadLine) (came left tail : List (List ℕ)) → v.words ≡ left ++ tail → FullStep u (steps.items came) v → Cut u tail (λ x. AllGiven x came (with_words left v))
+full_cut u v came left tail is (joined_one value has r_is after) = record {
+  before = left;
+  words_are = sym (ap (λ (x : UnreadLine). x.words) after) ∙ is;
+  holds = subst (λ l. AllGiven (with_words left u) l (with_words left v)) (came_is came (value ∷ []) r_is) (joined_given (with_words left u) (with_words left v) value has (ap (with_words left) after));
+}
+full_cut u v came left tail is (attached_first value front others has plain r_is after) =
+    let left_is : others ≡ left ++ tail = sym (ap (λ (x : UnreadLine). x.words) after) ∙ is in
+    let cut = subst (IsPlainFront u.ended u.words front) left_is plain in
+    record {
+      before = front ++ left;
+      words_are = cut.words_are ∙ sym (append_assoc front left tail);
+      holds = subst (λ l. AllGiven (with_words (front ++ left) u) l (with_words left v)) (came_is came (value ∷ front) r_is)
+          (attached_given (with_words (front ++ left) u) (with_words left v) value front left has (front_cut u.ended u.words front left tail cut) (ap (with_words left) after));
+    }
+full_cut u v came left tail is (words_alone front others has plain some r_is after) =
+    let left_is : others ≡ left ++ tail = sym (ap (λ (x : UnreadLine). x.words) after) ∙ is in
+    let cut = subst (IsPlainFront u.ended u.words front) left_is plain in
+    record {
+      before = front ++ left;
+      words_are = cut.words_are ∙ sym (append_assoc front left tail);
+      holds = subst (λ l. AllGiven (with_words (front ++ left) u) l (with_words left v)) (came_is came front r_is)
+          (words_given (with_words (front ++ left) u) (with_words left v) front left has (front_cut u.ended u.words front left tail cut) some (ap (with_words left) after));
+    }
+full_cut u v came left tail is (nothing_given has none r_is after) = absurd (let e : steps.items came ≡ steps.missing _ = r_is in cc)
+
+-- ---- items
+
+-- memory was enough
+pub enough : (P : UnreadLine → Reply → UnreadLine → Type 0) (u : UnreadLine) (r : Reply) (v : UnreadLine) → steps.Answers P u r v → r ≢ steps.no_memory → P u r v
+enough P u r v (inl step) other = step
+enough P u r v (inr refused) other = absurd (other refused.reply_is)
+
+first_cut : (t : Table) (u w : UnreadLine) (item : Item) (left tail : List (List ℕ)) → w.words ≡ left ++ tail → ReadsFirst t u item w → Cut u tail (λ x. ReadsFirst t x item (with_words left w))
+first_cut t u w item left tail is (first_positional word v step) =
+    let cut = step_cut u w (steps.positional word) left tail is (enough NextStep u (steps.positional word) w step (λ none. cc)) in
+    record { before = cut.before; words_are = cut.words_are; holds = first_positional word (with_words left w) (inl cut.holds) }
+first_cut t u w item left tail is (first_flag name v none step) =
+    let cut = step_cut u w (option_reply name) left tail is (option_given u w name step) in
+    record { before = cut.before; words_are = cut.words_are; holds = first_flag name (with_words left w) none (inl cut.holds) }
+first_cut t u w item left tail is (first_one name word v x k step takes) =
+    let value = value_cut v w (steps.taken word) left tail is (enough ValueStep v (steps.taken word) w takes (λ none. cc)) in
+    let cut = step_cut u v (option_reply name) value.before tail value.words_are (option_given u v name step) in
+    record { before = cut.before; words_are = cut.words_are; holds = first_one name word (with_words value.before v) (with_words left w) k (inl cut.holds) (inl value.holds) }
+first_cut t u w item left tail is (first_optional name word v x k step takes) =
+    let value = optional_cut v w (steps.maybe word) left tail is (enough OptionalStep v (steps.maybe word) w takes (λ none. cc)) in
+    let cut = step_cut u v (option_reply name) value.before tail value.words_are (option_given u v name step) in
+    record { before = cut.before; words_are = cut.words_are; holds = first_optional name word (with_words value.before v) (with_words left w) k (inl cut.holds) (inl value.holds) }
+first_cut t u w item left tail is (first_several name n words v x k step few takes) =
+    let all = full_step n v w (steps.items words) few (enough (ValuesStep n) v (steps.items words) w takes (λ none. cc)) in
+    let value = full_cut v w words left tail is all in
+    let cut = step_cut u v (option_reply name) value.before tail value.words_are (option_given u v name step) in
+    record {
+      before = cut.before;
+      words_are = cut.words_are;
+      holds = first_several name value.holds.asked words (with_words value.before v) (with_words left w) k (inl cut.holds) value.holds.few (inl value.holds.step);
+    }
+
+pub items_cut : (t : Table) (u w : UnreadLine) (items : List Item) (left tail : List (List ℕ)) → w.words ≡ left ++ tail → ReadsItems t u items w → Cut u tail (λ x. ReadsItems t x items (with_words left w))
+items_cut t u w [] left tail is reads = record {
+  before = left;
+  words_are = sym (ap (λ (x : UnreadLine). x.words) reads) ∙ is;
+  holds = ap (with_words left) reads;
+}
+items_cut t u w (item ∷ items) left tail is (v, first, others) =
+    let later = items_cut t v w items left tail is others in
+    let cut = first_cut t u v item later.before tail later.words_are first in
+    record { before = cut.before; words_are = cut.words_are; holds = (with_words later.before v, cut.holds, later.holds) }

@@ -1,0 +1,126 @@
+-- What is read of a line up to its first positional.
+use Rattle.std.proofs.Common.{◌≡◌, ◌≢◌, ℕ, Bool, true, false, List, [], ◌∷◌, ◌++◌, map, Some, refl, sym, ap, subst, ◌∙◌, inl, inr, append_assoc}
+use Rattle.std.proofs.lemmas.List.{append_cancel_right}
+use Rattle.lexopt_spec.specs.UnreadLine.{dash, no_tail, UnreadLine}
+use Rattle.lexopt_spec.specs.Steps as steps
+use Rattle.lexopt_spec.specs.Steps.{Reply, Next, NextStep, ReadsPositional, no_word_left, word_left, ReadsWord, no_word, reads_separator, reads_long, reads_cluster, reads_positional, joined_value, equals_value, next_in_cluster, after_separator, next_word}
+use Rattle.lexopt_line_spec.specs.Table as spec
+use Rattle.lexopt_line_spec.specs.Table.{Item, Table}
+use Rattle.lexopt_line_spec.specs.Readings.{IsReading, ReadsItems, start}
+use Rattle.lexopt_line_spec.specs.Spelling.{Spells}
+use Rattle.lexopt_line_spec.proofs.ItemsRead.{says_items}
+use Rattle.lexopt_line_spec.proofs.Names.{shown_spells}
+use Rattle.lexopt_line_spec.proofs.ReadingSteps.{says_positional, reads_last}
+use Rattle.lexopt_line_spec.proofs.WholeLines.{said_shows}
+use Rattle.lexopt_options_spec.specs.Declaration.{Declaration, is_sound, table}
+use Rattle.lexopt_options_spec.specs.Leading.{IsSplit}
+use Rattle.lexopt_options_spec.specs.Legal.{Said, positional, positional_count, said_item}
+use Rattle.lexopt_options_spec.specs.Stops.{ReadsUpTo}
+use Rattle.lexopt_options_spec.proofs.Cuts.{enough, items_cut, step_cut, with_words}
+use Rattle.lexopt_options_spec.proofs.Lists.{joined}
+use Rattle.lexopt_options_spec.proofs.Sound.{whole_names}
+
+pub append_nil : {X : Type 0} (l : List X) → l ++ [] ≡ l
+append_nil [] = refl
+append_nil (x ∷ l) = ap (λ m. x ∷ m) (append_nil l)
+
+-- where no word is left, the line ends
+ends_here : (u : UnreadLine) (ended : Bool) → u.ended ≡ ended → u.tail ≡ no_tail → u.words ≡ [] → NextStep u steps.end u
+ends_here u true is none empty = after_separator none is (no_word_left empty refl refl)
+ends_here u false is none empty = next_word none is (no_word empty refl refl)
+
+-- a positional is the next word, or the next one after the separator
+pub record WordRead (u : UnreadLine) (word : List ℕ) (w : UnreadLine) : Type 0 where
+  pub before : List (List ℕ)
+  pub words_are : u.words ≡ before ++ word ∷ w.words
+  pub after : UnreadLine
+  pub ends : NextStep (with_words before u) steps.end after
+  pub none : w.tail ≡ no_tail
+
+word_is : (w word : List ℕ) → steps.positional word ≡ steps.positional w → w ≡ word
+word_is w word is = cc
+
+pub word_read : (u w : UnreadLine) (word : List ℕ) → NextStep u (steps.positional word) w → WordRead u word w
+word_read u w word (joined_value value o joins spelled r_is after) = absurd (let e : steps.positional word ≡ steps.unexpected o value = r_is in cc)
+word_read u w word (equals_value value o joins on spelled r_is after) = absurd (let e : steps.positional word ≡ steps.unexpected o value = r_is in cc)
+word_read u w word (next_in_cluster bytes goes_on not reads) = absurd (let e : steps.positional word ≡ steps.short _ = reads.reply_is in cc)
+word_read u w word (after_separator none ended (no_word_left empty r_is after)) = absurd (let e : steps.positional word ≡ steps.end = r_is in cc)
+word_read u w word (after_separator none ended (word_left x ws some r_is after)) = record {
+  before = [];
+  words_are = some ∙ ap (λ y. y ∷ ws) (word_is x word r_is) ∙ ap (λ (l : List (List ℕ)). word ∷ l) (sym (ap (λ (v : UnreadLine). v.words) after));
+  after = with_words [] u;
+  ends = ends_here (with_words [] u) true ended none refl;
+  none = ap (λ (v : UnreadLine). v.tail) after ∙ none;
+}
+word_read u w word (next_word none not (no_word empty r_is after)) = absurd (let e : steps.positional word ≡ steps.end = r_is in cc)
+word_read u w word (next_word none not (reads_separator ws some (no_word_left empty r_is after))) = absurd (let e : steps.positional word ≡ steps.end = r_is in cc)
+word_read u w word (next_word none not (reads_separator ws some (word_left x xs more r_is after))) = record {
+  before = (dash ∷ dash ∷ []) ∷ [];
+  words_are = some ∙ ap (λ (l : List (List ℕ)). (dash ∷ dash ∷ []) ∷ l) (more ∙ ap (λ y. y ∷ xs) (word_is x word r_is) ∙ ap (λ (l : List (List ℕ)). word ∷ l) (sym (ap (λ (v : UnreadLine). v.words) after)));
+  after = record u { words = []; ended = true };
+  ends = next_word none not (reads_separator [] refl (no_word_left refl refl refl));
+  none = ap (λ (v : UnreadLine). v.tail) after ∙ none;
+}
+word_read u w word (next_word none not (reads_long text name tail ws some other long r_is after)) = absurd (let e : steps.positional word ≡ steps.long _ = r_is in cc)
+word_read u w word (next_word none not (reads_cluster bytes ws some other reads)) = absurd (let e : steps.positional word ≡ steps.short _ = reads.reply_is in cc)
+word_read u w word (next_word none not (reads_positional x ws some plain r_is after)) = record {
+  before = [];
+  words_are = some ∙ ap (λ y. y ∷ ws) (word_is x word r_is) ∙ ap (λ (l : List (List ℕ)). word ∷ l) (sym (ap (λ (v : UnreadLine). v.words) after));
+  after = with_words [] u;
+  ends = ends_here (with_words [] u) false not none refl;
+  none = ap (λ (v : UnreadLine). v.tail) after ∙ none;
+}
+
+-- words whose reading comes to the end spell what was read
+reading_spells : (d : Declaration) → is_sound d.options ≡ true → (words : List (List ℕ)) (items : List Item) (l : List Said) → IsReading (table d.options) (start d.short_equals words) steps.end items
+    → map (said_item d.options) items ≡ map (λ s. Some s) l → Spells (table d.options) d.short_equals words items
+reading_spells d sound words items l reading said =
+    shown_spells (table d.options) d.short_equals words items (said_shows (table d.options) d.short_equals words items reading) (whole_names d.options sound items l said)
+
+ends_reading : (t : Table) (u v w : UnreadLine) (items : List Item) → ReadsItems t u items v → NextStep v steps.end w → IsReading t u steps.end items
+ends_reading t u v w items reads step =
+    subst (IsReading t u steps.end) (append_nil items) (says_items t u v items reads steps.end [] (reads_last t v w steps.end tt (inl step)))
+
+-- the line was read up to its end
+pub leading_whole : (d : Declaration) → is_sound d.options ≡ true → (words : List (List ℕ)) (l : List Said) (u v : UnreadLine) → ReadsUpTo d (start d.short_equals words) l u → positional_count l ≡ 0 → Next u steps.end v
+    → IsSplit d words l []
+leading_whole d sound words l u v read none step = record {
+  front = words;
+  words_are = sym (append_nil words);
+  items = read.items;
+  spelled = reading_spells d sound words read.items l (ends_reading (table d.options) (start d.short_equals words) u v read.items read.read (enough NextStep u steps.end v step (λ no. cc))) read.said;
+  said = read.said;
+  alone = none;
+  begins = λ word more is. absurd (let e : [] ≡ word ∷ more = is in cc);
+}
+
+-- it was read up to a positional
+pub leading_front : (d : Declaration) → is_sound d.options ≡ true → (words : List (List ℕ)) (l : List Said) (u w : UnreadLine) (word : List ℕ) → ReadsUpTo d (start d.short_equals words) l u → positional_count l ≡ 0
+    → Next u (steps.positional word) w → IsSplit d words l (word ∷ w.words)
+leading_front d sound words l u w word read none next =
+    let t = table d.options in
+    let step = enough NextStep u (steps.positional word) w next (λ no. cc) in
+    let at = word_read u w word step in
+    let front = items_cut t (start d.short_equals words) u read.items at.before (word ∷ w.words) at.words_are read.read in
+    let reads = step_cut u w (steps.positional word) [] w.words refl step in
+    let whole = items_cut t (start d.short_equals words) u read.items reads.before w.words reads.words_are read.read in
+    let one : whole.before ≡ front.before ++ word ∷ [] =
+    append_cancel_right whole.before (front.before ++ word ∷ []) w.words (sym whole.words_are ∙ front.words_are ∙ sym (append_assoc front.before (word ∷ []) w.words)) in
+    let last = says_positional t (with_words reads.before u) (with_words [] w) word (inl reads.holds) steps.end []
+    (reads_last t (with_words [] w) (with_words [] w) steps.end tt (inl (ends_here (with_words [] w) w.ended refl at.none refl))) in
+    let reading = says_items t (start d.short_equals whole.before) (with_words reads.before u) read.items whole.holds steps.end (spec.positional word ∷ []) last in
+    let spelled = reading_spells d sound whole.before (read.items ++ spec.positional word ∷ []) (l ++ positional word ∷ []) reading
+    (joined (said_item d.options) read.items l (spec.positional word) (positional word) read.said refl) in
+    record {
+      front = front.before;
+      words_are = front.words_are;
+      items = read.items;
+      spelled = reading_spells d sound front.before read.items l (ends_reading t (start d.short_equals front.before) (with_words at.before u) at.after read.items front.holds at.ends) read.said;
+      said = read.said;
+      alone = none;
+      begins = λ other more is. subst (λ x. Spells t d.short_equals (front.before ++ x ∷ []) (read.items ++ spec.positional x ∷ [])) (first_is word other w.words more is)
+          (subst (λ ws. Spells t d.short_equals ws (read.items ++ spec.positional word ∷ [])) one spelled);
+    }
+  where
+    first_is : (x y : List ℕ) (xs ys : List (List ℕ)) → x ∷ xs ≡ y ∷ ys → x ≡ y
+    first_is x y xs ys is = cc

@@ -1,0 +1,244 @@
+-- Words have one list of leading options, and one rest.
+use Rattle.std.proofs.Common.{◌≡◌, ◌≢◌, ℕ, Bool, true, false, List, [], ◌∷◌, ◌++◌, map, Option, Some, None, refl, sym, ap, subst, ◌∙◌, inl, inr, append_assoc, arith, true≢false}
+use Rattle.std.specs.Option.{option_map}
+use Rattle.lexopt_spec.specs.UnreadLine.{dash, no_tail, BeginsWith, IsPlain, TailStands, UnreadLine}
+use Rattle.lexopt_spec.specs.Steps as steps
+use Rattle.lexopt_spec.specs.Steps.{Reply, Next, NextStep, ReadsPositional, no_word_left, word_left, ReadsWord, no_word, reads_separator, reads_long, reads_cluster, reads_positional, joined_value, equals_value, next_in_cluster, after_separator, next_word}
+use Rattle.lexopt_line_spec.specs.Table as spec
+use Rattle.lexopt_line_spec.specs.Table.{Item, Table}
+use Rattle.lexopt_line_spec.specs.Readings.{IsReading, ReadsFirst, ReadsItems, first_positional, first_flag, first_one, first_optional, first_several, start}
+use Rattle.lexopt_line_spec.specs.Spelling.{Spells}
+use Rattle.lexopt_line_spec.proofs.Exact.{next_same}
+use Rattle.lexopt_line_spec.proofs.ItemsRead.{one_line_left, says_items}
+use Rattle.lexopt_line_spec.proofs.Names.{spelled_shows}
+use Rattle.lexopt_line_spec.proofs.OneReading.{no_other_reading, some_reading}
+use Rattle.lexopt_line_spec.proofs.ReadingSteps.{says_positional}
+use Rattle.lexopt_line_spec.proofs.RunAccounts.{step_line}
+use Rattle.lexopt_spec.specs.Runs.{next}
+use Rattle.lexopt_line_spec.proofs.WholeLines.{shown_read}
+use Rattle.lexopt_options_spec.specs.Declaration.{Declaration, Declared, index_of, table}
+use Rattle.lexopt_options_spec.specs.Leading.{IsSplit}
+use Rattle.lexopt_options_spec.specs.Legal.{Said, positional, option, several, positional_count, said_item}
+use Rattle.lexopt_options_spec.proofs.Cuts.{enough, items_cut, with_words}
+use Rattle.lexopt_options_spec.proofs.Lists.{first_same, same_somes}
+use Rattle.lexopt_options_spec.proofs.LeadingOptions.{append_nil, word_read}
+use Rattle.lexopt_options_spec.proofs.LongerLines.{items_longer, longer, step_longer}
+use Rattle.lexopt_options_spec.proofs.ReadItems.{all_read}
+
+-- ---- lists of items
+
+-- these items are options
+abbrev pub AreOptions : List Item → Type 0
+AreOptions [] = Unit {0}
+AreOptions (spec.positional word ∷ items) = ⊥
+AreOptions (item ∷ items) = AreOptions items
+
+-- no option is the first of these
+abbrev pub HasNoOption : List Item → Type 0
+HasNoOption [] = Unit {0}
+HasNoOption (spec.positional word ∷ items) = Unit {0}
+HasNoOption (item ∷ items) = ⊥
+
+pub no_cons : (x : Item) (xs : List Item) → [] ≡ x ∷ xs → ⊥
+no_cons x xs is = cc
+
+pub same_options : (xs ys a b : List Item) → AreOptions xs → AreOptions ys → HasNoOption a → HasNoOption b → xs ++ a ≡ ys ++ b → (xs ≡ ys) × (a ≡ b)
+same_options [] [] a b are too none nor is = (refl, is)
+same_options [] (spec.positional word ∷ ys) a b are too none nor is = absurd too
+same_options [] (spec.option name value ∷ ys) a b are too none nor is = absurd (subst HasNoOption is none)
+same_options [] (spec.many name values ∷ ys) a b are too none nor is = absurd (subst HasNoOption is none)
+same_options (spec.positional word ∷ xs) ys a b are too none nor is = absurd are
+same_options (spec.option name value ∷ xs) [] a b are too none nor is = absurd (subst HasNoOption (sym is) nor)
+same_options (spec.many name values ∷ xs) [] a b are too none nor is = absurd (subst HasNoOption (sym is) nor)
+same_options (x ∷ xs) (spec.positional word ∷ ys) a b are too none nor is = absurd too
+same_options (spec.option name value ∷ xs) (spec.option other more ∷ ys) a b are too none nor is =
+    let parts = first_same (spec.option name value) (spec.option other more) (xs ++ a) (ys ++ b) is in
+    let rest = same_options xs ys a b are too none nor parts.1 in
+    (ap (λ x. x ∷ xs) parts.0 ∙ ap (λ l. spec.option other more ∷ l) rest.0, rest.1)
+same_options (spec.option name value ∷ xs) (spec.many other more ∷ ys) a b are too none nor is =
+    let parts = first_same (spec.option name value) (spec.many other more) (xs ++ a) (ys ++ b) is in absurd (let e : spec.option name value ≡ spec.many other more = parts.0 in cc)
+same_options (spec.many name values ∷ xs) (spec.option other more ∷ ys) a b are too none nor is =
+    let parts = first_same (spec.many name values) (spec.option other more) (xs ++ a) (ys ++ b) is in absurd (let e : spec.many name values ≡ spec.option other more = parts.0 in cc)
+same_options (spec.many name values ∷ xs) (spec.many other more ∷ ys) a b are too none nor is =
+    let parts = first_same (spec.many name values) (spec.many other more) (xs ++ a) (ys ++ b) is in
+    let rest = same_options xs ys a b are too none nor parts.1 in
+    (ap (λ x. x ∷ xs) parts.0 ∙ ap (λ l. spec.many other more ∷ l) rest.0, rest.1)
+
+pub options_alone : (options : List Declared) (items : List Item) (l : List Said) → map (said_item options) items ≡ map (λ s. Some s) l → positional_count l ≡ 0 → AreOptions items
+options_alone options [] l are none = tt
+options_alone options (spec.positional word ∷ items) [] are none = absurd (let e : Some (positional word) ∷ map (said_item options) items ≡ [] = are in cc)
+options_alone options (spec.positional word ∷ items) (option i value ∷ l) are none =
+    absurd (let e : Some (positional word) ≡ Some (option i value) = (first_same (Some (positional word)) (Some (option i value)) (map (said_item options) items) (map (λ s. Some s) l) are).0 in cc)
+options_alone options (spec.positional word ∷ items) (several i values ∷ l) are none =
+    absurd (let e : Some (positional word) ≡ Some (several i values) = (first_same (Some (positional word)) (Some (several i values)) (map (said_item options) items) (map (λ s. Some s) l) are).0 in cc)
+options_alone options (spec.positional word ∷ items) (positional other ∷ l) are none = absurd (omega (arith, none))
+options_alone options (spec.option name value ∷ items) [] are none = absurd (let e : said_item options (spec.option name value) ∷ map (said_item options) items ≡ [] = are in cc)
+options_alone options (spec.option name value ∷ items) (s ∷ l) are none =
+    options_alone options items l (first_same (said_item options (spec.option name value)) (Some s) (map (said_item options) items) (map (λ x. Some x) l) are).1 (rest_none s l none)
+  where
+    rest_none : (s : Said) (l : List Said) → positional_count (s ∷ l) ≡ 0 → positional_count l ≡ 0
+    rest_none s l is = omega (arith, is)
+options_alone options (spec.many name values ∷ items) [] are none = absurd (let e : said_item options (spec.many name values) ∷ map (said_item options) items ≡ [] = are in cc)
+options_alone options (spec.many name values ∷ items) (s ∷ l) are none =
+    options_alone options items l (first_same (said_item options (spec.many name values)) (Some s) (map (said_item options) items) (map (λ x. Some x) l) are).1 (rest_none s l none)
+  where
+    rest_none : (s : Said) (l : List Said) → positional_count (s ∷ l) ≡ 0 → positional_count l ≡ 0
+    rest_none s l is = omega (arith, is)
+
+-- ---- the reading of a front
+
+-- the last of these items
+split_last : (t : Table) (u w : UnreadLine) (items : List Item) (item : Item) → ReadsItems t u (items ++ item ∷ []) w → (x : UnreadLine) × ReadsItems t u items x × ReadsFirst t x item w
+split_last t u w [] item (v, first, is) = (u, refl, subst (ReadsFirst t u item) (sym is) first)
+split_last t u w (i ∷ items) item (v, first, others) =
+    let rest = split_last t v w items item others in (rest.0, (v, first, rest.1), rest.2)
+
+-- a positional is read by one call
+word_first : (t : Table) (u w : UnreadLine) (item : Item) (word : List ℕ) → item ≡ spec.positional word → ReadsFirst t u item w → NextStep u (steps.positional word) w
+word_first t u w item word is (first_positional other v step) =
+    let same : other ≡ word = (let e : spec.positional other ≡ spec.positional word = is in cc) in
+    subst (λ x. NextStep u (steps.positional x) w) same (enough NextStep u (steps.positional other) w step (λ none. cc))
+word_first t u w item word is (first_flag name v k step) = absurd (let e : spec.option name None ≡ spec.positional word = is in cc)
+word_first t u w item word is (first_one name value v x k step takes) = absurd (let e : spec.option name (Some value) ≡ spec.positional word = is in cc)
+word_first t u w item word is (first_optional name value v x k step takes) = absurd (let e : spec.option name value ≡ spec.positional word = is in cc)
+word_first t u w item word is (first_several name n values v x k step few takes) = absurd (let e : spec.many name values ≡ spec.positional word = is in cc)
+
+-- after it no word is left, where it was the last of the line
+separator_plain : (word : List ℕ) → word ≡ dash ∷ dash ∷ [] → IsPlain false word → ⊥
+separator_plain word is (inl ended) = true≢false (sym ended)
+separator_plain word is (inr (inl alone)) = let e : dash ∷ dash ∷ [] ≡ dash ∷ [] = sym is ∙ alone in cc
+separator_plain word is (inr (inr other)) = other (subst (BeginsWith dash) (sym is) refl)
+
+-- a positional was read that is not the separator, or after it
+word_open : (u w : UnreadLine) (word : List ℕ) → w.ended ≡ false → NextStep u (steps.positional word) w → IsPlain false word
+word_open u w word is_open (joined_value value o joins spelled r_is after) = absurd (let e : steps.positional word ≡ steps.unexpected o value = r_is in cc)
+word_open u w word is_open (equals_value value o joins on spelled r_is after) = absurd (let e : steps.positional word ≡ steps.unexpected o value = r_is in cc)
+word_open u w word is_open (next_in_cluster bytes goes_on not reads) = absurd (let e : steps.positional word ≡ steps.short _ = reads.reply_is in cc)
+word_open u w word is_open (after_separator none ended (no_word_left empty r_is after)) = absurd (let e : steps.positional word ≡ steps.end = r_is in cc)
+word_open u w word is_open (after_separator none ended (word_left x ws some r_is after)) = absurd (true≢false (sym ended ∙ sym (ap (λ (v : UnreadLine). v.ended) after) ∙ is_open))
+word_open u w word is_open (next_word none not (no_word empty r_is after)) = absurd (let e : steps.positional word ≡ steps.end = r_is in cc)
+word_open u w word is_open (next_word none not (reads_separator ws some (no_word_left empty r_is after))) = absurd (let e : steps.positional word ≡ steps.end = r_is in cc)
+word_open u w word is_open (next_word none not (reads_separator ws some (word_left x xs more r_is after))) = absurd (true≢false (sym (ap (λ (v : UnreadLine). v.ended) after) ∙ is_open))
+word_open u w word is_open (next_word none not (reads_long text name tail ws some other is_long r_is after)) = absurd (let e : steps.positional word ≡ steps.long _ = r_is in cc)
+word_open u w word is_open (next_word none not (reads_cluster bytes ws some other reads)) = absurd (let e : steps.positional word ≡ steps.short _ = reads.reply_is in cc)
+word_open u w word is_open (next_word none not (reads_positional x ws some plain r_is after)) = subst (IsPlain false) (let e : steps.positional word ≡ steps.positional x = r_is in same x word e) plain
+  where
+    same : (x word : List ℕ) → steps.positional word ≡ steps.positional x → x ≡ word
+    same x word is = cc
+
+-- the last word of a line
+last_word : (before front : List (List ℕ)) (x y : List ℕ) → before ++ x ∷ [] ≡ front ++ y ∷ [] → x ≡ y
+last_word [] [] x y is = cc
+last_word [] (f ∷ []) x y is = absurd (let e : x ∷ [] ≡ f ∷ y ∷ [] = is in cc)
+last_word [] (f ∷ g ∷ front) x y is = absurd (let e : x ∷ [] ≡ f ∷ g ∷ (front ++ y ∷ []) = is in cc)
+last_word (b ∷ []) [] x y is = absurd (let e : b ∷ x ∷ [] ≡ y ∷ [] = is in cc)
+last_word (b ∷ c ∷ before) [] x y is = absurd (let e : b ∷ c ∷ (before ++ x ∷ []) ≡ y ∷ [] = is in cc)
+last_word (b ∷ before) (f ∷ front) x y is = last_word before front x y (rest b f (before ++ x ∷ []) (front ++ y ∷ []) is)
+  where
+    rest : (b f : List ℕ) (xs ys : List (List ℕ)) → b ∷ xs ≡ f ∷ ys → xs ≡ ys
+    rest b f xs ys is = cc
+
+-- where the line ends, no word is left but the separator
+end_words : (z v : UnreadLine) → NextStep z steps.end v → (P : Type 0) → (z.words ≡ [] → P) → (z.words ≡ (dash ∷ dash ∷ []) ∷ [] → z.ended ≡ false → P) → P
+end_words z v (joined_value value o joins spelled r_is after) P none one = absurd (let e : steps.end ≡ steps.unexpected o value = r_is in cc)
+end_words z v (equals_value value o joins on spelled r_is after) P none one = absurd (let e : steps.end ≡ steps.unexpected o value = r_is in cc)
+end_words z v (next_in_cluster bytes goes_on not reads) P none one = absurd (let e : steps.end ≡ steps.short _ = reads.reply_is in cc)
+end_words z v (after_separator no_more ended (no_word_left empty r_is after)) P none one = none empty
+end_words z v (after_separator no_more ended (word_left x ws some r_is after)) P none one = absurd (let e : steps.end ≡ steps.positional x = r_is in cc)
+end_words z v (next_word no_more not (no_word empty r_is after)) P none one = none empty
+end_words z v (next_word no_more not (reads_separator ws some (no_word_left empty r_is after))) P none one = one (some ∙ ap (λ l. (dash ∷ dash ∷ []) ∷ l) empty) not
+end_words z v (next_word no_more not (reads_separator ws some (word_left x xs more r_is after))) P none one = absurd (let e : steps.end ≡ steps.positional x = r_is in cc)
+end_words z v (next_word no_more not (reads_long text name tail ws some other is_long r_is after)) P none one = absurd (let e : steps.end ≡ steps.long _ = r_is in cc)
+end_words z v (next_word no_more not (reads_cluster bytes ws some other reads)) P none one = absurd (let e : steps.end ≡ steps.short _ = reads.reply_is in cc)
+end_words z v (next_word no_more not (reads_positional x ws some plain r_is after)) P none one = absurd (let e : steps.end ≡ steps.positional x = r_is in cc)
+
+-- the leading options are read, and then the first word of the rest
+pub record LeadingRead (d : Declaration) (words : List (List ℕ)) (items : List Item) (word : List ℕ) (more : List (List ℕ)) : Type 0 where
+  pub there : UnreadLine
+  pub reads : ReadsItems (table d.options) (start d.short_equals words) items there
+  pub after : UnreadLine
+  pub step : NextStep there (steps.positional word) after
+  pub left : after.words ≡ more
+
+some_word : (x z : UnreadLine) (word : List ℕ) → NextStep x (steps.positional word) z → x.words ≢ []
+some_word x z word step none = let read = word_read x z word step in no_words read.before z.words (sym read.words_are ∙ none)
+  where
+    no_words : (before after : List (List ℕ)) → before ++ word ∷ after ≡ [] → ⊥
+    no_words [] after is = let e : word ∷ after ≡ [] = is in cc
+    no_words (w ∷ before) after is = let e : w ∷ (before ++ word ∷ after) ≡ [] = is in cc
+
+pub leading_read : (d : Declaration) (words : List (List ℕ)) (l : List Said) (rest : List (List ℕ)) (says : IsSplit d words l rest) (word : List ℕ) (more : List (List ℕ)) → rest ≡ word ∷ more
+    → LeadingRead d words says.items word more
+leading_read d words l rest says word more is =
+    let t = table d.options in
+    let e = d.short_equals in
+    let short = says.front ++ word ∷ [] in
+    let reading = shown_read t e short (says.items ++ spec.positional word ∷ []) (spelled_shows t e short (says.items ++ spec.positional word ∷ []) (says.begins word more is)) in
+    let all = all_read t (start e short) (says.items ++ spec.positional word ∷ []) reading in
+    let parts = split_last t (start e short) all.there says.items (spec.positional word) all.reads in
+    let step = word_first t parts.0 all.there (spec.positional word) word refl parts.2 in
+    let cut = items_cut t (start e short) all.there (says.items ++ spec.positional word ∷ []) [] all.there.words refl all.reads in
+    let none : all.there.words ≡ [] = end_words all.there reading.after all.ends (all.there.words ≡ []) (λ empty. empty)
+    (λ one is_open. absurd (separator_plain word (sym (last_word cut.before says.front (dash ∷ dash ∷ []) word (ap (λ l. cut.before ++ l) (sym one) ∙ sym cut.words_are))) (word_open parts.0 all.there word is_open step))) in
+    let whole : short ++ more ≡ words = append_assoc says.front (word ∷ []) more ∙ ap (λ l. says.front ++ l) (sym is) ∙ sym says.words_are in
+    record {
+      there = longer more parts.0;
+      reads = subst (λ ws. ReadsItems t (start e ws) says.items (longer more parts.0)) whole (items_longer t more (start e short) parts.0 says.items (some_word parts.0 all.there word step) parts.1);
+      after = longer more all.there;
+      step = step_longer more parts.0 all.there (steps.positional word) (λ same. cc) step;
+      left = ap (λ l. l ++ more) none;
+    }
+
+-- a reading of the words: these items, and then the end or a positional
+pub data RestRead (d : Declaration) (words : List (List ℕ)) (items : List Item) : List (List ℕ) → Reply → List Item → Type 0 where
+  at_end : IsReading (table d.options) (start d.short_equals words) steps.end (items ++ []) → RestRead d words items [] steps.end []
+  at_word : (word : List ℕ) (more : List (List ℕ)) (final : Reply) (m : List Item) → LeadingRead d words items word more
+      → IsReading (table d.options) (start d.short_equals words) final (items ++ spec.positional word ∷ m) → RestRead d words items (word ∷ more) final (spec.positional word ∷ m)
+
+pub rest_read : (d : Declaration) (words : List (List ℕ)) (l : List Said) (rest : List (List ℕ)) (says : IsSplit d words l rest) (others : List (List ℕ)) → rest ≡ others
+    → (final : Reply) × (a : List Item) × RestRead d words says.items others final a
+rest_read d words l rest says [] is =
+    let whole : says.front ≡ words = sym (append_nil says.front) ∙ ap (λ m. says.front ++ m) (sym is) ∙ sym says.words_are in
+    let reading = shown_read (table d.options) d.short_equals says.front says.items (spelled_shows (table d.options) d.short_equals says.front says.items says.spelled) in
+    (steps.end, [], at_end (subst (λ ws. IsReading (table d.options) (start d.short_equals ws) steps.end (says.items ++ [])) whole (subst (IsReading (table d.options) (start d.short_equals says.front) steps.end) (sym (append_nil says.items)) reading)))
+rest_read d words l rest says (word ∷ more) is =
+    let t = table d.options in
+    let read = leading_read d words l rest says word more is in
+    let after = word_read read.there read.after word read.step in
+    let later = some_reading t read.after (subst (λ tail. TailStands tail read.after.last read.after.ended) (sym after.none) tt) in (
+      later.0,
+      spec.positional word ∷ later.1,
+      at_word word more later.0 later.1 read
+          (says_items t (start d.short_equals words) read.there says.items read.reads later.0 (spec.positional word ∷ later.1) (says_positional t read.there read.after word (inl read.step) later.0 later.1 later.2)),
+    )
+
+pub reading_of : {d : Declaration} {words : List (List ℕ)} {items : List Item} {rest : List (List ℕ)} {final : Reply} {a : List Item} → RestRead d words items rest final a
+    → IsReading (table d.options) (start d.short_equals words) final (items ++ a) × HasNoOption a
+reading_of (at_end reading) = (reading, tt)
+reading_of (at_word word more final m read reading) = (reading, tt)
+
+one_rest : (d : Declaration) (words : List (List ℕ)) (items : List Item) (rest others : List (List ℕ)) (final other : Reply) (a b : List Item) → RestRead d words items rest final a → RestRead d words items others other b
+    → a ≡ b → rest ≡ others
+one_rest d words items rest others final other a b (at_end reading) (at_end again) same = refl
+one_rest d words items rest others final other a b (at_end reading) (at_word word more final2 m read again) same = absurd (no_cons (spec.positional word) m same)
+one_rest d words items rest others final other a b (at_word word more final2 m read reading) (at_end again) same = absurd (no_cons (spec.positional word) m (sym same))
+one_rest d words items rest others final other a b (at_word word more final2 m read reading) (at_word word2 more2 final3 m2 read2 reading2) same =
+    let there = one_line_left (table d.options) (start d.short_equals words) read.there read2.there items read.reads read2.reads in
+    let both = next_same read2.there (steps.positional word) (steps.positional word2) read.after read2.after (subst (λ u. NextStep u (steps.positional word) read.after) there read.step) read2.step in
+    ap (λ w. w ∷ more) (word_is word word2 both.0) ∙ ap (λ ws. word2 ∷ ws) (sym read.left ∙ ap (λ (v : UnreadLine). v.words) both.1 ∙ read2.left)
+  where
+    word_is : (x y : List ℕ) → steps.positional x ≡ steps.positional y → x ≡ y
+    word_is x y is = cc
+
+-- the words have one list and one rest
+pub one_leading : (d : Declaration) (words : List (List ℕ)) (l m : List Said) (rest others : List (List ℕ)) → IsSplit d words l rest → IsSplit d words m others → (l ≡ m) × (rest ≡ others)
+one_leading d words l m rest others says too =
+    let one = rest_read d words l rest says rest refl in
+    let two = rest_read d words m others too others refl in
+    let first = reading_of one.2 in
+    let second = reading_of two.2 in
+    let same = no_other_reading (table d.options) (start d.short_equals words) one.0 two.0 (says.items ++ one.1) (too.items ++ two.1) first.0 second.0 in
+    let items = same_options says.items too.items one.1 two.1 (options_alone d.options says.items l says.said says.alone) (options_alone d.options too.items m too.said too.alone) first.1 second.1 same.1 in (
+      same_somes l m (sym says.said ∙ ap (map (said_item d.options)) items.0 ∙ too.said),
+      one_rest d words too.items rest others one.0 two.0 one.1 two.1 (subst (λ is. RestRead d words is rest one.0 one.1) items.0 one.2) two.2 items.1,
+    )
