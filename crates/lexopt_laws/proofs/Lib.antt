@@ -30,3 +30,4 @@ pub mod WorkedOpen
 pub mod WorkedRequired
 pub mod WorkedRoles
 pub mod WorkedLines
+pub mod WorkedLeading

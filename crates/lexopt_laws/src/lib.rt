@@ -8,6 +8,7 @@
 mod call_examples;
 mod examples;
 mod laws;
+mod leading_examples;
 mod line_examples;
 mod option_examples;
 mod option_laws;

@@ -1,0 +1,64 @@
+//! Worked examples of the options before the first positional, and of the words that are left, under
+//! the options of `Sample`: v|verbose is a flag and x|exclude has several values. In some u|user,
+//! which has one value, is required.
+ghost use Rattle.std.specs.Prelude.{◌∷◌, ℕ, [], List, None, Some, codes, true};
+ghost use Rattle.lexopt_spec.specs.UnreadLine.{no_tail};
+ghost use Rattle.lexopt_line_spec.specs.Table.{short};
+ghost use Rattle.lexopt_options_spec.specs.Leading.{IsSplit, LeadingStopsAt, SaysLeading};
+ghost use Rattle.lexopt_options_spec.specs.Legal.{Said, option, positional, several};
+ghost use Rattle.lexopt_options_spec.specs.Stops.{Mistake, missing_option, unknown_option};
+ghost use Rattle.lexopt_laws.specs.Sample.{demanding_sample, sample};
+
+/// The rest begins with the first positional. The separator ends the options and is not part of the
+/// rest. An option of several values takes the words that it takes in a whole line. What comes
+/// after the first positional is not looked at.
+pub fn words_are_split_so()
+    ensures before_a_word { IsSplit (sample [] true)
+        (codes "-v" ∷ codes "a" ∷ codes "-x" ∷ []) (option 0 None ∷ [])
+        (codes "a" ∷ codes "-x" ∷ []) }
+    ensures after_the_separator { IsSplit (sample [] true)
+        (codes "-v" ∷ codes "--" ∷ codes "-x" ∷ []) (option 0 None ∷ []) (codes "-x" ∷ []) }
+    ensures separator_alone { IsSplit (sample [] true) (codes "--" ∷ []) [] [] }
+    ensures several_values { IsSplit (sample [] true)
+        (codes "-x" ∷ codes "a" ∷ codes "-v" ∷ codes "c" ∷ [])
+        (several 3 (codes "a" ∷ []) ∷ option 0 None ∷ []) (codes "c" ∷ []) }
+    ensures nothing_left { IsSplit (sample [] true) (codes "-x" ∷ codes "a" ∷ codes "b" ∷ [])
+        (several 3 (codes "a" ∷ codes "b" ∷ []) ∷ []) [] }
+    ensures no_option { IsSplit (sample [] true) (codes "a" ∷ codes "--bogus" ∷ []) []
+        (codes "a" ∷ codes "--bogus" ∷ []) }
+{}
+
+/// The rest does not begin among the values of an option, nor with the separator, nor later than
+/// with the first positional.
+pub fn words_are_not_split_so()
+    ensures among_values { IsSplit (sample [] true) (codes "-x" ∷ codes "a" ∷ codes "b" ∷ [])
+        (several 3 (codes "a" ∷ []) ∷ []) (codes "b" ∷ []) → ⊥ }
+    ensures with_the_separator { IsSplit (sample [] true)
+        (codes "-v" ∷ codes "--" ∷ codes "-x" ∷ []) (option 0 None ∷ [])
+        (codes "--" ∷ codes "-x" ∷ []) → ⊥ }
+    ensures after_a_word { IsSplit (sample [] true) (codes "a" ∷ codes "--bogus" ∷ [])
+        (positional (codes "a") ∷ []) (codes "--bogus" ∷ []) → ⊥ }
+    ensures with_an_option { IsSplit (sample [] true) (codes "-v" ∷ codes "a" ∷ codes "-x" ∷ []) []
+        (codes "-v" ∷ codes "a" ∷ codes "-x" ∷ []) → ⊥ }
+{}
+
+/// A required option has to be among the options before the rest. Only they are looked at.
+pub fn leading_options_mean_so()
+    ensures without_requirements { SaysLeading (sample [] true)
+        (codes "a" ∷ codes "--bogus" ∷ []) [] (codes "a" ∷ codes "--bogus" ∷ []) }
+    ensures no_mistake { (before : List Said) (mistake : Mistake) → LeadingStopsAt (sample [] true)
+        (codes "a" ∷ codes "--bogus" ∷ []) before mistake → ⊥ }
+    ensures missing_at_the_end { LeadingStopsAt (demanding_sample [] true) (codes "-v" ∷ [])
+        (option 0 None ∷ []) (missing_option 4) }
+    ensures missing_before_a_word { LeadingStopsAt (demanding_sample [] true)
+        (codes "-v" ∷ codes "a" ∷ codes "-u" ∷ codes "me" ∷ []) (option 0 None ∷ [])
+        (missing_option 4) }
+    ensures not_missing { SaysLeading (demanding_sample [] true)
+        (codes "-u" ∷ codes "me" ∷ codes "a" ∷ []) (option 4 (Some (codes "me")) ∷ [])
+        (codes "a" ∷ []) }
+    ensures mistake_before_a_word { LeadingStopsAt (sample [] true)
+        (codes "-v" ∷ codes "-q" ∷ codes "a" ∷ []) (option 0 None ∷ [])
+        (unknown_option (short 0x71) no_tail) }
+    ensures not_with_a_mistake { (l : List Said) (rest : List (List ℕ)) → SaysLeading (sample [] true)
+        (codes "-v" ∷ codes "-q" ∷ codes "a" ∷ []) l rest → ⊥ }
+{}
