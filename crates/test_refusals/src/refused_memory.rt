@@ -7,7 +7,7 @@ use lexopt::os_string::arguments;
 use lexopt::replay::{Call, Reply, RunError, read_items, replay, run};
 use lexopt::spell::{Reason, SpellError, spell};
 use lexopt::{Arg, Error, OsStr, OsString, Parser, ValueExt};
-use lexopt_options::{Answer, Declaration, Names, Options, declare};
+use lexopt_options::{Answer, Declaration, Leading, Names, Options, declare};
 use std::alloc::{AllocError, Global};
 use std::str::FromStr;
 use std::test::Fail;
@@ -1020,4 +1020,39 @@ fn declared_owners(rt: HostRuntime) -> Result<(), Fail> {
         b"__complete\n",
         "-v\n--verbose\n+fast\n+slow\n+tar\n",
     )
+}
+
+// Whether the options before the first positional argument, and the words from it on, are this text.
+fn is_leading(
+    alloc: Global,
+    leading: &Leading<'_, Flag, Value, Word>,
+    wanted: &str,
+) -> Result<bool, AllocError> {
+    let mut text = String::with_capacity(alloc, 300)?;
+    match leading {
+        Leading::Said(said, rest) => write!(text, "{said:?} {rest:?}")?,
+        Leading::Asked(asked) => write!(text, "{asked:?}")?,
+        Leading::Refused(refused) => write!(text, "{refused}")?,
+    }
+    Ok(text.as_str() == wanted)
+}
+
+#[test]
+fn declared_leading(rt: HostRuntime) -> Result<(), Fail> {
+    let alloc = rt.alloc();
+    let Ok(words) = split_words(alloc, b"-v\n-o\nx\nadd\n-q\n--") else {
+        return told(true, "the list");
+    };
+    match Options::new(&PACK).read_leading(alloc, words) {
+        Ok(leading) => ended(
+            is_leading(
+                alloc,
+                &leading,
+                "[Flag(Verbose), Value(Output, \"x\")] [\"add\", \"-q\", \"--\"]",
+            )?
+            .then_some(false),
+            "read_leading",
+        ),
+        Err(_) => told(true, "read_leading"),
+    }
 }
