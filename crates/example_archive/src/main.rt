@@ -1,8 +1,8 @@
 //! Options that are declared once: `example_archive OPTION.. [FILE]..`.
 //!
 //! It packs nothing: it prints what it has read, quoted. A word may be of any bytes.
-//! `example_archive __script bash` prints a script that completes its lines in that shell; `zsh`
-//! and `fish` have one too.
+//! `_EXAMPLE_ARCHIVE_COMPLETE=bash_source example_archive` prints a script that completes its lines
+//! in that shell; `zsh_source` and `fish_source` have one too.
 //!
 //! The exit status is 0, or 2 if the command line was refused, or 1 if memory ran out or a line
 //! could not be printed; then standard error says why.

@@ -1,5 +1,5 @@
 -- A declaration as contracts see it.
-use Rattle.std.specs.Prelude.{ℕ, List, [], Option, Some, None, map}
+use Rattle.std.specs.Prelude.{ℕ, List, [], Option, Some, None, map, string_bytes}
 use Rattle.lexopt_line_spec.specs.Table.{Kind as SpecKind, flag, one, optional, several}
 use Rattle.lexopt_options_spec.specs.Declaration as spec
 use Rattle.lexopt_options_spec.specs.Declaration.{Asked, for_help, for_version}
@@ -21,6 +21,7 @@ use Rattle.lexopt_declaration.specs.declared.declaration.Reason.TheVariants.{Equ
 use Rattle.lexopt_declaration.specs.declared.declaration.Reason.TheVariants.{ReplacementInName, BadPlaceholder}
 use Rattle.lexopt_declaration.specs.declared.declaration.Reason.TheVariants.{BlankOrControlInName}
 use Rattle.lexopt_declaration.specs.declared.declaration.Reason.TheVariants.{BadList, SameName}
+use Rattle.lexopt_declaration.specs.declared.spellings.Spelling.{Spelling}
 use Rattle.lexopt_declaration.specs.declared.declaration.Words.{Words}
 use Rattle.lexopt_declaration.specs.declared.declaration.Words.TheVariants.{Files, Directories}
 use Rattle.lexopt_declaration.specs.declared.declaration.Words.TheVariants.{Listed, Text}
@@ -84,6 +85,9 @@ option_view o = record {
   required = o.required;
   words = words_view o.words;
 }
+
+abbrev pub spelling_view : Spelling → List ℕ × List ℕ
+spelling_view s = (string_bytes s.text, s.help.now)
 
 abbrev pub count_view : Count → spec.Count
 count_view Once = spec.once

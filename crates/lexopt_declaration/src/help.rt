@@ -254,8 +254,8 @@ fn told_of(alloc: Global, help: &str, words: Words<'_>) -> Result<String, AllocE
     }
 }
 
-// A label, and this text beside it.
-fn push_described(
+/// A label, and this text beside it.
+pub fn push_described(
     out: &mut String,
     alloc: Global,
     label: &str,
@@ -286,8 +286,8 @@ fn push_entry<F, V, M, S>(
     push_described(out, alloc, label.as_str(), told.as_str(), width)
 }
 
-// The entries of the options that are not hidden.
-fn option_entries<F, V, M, S>(
+/// The entries of the options that are not hidden.
+pub fn option_entries<F, V, M, S>(
     alloc: Global,
     options: &[Declared<'_, F, V, M, S>],
     width: usize,
@@ -307,8 +307,8 @@ fn option_entries<F, V, M, S>(
     Ok(text)
 }
 
-// The entries of the positional arguments of which something is told.
-fn positional_entries<P>(
+/// The entries of the positional arguments of which something is told.
+pub fn positional_entries<P>(
     alloc: Global,
     positionals: &[Positional<'_, P>],
     width: usize,
@@ -331,8 +331,8 @@ fn positional_entries<P>(
     Ok(text)
 }
 
-// A paragraph, on lines of at most `width` columns.
-fn push_paragraph(
+/// A paragraph, on lines of at most `width` columns.
+pub fn push_paragraph(
     out: &mut String,
     alloc: Global,
     content: &str,
@@ -357,8 +357,8 @@ fn push_paragraph_lines(out: &mut String, words: &[&str], width: usize) -> Resul
     push_whole_lines(out, first, others, width, 0)
 }
 
-// A part of the help, after an empty line. Adds nothing if the part is empty.
-fn push_apart(out: &mut String, part: &str) -> Result<(), AllocError>
+/// A part of the help, after an empty line. Adds nothing if the part is empty.
+pub fn push_apart(out: &mut String, part: &str) -> Result<(), AllocError>
     ensures { IfOk result (λ _.
         string_bytes out.new ≡ string_bytes out.old ++ spec.set_apart part.now) }
 {
@@ -369,8 +369,8 @@ fn push_apart(out: &mut String, part: &str) -> Result<(), AllocError>
     out.push_str(part)
 }
 
-// The paragraphs of the epilogue.
-fn push_epilogue(
+/// The paragraphs of the epilogue.
+pub fn push_epilogue(
     out: &mut String,
     alloc: Global,
     epilogue: &[&str],

@@ -1,10 +1,12 @@
 //! Scripts by which a shell completes the lines of a program.
-ghost use Rattle.std.specs.Prelude.{◌≡◌, ◌↔◌};
+ghost use Rattle.std.specs.Prelude.{◌≡◌, ◌↔◌, ◌∷◌, [], IfOk, Some, encode_utf8, string_bytes};
 ghost use Rattle.std.specs.Fmt.{WritesOnOk};
-ghost use Rattle.lexopt_declaration.specs.Scripts.{bash_script, fish_head, fish_names};
-ghost use Rattle.lexopt_declaration.specs.Scripts.{fish_rest, fish_script, shell_name};
-ghost use Rattle.lexopt_declaration.specs.Scripts.{zsh_head, zsh_rest, zsh_script};
+ghost use Rattle.lexopt_declaration.specs.Scripts.{bash_words, bash_answers, bash_script};
+ghost use Rattle.lexopt_declaration.specs.Scripts.{fish_words, fish_answers, fish_script};
+ghost use Rattle.lexopt_declaration.specs.Scripts.{request_text, variable_byte, variable_name};
+ghost use Rattle.lexopt_declaration.specs.Scripts.{zsh_words, zsh_answers, zsh_end, zsh_script};
 
+use std::alloc::{AllocError, Global};
 use std::fmt;
 
 /// A shell that is completed in.
@@ -18,29 +20,73 @@ pub enum Shell {
     Fish,
 }
 
-impl Shell {
-    /// The shell of this name: `bash`, `zsh` or `fish`. The name is a word as it was typed.
-    pub fn from_name(name: &[u8]) -> Option<Shell>
-        ensures { (shell : Shell) → (result ≡ Some shell) ↔ (name.now ≡ shell_name shell) }
+/// What a shell asks a program for by the value of its variable.
+#[derive(Clone, Copy, PartialEq, Eq, Debug)]
+pub enum ShellRequest {
+    /// The script for this shell: `bash_source`.
+    Script(Shell),
+    /// What can come where a word is typed in this shell: `bash_complete`.
+    Completion(Shell),
+}
+
+impl ShellRequest {
+    /// The request that this value is, if it is one.
+    pub fn from_value(value: &[u8]) -> Option<ShellRequest>
+        ensures { (request : ShellRequest) → (result ≡ Some request)
+            ↔ (value.now ≡ request_text request) }
     {
-        match name {
-            b"bash" => Some(Shell::Bash),
-            b"zsh" => Some(Shell::Zsh),
-            b"fish" => Some(Shell::Fish),
+        match value {
+            b"bash_source" => Some(ShellRequest::Script(Shell::Bash)),
+            b"zsh_source" => Some(ShellRequest::Script(Shell::Zsh)),
+            b"fish_source" => Some(ShellRequest::Script(Shell::Fish)),
+            b"bash_complete" => Some(ShellRequest::Completion(Shell::Bash)),
+            b"zsh_complete" => Some(ShellRequest::Completion(Shell::Zsh)),
+            b"fish_complete" => Some(ShellRequest::Completion(Shell::Fish)),
             _ => None,
         }
     }
 }
 
+// A letter of ASCII in upper case, a digit of ASCII as it is, and `_` for any other byte.
+fn variable_character(byte: u8) -> char
+    ensures { encode_utf8 result ≡ variable_byte byte ∷ [] }
+{
+    if byte.is_ascii_alphanumeric() {
+        char::from(byte.to_ascii_uppercase())
+    } else {
+        '_'
+    }
+}
+
+/// The name of the environment variable by which shells ask a program of this name: after `_` its
+/// letters of ASCII in upper case, its digits of ASCII, and `_` for each other byte, and then
+/// `_COMPLETE`, as Python's click has it: `_EXAMPLE_ARCHIVE_COMPLETE` for `example_archive`.
+///
+/// # Errors
+///
+/// There is no memory for the name.
+pub fn variable(alloc: Global, program: &str) -> Result<String, AllocError>
+    ensures { IfOk result (λ name. string_bytes name ≡ variable_name program.now) }
+{
+    let mut name = String::from_str(alloc, "_")?;
+    for byte in program.as_bytes() {
+        name.push(variable_character(*byte))?;
+    }
+    name.push_str("_COMPLETE")?;
+    Ok(name)
+}
+
 /// A script by which a shell completes the lines of a program, as `Display` writes it. Its last
 /// line has no line feed.
 ///
-/// A shell that has read it calls the program with the hidden first word `__complete`, the words
-/// before the one that is typed, and what is typed of that one. `Options::answer` replies to
-/// that. The script offers each line that begins with a dash; of a line that begins with `+` what
-/// follows; for a line `files` the names of files, and for a line `directories` those of
-/// directories; for a line `value files` or `value directories` these after the `=` of the word;
-/// and nothing else.
+/// A shell that has read it calls the program with the words before the one that is typed, and what
+/// is typed of that one; its variable then has the value `bash_complete`, `zsh_complete` or
+/// `fish_complete`. Redirections are left out. `Options::from_env` replies to that. The script
+/// offers each line that begins with a dash, and of a line that begins with `+` what follows: up to
+/// a tab, after which zsh and fish show the help. For a line `files` it offers the names of files,
+/// and for a line `directories` those of directories; if a tab and a text follow, what comes after
+/// this text in the word is completed by them. If the program fails, the shell completes the names
+/// of files.
 #[derive(Clone, Copy, PartialEq, Eq, Debug)]
 pub struct Script<'a> {
     /// The shell that reads the script.
@@ -48,175 +94,362 @@ pub struct Script<'a> {
     /// The name that the program is called by. It is in the script unquoted, and in names of
     /// functions: let it have ASCII letters, digits, `-`, `_`, `.` and `+` alone.
     pub program: &'a str,
+    /// The variable by which the shell asks: what [`variable`] returns for the program.
+    pub variable: &'a str,
 }
 
-// What comes in each script after the name of its function.
-const BASH_BODY: &str = r#"() {
-    local program=${1//[\"\'\\]/} line=$COMP_LINE words=() last=$2 piece
-    local start='' answer names
+// ---- the texts of the scripts
 
-    program=${program/#\~\//$HOME/}
-    # An alias is no command: then ask the program itself.
-    type -P -- "$program" >/dev/null || program=${FUNCNAME[0]#_complete_}
+const BASH_ABOUT: &str = r#"# Source this. It needs bash 4.4.
 
-    # Bash splits words at `=`, `:` and `@` too: join pieces that no blank separates.
-    piece=${COMP_WORDS[COMP_CWORD]}
-    [[ -z $2 && $piece == [=:@]* ]] && last=$piece
-    for piece in "${COMP_WORDS[@]:0:COMP_CWORD}" "$last"; do
-        if [[ ${#words[@]} -gt 0 && $line != [[:blank:]]* ]]; then
-            words[-1]+=$piece
+# Splits a line into `words`, as the program would get them. The last word is in `word` instead, and
+# in `raw` as it was typed. `redirected` is set if it is the target of a redirection. `open` has the
+# end of each quote and substitution that is open, after a blank: the innermost is last.
+_split_"#;
+
+const BASH_SPLIT: &str = r#"() {
+    local rest=$1 before piece value
+    local operator='^(&>>?|<<<|<<-?|<[>&]?|>[>&|]?)' number='^([0-9]+|\{[A-Za-z_0-9]+\})$'
+    local escaped="^..(([^'\\]|\\\\.)*)('?)"
+    words=() word='' raw='' open=' ' redirected=''
+
+    while [[ $rest ]]; do
+        # One character, or several plain ones at once.
+        before=$open piece=${rest%%[![:alnum:]_./=-]*}
+        piece=${piece:-${rest:0:1}}
+        if [[ $open == ' ' && $piece == [$' \t\n'] ]]; then
+            [[ $raw && -z $redirected ]] && words+=("$word")
+            [[ $raw ]] && redirected=''
+            raw='' word=''
+        elif [[ $open == ' ' && $rest != [\<\>]\(* && $rest =~ $operator ]]; then
+            piece=${BASH_REMATCH[0]}
+            # The number of a file just before it is not a word.
+            [[ $piece != \&* && $raw =~ $number ]] && raw=''
+            [[ $raw && -z $redirected ]] && words+=("$word")
+            raw='' word='' redirected=1
         else
-            words+=("$piece")
-            line=${line#"${line%%[![:blank:]]*}"}
+            value=$piece
+            case ${open: -1}$rest in
+                \'\'* | \"\"*) open=${open%?} value='' ;;
+                \'*) ;;
+                \)\)* | \}\}* | \`\`*) open=${open%?} ;;
+                ?\$\(* | ' '[\<\>]\(*) piece=${rest:0:2} open+=\) ;;
+                ?\$\{*) piece=${rest:0:2} open+=\} ;;
+                ?\`*) open+=\` ;;
+                # In double quotes most backslashes stay.
+                \"\\[!\$\`\"\\$'\n']*) ;;
+                ?\\*)
+                    piece=${rest:0:2} value=${piece:1}
+                    [[ $value == $'\n' ]] && value=''
+                    ;;
+                ?\"*) open+=\" value='' ;;
+                \"*) ;;
+                ?\$\"*) piece=${rest:0:2} open+=\" value='' ;;
+                ?\'*) open+=\' value='' ;;
+                ?\$\'*)
+                    [[ $rest =~ $escaped ]]
+                    piece=${BASH_REMATCH[0]} value=${BASH_REMATCH[1]@E}
+                    [[ ${BASH_REMATCH[3]} ]] || open+=\'
+                    ;;
+                \)\(*) open+=\) ;;
+            esac
+            # In a substitution all stays as it was typed.
+            [[ $before$open == *[\)\}\`]* ]] && value=$piece
+            word+=$value raw+=$piece
         fi
-        line=${line#"$piece"}
+        rest=${rest:${#piece}}
     done
+}
 
-    # Drop quotes, and those that belong to a word too.
-    words=("${words[@]//[\"\'\\]/}")
-    last=${words[-1]}
-    words=("${words[@]:1:${#words[@]}-2}")
-    # What stands before the part of the word that bash replaces.
-    piece=''
-    [[ $last == *"$2" ]] && piece=${last%"$2"}
-    # In quotes, bash does not split at `=`.
-    [[ $2 == --*=* ]] && start=${2%%=*}=
+_complete_"#;
+
+const BASH_COMPLETE: &str = r#"() {
+    local words word raw open redirected program answers answer start kept typed name quoted
 
     COMPREPLY=()
-    while IFS= read -r answer; do
+    _split_"#;
+
+const BASH_PROGRAM: &str = r#" "${COMP_LINE:0:COMP_POINT}"
+    program=${words[0]}
+    [[ $program == \~/* ]] && program=$HOME${program:1}
+    # An alias is no command: then ask the program itself.
+    type -P -- "$program" >/dev/null || program="#;
+
+const BASH_ASK: &str = r#"
+    if [[ $redirected ]] || ! answers=$(
+        "#;
+
+const BASH_KEPT: &str = r#"=bash_complete "$program" "${words[@]:1}" "$word" 2>/dev/null </dev/null
+    ); then
+        # What bash offers without this script.
+        compopt -o bashdefault -o default
+        return
+    fi
+
+    # Bash replaces only $2, which begins after the last `=`, `:`, `@` or open quote. What comes
+    # before it in the word is kept.
+    typed=$word
+    _split_"#;
+
+const BASH_OFFERS: &str = r#" "${raw%"$2"}"
+    kept=$word
+
+    while IFS=$'\t' read -r answer start; do
         case $answer in
             files | directories)
-                [[ $answer == files ]] && names=-f || names=-d
+                # Bash itself completes names best, if they are all of $2 and nothing else is
+                # offered. But it may execute a command substitution.
+                if [[ $start == "$kept" && $answers != *$'\n'* && $typed != *[\`\(]* ]]; then
+                    [[ $answer == files ]] && compopt -o default || compopt -o dirnames
+                    return
+                fi
                 compopt -o filenames
-                while IFS= read -r answer; do
-                    COMPREPLY+=("${answer#"$piece"}")
-                done < <(compgen $names -- "$piece$2")
-                ;;
-            'value files' | 'value directories')
-                [[ $answer == 'value files' ]] && names=-f || names=-d
-                compopt -o filenames
-                mapfile -t -O ${#COMPREPLY[@]} COMPREPLY < <(
-                    compgen -P "$start" $names -- "${2#"$start"}"
+                while IFS= read -r -d '' name; do
+                    COMPREPLY+=("${name#"$kept"}")
+                done < <(
+                    shopt -s dotglob nullglob
+                    shopt -u failglob
+                    set +o noglob
+                    for name in "${typed#"$start"}"*; do
+                        if [[ -d $name ]]; then
+                            name+=/
+                        elif [[ $answer == directories ]]; then
+                            continue
+                        fi
+                        printf '%s\0' "$start$name"
+                    done
                 )
+                [[ ${#COMPREPLY[@]} == 1 && ${COMPREPLY[0]} == */ ]] && compopt -o nospace
                 ;;
-            *)
+            -* | +*)
                 answer=${answer#+}
-                COMPREPLY+=("${answer#"$piece"}")
+                COMPREPLY+=("${answer#"$kept"}")
+                # Bash quotes a word only if it takes the word for a name.
+                printf -v quoted %q "$answer"
+                [[ $quoted == "$answer" ]] || compopt -o filenames
                 ;;
         esac
-    done < <("$program" __complete "${words[@]}" "$last" 2>/dev/null)
+    done <<<"$answers"
 }
-"#;
+complete -F _complete_"#;
 
-const ZSH_BODY: &str = r#"() {
-    local -a words_before answers
-    local ret=1
+#[tactic(auto, unfolding(crate::specs::Scripts::bash_words))]
+fn write_bash_words<W: fmt::Write>(program: &str, f: &mut fmt::Formatter<W>) -> fmt::Result
+    ensures { WritesOnOk W.write_str_gives f.old result (bash_words program.now) f.new }
+{
+    write!(
+        f,
+        "{BASH_ABOUT}{program}{BASH_SPLIT}{program}{BASH_COMPLETE}{program}{BASH_PROGRAM}{program}"
+    )
+}
 
-    words_before=("${(@Q)words[2,CURRENT-1]}")
-    answers=("${(@f)$("${(Q)words[1]/#\~\//$HOME/}" __complete \
-        "${(@)words_before}" "${(Q)PREFIX}" 2>/dev/null)}")
+#[tactic(auto, unfolding(crate::specs::Scripts::bash_answers))]
+fn write_bash_answers<W: fmt::Write>(
+    program: &str,
+    variable: &str,
+    f: &mut fmt::Formatter<W>,
+) -> fmt::Result
+    ensures { WritesOnOk W.write_str_gives f.old result (bash_answers program.now variable.now) f.new }
+{
+    write!(
+        f,
+        "{BASH_ASK}{variable}{BASH_KEPT}{program}{BASH_OFFERS}{program} {program}"
+    )
+}
 
-    compadd -- ${(M)answers:#-*} ${${(M)answers:#+*}#+} && ret=0
-    (( $answers[(Ie)files] )) && _files && ret=0
-    (( $answers[(Ie)directories] )) && _path_files -/ && ret=0
-    (( $answers[(Ie)value files] )) && compset -P 1 '--*=' && _files && ret=0
-    (( $answers[(Ie)value directories] )) && compset -P 1 '--*=' && _path_files -/ && ret=0
+fn write_bash<W: fmt::Write>(
+    program: &str,
+    variable: &str,
+    f: &mut fmt::Formatter<W>,
+) -> fmt::Result
+    ensures { WritesOnOk W.write_str_gives f.old result (bash_script program.now variable.now) f.new }
+{
+    write_bash_words(program, f)?;
+    write_bash_answers(program, variable, f)
+}
+
+const ZSH_ABOUT: &str = r#"
+# Source this after `compinit`, or put it into a folder of `fpath` as the file `_"#;
+
+const ZSH_TYPED: &str = r#"() {
+    # What is typed of the word, and the end of the quote that is open, if one is.
+    local typed=$QIPREFIX$PREFIX${compstate[quote]#\$}
+    local program answers word text start ret=1
+    local -a options values offered names
+
+    typed=${(Q)typed}
+    program=${(Q)words[1]}
+    program=${program/#\~\//$HOME/}
+    # An alias is no command: then ask the program itself.
+    whence -p -- "$program" >/dev/null || program="#;
+
+const ZSH_OFFERS: &str = r#"=zsh_complete "$program" "${(@Q)words[2,CURRENT-1]}" "$typed" \
+        2>/dev/null </dev/null) || {
+        # What zsh offers without this script.
+        _default
+        return
+    }
+
+    while IFS=$'\t' read -r word text; do
+        case $word in
+            files) names=(_files) start=$text ;;
+            directories) names=(_path_files -/) start=$text ;;
+            -* | +*)
+                offered+=("${(q)word#+}")
+                # `_describe` takes what comes after a colon for the help.
+                text=${${word#+}//(#m)[\\:]/\\$MATCH}${text:+:$text}
+                [[ $word == -* ]] && options+=("$text") || values+=("$text")
+                ;;
+        esac
+    done <<<"$answers"
+
+    (( $#options )) && _describe -o option options && ret=0
+    (( $#values )) && _describe value values && ret=0
+    # The names. `_files` may execute a command substitution, so there are none after one.
+    if (( $#names )) && [[ $typed != *(\`|\$\()* ]]; then
+        [[ $start ]] && compset -P "${(q)start}"
+        # A name that is a value too is not offered twice.
+        $names -F offered && ret=0
+    fi
     return ret
 }
-"#;
+if [[ $funcstack[1] == _"#;
 
-const FISH_BODY: &str = r#"
-    set -l words (commandline --current-process --tokenize --cut-at-cursor)
-    set -l last (commandline --current-token --cut-at-cursor)
+#[tactic(auto, unfolding(crate::specs::Scripts::zsh_words))]
+fn write_zsh_words<W: fmt::Write>(program: &str, f: &mut fmt::Formatter<W>) -> fmt::Result
+    ensures { WritesOnOk W.write_str_gives f.old result (zsh_words program.now) f.new }
+{
+    write!(
+        f,
+        "#compdef {program}{ZSH_ABOUT}{program}`.\n_{program}{ZSH_TYPED}{program}"
+    )
+}
+
+#[tactic(auto, unfolding(crate::specs::Scripts::zsh_answers))]
+fn write_zsh_answers<W: fmt::Write>(
+    program: &str,
+    variable: &str,
+    f: &mut fmt::Formatter<W>,
+) -> fmt::Result
+    ensures { WritesOnOk W.write_str_gives f.old result (zsh_answers program.now variable.now) f.new }
+{
+    write!(
+        f,
+        "\n    answers=$({variable}{ZSH_OFFERS}{program} ]]; then\n    _{program} \"$@\"\n\
+        else\n    compdef _{program}"
+    )
+}
+
+#[tactic(auto, unfolding(crate::specs::Scripts::zsh_end))]
+fn write_zsh_end<W: fmt::Write>(program: &str, f: &mut fmt::Formatter<W>) -> fmt::Result
+    ensures { WritesOnOk W.write_str_gives f.old result (zsh_end program.now) f.new }
+{
+    write!(f, " {program}\nfi")
+}
+
+fn write_zsh<W: fmt::Write>(program: &str, variable: &str, f: &mut fmt::Formatter<W>) -> fmt::Result
+    ensures { WritesOnOk W.write_str_gives f.old result (zsh_script program.now variable.now) f.new }
+{
+    write_zsh_words(program, f)?;
+    write_zsh_answers(program, variable, f)?;
+    write_zsh_end(program, f)
+}
+
+const FISH_ABOUT: &str =
+    r#"# Source this, or put it into a folder of `fish_complete_path` as the file `"#;
+
+const FISH_FUNCTION: &str = r#".fish`.
+# It needs fish 3.4.
+function __complete_"#;
+
+const FISH_SPLIT: &str = r#"
+    set -l line "$(commandline --current-process --cut-at-cursor)"
+    set -l token "$(commandline --current-token --cut-at-cursor)"
+
+    # Patterns: what is quoted, what is in parentheses, and a redirection with its target.
+    set -l quoted '\'(?:\\\\.|[^\\\\\'])*\'|"(?:\\\\.|[^\\\\"])*"|\\\\.'
+    set -l nested "(?<nested>\((?:$quoted|[^()'\"\\\\]|(?&nested))*\)?)"
+    set -l operator '(?:&|(?<!\S)\d+)?(?:>>?|<)[?&]?'
+    set -l redirection "$operator\s*(?:$quoted|$nested|[^\s<>&|;()'\"\\\\])+"
+
+    # Close the quote that is open, if one is, or double the last backslash. An empty word needs
+    # quotes too.
+    set -l unquoted "$(string replace --all --regex "(?s)$quoted" '' -- "$token")"
+    set -l end (string match --regex '[\'"\\\\]' -- "$unquoted"); or set end "''"
+    # Leave out each redirection that is not in quotes or in parentheses.
+    string replace --all --regex "(?s)(?:$quoted|(?&nested))(*SKIP)(*FAIL)|$redirection" ' ' \
+        -- "$line$end" | string collect | read --null --tokenize --list --local words
+
     set -l program (string replace --regex '^~/' "$HOME/" -- $words[1])
-    type --query $program; or return
-    # Drop quotes, and those that belong to the word too.
-    set last (string replace --all --regex '["\'\\\\]' '' -- "$last")
-    $program __complete $words[2..] "$last" 2>/dev/null
+    type --query -- $program; or set program "#;
+
+const FISH_ASK: &str = r#"
+    # Where the program fails, fish offers files, as it does without this script.
+    set -l answers files
+    if type --query -- $program
+        set answers ("#;
+
+const FISH_OFFERS: &str = r#"=fish_complete $program $words[2..] 2>/dev/null </dev/null)
+        or set answers files
+    end
+
+    for answer in $answers
+        set -l parts (string split --max 1 \t -- $answer)
+        switch $parts[1]
+            case files directories
+                # The name begins after this text.
+                set -l start "$parts[2]"
+                set -l typed "$token"
+                test -n "$start"; and set typed "$(string replace -- "$start" '' "$token")"
+                set -l names (complete --do-complete "'' $typed")
+                # After `=` and `:` fish offers all files as well.
+                if string match --quiet --regex '[=:]' -- "$typed"
+                    set names (for name in $names
+                        test -e "$name"; and string join '' -- $name
+                    end)
+                end
+                test $parts[1] = directories; and set names (string match '*/' -- $names)
+                string join \n -- $start$names
+            case '-*' '+*'
+                string replace --regex '^[+]' '' -- $answer
+        end
+    end
 end
-"#;
+complete --command "#;
 
-fn write_bash<W: fmt::Write>(program: &str, f: &mut fmt::Formatter<W>) -> fmt::Result
-    ensures { WritesOnOk W.write_str_gives f.old result (bash_script program.now) f.new }
+#[tactic(auto, unfolding(crate::specs::Scripts::fish_words))]
+fn write_fish_words<W: fmt::Write>(
+    program: &str,
+    variable: &str,
+    f: &mut fmt::Formatter<W>,
+) -> fmt::Result
+    ensures { WritesOnOk W.write_str_gives f.old result (fish_words program.now variable.now) f.new }
 {
     write!(
         f,
-        "# Source this.\n_complete_{program}{BASH_BODY}complete -F _complete_{program} {program}"
+        "{FISH_ABOUT}{program}{FISH_FUNCTION}{program}{FISH_SPLIT}{program}{FISH_ASK}{variable}"
     )
 }
 
-#[tactic(auto, unfolding(crate::specs::Scripts::zsh_head))]
-fn write_zsh_head<W: fmt::Write>(program: &str, f: &mut fmt::Formatter<W>) -> fmt::Result
-    ensures { WritesOnOk W.write_str_gives f.old result (zsh_head program.now) f.new }
+#[tactic(auto, unfolding(crate::specs::Scripts::fish_answers))]
+fn write_fish_answers<W: fmt::Write>(program: &str, f: &mut fmt::Formatter<W>) -> fmt::Result
+    ensures { WritesOnOk W.write_str_gives f.old result (fish_answers program.now) f.new }
 {
     write!(
         f,
-        "#compdef {program}\n\
-        # Source this after `compinit`, or put it into a folder of `fpath` as the file \
-        `_{program}`.\n_{program}"
+        "{FISH_OFFERS}{program} --no-files --arguments '(__complete_{program})'"
     )
 }
 
-#[tactic(auto, unfolding(crate::specs::Scripts::zsh_rest))]
-fn write_zsh_rest<W: fmt::Write>(program: &str, f: &mut fmt::Formatter<W>) -> fmt::Result
-    ensures { WritesOnOk W.write_str_gives f.old result (zsh_rest program.now) f.new }
+fn write_fish<W: fmt::Write>(
+    program: &str,
+    variable: &str,
+    f: &mut fmt::Formatter<W>,
+) -> fmt::Result
+    ensures { WritesOnOk W.write_str_gives f.old result (fish_script program.now variable.now) f.new }
 {
-    write!(
-        f,
-        "{ZSH_BODY}if [[ $funcstack[1] == _{program} ]]; then\n    _{program} \"$@\"\nelse\n    \
-        compdef _{program} {program}\nfi"
-    )
-}
-
-fn write_zsh<W: fmt::Write>(program: &str, f: &mut fmt::Formatter<W>) -> fmt::Result
-    ensures { WritesOnOk W.write_str_gives f.old result (zsh_script program.now) f.new }
-{
-    write_zsh_head(program, f)?;
-    write_zsh_rest(program, f)
-}
-
-#[tactic(auto, unfolding(crate::specs::Scripts::fish_head))]
-fn write_fish_head<W: fmt::Write>(program: &str, f: &mut fmt::Formatter<W>) -> fmt::Result
-    ensures { WritesOnOk W.write_str_gives f.old result (fish_head program.now) f.new }
-{
-    write!(
-        f,
-        "# Source this, or put it into a folder of `fish_complete_path` as the file \
-        `{program}.fish`.\nfunction __complete_{program}"
-    )
-}
-
-#[tactic(auto, unfolding(crate::specs::Scripts::fish_rest))]
-fn write_fish_rest<W: fmt::Write>(program: &str, f: &mut fmt::Formatter<W>) -> fmt::Result
-    ensures { WritesOnOk W.write_str_gives f.old result (fish_rest program.now) f.new }
-{
-    write!(
-        f,
-        "{FISH_BODY}complete --command {program} --no-files --arguments \
-        '(__complete_{program} | string replace --filter --regex \"^[+]|^(?=-)\" \"\")'\n"
-    )
-}
-
-#[tactic(auto, unfolding(crate::specs::Scripts::fish_names))]
-fn write_fish_names<W: fmt::Write>(program: &str, f: &mut fmt::Formatter<W>) -> fmt::Result
-    ensures { WritesOnOk W.write_str_gives f.old result (fish_names program.now) f.new }
-{
-    write!(
-        f,
-        "complete --command {program} --force-files --condition \
-        '__complete_{program} | string match --quiet --regex \"^files|^value files\"'\n\
-        complete --command {program} --no-files --condition \
-        '__complete_{program} | string match --quiet --regex \
-        \"^directories|^value directories\"' --arguments '(__fish_complete_directories)'"
-    )
-}
-
-fn write_fish<W: fmt::Write>(program: &str, f: &mut fmt::Formatter<W>) -> fmt::Result
-    ensures { WritesOnOk W.write_str_gives f.old result (fish_script program.now) f.new }
-{
-    write_fish_head(program, f)?;
-    write_fish_rest(program, f)?;
-    write_fish_names(program, f)
+    write_fish_words(program, variable, f)?;
+    write_fish_answers(program, f)
 }
 
 impl fmt::Display for Script<'_> {
@@ -227,9 +460,9 @@ impl fmt::Display for Script<'_> {
 
     fn fmt<W: fmt::Write>(&self, f: &mut fmt::Formatter<W>) -> fmt::Result {
         match self.shell {
-            Shell::Bash => write_bash(self.program, f),
-            Shell::Zsh => write_zsh(self.program, f),
-            Shell::Fish => write_fish(self.program, f),
+            Shell::Bash => write_bash(self.program, self.variable, f),
+            Shell::Zsh => write_zsh(self.program, self.variable, f),
+            Shell::Fish => write_fish(self.program, self.variable, f),
         }
     }
 }

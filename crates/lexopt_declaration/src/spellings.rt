@@ -1,17 +1,25 @@
 //! The words that are options and nothing else, and the values in lists.
-ghost use Rattle.std.specs.Prelude.{◌≡◌, ◌∷◌, ◌++◌, [], IfOk, OnOk, Some, filter, map, nat_eq};
+ghost use Rattle.std.specs.Prelude.{◌≡◌, ◌∷◌, ◌++◌, [], IfOk, OnOk, filter, map, nat_eq};
 ghost use Rattle.std.specs.Prelude.{string_bytes};
 ghost use Rattle.std.specs.Char.{IsScalar};
 ghost use Rattle.std.specs.List.{starts_with};
 ghost use Rattle.std.specs.Str.{IsUtf8};
-ghost use Rattle.lexopt_spec.specs.UnreadLine.{equals};
 ghost use Rattle.lexopt_line_spec.specs.Table as table;
 ghost use Rattle.lexopt_options_spec.specs.Completion as spec;
 ghost use Rattle.lexopt_options_spec.specs.Completion.{AreText, spelling};
-ghost use Rattle.lexopt_declaration.specs.Models.{option_view, words_view};
+ghost use Rattle.lexopt_declaration.specs.Models.{option_view, spelling_view, words_view};
 
 use crate::declaration::{Declared, Words};
 use std::alloc::{AllocError, Global};
+
+/// A word that is an option and nothing else.
+#[derive(Debug, Drop)]
+pub struct Spelling<'a> {
+    /// The word: `-c` or `--name`.
+    pub text: String,
+    /// What the help tells of the option.
+    pub help: &'a str,
+}
 
 // The word `-c`.
 fn short_spelling(alloc: Global, character: char) -> Result<String, AllocError>
@@ -29,60 +37,77 @@ fn long_spelling(alloc: Global, name: &str) -> Result<String, AllocError>
     format!(in alloc; "--{name}")
 }
 
-// Adds a spelling if it begins with what was typed.
-fn add_spelling(
-    spellings: &mut Vec<String>,
-    spelled: String,
+// Adds a spelling of an option that has this help, if it begins with what was typed.
+fn add_spelling<'a>(
+    spellings: &mut Vec<Spelling<'a>>,
+    text: String,
+    help: &'a str,
     typed: &[u8],
 ) -> Result<(), AllocError>
-    ensures { OnOk result (map string_bytes spellings.new.items
-        ≡ map string_bytes spellings.old.items
-        ++ filter (λ s. starts_with nat_eq s typed.now) (string_bytes spelled ∷ [])) }
+    ensures { OnOk result (map spelling_view spellings.new.items
+        ≡ map spelling_view spellings.old.items
+        ++ filter (λ p. starts_with nat_eq p.0 typed.now) ((string_bytes text, help.now) ∷ [])) }
 {
-    if spelled.as_bytes().starts_with(typed) {
-        spellings.push(spelled)?;
+    if text.as_bytes().starts_with(typed) {
+        spellings.push(Spelling { text, help })?;
     }
     Ok(())
 }
 
 // Adds those of an option's spellings that begin with what was typed.
-fn add_spellings<F, V, M, S>(
+fn add_spellings<'a, F, V, M, S>(
     alloc: Global,
-    spellings: &mut Vec<String>,
-    option: &Declared<'_, F, V, M, S>,
+    spellings: &mut Vec<Spelling<'a>>,
+    option: &Declared<'a, F, V, M, S>,
     typed: &[u8],
 ) -> Result<(), AllocError>
     ensures text { OnOk result (AreText (option_view option.now ∷ [])) }
-    ensures added { OnOk result (map string_bytes spellings.new.items
-        ≡ map string_bytes spellings.old.items
-        ++ filter (λ s. starts_with nat_eq s typed.now)
-        (map spelling (spec.names_of (option_view option.now)))) }
+    ensures added { OnOk result (map spelling_view spellings.new.items
+        ≡ map spelling_view spellings.old.items
+        ++ filter (λ p. starts_with nat_eq p.0 typed.now)
+        (spec.explained_by (option_view option.now))) }
 {
     if let Some(character) = option.names.short() {
-        add_spelling(spellings, short_spelling(alloc, character)?, typed)?;
+        add_spelling(
+            spellings,
+            short_spelling(alloc, character)?,
+            option.help,
+            typed,
+        )?;
     }
     if let Some(name) = option.names.long() {
-        add_spelling(spellings, long_spelling(alloc, name)?, typed)?;
+        add_spelling(spellings, long_spelling(alloc, name)?, option.help, typed)?;
     }
     Ok(())
 }
 
 /// The spellings of these options that begin with what was typed.
-pub fn spellings_of<F, V, M, S>(
+pub fn spellings_of<'a, F, V, M, S>(
     alloc: Global,
-    options: &[Declared<'_, F, V, M, S>],
+    options: &[Declared<'a, F, V, M, S>],
     typed: &[u8],
-) -> Result<Vec<String>, AllocError>
+) -> Result<Vec<Spelling<'a>>, AllocError>
     ensures text { OnOk result (AreText (map option_view options.now)) }
-    ensures spellings { IfOk result (λ spellings. map string_bytes spellings.items
-        ≡ filter (λ s. starts_with nat_eq s typed.now)
-        (spec.spellings (map option_view options.now))) }
+    ensures spellings { IfOk result (λ spellings. map spelling_view spellings.items
+        ≡ filter (λ p. starts_with nat_eq p.0 typed.now)
+        (spec.explained (map option_view options.now))) }
 {
     let mut spellings = Vec::new(alloc);
     for option in options {
         add_spellings(alloc, &mut spellings, option, typed)?;
     }
     Ok(spellings)
+}
+
+// Adds a word if it begins with what was typed.
+fn add_word(found: &mut Vec<String>, word: String, typed: &[u8]) -> Result<(), AllocError>
+    ensures { OnOk result (map string_bytes found.new.items ≡ map string_bytes found.old.items
+        ++ filter (λ s. starts_with nat_eq s typed.now) (string_bytes word ∷ [])) }
+{
+    if word.as_bytes().starts_with(typed) {
+        found.push(word)?;
+    }
+    Ok(())
 }
 
 // Adds those of these values that begin with what was typed.
@@ -96,7 +121,7 @@ fn add_listed(
         ++ filter (λ s. starts_with nat_eq s typed.now) (map (λ v. v.now) values.now)) }
 {
     for value in values {
-        add_spelling(found, String::from_str(alloc, value)?, typed)?;
+        add_word(found, String::from_str(alloc, value)?, typed)?;
     }
     Ok(())
 }
@@ -117,50 +142,47 @@ pub fn add_values(
     }
 }
 
-// The word `--name=value`.
-fn joined_word(alloc: Global, name: &str, value: &str) -> Result<String, AllocError>
-    ensures { IfOk result (λ s. string_bytes s
-        ≡ spelling (table.long name.now) ++ equals ∷ value.now) }
+// The word that has this value after what was typed before it.
+fn joined_word(alloc: Global, before: &str, value: &str) -> Result<String, AllocError>
+    ensures { IfOk result (λ s. string_bytes s ≡ before.now ++ value.now) }
 {
-    format!(in alloc; "--{name}={value}")
+    format!(in alloc; "{before}{value}")
 }
 
-// Adds the words that are the option of this name with `=` and one of these values, if they begin
-// with what was typed.
+// Adds the words that have one of these values after what was typed before it, if they begin with
+// what was typed.
 fn add_joined_words(
     alloc: Global,
     found: &mut Vec<String>,
-    name: &str,
+    before: &str,
     values: &[&str],
     typed: &[u8],
 ) -> Result<(), AllocError>
     ensures { OnOk result (map string_bytes found.new.items ≡ map string_bytes found.old.items
         ++ filter (λ s. starts_with nat_eq s typed.now)
-        (spec.joined_words (Some name.now) (map (λ v. v.now) values.now))) }
+        (map (λ v. before.now ++ v) (map (λ v. v.now) values.now))) }
 {
     for value in values {
-        add_spelling(found, joined_word(alloc, name, value)?, typed)?;
+        add_word(found, joined_word(alloc, before, value)?, typed)?;
     }
     Ok(())
 }
 
-/// Adds the words that are this option, by its long name, with `=` and a value of its list, if they
-/// begin with what was typed.
-pub fn add_joined<F, V, M, S>(
+/// Adds the words that have a value of a list after what was typed before it, if they begin with
+/// what was typed.
+pub fn add_joined(
     alloc: Global,
     found: &mut Vec<String>,
-    option: &Declared<'_, F, V, M, S>,
+    before: &str,
+    words: Words<'_>,
     typed: &[u8],
 ) -> Result<(), AllocError>
     ensures { OnOk result (map string_bytes found.new.items ≡ map string_bytes found.old.items
         ++ filter (λ s. starts_with nat_eq s typed.now)
-        (spec.joined_by (Some (option_view option.now)))) }
+        (map (λ v. before.now ++ v) (spec.list_of (words_view words.entry)))) }
 {
-    let Some(name) = option.names.long() else {
-        return Ok(());
-    };
-    match option.words {
-        Words::Listed(values) => add_joined_words(alloc, found, name, values, typed),
+    match words {
+        Words::Listed(values) => add_joined_words(alloc, found, before, values, typed),
         Words::Files | Words::Directories | Words::Text => Ok(()),
     }
 }

@@ -87,6 +87,9 @@ open_of items spelled more said within = record { front = front_of items spelled
 pub at_the_start : IsOpen (sample [] true) [] []
 at_the_start = open_of [] no_words (separator []) refl (lit≤ tt)
 
+pub at_the_start_otherwise : IsOpen (sample [] false) [] []
+at_the_start_otherwise = open_of [] no_words (separator []) refl (lit≤ tt)
+
 pub before_a_positional : IsOpen (sample (mode ∷ []) true) [] []
 before_a_positional = open_of [] no_words (separator []) refl (lit≤ tt)
 

@@ -1,5 +1,5 @@
 -- What a word would be after short lines.
-use Rattle.std.proofs.Common.{◌≡◌, ℕ, true, List, [], ◌∷◌, ◌++◌, Some, None, codes, refl, ap, subst, ◌∙◌, inl, lit≤}
+use Rattle.std.proofs.Common.{◌≡◌, ℕ, true, false, List, [], ◌∷◌, ◌++◌, Some, None, codes, length, refl, ap, arith, subst, sym, ◌∙◌, inl, lit≤}
 use Rattle.lexopt_spec.specs.UnreadLine.{dash}
 use Rattle.lexopt_spec.specs.Steps.{nothing_to_take, joined_value}
 use Rattle.lexopt_spec.specs.Runs.{value, values}
@@ -9,12 +9,14 @@ use Rattle.lexopt_line_spec.specs.Table.{Item, short, long, kind}
 use Rattle.lexopt_line_spec.specs.Spelling as lines
 use Rattle.lexopt_line_spec.specs.Spelling.{nothing, no_value, no_optional, several_words, nothing_more, no_words, separator}
 use Rattle.lexopt_line_spec.proofs.Computing.{computing}
-use Rattle.lexopt_line_spec.proofs.Worked.{last_of, cluster_line, joined_line, plain_line, plain_front_is, some, reads_first, reads_joined, reads_plain, misses_values}
+use Rattle.lexopt_line_spec.proofs.Worked.{last_of, flag_of, value_after, cluster_line, joined_line, plain_line, plain_front_is, some, reads_first, reads_joined, reads_plain, misses_values}
 use Rattle.lexopt_options_spec.specs.Declaration.{Declaration, Positional}
 use Rattle.lexopt_options_spec.specs.Legal.{Said, SaysFront, IsWithin, most, option, several, positional}
 use Rattle.lexopt_options_spec.specs.Stops.{Mistake, StopsAt, unknown_option, missing_value, unexpected_value, unexpected_argument, missing_argument, missing_option, invalid_argument, invalid_value, not_declared, value_of_flag, one_too_many}
 use Rattle.lexopt_options_spec.specs.Stops as stop
-use Rattle.lexopt_options_spec.specs.Completion.{IsOpen, IsPlainRole, IsDashedRole, Role, role_of}
+use Rattle.lexopt_options_spec.specs.Completion.{IsOpen, IsOption, IsPlainRole, IsDashedRole, JoinsValue, Role, role_of, value_of}
+use Rattle.lexopt_options_spec.proofs.LastWords.{same_last as one_last}
+use Rattle.std.specs.Str.{IsUtf8}
 use Rattle.lexopt_options_spec.proofs.Fronts.{comes_to, no_front, one_front}
 use Rattle.lexopt_laws.specs.Sample.{sample, files}
 use Rattle.lexopt_laws.proofs.WorkedSays.{front_of}
@@ -167,7 +169,7 @@ pub closed : (l : List Said) → IsOpen (sample (files ∷ []) true) (codes "--"
 closed l is =
     let e : [] ≡ positional (codes "--") ∷ [] = one_front _ _ [] l separator_says is.front ∙ one_front _ _ l (positional (codes "--") ∷ []) is.with_separator separator_dashes in cc
 
--- ---- values after `=`
+-- ---- values in the word of their option
 
 pub output_says : SaysFront (sample [] true) (codes "--output=fi" ∷ []) (option 1 (Some (codes "fi")) ∷ [])
 unfolding kind computing
@@ -182,3 +184,62 @@ verbose_says_nothing l says =
     (value_of_flag (codes "--verbose") (codes "fi") _ (inl (joined_value (codes "fi") (codes "--verbose") refl refl refl refl))) in
     no_front _ _ (option 0 None ∷ []) (unexpected_value (codes "--verbose") (codes "fi")) (comes_to stops)
     (λ count same. let e : unexpected_value (codes "--verbose") (codes "fi") ≡ missing_argument count = same in cc) (λ index same. let e : unexpected_value (codes "--verbose") (codes "fi") ≡ missing_option index = same in cc) (λ index value same. let e : unexpected_value (codes "--verbose") (codes "fi") ≡ invalid_value index value = same in cc) (λ index word same. let e : unexpected_value (codes "--verbose") (codes "fi") ≡ invalid_argument index word = same in cc) l says
+
+-- `-vofi`, `-o=fi` by both settings, `-xa` and `-b`
+pub cluster_says : SaysFront (sample [] true) (codes "-vofi" ∷ []) (option 0 None ∷ option 1 (Some (codes "fi")) ∷ [])
+unfolding kind computing
+cluster_says = front_of (spec.option (short 0x76) None ∷ spec.option (short 0x6F) (Some (codes "fi")) ∷ [])
+    (cluster_line (codes "vofi") _ refl
+    (flag_of 0x76 (codes "ofi") refl refl refl (last_of 0x6F (codes "fi") (lines.attached (codes "fi")) _ refl (value_after 0x66 (codes "i") refl) (lines.attached_value (codes "fi") refl refl refl))) no_words) refl (lit≤ tt)
+
+pub sign_says : SaysFront (sample [] true) (codes "-o=fi" ∷ []) (option 1 (Some (codes "fi")) ∷ [])
+unfolding kind computing
+sign_says = front_of (spec.option (short 0x6F) (Some (codes "fi")) ∷ [])
+    (cluster_line (codes "o=fi") _ refl (last_of 0x6F (codes "=fi") (lines.joined (codes "fi")) _ refl (lines.marked_value (codes "fi") refl refl refl) (lines.joined_value (codes "fi") refl refl refl)) no_words) refl (lit≤ tt)
+
+pub setting_says : SaysFront (sample [] false) (codes "-o=fi" ∷ []) (option 1 (Some (codes "=fi")) ∷ [])
+unfolding kind computing
+setting_says = front_of (spec.option (short 0x6F) (Some (codes "=fi")) ∷ [])
+    (cluster_line (codes "o=fi") _ refl (last_of 0x6F (codes "=fi") (lines.attached (codes "=fi")) _ refl (value_after 0x3D (codes "fi") refl) (lines.attached_value (codes "=fi") refl refl refl)) no_words) refl (lit≤ tt)
+
+pub several_says : SaysFront (sample [] true) (codes "-xa" ∷ []) (several 3 (codes "a" ∷ []) ∷ [])
+unfolding kind computing
+several_says = front_of (spec.many (short 0x78) (codes "a" ∷ []) ∷ [])
+    (cluster_line (codes "xa") _ refl (last_of 0x78 (codes "a") (lines.attached (codes "a")) _ refl (value_after 0x61 [] refl) (lines.attached_several (codes "a") [] refl (plain_front_is _ [] refl refl) refl)) no_words) refl (lit≤ tt)
+
+pub alone_says : SaysFront (sample [] true) (codes "-b" ∷ []) (option 2 None ∷ [])
+unfolding kind computing
+alone_says = front_of (spec.option (short 0x62) None ∷ []) (cluster_line (codes "b") _ refl (last_of 0x62 [] nothing _ refl (nothing_more refl refl) (no_optional refl refl refl)) no_words) refl (lit≤ tt)
+
+-- an option that has a value in one word
+pub joins : {d : Declaration} {words : List (List ℕ)} {typed : List ℕ} {said : List Said} {i : ℕ} → IsOpen d words said → (others : List Said) (last : Said) → SaysFront d (typed ∷ []) (others ++ last ∷ []) → IsOption i last
+    → (before v : List ℕ) → value_of last ≡ Some v → typed ≡ before ++ v → IsUtf8 before → JoinsValue d words typed i before
+joins {said = said} is_open others last says is before v has apart text = record {
+  said = said;
+  is_open = is_open;
+  others = others;
+  last = last;
+  word_says = says;
+  is = is;
+  value = v;
+  has_value = has;
+  apart = apart;
+  text = text;
+}
+
+-- what is last, and its value, where `--output=fi` is typed
+pub output_last : {words : List (List ℕ)} {i : ℕ} {before : List ℕ} → (is : JoinsValue (sample [] true) words (codes "--output=fi") i before) → (is.last ≡ option 1 (Some (codes "fi"))) × (is.value ≡ codes "fi")
+output_last is =
+    let last = (one_last is.others [] is.last (option 1 (Some (codes "fi"))) (one_front _ _ (is.others ++ is.last ∷ []) (option 1 (Some (codes "fi")) ∷ []) is.word_says output_says)).1 in
+    let e : Some is.value ≡ Some (codes "fi") = sym is.has_value ∙ ap value_of last in
+    let same : is.value ≡ codes "fi" = cc in (last, same)
+
+pub no_shorter_value : {words : List (List ℕ)} {i : ℕ} → JoinsValue (sample [] true) words (codes "--output=fi") i (codes "--output=f") → ⊥
+no_shorter_value is =
+    let e : codes "--output=fi" ≡ codes "--output=f" ++ codes "fi" = is.apart ∙ ap (λ v. codes "--output=f" ++ v) (output_last is).1 in
+    let lengths : length (codes "--output=fi") ≡ length (codes "--output=f" ++ codes "fi") = ap (λ l. length l) e in absurd (omega (arith, lengths))
+
+pub no_value_there : {words : List (List ℕ)} {i : ℕ} {before : List ℕ} → JoinsValue (sample [] true) words (codes "-b") i before → ⊥
+no_value_there is =
+    let last = (one_last is.others [] is.last (option 2 None) (one_front _ _ (is.others ++ is.last ∷ []) (option 2 None ∷ []) is.word_says alone_says)).1 in
+    let e : Some is.value ≡ None = sym is.has_value ∙ ap value_of last in cc

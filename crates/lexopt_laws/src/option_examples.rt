@@ -15,7 +15,8 @@ ghost use Rattle.lexopt_options_spec.specs.Completion.{AreText, CanStand, Comple
 ghost use Rattle.lexopt_options_spec.specs.Completion.{IsOption, IsText, names_of, spelling};
 ghost use Rattle.lexopt_options_spec.specs.Completion.{HasRole, IsDashedRole, IsJoined};
 ghost use Rattle.lexopt_options_spec.specs.Completion.{IsPlainRole, Role, argument};
-ghost use Rattle.lexopt_options_spec.specs.Completion.{is_long_with_equals, role_of, spellings};
+ghost use Rattle.lexopt_options_spec.specs.Completion.{role_of, spellings, value_of};
+ghost use Rattle.lexopt_options_spec.specs.Examples.{joined_after};
 ghost use Rattle.lexopt_options_spec.specs.Completion.{value};
 ghost use Rattle.lexopt_options_spec.specs.Declaration.{Asked, Declaration};
 ghost use Rattle.lexopt_options_spec.specs.Declaration.{IsFirstFault, IsSecondRepeated, are_clear};
@@ -977,42 +978,51 @@ fn what_is_typed_is_completed()
         → Completes d words (0x2D ∷ 0xC3 ∷ []) (0x2D ∷ 0xC3 ∷ 0xA9 ∷ []) → ⊥ }
 {}
 
-// What a word is by what is read from it, and which words are a long option with `=`.
+// What a word is by what is read from it, and which value an option has.
 fn roles_are_by_the_last_of_what_is_said()
     ensures of_an_option { role_of [] (option 1 (Some (codes "x"))) ≡ value 1 }
     ensures of_several { role_of (option 0 None ∷ []) (several 3 (codes "a" ∷ [])) ≡ value 3 }
     ensures positional { role_of [] (positional (codes "a")) ≡ argument 0 }
     ensures second_positional { role_of (option 0 None ∷ positional (codes "a") ∷ option 0 None
         ∷ []) (positional (codes "b")) ≡ argument 1 }
-    ensures long_with_equals { is_long_with_equals (codes "--output=fi") ≡ true }
-    ensures nothing_after_it { is_long_with_equals (codes "--output=") ≡ true }
-    ensures no_equals { is_long_with_equals (codes "--output") ≡ false }
-    ensures character { is_long_with_equals (codes "-o=fi") ≡ false }
-    ensures second_dash { is_long_with_equals (codes "o-=fi") ≡ false }
-    ensures equals_alone { is_long_with_equals (codes "=") ≡ false }
-    ensures nothing { is_long_with_equals [] ≡ false }
+    ensures one_value { value_of (option 1 (Some (codes "x"))) ≡ Some (codes "x") }
+    ensures without_a_value { value_of (option 1 None) ≡ None }
+    ensures first_of_several { value_of (several 3 (codes "a" ∷ codes "b" ∷ []))
+        ≡ Some (codes "a") }
+    ensures word { value_of (positional (codes "a")) ≡ None }
 {}
 
-// Values that are typed after `=`.
+// Values that are typed in the word of their option.
 fn values_are_joined()
-    ensures after_no_words { IsJoined (sample [] true) [] (codes "--output=fi") (Some 1) }
+    ensures after_no_words { IsJoined (sample [] true) [] (codes "--output=fi")
+        (joined_after 1 (codes "--output=")) }
     ensures after_a_flag { IsJoined (sample [] true) (codes "-v" ∷ []) (codes "--output=fi")
-        (Some 1) }
+        (joined_after 1 (codes "--output=")) }
+    ensures in_a_cluster { IsJoined (sample [] true) [] (codes "-vofi")
+        (joined_after 1 (codes "-vo")) }
+    ensures after_a_sign { IsJoined (sample [] true) [] (codes "-o=fi") (joined_after 1 (codes "-o=")) }
+    ensures without_the_setting { IsJoined (sample [] false) [] (codes "-o=fi")
+        (joined_after 1 (codes "-o")) }
+    ensures one_of_several { IsJoined (sample [] true) [] (codes "-xa") (joined_after 3 (codes "-x")) }
     ensures flag { IsJoined (sample [] true) [] (codes "--verbose=fi") None }
     ensures after_the_separator { IsJoined (sample (files ∷ []) true) (codes "--" ∷ [])
         (codes "--output=fi") None }
     ensures value_due { IsJoined (sample [] true) (codes "-o" ∷ []) (codes "--output=fi") None }
-    ensures without_equals { IsJoined (sample [] true) [] (codes "--backup") None }
+    ensures no_value { IsJoined (sample [] true) [] (codes "-b") None }
 {}
 
-// What is not such a value, or is not of that option.
+// What is not such a value, or is not of that option, or not after that.
 fn values_are_not_joined()
     ensures not_none { IsJoined (sample [] true) [] (codes "--output=fi") None → ⊥ }
-    ensures not_another { IsJoined (sample [] true) [] (codes "--output=fi") (Some 2) → ⊥ }
-    ensures flag { IsJoined (sample [] true) [] (codes "--verbose=fi") (Some 0) → ⊥ }
+    ensures not_another { IsJoined (sample [] true) [] (codes "--output=fi")
+        (joined_after 2 (codes "--output=")) → ⊥ }
+    ensures not_more_before { IsJoined (sample [] true) [] (codes "--output=fi")
+        (joined_after 1 (codes "--output=f")) → ⊥ }
+    ensures flag { IsJoined (sample [] true) [] (codes "--verbose=fi")
+        (joined_after 0 (codes "--verbose=")) → ⊥ }
     ensures after_the_separator { IsJoined (sample (files ∷ []) true) (codes "--" ∷ [])
-        (codes "--output=fi") (Some 1) → ⊥ }
-    ensures without_equals { IsJoined (sample [] true) [] (codes "--backup") (Some 2) → ⊥ }
+        (codes "--output=fi") (joined_after 1 (codes "--output=")) → ⊥ }
+    ensures no_value { IsJoined (sample [] true) [] (codes "-b") (joined_after 2 (codes "-b")) → ⊥ }
 {}
 
 // What a word that is not an option would be.

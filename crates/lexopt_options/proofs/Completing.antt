@@ -1,15 +1,14 @@
 -- What is offered after some words.
 use Rattle.std.proofs.Common.{if◌then◌else◌, is_none, zero, suc, take, ◌≡◌, ◌≢◌, ◌↔◌, ◌≤◌, ◌-◌, ◌+◌, ℕ, Bool, IsTrue, not, true, false, List, [], ◌∷◌, ◌++◌, map, filter, get_or, length, slice_get, MatchOption, Option, Some, None, Vec, nat_eq, option_map, refl, sym, ap, subst, ◌∙◌, inl, inr, arith}
-use Rattle.std.proofs.Common.{Result, Ok, Err, String, IfOk, OnOk, string_bytes}
+use Rattle.std.proofs.Common.{Result, Ok, Err, IfOk, OnOk}
 use Rattle.std.specs.Global.{Global}
 use Rattle.std.specs.List.{Contains, flat_map, starts_with}
 use Rattle.std.specs.Str.{IsUtf8}
 use Rattle.std.proofs.Common.{◌<◌, ◌⊎◌, position, ⊎_elim}
 use Rattle.std.proofs.lemmas.Bool.{cases_eq, eq-eqb, false≢true}
 use Rattle.std.proofs.lemmas.List.Quantifiers.{position-Some}
-use Rattle.std.proofs.lemmas.List.{get_or-drop, length-map}
+use Rattle.std.proofs.lemmas.List.{get_or-drop, length-map, map-append}
 use Rattle.std.proofs.lemmas.Option.{slice_get-map}
-use Rattle.std.specs.Borrow.{Bor}
 use Rattle.std.specs.declared.alloc.AllocError.{AllocError}
 use Rattle.lexopt_options_spec.specs.Declaration.{Declaration, Declared, has_name, index_of, is_long, is_short, is_sound}
 use Rattle.lexopt_options_spec.specs.Legal as legal
@@ -19,7 +18,7 @@ use Rattle.lexopt_line_spec.specs.Table as table
 use Rattle.lexopt_line_spec.specs.Table.{Item, Name}
 use Rattle.lexopt_spec.specs.UnreadLine.{BeginsWith, dash}
 use Rattle.lexopt_options_spec.specs.Completion as spec
-use Rattle.lexopt_options_spec.specs.Completion.{AreText, Completes, HasRole, IsDashedRole, IsJoined, IsOpen, IsOption, IsPlainRole, is_long_with_equals, joined_at, joined_by, listed_by, offered_values, spellings, values_at}
+use Rattle.lexopt_options_spec.specs.Completion.{AreText, Completes, HasRole, IsDashedRole, IsJoined, IsOpen, IsOption, IsPlainRole, JoinsValue, explained, explained_by, joined_at, list_of, listed_by, names_of, offered_values, spelling, spellings, values_at}
 use Rattle.lexopt_options_spec.proofs.Fronts.{one_front}
 use Rattle.lexopt_options_spec.proofs.LastWords.{no_last, same_last}
 use Rattle.lexopt_options_spec.proofs.OpenLines.{dashes}
@@ -33,7 +32,8 @@ use Rattle.lexopt_options_spec.specs.Completion.{words_at}
 use Rattle.lexopt_options.specs.declared.options.Options.{Options}
 use Rattle.lexopt_options.specs.Declarations.{declaration_of, options_of}
 use Rattle.lexopt_options_spec.proofs.Tables.{pointwise_refl}
-use Rattle.lexopt_declaration.specs.Models.{long_name, option_view, positional_view, short_name}
+use Rattle.lexopt_declaration.specs.Models.{long_name, option_view, positional_view, short_name, spelling_view, words_view}
+use Rattle.lexopt_declaration.specs.declared.spellings.Spelling.{Spelling}
 use Rattle.lexopt_declaration.specs.declared.declaration.Positional as rust_positional
 use Rattle.lexopt_declaration.specs.declared.declaration.Declared as rust
 use Rattle.lexopt_declaration.specs.declared.declaration.Names.{Names}
@@ -41,13 +41,14 @@ use Rattle.lexopt_declaration.specs.declared.declaration.Names.TheVariants as na
 use Rattle.lexopt_options_spec.proofs.Offered.{kept, keeps, offered_stands, stands_offered}
 use Rattle.lexopt_options.specs.declared.indexed.Indexed.{Indexed}
 use Rattle.lexopt_options.specs.declared.indexed.Indexed.TheVariants as indexed
-use Rattle.lexopt_options.specs.Completions.{AreOffered, CanCome, IsLastPlace, Opens, TakeAnyWord, ends_in_one, is_one, joined_values, values_so, word_values, words_so}
+use Rattle.lexopt_options.specs.Completions.{AreOffered, CanCome, HasPositional, IsLastPlace, Opens, TakeAnyWord, ends_in_one, is_one, joined_values, values_so, word_values, words_so}
 use Rattle.lexopt_options.specs.Fronts.{IsPart}
 use Rattle.lexopt_options.specs.declared.complete.Place.{Place}
+use Rattle.lexopt_options.specs.declared.complete.Joined.{Joined}
 use Rattle.lexopt_options.specs.declared.complete.Role.{Role}
 use Rattle.lexopt_options.specs.declared.complete.Role.TheVariants as role
 use Rattle.lexopt_options.specs.Reading.{indexed_view}
-use Rattle.lexopt_options.specs.Roles.{IsCounted, IsDeclared, IsOptionAt, IsRoleAt, place_view}
+use Rattle.lexopt_options.specs.Roles.{IsCounted, IsDeclared, IsJoinedAt, IsRoleAt, place_view}
 use Rattle.lexopt_options.specs.declared.complete.Place.TheVariants as place
 use Rattle.lexopt_options.specs.Taken as taken
 use Rattle.lexopt_options.specs.Taken.{indexed_words}
@@ -170,31 +171,60 @@ some_dashed d words said (Some role) closed says (counted, (before, last, items_
       role_is,
     )
 
--- ---- a value after `=`
-
-pub not_joined : (d : Declaration) (words : List (List ℕ)) (typed : List ℕ) → is_long_with_equals typed ≡ false → IsJoined d words typed None
-not_joined d words typed without = λ l i s is opens front. absurd (false≢true (sym without ∙ is))
+-- ---- a value in the word of its option
 
 pub none_joined : (d : Declaration) (words : List (List ℕ)) (typed : List ℕ) → Opens d words false → IsJoined d words typed None
-none_joined d words typed none = λ l i s is opens front. absurd (false≢true (none.1 (l, opens)))
+none_joined d words typed none = λ i before joins. absurd (false≢true (none.1 (joins.said, joins.is_open)))
 
 pub unsaid_joined : (d : Declaration) (words one : List (List ℕ)) (typed : List ℕ) → one ≡ typed ∷ [] → IsPart d one None → IsJoined d words typed None
-unsaid_joined d words one typed is none = λ l i s with_equals opens front. absurd (none (s ∷ []) (subst (λ ws. SaysFront d ws (s ∷ [])) (sym is) front))
+unsaid_joined d words one typed is none = λ i before joins.
+    absurd (none (joins.others ++ joins.last ∷ []) (subst (λ ws. SaysFront d ws (joins.others ++ joins.last ∷ [])) (sym is) joins.word_says))
 
-only_one : (items : List Indexed) (s : legal.Said) → map indexed_view items ≡ s ∷ [] → (x : Indexed) × (items ≡ x ∷ []) × (indexed_view x ≡ s)
-only_one [] s is = let e : [] ≡ s ∷ [] = is in cc
-only_one (x ∷ []) s is = let e : indexed_view x ∷ [] ≡ s ∷ [] = is in (x, refl, cc)
-only_one (x ∷ y ∷ items) s is = let e : indexed_view x ∷ indexed_view y ∷ map indexed_view items ≡ s ∷ [] = is in cc
+-- the last of what is read
+last_of : (items : List Indexed) (others : List legal.Said) (last : legal.Said) → map indexed_view items ≡ others ++ last ∷ [] → (before : List Indexed) × (x : Indexed) × (items ≡ before ++ x ∷ []) × (indexed_view x ≡ last)
+last_of [] [] last is = let e : [] ≡ last ∷ [] = is in cc
+last_of [] (o ∷ others) last is = let e : [] ≡ o ∷ (others ++ last ∷ []) = is in cc
+last_of (x ∷ []) [] last is = let e : indexed_view x ∷ [] ≡ last ∷ [] = is in ([], x, refl, cc)
+last_of (x ∷ y ∷ items) [] last is = let e : indexed_view x ∷ indexed_view y ∷ map indexed_view items ≡ last ∷ [] = is in cc
+last_of (x ∷ items) (o ∷ others) last is =
+    let parts = first_same (indexed_view x) o (map indexed_view items) (others ++ last ∷ []) is in
+    let more = last_of items others last parts.1 in
+    (x ∷ more.0, more.1, ap (λ l. x ∷ l) more.2, more.3)
 
-pub some_joined : (d : Declaration) (words one : List (List ℕ)) (typed : List ℕ) (said : Vec Indexed Global) (r : Option ℕ) → is_long_with_equals typed ≡ true → Opens d words true → one ≡ typed ∷ []
-    → IsPart d one (Some said) → MatchOption r ((i : ℕ) (s : Indexed) → said.items ≡ s ∷ [] → ¬ IsOption i (indexed_view s)) (λ i. (s : Indexed) × (said.items ≡ s ∷ []) × IsOption i (indexed_view s))
-    → IsJoined d words typed r
-some_joined d words one typed said None with_equals opens is says none = λ m i s also other front option.
-    let x = only_one said.items s (one_front d (typed ∷ []) (map indexed_view said.items) (s ∷ []) (subst (λ ws. SaysFront d ws (map indexed_view said.items)) is says) front) in
-    none i x.0 x.1 (subst (IsOption i) (sym x.2) option)
-some_joined d words one typed said (Some i) with_equals opens is says (s, are, option) =
-    let there = opens.0 refl in
-    (there.0, indexed_view s, with_equals, there.1, subst (SaysFront d (typed ∷ [])) (ap (map indexed_view) are) (subst (λ ws. SaysFront d ws (map indexed_view said.items)) is says), option)
+pub no_value : (d : Declaration) (words : List (List ℕ)) (typed : List ℕ) (said : List Indexed) → SaysFront d (typed ∷ []) (map indexed_view said)
+    → ((others : List Indexed) (last : Indexed) → said ≡ others ++ last ∷ [] → spec.value_of (indexed_view last) ≡ None) → IsJoined d words typed None
+no_value d words typed said says none = λ i before joins.
+    let x = last_of said joins.others joins.last (one_front d (typed ∷ []) (map indexed_view said) (joins.others ++ joins.last ∷ []) says joins.word_says) in
+    let e : None ≡ Some joins.value = sym (none x.0 x.1 x.2) ∙ ap spec.value_of x.3 ∙ joins.has_value in cc
+
+pub no_text : (d : Declaration) (words : List (List ℕ)) (typed : List ℕ) (said others : List Indexed) (last : Indexed) (value : List ℕ) → SaysFront d (typed ∷ []) (map indexed_view said) → said ≡ others ++ last ∷ []
+    → spec.value_of (indexed_view last) ≡ Some value → ((before : List ℕ) → IsUtf8 before → typed ≡ before ++ value → ⊥) → IsJoined d words typed None
+no_text d words typed said others last value says are has none = λ i before joins.
+    let same = one_front d (typed ∷ []) (map indexed_view others ++ indexed_view last ∷ []) (joins.others ++ joins.last ∷ []) (subst (SaysFront d (typed ∷ [])) (ap (map indexed_view) are ∙ mapped_last others last) says) joins.word_says in
+    let values : Some value ≡ Some joins.value = sym has ∙ ap spec.value_of (same_last (map indexed_view others) joins.others (indexed_view last) joins.last same).1 ∙ joins.has_value in
+    let value_is : value ≡ joins.value = cc in
+    none before joins.text (joins.apart ∙ ap (λ v. before ++ v) (sym value_is))
+
+pub joins : (d : Declaration) (words : List (List ℕ)) (typed : List ℕ) (said others : List Indexed) (last : Indexed) (i : ℕ) (before value : List ℕ) → Opens d words true → SaysFront d (typed ∷ []) (map indexed_view said)
+    → said ≡ others ++ last ∷ [] → IsOption i (indexed_view last) → spec.value_of (indexed_view last) ≡ Some value → IsUtf8 before → typed ≡ before ++ value → JoinsValue d words typed i before
+joins d words typed said others last i before value opens says are is has utf8 apart = record {
+  said = (opens.0 refl).0;
+  is_open = (opens.0 refl).1;
+  others = map indexed_view others;
+  last = indexed_view last;
+  word_says = subst (SaysFront d (typed ∷ [])) (ap (map indexed_view) are ∙ mapped_last others last) says;
+  is = is;
+  value = value;
+  has_value = has;
+  apart = apart;
+  text = utf8;
+}
+
+pub joined_so_far : {X : Type 0} (d : Declaration) (typed : List ℕ) (opens : Bool) (view : X → spec.Joined) (r : Result (Option X) AllocError) → opens ≡ true
+    → ((words : List (List ℕ)) → Opens d words true → IfOk r (λ found. IsJoined d words typed (option_map view found)))
+    → IfOk r (λ found. (words : List (List ℕ)) → Opens d words opens → IsJoined d words typed (option_map view found))
+joined_so_far d typed opens view (Ok found) are is = λ words open_so. is words (subst (Opens d words) are open_so)
+joined_so_far d typed opens view (Err e) are is = tt
 
 -- ---- spellings
 
@@ -208,25 +238,44 @@ all_named {F} {V} {M} {S} (o ∷ os) = (one o.names refl, all_named os)
     one (names.Long name) is = (table.long name.now, ap (is_long name.now) (ap long_name is) ∙ pointwise_refl name.now)
     one (names.Both c name) is = (table.short c, ap (is_short c) (ap short_name is) ∙ eq-eqb c c refl)
 
-pub offered : (d : Declaration) (words : List (List ℕ)) (typed : List ℕ) (list : List (List ℕ)) → is_sound d.options ≡ true → are_listable d.positionals ≡ true → AreNamed d.options → IsUtf8 typed → CanCome d words true → AreText d.options
-    → list ≡ filter (λ x. starts_with nat_eq x typed) (spellings d.options) → AreOffered d words typed list
+-- the spellings without what the help tells
+firsts_kept : (q : List ℕ → Bool) (l : List (List ℕ × List ℕ)) → map (λ p. p.0) (filter (λ p. q p.0) l) ≡ filter q (map (λ p. p.0) l)
+firsts_kept q [] = refl
+firsts_kept q (x ∷ l) = elim (q x.0) as (λ b. map (λ (p : List ℕ × List ℕ). p.0) (if b then x ∷ filter (λ (p : List ℕ × List ℕ). q p.0) l else filter (λ (p : List ℕ × List ℕ). q p.0) l) ≡ (if b then x.0 ∷ filter q (map (λ (p : List ℕ × List ℕ). p.0) l) else filter q (map (λ (p : List ℕ × List ℕ). p.0) l)))
+    [ true ↦ ap (λ m. x.0 ∷ m) (firsts_kept q l) | false ↦ firsts_kept q l ]
+
+firsts_of : (help : List ℕ) (names : List Name) → map (λ (p : List ℕ × List ℕ). p.0) (map (λ n. (spelling n, help)) names) ≡ map spelling names
+firsts_of help [] = refl
+firsts_of help (n ∷ names) = ap (λ l. spelling n ∷ l) (firsts_of help names)
+
+firsts_spelled : (options : List Declared) → map (λ p. p.0) (explained options) ≡ spellings options
+firsts_spelled [] = refl
+firsts_spelled (o ∷ options) =
+    map-append (λ (p : List ℕ × List ℕ). p.0) (explained_by o) (explained options) ∙ ap (λ l. l ++ map (λ (p : List ℕ × List ℕ). p.0) (explained options)) (firsts_of o.help (names_of o)) ∙ ap (λ l. map spelling (names_of o) ++ l) (firsts_spelled options)
+
+firsts_are : (typed : List ℕ) (options : List Declared) (list : List (List ℕ × List ℕ)) → list ≡ filter (λ p. starts_with nat_eq p.0 typed) (explained options) → map (λ p. p.0) list ≡ filter (λ s. starts_with nat_eq s typed) (spellings options)
+firsts_are typed options list is =
+    ap (map (λ (p : List ℕ × List ℕ). p.0)) is ∙ firsts_kept (λ s. starts_with nat_eq s typed) (explained options) ∙ ap (filter (λ s. starts_with nat_eq s typed)) (firsts_spelled options)
+
+pub offered : (d : Declaration) (words : List (List ℕ)) (typed : List ℕ) (list : List (List ℕ × List ℕ)) → is_sound d.options ≡ true → are_listable d.positionals ≡ true → AreNamed d.options → IsUtf8 typed → CanCome d words true → AreText d.options
+    → list ≡ filter (λ p. starts_with nat_eq p.0 typed) (explained d.options) → AreOffered d words typed list
 offered d words typed list sound good named utf8 opens text is = record {
   sound = λ s has.
-      let k = kept (λ x. starts_with nat_eq x typed) (spellings d.options) s (subst (λ x. Contains x s) is has) in
+      let k = kept (λ x. starts_with nat_eq x typed) (spellings d.options) s (subst (λ x. Contains x s) (firsts_are typed d.options list is) has) in
       record { text = utf8; begins = k.1; stands = let there = opens.0 refl in offered_stands d words there.0 s sound text named there.1 there.2 (filled d.positionals (positional_words there.0) good there.3) k.0 };
   complete = λ s completes.
-      subst (λ x. Contains x s) (sym is)
+      subst (λ x. Contains x s) (sym (firsts_are typed d.options list is))
       (keeps (λ x. starts_with nat_eq x typed) (spellings d.options) s (stands_offered d words s completes.stands) completes.begins);
   in_order = inl is;
 }
 
 -- the same of what a call returns
-pub offered_all : (d : Declaration) (typed : List ℕ) (r : Result (Vec (String Global) Global) AllocError) (options : List Declared) (bytes : List ℕ) (b : Bool) → is_sound d.options ≡ true → are_listable d.positionals ≡ true → AreNamed d.options → IsUtf8 typed → b ≡ true
-    → options ≡ d.options → bytes ≡ typed → OnOk r (AreText options) → IfOk r (λ list. map string_bytes list.items ≡ filter (λ s. starts_with nat_eq s bytes) (spellings options))
-    → IfOk r (λ list. (words : List (List ℕ)) → CanCome d words b → AreOffered d words typed (map string_bytes list.items))
+pub offered_all : (d : Declaration) (typed : List ℕ) (r : Result (Vec Spelling Global) AllocError) (options : List Declared) (bytes : List ℕ) (b : Bool) → is_sound d.options ≡ true → are_listable d.positionals ≡ true → AreNamed d.options → IsUtf8 typed → b ≡ true
+    → options ≡ d.options → bytes ≡ typed → OnOk r (AreText options) → IfOk r (λ list. map spelling_view list.items ≡ filter (λ p. starts_with nat_eq p.0 bytes) (explained options))
+    → IfOk r (λ list. (words : List (List ℕ)) → CanCome d words b → AreOffered d words typed (map spelling_view list.items))
 offered_all d typed (Ok list) options bytes b sound good named utf8 can are also text is = λ words is_open.
-    offered d words typed (map string_bytes list.items) sound good named utf8 (subst (CanCome d words) can is_open) (subst AreText are text)
-    (is ∙ ap (λ b. filter (λ s. starts_with nat_eq s b) (spellings options)) also ∙ ap (λ os. filter (λ s. starts_with nat_eq s typed) (spellings os)) are)
+    offered d words typed (map spelling_view list.items) sound good named utf8 (subst (CanCome d words) can is_open) (subst AreText are text)
+    (is ∙ ap (λ b. filter (λ p. starts_with nat_eq p.0 b) (explained options)) also ∙ ap (λ os. filter (λ p. starts_with nat_eq p.0 typed) (explained os)) are)
 offered_all d typed (Err e) options bytes b sound good named utf8 can are also text is = tt
 
 none_there : (s : List ℕ) → Contains [] s → ⊥
@@ -321,10 +370,10 @@ role_declared d words typed role is = ⊎_elim
     (λ begins. let there = is.dashed begins in subst (IsDeclared (length d.options)) there.4 (last_declared d _ there.0 there.1 there.2))
     (λ not. let there = is.plain not in subst (IsDeclared (length d.options)) there.3 (last_declared d _ there.0 there.1 there.2)) (starts_so typed)
 
-pub joined_declared : (d : Declaration) (words : List (List ℕ)) (typed : List ℕ) (i : ℕ) → IsJoined d words typed (Some i) → i < length d.options
-joined_declared d words typed i (l, s, with_equals, opens, front, option) = of s option (last_declared d (typed ∷ []) [] s front)
+pub joined_declared : (d : Declaration) (words : List (List ℕ)) (typed : List ℕ) (i : ℕ) (before : List ℕ) → JoinsValue d words typed i before → i < length d.options
+joined_declared d words typed i before joins = of joins.last joins.is (last_declared d (typed ∷ []) joins.others joins.last joins.word_says)
   where
-    of : (s : legal.Said) → IsOption i s → IsDeclared (length d.options) (spec.role_of [] s) → i < length d.options
+    of : (s : legal.Said) → IsOption i s → IsDeclared (length d.options) (spec.role_of joins.others s) → i < length d.options
     of (legal.option j value) same within = subst (λ n. n < length d.options) same within
     of (legal.several j values) same within = subst (λ n. n < length d.options) same within
     of (legal.positional word) same within = absurd same
@@ -344,11 +393,12 @@ word_so options (Some (spec.value i)) (Some role.Argument) is = absurd is
 word_so options (Some (spec.argument n)) (Some role.Argument) is = refl
 word_so options (Some (spec.argument n)) (Some (role.Value o)) is = absurd is
 
-joined_so : {F V M S : Type 0} (options : List (rust.Declared F V M S)) (i : Option ℕ) (joined : Option (Bor (rust.Declared F V M S))) → IsOptionAt options i joined → joined_values joined ≡ joined_at (map option_view options) i
+joined_so : {F V M S : Type 0} (options : List (rust.Declared F V M S)) (joined : Option spec.Joined) (found : Option (Joined F V M S)) → IsJoinedAt options joined found → joined_values found ≡ joined_at (map option_view options) joined
 joined_so options None None is = refl
-joined_so options None (Some o) is = absurd is
-joined_so options (Some i) None is = absurd is
-joined_so options (Some i) (Some o) is = ap joined_by (sym (view_at options i o.now is))
+joined_so options None (Some f) is = absurd is
+joined_so options (Some j) None is = absurd is
+joined_so options (Some j) (Some f) is =
+    ap (λ (b : List ℕ). map (λ v. b ++ v) (list_of (words_view f.option.now.words))) (sym is.1) ∙ ap (λ o. map (λ v. j.before ++ v) (listed_by o)) (sym (view_at options j.index f.option.now is.0))
 
 filter_append : (p : List ℕ → Bool) (xs ys : List (List ℕ)) → filter p (xs ++ ys) ≡ filter p xs ++ filter p ys
 filter_append p [] ys = refl
@@ -362,8 +412,8 @@ words_are_so ps typed (i ∷ owners) =
     ap (λ l. words_so ps typed i ++ l) (words_are_so ps typed owners) ∙ sym (filter_append (λ v. starts_with nat_eq v typed) (words_at ps i) (flat_map (words_at ps) owners))
 
 -- the values of the options that are found are those of the options at the indices
-pub values_are : {F V P M S : Type 0} (o : Options F V P M S) (typed : List ℕ) (r : Option spec.Role) (owners : List ℕ) (i : Option ℕ) (word : Option (Role F V M S)) (joined : Option (Bor (rust.Declared F V M S)))
-    → IsRoleAt (options_of o) r word → IsOptionAt (options_of o) i joined → values_so (declaration_of o).positionals typed word owners joined ≡ offered_values (declaration_of o) typed r owners i
+pub values_are : {F V P M S : Type 0} (o : Options F V P M S) (typed : List ℕ) (r : Option spec.Role) (owners : List ℕ) (i : Option spec.Joined) (word : Option (Role F V M S)) (joined : Option (Joined F V M S))
+    → IsRoleAt (options_of o) r word → IsJoinedAt (options_of o) i joined → values_so (declaration_of o).positionals typed word owners joined ≡ offered_values (declaration_of o) typed r owners i
 values_are o typed r owners i word joined is at =
     ap (λ l. filter (λ v. starts_with nat_eq v typed) l ++ flat_map (words_so (declaration_of o).positionals typed) owners ++ filter (λ v. starts_with nat_eq v typed) (joined_values joined)) (word_so (options_of o) r word is)
     ∙ ap (λ l. filter (λ v. starts_with nat_eq v typed) (values_at (declaration_of o).options r) ++ l ++ filter (λ v. starts_with nat_eq v typed) (joined_values joined)) (words_are_so (declaration_of o).positionals typed owners)
@@ -379,6 +429,14 @@ last_split (s ∷ t ∷ l) last some is =
     let i : ℕ = length (t ∷ l) - 1 in
     let at : length (s ∷ t ∷ l) - 1 ≡ suc i = omega arith in
     ap (λ m. s ∷ m) (last_split (t ∷ l) last (omega arith) (is ∙ ap (λ (n : ℕ). get_or (s ∷ t ∷ l) n last) at)) ∙ ap (λ n. take n (s ∷ t ∷ l) ++ last ∷ []) (sym at)
+
+pub last_found : {X : Type 0} (P Q : X → legal.Said → Type 0) (said : List Indexed) (last : Indexed) (r : Option X) → 1 ≤ length said → last ≡ get_or said (length said - 1) last
+    → MatchOption r (spec.value_of (indexed_view last) ≡ None) (λ found. P found (indexed_view last) × Q found (indexed_view last))
+    → MatchOption r ((others : List Indexed) (x : Indexed) → said ≡ others ++ x ∷ [] → spec.value_of (indexed_view x) ≡ None)
+    (λ found. (others : List Indexed) × (x : Indexed) × (said ≡ others ++ x ∷ []) × P found (indexed_view x) × Q found (indexed_view x))
+last_found P Q said last None some is none = λ others x are.
+    ap (λ l. spec.value_of (indexed_view l)) (sym (same_last (take (length said - 1) said) others last x (sym (last_split said last some is) ∙ are)).1) ∙ none
+last_found P Q said last (Some f) some is found = (take (length said - 1) said, last, last_split said last some is, found.0, found.1)
 
 indexed_append : (before : List Indexed) (last : Indexed) (word : List ℕ) → last ≡ indexed.Positional word → length (indexed_words (before ++ last ∷ [])) ≡ suc (positional_count (map indexed_view before))
 indexed_append [] last word is = ap (λ x. length (indexed_words (x ∷ []))) is
@@ -412,7 +470,30 @@ no_words_past ps typed i l past = sym (nothing_more l) ∙ ap (λ m. l ++ m) (sy
     none (p ∷ ps) (suc i) past = none ps i (omega (arith, past))
 
 -- the same by the positionals and the indices that calls return
-pub values_given : {F V P M S : Type 0} (o : Options F V P M S) (typed : List ℕ) (r : Option spec.Role) (ps : List Positional) (given owners : List ℕ) (i : Option ℕ) (word : Option (Role F V M S)) (joined : Option (Bor (rust.Declared F V M S)))
-    → ps ≡ (declaration_of o).positionals → given ≡ owners → IsRoleAt (options_of o) r word → IsOptionAt (options_of o) i joined → values_so ps typed word given joined ≡ offered_values (declaration_of o) typed r owners i
+pub values_given : {F V P M S : Type 0} (o : Options F V P M S) (typed : List ℕ) (r : Option spec.Role) (ps : List Positional) (given owners : List ℕ) (i : Option spec.Joined) (word : Option (Role F V M S)) (joined : Option (Joined F V M S))
+    → ps ≡ (declaration_of o).positionals → given ≡ owners → IsRoleAt (options_of o) r word → IsJoinedAt (options_of o) i joined → values_so ps typed word given joined ≡ offered_values (declaration_of o) typed r owners i
 values_given o typed r ps given owners i word joined ps_are same is at =
     ap (λ qs. values_so qs typed word given joined) ps_are ∙ ap (λ l. values_so (declaration_of o).positionals typed word l joined) same ∙ values_are o typed r owners i word joined is at
+
+-- ---- a positional among the words
+
+counts_are : (said : List Indexed) → positional_count (map indexed_view said) ≡ length (filter (λ x. taken.is_positional x) said)
+counts_are [] = refl
+counts_are (indexed.Option i v ∷ said) = let rest = counts_are said in omega (arith, rest)
+counts_are (indexed.Several i vs ∷ said) = let rest = counts_are said in omega (arith, rest)
+counts_are (indexed.Positional w ∷ said) = let rest = counts_are said in omega (arith, rest)
+
+pub some_positional : (d : Declaration) (words own : List (List ℕ)) (said items : List Indexed) (count : ℕ) → own ≡ words → items ≡ said → SaysFront d own (map indexed_view said) → count ≡ length (filter (λ x. taken.is_positional x) items)
+    → (0 < count) ↔ HasPositional d words
+some_positional d words own said items count same are says is =
+    let front = subst (λ ws. SaysFront d ws (map indexed_view said)) same says in
+    let counted : positional_count (map indexed_view said) ≡ count = counts_are said ∙ ap (λ l. length (filter (λ x. taken.is_positional x) l)) (sym are) ∙ sym is in (
+      (λ some. (map indexed_view said, front, omega (arith, some, counted))),
+      (λ there.
+          let one = ap positional_count (one_front d words there.0 (map indexed_view said) there.1 front) in
+          let more = there.2 in
+          omega (arith, more, one, counted)),
+    )
+
+pub no_positional : (d : Declaration) (words own : List (List ℕ)) → own ≡ words → IsPart d own None → HasPositional d words → ⊥
+no_positional d words own same none there = none there.0 (subst (λ ws. SaysFront d ws there.0) (sym same) there.1)

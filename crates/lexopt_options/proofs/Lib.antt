@@ -4,7 +4,7 @@ pub mod Keys
 pub mod ReadKeys
 pub mod WholeLines
 pub mod LeadingRead
-pub mod Answering
+pub mod Asking
 pub mod Owners
 pub mod TakenWords
 pub mod Completing

@@ -143,6 +143,7 @@ before_is d (mistake.UnexpectedArgument word) why l told = ap (λ w. said_before
 before_is d (mistake.InvalidArgument placeholder word values) why l told = ap (λ w. said_before w l) (sym told.1)
 before_is d (mistake.MissingArgument placeholder) why l told = ap (λ w. said_before w l) (sym told.1)
 before_is d (mistake.MissingOption names) why l told = ap (λ w. said_before w l) (sym told.1)
+before_is d (mistake.InvalidVariable name) why l told = absurd told
 
 pub before_other : (m : Mistake) (l : List legal.Said) → ((option : _) (value : _) → m ≡ mistake.UnexpectedValue option value → ⊥) → before_mistake m l ≡ l
 before_other (mistake.UnknownOption name hint) l other = refl
@@ -153,6 +154,7 @@ before_other (mistake.UnexpectedArgument word) l other = refl
 before_other (mistake.InvalidArgument placeholder word values) l other = refl
 before_other (mistake.MissingArgument placeholder) l other = refl
 before_other (mistake.MissingOption names) l other = refl
+before_other (mistake.InvalidVariable name) l other = refl
 
 pub last_dropped : (l : List legal.Said) (s : legal.Said) → all_but_last (l ++ s ∷ []) ≡ l
 last_dropped [] s = refl

@@ -1,11 +1,11 @@
 -- What a program is to do about the words that it was called with. The source is
 -- `docs/behaviour.md`.
-use Rattle.std.specs.Prelude.{◌≡◌, ◌⊎◌, ◌<◌, ◌^◌, ℕ, List, [], ◌∷◌, ◌++◌}
+use Rattle.std.specs.Prelude.{◌≡◌, ◌<◌, ◌^◌, ◌||◌, ℕ, List, [], ◌∷◌, ◌++◌, String, encode_utf8}
 use Rattle.std.specs.Prelude.{Bool, true, false, ◌==◌, if◌then◌else◌, Option, Some, None, codes}
-use Rattle.std.specs.Prelude.{option_map, slice_get, string_bytes, unwrap_or}
+use Rattle.std.specs.Prelude.{nat_lt, option_map, slice_get, string_bytes, unwrap_or}
+use Rattle.std.specs.Global.{Global}
 use Rattle.std.specs.List.{flat_map, list_any}
-use Rattle.std.specs.Borrow.{Bor}
-use Rattle.std.specs.Str.{IsUtf8}
+use Rattle.std.specs.Str.{IsUtf8, chars}
 use Rattle.std.specs.Str.Parse.{IsNumeral, digits_value, without_leading_plus}
 use Rattle.lexopt_spec.specs.UnreadLine.{dash}
 use Rattle.lexopt_options_spec.specs.Asking.{AskFor}
@@ -14,35 +14,28 @@ use Rattle.lexopt_options_spec.specs.Help.{IsHelp, line_feed}
 use Rattle.lexopt_options.specs.declared.answer.Answer.{Answer}
 use Rattle.lexopt_options.specs.declared.answer.Answer.TheVariants as answer
 use Rattle.lexopt_options.specs.declared.complete.Completion.{Completion}
+use Rattle.lexopt_options.specs.declared.complete.Joined.{Joined}
 use Rattle.lexopt_options.specs.declared.complete.Role.{Role}
 use Rattle.lexopt_options.specs.declared.complete.Role.TheVariants as role
+use Rattle.lexopt_options.specs.declared.mistake.Mistake.TheVariants as mistake
 use Rattle.lexopt_options.specs.declared.options.Options.{Options}
-use Rattle.lexopt_declaration.specs.declared.declaration.Declared.{Declared}
+use Rattle.lexopt_options.specs.declared.refused.Refused.{Refused}
+use Rattle.lexopt_options.specs.declared.request.Request.{Request}
+use Rattle.lexopt_options.specs.declared.request.Request.TheVariants as request
 use Rattle.lexopt_declaration.specs.declared.declaration.Positional.{Positional}
 use Rattle.lexopt_declaration.specs.declared.declaration.Words.{Words}
 use Rattle.lexopt_declaration.specs.declared.declaration.Words.TheVariants.{Files, Directories}
 use Rattle.lexopt_declaration.specs.declared.declaration.Words.TheVariants.{Text, Listed}
 use Rattle.lexopt_declaration.specs.declared.shell.Shell.{Shell}
+use Rattle.lexopt_declaration.specs.declared.spellings.Spelling.{Spelling}
+use Rattle.lexopt_declaration.specs.Lookups.{help_names}
+use Rattle.lexopt_declaration.specs.Models.{spelling_view}
+use Rattle.lexopt_declaration.specs.Scripts.{shell_script, variable_name}
 use Rattle.lexopt_options.specs.Completions.{IsCompletion}
-use Rattle.lexopt_options.specs.Declarations.{declaration_of, positionals_of}
+use Rattle.lexopt_options.specs.Declarations.{declaration_of, options_of, positionals_of}
 use Rattle.lexopt_options.specs.Lines.{IsRefused, LineSays}
-use Rattle.lexopt_declaration.specs.Scripts.{shell_name, shell_script}
 
--- ---- what a shell asks for
-
--- the words ask what can come where the last of them is typed, after these
-abbrev pub AsksToComplete : List (List ℕ) → List (List ℕ) → List ℕ → Type 0
-AsksToComplete words before typed = words ≡ codes "__complete" ∷ (before ++ typed ∷ [])
-
--- they ask for the script of this shell
-abbrev pub AsksForScript : List (List ℕ) → Shell → Type 0
-AsksForScript words shell = words ≡ codes "__script" ∷ shell_name shell ∷ []
-
--- they ask for neither
-pub record IsOrdinary (words : List (List ℕ)) : Type 0 where
-  pub no_completion : (before : List (List ℕ)) (typed : List ℕ)
-      → ¬ AsksToComplete words before typed
-  pub no_script : (shell : Shell) → ¬ AsksForScript words shell
+-- ---- what a shell reads
 
 -- what completes a value of an option: the names of files, those of directories, or none
 abbrev pub names_line : Words → List ℕ
@@ -79,17 +72,30 @@ word_line positionals None arguments = []
 word_line positionals (Some role.Argument) arguments = arguments_line positionals arguments
 word_line positionals (Some (role.Value option)) arguments = names_line option.now.words
 
--- what completes the value of an option after `=`
-abbrev pub value_line : Words → List ℕ
-value_line Files = codes "value files\n"
-value_line Directories = codes "value directories\n"
-value_line Text = []
-value_line (Listed values) = []
+-- what completes the value of an option in its word, after this: names of files, of directories, or
+-- none
+abbrev pub value_line : Words → List ℕ → List ℕ
+value_line Files before = codes "files\t" ++ before ++ line_feed ∷ []
+value_line Directories before = codes "directories\t" ++ before ++ line_feed ∷ []
+value_line Text before = []
+value_line (Listed values) before = []
 
--- what completes what is typed after `=`
-abbrev pub joined_line : {F V M S : Type 0} → Option (Bor (Declared F V M S)) → List ℕ
+abbrev pub joined_line : {F V M S : Type 0} → Option (Joined F V M S) → List ℕ
 joined_line None = []
-joined_line (Some option) = value_line option.now.words
+joined_line (Some joined) = value_line joined.option.now.words (string_bytes joined.before)
+
+-- a character of a text that is put on one line: a blank for a control character of ASCII
+abbrev pub on_one_line : ℕ → List ℕ
+on_one_line c = if nat_lt c 0x20 || c == 0x7F then codes " " else encode_utf8 c
+
+-- a spelling, a tab, and what the help tells of its option, on a line
+abbrev pub spelling_line : List ℕ × List ℕ → List ℕ
+spelling_line p = p.0 ++ codes "\t" ++ flat_map on_one_line (chars p.1) ++ line_feed ∷ []
+
+-- these of each spelling, where something was typed
+abbrev pub spelling_lines : List ℕ → List Spelling → List ℕ
+spelling_lines [] spellings = []
+spelling_lines (b ∷ bs) spellings = flat_map (λ s. spelling_line (spelling_view s)) spellings
 
 -- the line for a value in a list: after `+`, unless it begins with a dash
 abbrev pub listed_line : List ℕ → List ℕ
@@ -98,26 +104,24 @@ listed_line (b ∷ bs) =
     if b == dash then b ∷ bs ++ line_feed ∷ [] else codes "+" ++ b ∷ bs ++ line_feed ∷ []
 
 -- a line for each spelling, one for each value in a list, and these lines
-abbrev pub completion_text : {F V P M S : Type 0} → List (Positional P) → Completion F V M S → List ℕ
-completion_text positionals c = flat_map (λ s. string_bytes s ++ line_feed ∷ []) c.spellings.items
+abbrev pub completion_text : {F V P M S : Type 0} → List (Positional P) → List ℕ
+    → Completion F V M S → List ℕ
+completion_text positionals typed c = spelling_lines typed c.spellings.items
     ++ flat_map (λ s. listed_line (string_bytes s)) c.values.items
     ++ word_line positionals c.word c.arguments.items ++ joined_line c.joined
 
-abbrev pub IsCompletionText : {F V P M S : Type 0} → Options F V P M S → List (List ℕ) → List ℕ → Type 0
-IsCompletionText o words text = (before : List (List ℕ)) × (typed : List ℕ)
-    × (completion : Completion _ _ _ _) × AsksToComplete words before typed
-    × IsCompletion o before typed completion × (text ≡ completion_text (positionals_of o) completion)
+-- what can come where this was typed after these words
+abbrev pub IsCompletionText : {F V P M S : Type 0} → Options F V P M S → List (List ℕ) → List ℕ
+    → List ℕ → Type 0
+IsCompletionText o words typed text = (completion : Completion _ _ _ _)
+    × IsCompletion o words typed completion
+    × (text ≡ completion_text (positionals_of o) typed completion)
 
 -- the script of this shell for the program, and the end of its last line
 abbrev pub script_lines : {F V P M S : Type 0} → Options F V P M S → Shell → List ℕ
-script_lines o shell = shell_script shell (declaration_of o).program ++ line_feed ∷ []
-
-abbrev pub IsScriptText : {F V P M S : Type 0} → Options F V P M S → List (List ℕ) → List ℕ → Type 0
-IsScriptText o words text =
-    (shell : Shell) × AsksForScript words shell × (text ≡ script_lines o shell)
-
-abbrev pub IsShellText : {F V P M S : Type 0} → Options F V P M S → List (List ℕ) → List ℕ → Type 0
-IsShellText o words text = IsCompletionText o words text ⊎ IsScriptText o words text
+script_lines o shell =
+    shell_script shell (declaration_of o).program (variable_name (declaration_of o).program)
+    ++ line_feed ∷ []
 
 -- ---- the help and the version
 
@@ -151,7 +155,28 @@ pub record IsWidth (text : List ℕ) (width : ℕ) : Type 0 where
 -- what is to be done about these words, where the help has this width
 abbrev pub IsAnswer : {F V P M S : Type 0} → Options F V P M S → List (List ℕ) → ℕ → Answer F V P M S
     → Type 0
-IsAnswer o words width (answer.Said said) = IsOrdinary words × LineSays o words said.items
-IsAnswer o words width (answer.Text text) = IsShellText o words (string_bytes text)
-    ⊎ (IsOrdinary words × AskForText (declaration_of o) words width (string_bytes text))
-IsAnswer o words width (answer.Refused refused) = IsOrdinary words × IsRefused o words refused
+IsAnswer o words width (answer.Said said) = LineSays o words said.items
+IsAnswer o words width (answer.Text text) =
+    AskForText (declaration_of o) words width (string_bytes text)
+IsAnswer o words width (answer.Refused refused) = IsRefused o words refused
+
+-- the variable by which shells ask has a value that is not known
+pub record IsUnknownRequest {F V P M S : Type 0} (o : Options F V P M S)
+    (refused : Refused F V P M S) : Type 0 where
+  pub program : refused.program.now ≡ (declaration_of o).program
+  pub help : refused.help ≡ help_names (options_of o)
+  pub before : refused.before.items ≡ []
+  pub name : String Global
+  pub variable : string_bytes name ≡ variable_name (declaration_of o).program
+  pub mistake : refused.mistake ≡ mistake.InvalidVariable name
+
+-- what is to be done about this request, where the help has this width
+abbrev pub IsRequestAnswer : {F V P M S : Type 0} → Options F V P M S → Request → ℕ
+    → Answer F V P M S → Type 0
+IsRequestAnswer o (request.Line words) width found = IsAnswer o words.items width found
+IsRequestAnswer o (request.Completion words typed) width (answer.Text text) =
+    IsCompletionText o words.items typed (string_bytes text)
+IsRequestAnswer o (request.Script shell) width (answer.Text text) =
+    string_bytes text ≡ script_lines o shell
+IsRequestAnswer o request.Unknown width (answer.Refused refused) = IsUnknownRequest o refused
+IsRequestAnswer o request width found = ⊥

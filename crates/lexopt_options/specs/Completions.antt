@@ -1,19 +1,18 @@
 -- What can come where a word is typed, as contracts see it.
-use Rattle.std.specs.Prelude.{◌≡◌, ◌⊎◌, ◌↔◌, ◌∷◌, ◌++◌, ℕ, Bool, true, false, IsTrue, List, []}
+use Rattle.std.specs.Prelude.{◌≡◌, ◌<◌, ◌⊎◌, ◌↔◌, ◌∷◌, ◌++◌, ℕ, Bool, true, false, IsTrue, List, []}
 use Rattle.std.specs.Prelude.{Option, Some, None, filter, length, map, nat_eq, string_bytes}
-use Rattle.std.specs.Borrow.{Bor}
 use Rattle.std.specs.List.{Contains, flat_map, starts_with}
 use Rattle.lexopt_options_spec.specs.Declaration.{Declaration, Positional}
 use Rattle.lexopt_options_spec.specs.Completion as spec
 use Rattle.lexopt_options_spec.specs.Completion.{AreOwnersIn, Completes, HasRole, IsJoined, IsOpen}
-use Rattle.lexopt_options_spec.specs.Completion.{joined_by, list_of, offered_values, spellings}
+use Rattle.lexopt_options_spec.specs.Completion.{explained, list_of, offered_values}
 use Rattle.lexopt_options_spec.specs.Completion.{words_at}
 use Rattle.lexopt_options_spec.specs.Legal as legal
 use Rattle.lexopt_options_spec.specs.Legal.{are_accepted, positional_words}
 use Rattle.lexopt_options_spec.proofs.Taken.{CanBeTaken}
-use Rattle.lexopt_declaration.specs.Models.{option_view, words_view}
-use Rattle.lexopt_declaration.specs.declared.declaration.Declared.{Declared}
+use Rattle.lexopt_declaration.specs.Models.{spelling_view, words_view}
 use Rattle.lexopt_options.specs.declared.complete.Completion.{Completion}
+use Rattle.lexopt_options.specs.declared.complete.Joined.{Joined}
 use Rattle.lexopt_options.specs.declared.complete.Role.{Role}
 use Rattle.lexopt_options.specs.declared.complete.Role.TheVariants as role
 use Rattle.lexopt_options.specs.declared.options.Options.{Options}
@@ -22,35 +21,40 @@ use Rattle.lexopt_options.specs.declared.indexed.Indexed.TheVariants as indexed
 use Rattle.lexopt_options.specs.Declarations.{declaration_of, options_of}
 use Rattle.lexopt_options.specs.declared.complete.Place.{Place}
 use Rattle.lexopt_options.specs.Reading.{indexed_view}
-use Rattle.lexopt_options.specs.Roles.{IsCounted, IsOptionAt, IsRoleAt, place_view}
+use Rattle.lexopt_options.specs.Roles.{IsCounted, IsJoinedAt, IsRoleAt, place_view}
 
--- exactly the spellings that can come where this was typed after these words, in the order of the
--- declaration
+-- exactly the spellings that can come where this was typed after these words, each with what the help
+-- tells of its option, in the order of the declaration
 pub record AreOffered (d : Declaration) (words : List (List ℕ)) (typed : List ℕ)
-    (offered : List (List ℕ)) : Type 0 where
-  pub sound : (s : List ℕ) → Contains offered s → Completes d words typed s
-  pub complete : (s : List ℕ) → Completes d words typed s → Contains offered s
-  pub in_order : (offered ≡ filter (λ s. starts_with nat_eq s typed) (spellings d.options))
+    (offered : List (List ℕ × List ℕ)) : Type 0 where
+  pub sound : (s : List ℕ) → Contains (map (λ p. p.0) offered) s → Completes d words typed s
+  pub complete : (s : List ℕ) → Completes d words typed s → Contains (map (λ p. p.0) offered) s
+  pub in_order : (offered ≡ filter (λ p. starts_with nat_eq p.0 typed) (explained d.options))
       ⊎ (offered ≡ [])
 
 -- exactly what can come where this was typed after these words
 pub record IsCompletion {F V P M S : Type 0} (o : Options F V P M S) (words : List (List ℕ))
     (typed : List ℕ) (completion : Completion F V M S) : Type 0 where
   pub spellings : AreOffered (declaration_of o) words typed
-      (map string_bytes completion.spellings.items)
+      (map spelling_view completion.spellings.items)
   -- what a word would be that is not an option and begins so
   pub role : Option spec.Role
   pub has_role : HasRole (declaration_of o) words typed role
   pub word : IsRoleAt (options_of o) role completion.word
   -- to which positionals it can belong, if it would be one
   pub arguments : AreOwnersIn (declaration_of o).positionals role completion.arguments.items
-  -- of which option a value is typed after `=`
-  pub index : Option ℕ
-  pub is_joined : IsJoined (declaration_of o) words typed index
-  pub joined : IsOptionAt (options_of o) index completion.joined
+  -- of which option a value is typed in the word, and after what
+  pub with_value : Option spec.Joined
+  pub is_joined : IsJoined (declaration_of o) words typed with_value
+  pub joined : IsJoinedAt (options_of o) with_value completion.joined
   -- the values in lists that begin so
   pub values : map string_bytes completion.values.items
-      ≡ offered_values (declaration_of o) typed role completion.arguments.items index
+      ≡ offered_values (declaration_of o) typed role completion.arguments.items with_value
+
+-- the words mean this so far, and a positional is among it
+abbrev pub HasPositional : Declaration → List (List ℕ) → Type 0
+HasPositional d words = (l : List legal.Said) × legal.SaysFront d words l
+    × (0 < legal.positional_count l)
 
 -- ---- values in lists
 
@@ -60,10 +64,11 @@ word_values None = []
 word_values (Some role.Argument) = []
 word_values (Some (role.Value option)) = list_of (words_view option.now.words)
 
--- the words that are this option, with `=` and a value of its list
-abbrev pub joined_values : {F V M S : Type 0} → Option (Bor (Declared F V M S)) → List (List ℕ)
+-- the words with a value of the list of this option in them, where this is typed
+abbrev pub joined_values : {F V M S : Type 0} → Option (Joined F V M S) → List (List ℕ)
 joined_values None = []
-joined_values (Some option) = joined_by (Some (option_view option.now))
+joined_values (Some joined) =
+    map (λ v. string_bytes joined.before ++ v) (list_of (words_view joined.option.now.words))
 
 -- the words in the list of the positional of this index that begin with what was typed
 abbrev pub words_so : List Positional → List ℕ → ℕ → List (List ℕ)
@@ -71,7 +76,7 @@ words_so ps typed i = filter (λ v. starts_with nat_eq v typed) (words_at ps i)
 
 -- all of these that begin so, where a word can belong to the positionals of these indices
 abbrev pub values_so : {F V M S : Type 0} → List Positional → List ℕ → Option (Role F V M S)
-    → List ℕ → Option (Bor (Declared F V M S)) → List (List ℕ)
+    → List ℕ → Option (Joined F V M S) → List (List ℕ)
 values_so ps typed word arguments joined =
     filter (λ v. starts_with nat_eq v typed) (word_values word)
     ++ flat_map (words_so ps typed) arguments

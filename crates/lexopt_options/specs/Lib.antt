@@ -2,6 +2,7 @@ pub mod Declarations
 pub mod Tables
 pub mod Keys
 pub mod Reading
+pub mod Requests
 pub mod Taken
 pub mod Messages
 pub mod Mistakes

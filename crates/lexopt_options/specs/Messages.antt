@@ -14,6 +14,7 @@ use Rattle.lexopt_options.specs.declared.mistake.Mistake.TheVariants.{Unexpected
 use Rattle.lexopt_options.specs.declared.mistake.Mistake.TheVariants.{InvalidArgument, InvalidValue}
 use Rattle.lexopt_options.specs.declared.mistake.Mistake.TheVariants.{UnexpectedArgument}
 use Rattle.lexopt_options.specs.declared.mistake.Mistake.TheVariants.{MissingArgument, MissingOption}
+use Rattle.lexopt_options.specs.declared.mistake.Mistake.TheVariants.{InvalidVariable}
 use Rattle.lexopt_options.specs.declared.mistake.OptionName.{OptionName}
 use Rattle.lexopt_options.specs.declared.mistake.OptionName.TheVariants.{Short, Long}
 
@@ -42,6 +43,9 @@ message (InvalidArgument placeholder word values) = codes "invalid argument " ++
     ++ (codes " for " ++ (placeholder.now
     ++ (codes ": one of " ++ list_text (map (λ own. own.now) values.now)))))
 message (MissingOption names) = codes "missing option '" ++ (names_text names ++ codes "'")
+message (InvalidVariable name) = codes "invalid value of " ++ (string_bytes name
+    ++ (codes ": one of bash_source, bash_complete, zsh_source, zsh_complete, fish_source, "
+    ++ codes "fish_complete"))
 
 -- where help is, if an option for it is declared
 abbrev pub help_line : List ℕ → Option Names → List ℕ

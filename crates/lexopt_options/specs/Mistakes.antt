@@ -15,6 +15,7 @@ use Rattle.lexopt_options.specs.declared.mistake.Mistake.TheVariants.{Unexpected
 use Rattle.lexopt_options.specs.declared.mistake.Mistake.TheVariants.{InvalidArgument, InvalidValue}
 use Rattle.lexopt_options.specs.declared.mistake.Mistake.TheVariants.{UnexpectedArgument}
 use Rattle.lexopt_options.specs.declared.mistake.Mistake.TheVariants.{MissingArgument, MissingOption}
+use Rattle.lexopt_options.specs.declared.mistake.Mistake.TheVariants.{InvalidVariable}
 
 -- these are the names of the option of this index
 abbrev pub AreNames : List Declared → ℕ → Names → Type 0
@@ -53,3 +54,4 @@ IsMistake d (MissingArgument placeholder) m = (count : ℕ) × (m ≡ stops.miss
     × (placeholder.now ≡ required_placeholder d.positionals count)
 IsMistake d (MissingOption names) m = (index : ℕ) × (m ≡ stops.missing_option index)
     × AreNames d.options index names
+IsMistake d (InvalidVariable name) m = ⊥

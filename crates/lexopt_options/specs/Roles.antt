@@ -1,8 +1,10 @@
 -- What a word that is not an option would be, as contracts see it.
-use Rattle.std.specs.Prelude.{◌≡◌, ◌<◌, ◌≤◌, ◌-◌, ℕ, List, Option, Some, None, slice_get}
-use Rattle.std.specs.Borrow.{Bor}
+use Rattle.std.specs.Prelude.{◌≡◌, ◌<◌, ◌≤◌, ◌-◌, ℕ, List, Option, Some, None, String, slice_get}
+use Rattle.std.specs.Prelude.{string_bytes}
+use Rattle.std.specs.Global.{Global}
 use Rattle.lexopt_options_spec.specs.Completion as spec
 use Rattle.lexopt_declaration.specs.declared.declaration.Declared.{Declared}
+use Rattle.lexopt_options.specs.declared.complete.Joined.{Joined}
 use Rattle.lexopt_options.specs.declared.complete.Place.{Place}
 use Rattle.lexopt_options.specs.declared.complete.Place.TheVariants as place
 use Rattle.lexopt_options.specs.declared.complete.Role.{Role}
@@ -21,14 +23,18 @@ IsRoleAt options None None = Unit {0}
 IsRoleAt options (Some r) (Some found) = IsRole options r found
 IsRoleAt options r found = ⊥
 
--- the option of an index, if there is one
-abbrev pub IsOptionAt : {F V M S : Type 0} → List (Declared F V M S) → Option ℕ
-    → Option (Bor (Declared F V M S)) → Type 0
-IsOptionAt options None None = Unit {0}
-IsOptionAt options (Some i) (Some option) = slice_get options i ≡ Some option.now
-IsOptionAt options i option = ⊥
+-- the option of this index, and what comes before its value in a word; or neither
+abbrev pub IsJoinedAt : {F V M S : Type 0} → List (Declared F V M S) → Option spec.Joined
+    → Option (Joined F V M S) → Type 0
+IsJoinedAt options None None = Unit {0}
+IsJoinedAt options (Some joined) (Some found) = (slice_get options joined.index ≡ Some found.option.now)
+    × (joined.before ≡ string_bytes found.before)
+IsJoinedAt options joined found = ⊥
 
 -- ---- by indices
+
+abbrev pub joined_view : (ℕ × String Global) → spec.Joined
+joined_view found = record { index = found.0; before = string_bytes found.1 }
 
 abbrev pub place_view : Place → spec.Role
 place_view (place.Value index) = spec.value index

@@ -1,24 +1,29 @@
 //! What a program does about the words that it was called with: its work, or it writes a text, or
 //! it refuses them.
-ghost use Rattle.std.specs.Prelude.{◌≡◌, ◌↔◌, ◌++◌, IfOk, IsTrue, OnOk, string_bytes};
+ghost use Rattle.std.specs.Prelude.{◌≡◌, ◌++◌, ℕ, IfOk, List, OnOk, Option, string_bytes};
 ghost use Rattle.std.specs.List.{flat_map, list_any};
-ghost use Rattle.std.specs.Option.{MatchOption};
-ghost use Rattle.lexopt_options.specs.Answers.{AsksForScript, IsWidth, completion_text};
+ghost use Rattle.std.specs.Str.{chars};
+ghost use Rattle.lexopt_declaration.specs.Models.{spelling_view};
+ghost use Rattle.lexopt_options.specs.Answers.{IsWidth, completion_text, joined_line, on_one_line};
 ghost use Rattle.lexopt_options.specs.Answers.{are_at, are_directories, are_files, arguments_line};
-ghost use Rattle.lexopt_options.specs.Answers.{joined_line, listed_line, names_line};
-ghost use Rattle.lexopt_options.specs.Answers.{value_line, word_line};
+ghost use Rattle.lexopt_options.specs.Answers.{listed_line, names_line, spelling_line};
+ghost use Rattle.lexopt_options.specs.Answers.{spelling_lines, value_line, word_line};
+ghost use Rattle.lexopt_options.specs.Requests.{IsRequest};
 
-use crate::complete::{Completion, Role};
+use crate::complete::{Completion, Joined, Role};
+use crate::mistake::Mistake;
 use crate::options::Options;
 use crate::refused::{Line, Refused};
+use crate::request::Request;
 use crate::said::{Asked, Said};
-use lexopt_declaration::declaration::{Declared, Positional, Words};
+use lexopt_declaration::declaration::{Positional, Words};
 use lexopt_declaration::help::WIDTH;
-use lexopt_declaration::shell::{Script, Shell};
+use lexopt_declaration::shell::{Script, Shell, variable};
+use lexopt_declaration::spellings::Spelling;
 use lexopt_words::os_string::{OsString, arguments};
 use std::alloc::{AllocError, Global};
 use std::convert::Infallible;
-use std::env::Env;
+use std::env::{Env, FillError};
 use std::str;
 
 /// What a program is to do.
@@ -110,24 +115,89 @@ fn word_line<F, V, P, M, S>(
     }
 }
 
-// The line by what completes the value of an option after `=`.
-fn value_line(words: Words<'_>) -> &'static str
-    ensures { result.now ≡ value_line words.entry }
+// Adds a character of a help text: a blank for a control character of ASCII, so that it is one line.
+fn push_on_one_line(text: &mut String, character: char) -> Result<(), AllocError>
+    ensures { OnOk result
+        (string_bytes text.new ≡ string_bytes text.old ++ on_one_line character) }
 {
-    match words {
-        Words::Files => "value files\n",
-        Words::Directories => "value directories\n",
-        Words::Text | Words::Listed(_) => "",
+    match character {
+        '\0'..='\x1f' | '\x7f' => text.push(' '),
+        _ => text.push(character),
     }
 }
 
-// The line by the option whose value is typed after `=`.
-fn joined_line<F, V, M, S>(joined: &Option<&Declared<'_, F, V, M, S>>) -> &'static str
-    ensures { result.now ≡ joined_line joined.now }
+/// Adds a help text on one line.
+pub fn push_help(text: &mut String, help: &str) -> Result<(), AllocError>
+    ensures { OnOk result (string_bytes text.new
+        ≡ string_bytes text.old ++ flat_map on_one_line (chars help.now)) }
+{
+    for character in help.chars() {
+        push_on_one_line(text, character)?;
+    }
+    Ok(())
+}
+
+// Adds a line for a spelling: it, a tab, and what the help tells.
+fn push_spelling(text: &mut String, spelling: &Spelling<'_>) -> Result<(), AllocError>
+    ensures { OnOk result (string_bytes text.new
+        ≡ string_bytes text.old ++ spelling_line (spelling_view spelling.now)) }
+{
+    text.push_str(spelling.text.as_str())?;
+    text.push('\t')?;
+    push_help(text, spelling.help)?;
+    text.push('\n')
+}
+
+// Adds a line for each of these spellings.
+fn push_spellings(text: &mut String, spellings: &[Spelling<'_>]) -> Result<(), AllocError>
+    ensures { OnOk result (string_bytes text.new
+        ≡ string_bytes text.old ++ flat_map (λ s. spelling_line (spelling_view s)) spellings.now) }
+{
+    for spelling in spellings {
+        push_spelling(text, spelling)?;
+    }
+    Ok(())
+}
+
+// Adds a line for each of these spellings, if anything was typed.
+fn push_typed(
+    text: &mut String,
+    typed: &OsString,
+    spellings: &[Spelling<'_>],
+) -> Result<(), AllocError>
+    ensures { OnOk result (string_bytes text.new
+        ≡ string_bytes text.old ++ spelling_lines typed.now spellings.now) }
+{
+    if typed.as_bytes().is_empty() {
+        return Ok(());
+    }
+    push_spellings(text, spellings)
+}
+
+// Adds the line by what completes a value that comes after this in a word.
+fn push_names(text: &mut String, words: Words<'_>, before: &str) -> Result<(), AllocError>
+    ensures { OnOk result (string_bytes text.new
+        ≡ string_bytes text.old ++ value_line words.entry before.now) }
+{
+    match words {
+        Words::Files => text.push_str("files\t")?,
+        Words::Directories => text.push_str("directories\t")?,
+        Words::Text | Words::Listed(_) => return Ok(()),
+    }
+    text.push_str(before)?;
+    text.push('\n')
+}
+
+// Adds the line by the option whose value is typed in the word.
+fn push_joined<F, V, M, S>(
+    text: &mut String,
+    joined: &Option<Joined<'_, F, V, M, S>>,
+) -> Result<(), AllocError>
+    ensures { OnOk result (string_bytes text.new ≡ string_bytes text.old ++ joined_line joined.now) }
 {
     match joined {
-        Some(option) => value_line(option.words),
-        None => "",
+        Some(joined) => push_names(text, joined.option.words, joined.before.as_str()),
+        None => Ok(()),
     }
 }
 
@@ -154,44 +224,22 @@ fn push_values(text: &mut String, values: &[String]) -> Result<(), AllocError>
     Ok(())
 }
 
-// What is offered, as the scripts for shells read it: a line for each spelling; one for each value
-// in a list; a line by what completes a word that is not an option; and one by what completes the
-// value typed after `=`.
+// What is offered, as the scripts for shells read it.
 fn text_of<F, V, P, M, S>(
     alloc: Global,
     positionals: &[Positional<'_, P>],
+    typed: &OsString,
     completion: &Completion<'_, F, V, M, S>,
 ) -> Result<String, AllocError>
     ensures { IfOk result (λ text.
-        string_bytes text ≡ completion_text positionals.now completion.now) }
+        string_bytes text ≡ completion_text positionals.now typed.now completion.now) }
 {
     let mut text = String::new(alloc);
-    for spelling in &completion.spellings {
-        text.push_str(spelling.as_str())?;
-        text.push('\n')?;
-    }
+    push_typed(&mut text, typed, &completion.spellings)?;
     push_values(&mut text, &completion.values)?;
     text.push_str(word_line(positionals, &completion.word, &completion.arguments))?;
-    text.push_str(joined_line(&completion.joined))?;
+    push_joined(&mut text, &completion.joined)?;
     Ok(text)
-}
-
-// Whether a word is this text.
-fn is_text(word: &OsString, text: &str) -> bool
-    ensures { IsTrue result ↔ (word.now ≡ text.now) }
-{
-    word.as_bytes() == text.as_bytes()
-}
-
-// The shell whose script these words ask for.
-fn asked_shell(words: &[OsString]) -> Option<Shell>
-    ensures { MatchOption result ((shell : Shell) → AsksForScript words.now shell → ⊥)
-        (λ shell. AsksForScript words.now shell) }
-{
-    match words {
-        [first, name] if is_text(first, "__script") => Shell::from_name(name.as_bytes()),
-        _ => None,
-    }
 }
 
 // The width that a text denotes: its number if it is one and not 0, and 80 otherwise.
@@ -210,8 +258,10 @@ fn width_of(text: &[u8]) -> usize
 // How many bytes a number of columns has at most.
 const NUMBER_ROOM: usize = 20;
 
-// The width of the terminal in columns, by the environment.
-fn columns<R: Env>(rt: &R) -> usize {
+/// The width of the help for a program that runs in this environment: the number in the variable
+/// `COLUMNS`, if it is one and not 0, and [`WIDTH`](crate::WIDTH) otherwise. No clause can tell what
+/// is in the environment.
+pub fn columns<R: Env>(rt: &R) -> usize {
     let mut room = [0u8; NUMBER_ROOM];
     match rt.var("COLUMNS", &mut room) {
         Ok(count) => width_of(&room[..count]),
@@ -219,56 +269,74 @@ fn columns<R: Env>(rt: &R) -> usize {
     }
 }
 
+// How many bytes of the variable by which a shell asks are read: more than any request has.
+const REQUEST_ROOM: usize = 16;
+
+/// What is asked for by the variable of this name and these words.
+pub fn request_from<R: Env>(rt: &R, alloc: Global, name: &str, words: Vec<OsString>) -> Request
+    ensures { (value : Option (List ℕ)) × IsRequest value words.items result }
+{
+    let mut room = [0u8; REQUEST_ROOM];
+    match rt.var(name, &mut room) {
+        Ok(count) => Request::new(alloc, Some(&room[..count]), words),
+        Err(FillError::NotPresent) => Request::new(alloc, None, words),
+        // Longer than any request.
+        Err(FillError::TooLong) => Request::new(alloc, Some(b"?"), words),
+    }
+}
+
 impl<F, V, P, M, S> Options<'_, F, V, P, M, S> {
-    ghost use Rattle.std.specs.Prelude.{◌≡◌, ℕ, IfOk, List, map, string_bytes};
-    ghost use Rattle.std.specs.Option.{MatchOption};
-    ghost use Rattle.lexopt_options.specs.Answers.{AsksToComplete, IsAskedText};
-    ghost use Rattle.lexopt_options.specs.Answers.{IsCompletionText, IsOrdinary, IsShellText};
-    ghost use Rattle.lexopt_options.specs.Answers.{script_lines};
+    ghost use Rattle.std.specs.Prelude.{◌≡◌, IfOk, map, string_bytes};
+    ghost use Rattle.lexopt_options.specs.Answers.{IsAskedText, IsCompletionText, script_lines};
     ghost use Rattle.lexopt_options.specs.Declarations.{declaration_of};
     ghost use Rattle.lexopt_options.specs.Keys.{asked_view};
 
-    // What can be completed, if these words ask for it.
-    fn completion_text(
+    /// What the scripts for shells read: what can come where this was typed after these words, the
+    /// name of the program not among them.
+    ///
+    /// - Unless nothing was typed, a line for each spelling that can come there: it, a tab, and what
+    ///   the help tells of its option, with a blank for each control character of ASCII.
+    /// - A line for each value in a list that can come there, after `+` unless it begins with a
+    ///   dash. No value in a list begins with one; an option with its value does.
+    /// - If a word that is not an option can come there: a line by its [`Words`], those of the option
+    ///   that it is a value of or of the positional arguments that it can belong to: `files`,
+    ///   `directories` or none.
+    /// - If the value of an option is typed in the word itself: a line by the [`Words`] of that
+    ///   option, `files` or `directories`, a tab, and what comes before the value; or none.
+    ///
+    /// # Errors
+    ///
+    /// There is no memory for the text.
+    pub fn completion_text(
         &self,
         alloc: Global,
         words: &[OsString],
-    ) -> Result<Option<String>, AllocError>
-        ensures { IfOk result (λ found. MatchOption found
-            ((before : List (List ℕ)) (typed : List ℕ) → AsksToComplete words.now before typed → ⊥)
-            (λ text. IsCompletionText self.now words.now (string_bytes text))) }
+        typed: &OsString,
+    ) -> Result<String, AllocError>
+        ensures { IfOk result (λ text.
+            IsCompletionText self.now words.now typed.now (string_bytes text)) }
     {
-        let [first, before @ .., typed] = words else {
-            return Ok(None);
-        };
-        if !is_text(first, "__complete") {
-            return Ok(None);
-        }
-        let completion = self.complete(alloc, before, typed)?;
-        Ok(Some(text_of(alloc, self.positionals(), &completion)?))
+        let completion = self.complete(alloc, words, typed)?;
+        text_of(alloc, self.positionals(), typed, &completion)
     }
 
-    // The script of this shell, and the end of its last line.
-    fn script_text(&self, alloc: Global, shell: Shell) -> Result<String, AllocError>
+    /// The script by which this shell completes the lines of the program, with a line feed at its
+    /// end.
+    ///
+    /// # Errors
+    ///
+    /// There is no memory for the text.
+    pub fn script(&self, alloc: Global, shell: Shell) -> Result<String, AllocError>
         ensures { IfOk result (λ text. string_bytes text ≡ script_lines self.now shell) }
     {
         let program = self.program();
-        let script = Script { shell, program };
+        let name = variable(alloc, program)?;
+        let script = Script {
+            shell,
+            program,
+            variable: name.as_str(),
+        };
         format!(in alloc; "{script}\n")
-    }
-
-    // What a shell asks for by these words.
-    fn shell_text(&self, alloc: Global, words: &[OsString]) -> Result<Option<String>, AllocError>
-        ensures { IfOk result (λ found. MatchOption found (IsOrdinary words.now)
-            (λ text. IsShellText self.now words.now (string_bytes text))) }
-    {
-        if let Some(text) = self.completion_text(alloc, words)? {
-            return Ok(Some(text));
-        }
-        match asked_shell(words) {
-            Some(shell) => Ok(Some(self.script_text(alloc, shell)?)),
-            None => Ok(None),
-        }
     }
 
     // The text that is asked for, and a line feed after the version.
@@ -289,44 +357,45 @@ impl<F, V, P, M, S> Options<'_, F, V, P, M, S> {
     }
 }
 
-impl<'a, F: Copy, V: Copy, P: Copy, M: Copy, S: Copy> Options<'a, F, V, P, M, S> {
-    ghost use Rattle.std.specs.Prelude.{ℕ, IfOk, List};
-    ghost use Rattle.lexopt_options.specs.Answers.{IsAnswer, IsOrdinary};
+impl<'a, F, V, P, M, S> Options<'a, F, V, P, M, S> {
+    ghost use Rattle.std.specs.Prelude.{IfOk};
+    ghost use Rattle.lexopt_options.specs.Answers.{IsUnknownRequest};
 
-    // What to do about words that no shell asks by.
-    fn line_answer(
-        &self,
-        alloc: Global,
-        words: Vec<OsString>,
-        width: usize,
-    ) -> Result<Answer<'a, F, V, P, M, S>, AllocError>
-        ensures { IsOrdinary words.items
-            → IfOk result (λ answer. IsAnswer self.now words.items width answer) }
+    /// What is returned where a shell asks for something that is not known.
+    ///
+    /// # Errors
+    ///
+    /// Memory ran out.
+    pub fn unknown_request(&self, alloc: Global) -> Result<Refused<'a, F, V, P, M, S>, AllocError>
+        ensures { IfOk result (λ refused. IsUnknownRequest self.now refused) }
     {
-        match self.read(alloc, words)? {
-            Line::Said(said) => Ok(Answer::Said(said)),
-            Line::Asked(asked) => Ok(Answer::Text(self.asked_text(alloc, asked, width)?)),
-            Line::Refused(refused) => Ok(Answer::Refused(refused)),
-        }
+        let program = self.program();
+        let variable = variable(alloc, program)?;
+        Ok(Refused {
+            program,
+            help: self.help_names(),
+            before: Vec::new(alloc),
+            mistake: Mistake::InvalidVariable(variable),
+        })
     }
+}
+
+impl<'a, F: Copy, V: Copy, P: Copy, M: Copy, S: Copy> Options<'a, F, V, P, M, S> {
+    ghost use Rattle.std.specs.Prelude.{ℕ, IfOk, List, Option};
+    ghost use Rattle.lexopt_options.specs.Answers.{IsAnswer, IsRequestAnswer};
+    ghost use Rattle.lexopt_options.specs.Requests.{IsRequest};
+    ghost use Rattle.lexopt_options.specs.declared.request.Request.{Request};
 
     /// What the program is to do about the words that it was called with, without its name.
     ///
-    /// - If an option that asks for the help or the version occurs before any mistake, the result
-    ///   is the help for this width, or the text of the version and a line feed. The first of them
-    ///   counts.
-    /// - The words `__script bash` ask for the script by which that shell completes the lines of
-    ///   the program; `zsh` and `fish` have one too. That script asks by the hidden first word
-    ///   `__complete`, then the words before the one that is typed, and then what was typed of it.
-    ///   The result is a line for each spelling that can come there, and one for each value in a
-    ///   list that can, after `+` unless it begins with a dash. If a word that is not an option can
-    ///   come there, a line follows by its [`Words`], those of the option that it is a value of or
-    ///   of the positional arguments that it can belong to: `files`, `directories` or none. If what
-    ///   was typed is `--name=`, with or without a value after it, a line `value files`, `value
-    ///   directories` or none follows, by the [`Words`] of that option.
-    /// - All other words are read as by [`Options::read`].
+    /// If an option that asks for the help or the version occurs before any mistake, the result is
+    /// the help for this width, or the text of the version and a line feed. The first of them
+    /// counts. Otherwise it is what [`Options::read`] returns of the words. No word is reserved for
+    /// shells: these ask by a variable of the environment ([`Options::from_env`]).
     ///
-    /// The only error is that memory ran out.
+    /// # Errors
+    ///
+    /// Memory ran out.
     pub fn answer(
         &self,
         alloc: Global,
@@ -335,29 +404,71 @@ impl<'a, F: Copy, V: Copy, P: Copy, M: Copy, S: Copy> Options<'a, F, V, P, M, S>
     ) -> Result<Answer<'a, F, V, P, M, S>, AllocError>
         ensures { IfOk result (λ answer. IsAnswer self.now words.items width answer) }
     {
-        match self.shell_text(alloc, &words)? {
-            Some(text) => Ok(Answer::Text(text)),
-            None => self.line_answer(alloc, words, width),
+        match self.read(alloc, words)? {
+            Line::Said(said) => Ok(Answer::Said(said)),
+            Line::Asked(asked) => Ok(Answer::Text(self.asked_text(alloc, asked, width)?)),
+            Line::Refused(refused) => Ok(Answer::Refused(refused)),
         }
     }
 
-    /// What the program is to do about the words that it was called with, by [`Options::answer`].
+    /// What the program is to do about a request: about a line as [`Options::answer`], and for a
+    /// shell it writes [`Options::completion_text`] or [`Options::script`]. A request that is not
+    /// known is refused.
+    ///
+    /// # Errors
+    ///
+    /// Memory ran out.
+    pub fn answer_request(
+        &self,
+        alloc: Global,
+        request: Request,
+        width: usize,
+    ) -> Result<Answer<'a, F, V, P, M, S>, AllocError>
+        ensures { IfOk result (λ answer. IsRequestAnswer self.now request width answer) }
+    {
+        match request {
+            Request::Line(words) => self.answer(alloc, words, width),
+            Request::Completion(words, typed) => {
+                Ok(Answer::Text(self.completion_text(alloc, &words, &typed)?))
+            }
+            Request::Script(shell) => Ok(Answer::Text(self.script(alloc, shell)?)),
+            Request::Unknown => Ok(Answer::Refused(self.unknown_request(alloc)?)),
+        }
+    }
+
+    /// What the program is to do about the words that it was called with, or about what a shell asks
+    /// by the environment.
+    ///
+    /// A shell asks by the variable that [`variable`] names, `_EXAMPLE_ARCHIVE_COMPLETE` for
+    /// `example_archive`: for the script by the value `bash_source`, `zsh_source` or `fish_source`,
+    /// and for what can come by `bash_complete`, `zsh_complete` or `fish_complete`. Then the words
+    /// are those before the one that is typed, and the last is what was typed of it. Any other
+    /// value, unless it is empty, is refused.
+    ///
+    /// ```text
+    /// source <(_EXAMPLE_ARCHIVE_COMPLETE=bash_source example_archive)
+    /// ```
     ///
     /// The width of the help is the number in the environment variable `COLUMNS`, if it is one and
     /// not 0, and [`WIDTH`](crate::WIDTH) otherwise. The first word is taken for the name that the
-    /// program was called by. The clause tells of some words and some width: that they are those of
-    /// the environment no clause can tell.
+    /// program was called by. The clause tells of some words, some value and some width: that they
+    /// are those of the environment no clause can tell.
     ///
-    /// The only error is that memory ran out.
+    /// # Errors
+    ///
+    /// Memory ran out.
     pub fn from_env<R: Env + AllocGlobal>(
         &self,
         rt: &R,
     ) -> Result<Answer<'a, F, V, P, M, S>, AllocError>
-        ensures { IfOk result (λ answer. (words : List (List ℕ)) × (width : ℕ)
-            × IsAnswer self.now words width answer) }
+        ensures { IfOk result (λ answer. (value : Option (List ℕ)) × (words : List (List ℕ))
+            × (request : Request) × (width : ℕ) × IsRequest value words request
+            × IsRequestAnswer self.now request width answer) }
     {
         let alloc = rt.alloc();
         let words = arguments(rt, alloc)?.into_iter().skip(1).collect(alloc)?;
-        self.answer(alloc, words, columns(rt))
+        let name = variable(alloc, self.program())?;
+        let request = request_from(rt, alloc, name.as_str(), words);
+        self.answer_request(alloc, request, columns(rt))
     }
 }

@@ -1,13 +1,13 @@
 //! What can come where a word is typed, for shells.
 ghost use Rattle.std.specs.Prelude.{◌≡◌, ◌↔◌, ◌∷◌, ◌++◌, ℕ, IfOk, IsTrue, List, MatchOption, OnOk, []};
-ghost use Rattle.std.specs.Prelude.{◌<◌, Some, filter, length, nat_eq, map, option_map, slice_get, string_bytes, true};
+ghost use Rattle.std.specs.Prelude.{◌<◌, None, Some, filter, length, nat_eq, map, option_map, slice_get, string_bytes, true};
 ghost use Rattle.lexopt_spec.specs.UnreadLine.{BeginsWith, dash};
 ghost use Rattle.std.specs.List.{flat_map, starts_with};
 ghost use Rattle.lexopt_options_spec.specs.Declaration.{Declaration};
 ghost use Rattle.lexopt_options_spec.specs.Legal.{are_accepted, positional_words};
 ghost use Rattle.lexopt_options_spec.proofs.Taken.{CanBeTaken};
 ghost use Rattle.lexopt_options_spec.specs.Completion as spec;
-ghost use Rattle.lexopt_options_spec.specs.Completion.{HasRole, IsDashedRole, IsOption};
+ghost use Rattle.lexopt_options_spec.specs.Completion.{HasRole, IsDashedRole, IsJoined, IsOption};
 ghost use Rattle.lexopt_options_spec.specs.Completion.{IsPlainRole};
 ghost use Rattle.lexopt_options.specs.Completions.{CanCome, Opens, TakeAnyWord, ends_in_one};
 ghost use Rattle.lexopt_options.specs.Completions.{IsLastPlace, is_one, joined_values, values_so};
@@ -17,18 +17,22 @@ ghost use Rattle.lexopt_options.specs.Declarations.{declaration_of};
 ghost use Rattle.lexopt_options.specs.Fronts.{IsPart};
 ghost use Rattle.lexopt_options.specs.Reading.{indexed_view};
 ghost use Rattle.lexopt_options.specs.declared.indexed.Indexed.{Indexed};
-ghost use Rattle.lexopt_options.specs.Roles.{IsCounted, IsDeclared, IsRole, place_view};
+ghost use Rattle.lexopt_options_spec.specs.Legal.{SaysFront};
+ghost use Rattle.std.specs.Str.{IsUtf8};
+ghost use Rattle.lexopt_options.specs.Roles.{IsCounted, IsDeclared, IsRole, joined_view};
+ghost use Rattle.lexopt_options.specs.Roles.{place_view};
 
 use crate::indexed::Indexed;
 use crate::listed::are_accepted;
 use crate::options::Options;
 use crate::taken::{can_be_taken, owners_of, word_count};
 use lexopt_declaration::declaration::{Declared, Positional};
-use lexopt_declaration::spellings::{add_joined, add_values, spellings_of};
+use lexopt_declaration::spellings::{Spelling, add_joined, add_values, spellings_of};
 use lexopt_words::os_string::OsString;
 use lexopt_words::words::copies;
 use std::alloc::{AllocError, Global};
 use std::convert::Infallible;
+use std::str;
 
 /// What a word that is not an option would be.
 #[derive(Debug, Clone, Copy)]
@@ -39,16 +43,25 @@ pub enum Role<'a, F, V = Infallible, M = Infallible, S = Infallible> {
     Argument,
 }
 
+/// An option with its value in one word: `--output=file`, `-ofile`.
+#[derive(Debug, Drop)]
+pub struct Joined<'a, F, V = Infallible, M = Infallible, S = Infallible> {
+    /// The option.
+    pub option: &'a Declared<'a, F, V, M, S>,
+    /// What comes before the value in the word: `--output=`, `-o`.
+    pub before: String,
+}
+
 /// What can come where a word is typed.
 #[derive(Debug, Drop)]
 pub struct Completion<'a, F, V = Infallible, M = Infallible, S = Infallible> {
     /// The spellings of declared options that can come there and begin with what was typed. If
     /// that is not UTF-8, there are none.
-    pub spellings: Vec<String>,
+    pub spellings: Vec<Spelling<'a>>,
     /// The values in the list of the option that a word would be a value of; then the words in the
-    /// lists of the positional arguments that it can belong to; and then, for the option whose
-    /// value is typed after `=`, the words that are it by its long name, `=` and a value in its
-    /// list: those that begin with what was typed, in the order of the lists.
+    /// lists of the positional arguments that it can belong to; and then, where a value is typed in
+    /// the word of its option, the words that have a value of its list there: those that begin with
+    /// what was typed, in the order of the lists.
     pub values: Vec<String>,
     /// What a word that is not an option would be there, if anything: as the empty word would be,
     /// or as the word `--` if a dash was typed first.
@@ -56,9 +69,9 @@ pub struct Completion<'a, F, V = Infallible, M = Infallible, S = Infallible> {
     /// If such a word would be a positional argument: the indices of those of the declaration that
     /// it can belong to, with some more words after it or with none.
     pub arguments: Vec<usize>,
-    /// The option whose value is typed there after `=`, if what was typed is a long option with `=`
-    /// and an option can come there.
-    pub joined: Option<&'a Declared<'a, F, V, M, S>>,
+    /// The option whose value is typed in the word itself, if an option can come there: `output` if
+    /// `--output=` or `-ofi` was typed.
+    pub joined: Option<Joined<'a, F, V, M, S>>,
 }
 
 // What a word that is not an option would be, by the index of the option.
@@ -225,17 +238,7 @@ fn place_after(
     }
 }
 
-// ---- a value after `=`
-
-// Whether this is a long option with `=`.
-fn is_long_with_equals(typed: &[u8]) -> bool
-    ensures { result ≡ spec.is_long_with_equals typed.now }
-{
-    match typed {
-        [b'-', b'-', rest @ ..] => rest.contains(&b'='),
-        _ => false,
-    }
-}
+// ---- a value in the word of its option
 
 // One word.
 fn one_word(alloc: Global, word: &OsString) -> Result<Vec<OsString>, AllocError>
@@ -246,15 +249,69 @@ fn one_word(alloc: Global, word: &OsString) -> Result<Vec<OsString>, AllocError>
     Ok(words)
 }
 
-// The option that is read, if that is all that is read.
-fn only_option(said: &[Indexed]) -> Option<usize>
-    ensures { MatchOption result
-        ((i : ℕ) (s : Indexed) → said.now ≡ s ∷ [] → ¬ IsOption i (indexed_view s))
-        (λ i. (s : Indexed) × (said.now ≡ s ∷ []) × IsOption i (indexed_view s)) }
+// The index of an option and its first value, if this is an option that has one.
+fn value_of(said: &Indexed) -> Option<(usize, &OsString)>
+    ensures { MatchOption result (spec.value_of (indexed_view said.now) ≡ None)
+        (λ found. IsOption found.0 (indexed_view said.now)
+        × (spec.value_of (indexed_view said.now) ≡ Some found.1.now)) }
 {
     match said {
-        [Indexed::Option(index, _) | Indexed::Several(index, _)] => Some(*index),
-        _ => None,
+        Indexed::Option(index, Some(value)) => Some((*index, value)),
+        Indexed::Several(index, values) => match values.first() {
+            Some(value) => Some((*index, value)),
+            None => None,
+        },
+        Indexed::Option(_, None) | Indexed::Positional(_) => None,
+    }
+}
+
+// The same of the last of what is read.
+fn last_value(said: &[Indexed]) -> Option<(usize, &OsString)>
+    ensures { MatchOption result
+        ((others : List Indexed) (last : Indexed) → said.now ≡ others ++ last ∷ []
+        → spec.value_of (indexed_view last) ≡ None)
+        (λ found. (others : List Indexed) × (last : Indexed) × (said.now ≡ others ++ last ∷ [])
+        × IsOption found.0 (indexed_view last)
+        × (spec.value_of (indexed_view last) ≡ Some found.1.now)) }
+{
+    match said {
+        [.., last] => value_of(last),
+        [] => None,
+    }
+}
+
+// What comes before this value, if the word ends with it, and that is text.
+fn text_before(alloc: Global, word: &[u8], value: &[u8]) -> Result<Option<String>, AllocError>
+    ensures { IfOk result (λ found. MatchOption found
+        ((before : List ℕ) → IsUtf8 before → word.now ≡ before ++ value.now → ⊥)
+        (λ text. IsUtf8 (string_bytes text) × (word.now ≡ string_bytes text ++ value.now))) }
+{
+    match word.strip_suffix(value) {
+        Some(before) => match str::from_utf8(before) {
+            Ok(text) => Ok(Some(String::from_str(alloc, text)?)),
+            Err(_) => Ok(None),
+        },
+        None => Ok(None),
+    }
+}
+
+// The index of the option whose value is in the word, and what comes before the value, where this is
+// read from the word alone, and an option can come.
+fn joined_value(
+    alloc: Global,
+    said: &[Indexed],
+    typed: &OsString,
+) -> Result<Option<(usize, String)>, AllocError>
+    ensures { (d : Declaration) (words : List (List ℕ)) → Opens d words true
+        → SaysFront d (typed.now ∷ []) (map indexed_view said.now)
+        → IfOk result (λ found. IsJoined d words typed.now (option_map joined_view found)) }
+{
+    let Some((index, value)) = last_value(said) else {
+        return Ok(None);
+    };
+    match text_before(alloc, typed.as_bytes(), value.as_bytes())? {
+        Some(before) => Ok(Some((index, before))),
+        None => Ok(None),
     }
 }
 
@@ -337,31 +394,34 @@ fn add_word_values<F, V, M, S>(
     }
 }
 
-// Adds the words that are this option with a value of its list, if there is one, and begin with
-// what was typed.
+// Adds the words that have a value of a list after what was typed of this option, if there is one,
+// and begin with what was typed.
 fn add_joined_values<F, V, M, S>(
     alloc: Global,
     values: &mut Vec<String>,
-    joined: &Option<&Declared<'_, F, V, M, S>>,
+    joined: &Option<Joined<'_, F, V, M, S>>,
     typed: &OsString,
 ) -> Result<(), AllocError>
     ensures { OnOk result (map string_bytes values.new.items ≡ map string_bytes values.old.items
         ++ filter (λ v. starts_with nat_eq v typed.now) (joined_values joined.now)) }
 {
     match joined {
-        Some(option) => add_joined(alloc, values, option, typed.as_bytes()),
+        Some(joined) => {
+            let before = joined.before.as_str();
+            add_joined(alloc, values, before, joined.option.words, typed.as_bytes())
+        }
         None => Ok(()),
     }
 }
 
 // The values in lists that begin with what was typed, where a word would be this, or belong to one
-// of the positional arguments of these indices, and a value of this option is typed after `=`.
+// of the positional arguments of these indices, and a value of this option is typed in the word.
 fn values_for<F, V, P, M, S>(
     alloc: Global,
     word: &Option<Role<'_, F, V, M, S>>,
     positionals: &[Positional<'_, P>],
     arguments: &[usize],
-    joined: &Option<&Declared<'_, F, V, M, S>>,
+    joined: &Option<Joined<'_, F, V, M, S>>,
     typed: &OsString,
 ) -> Result<Vec<String>, AllocError>
     ensures { IfOk result (λ values. map string_bytes values.items
@@ -379,9 +439,14 @@ impl<'a, F, V, P, M, S> Options<'a, F, V, P, M, S> {
     ghost use Rattle.std.specs.Prelude.{◌∷◌, ◌++◌, ℕ, [], IfOk, List, map, string_bytes};
     ghost use Rattle.std.specs.Prelude.{Option, option_map};
     ghost use Rattle.lexopt_options_spec.specs.Completion.{AreOwnersIn, HasRole, IsJoined};
-    ghost use Rattle.lexopt_options.specs.Completions.{AreOffered, CanCome, IsCompletion, Opens};
+    ghost use Rattle.std.specs.Prelude.{◌↔◌, IsTrue};
+    ghost use Rattle.lexopt_options.specs.Completions.{AreOffered, CanCome, HasPositional};
+    ghost use Rattle.lexopt_options.specs.Completions.{IsCompletion, Opens};
     ghost use Rattle.lexopt_options.specs.Declarations.{declaration_of, options_of};
-    ghost use Rattle.lexopt_options.specs.Roles.{IsCounted, IsOptionAt, IsRoleAt, place_view};
+    ghost use Rattle.lexopt_options_spec.specs.Completion as spec;
+    ghost use Rattle.lexopt_declaration.specs.Models.{spelling_view};
+    ghost use Rattle.lexopt_options.specs.Roles.{IsCounted, IsJoinedAt, IsRoleAt, joined_view};
+    ghost use Rattle.lexopt_options.specs.Roles.{place_view};
     ghost use Rattle.lexopt_options.specs.Fronts.{IsPart};
 
     // What these words mean with this one after them, whether or not something is missing; nothing
@@ -406,11 +471,11 @@ impl<'a, F, V, P, M, S> Options<'a, F, V, P, M, S> {
         alloc: Global,
         can_come: bool,
         typed: &OsString,
-    ) -> Result<Vec<String>, AllocError>
+    ) -> Result<Vec<Spelling<'a>>, AllocError>
         ensures { IfOk result (λ spellings. (words : List (List ℕ))
             → CanCome (declaration_of self.now) words can_come
             → AreOffered (declaration_of self.now) words typed.now
-            (map string_bytes spellings.items)) }
+            (map spelling_view spellings.items)) }
     {
         if !can_come {
             return Ok(Vec::new(alloc));
@@ -421,43 +486,45 @@ impl<'a, F, V, P, M, S> Options<'a, F, V, P, M, S> {
         }
     }
 
-    // The option whose value is typed after `=`, if an option can come there.
+    // The index of the option whose value is typed in the word, and what comes before the value, if an
+    // option can come there.
     fn joined_option(
         &self,
         alloc: Global,
         opens: bool,
         typed: &OsString,
-    ) -> Result<Option<usize>, AllocError>
-        ensures { IfOk result (λ found. (words : List (List ℕ)) → Opens (declaration_of self.now) words opens
-            → IsJoined (declaration_of self.now) words typed.now found) }
+    ) -> Result<Option<(usize, String)>, AllocError>
+        ensures { IfOk result (λ found. (words : List (List ℕ))
+            → Opens (declaration_of self.now) words opens
+            → IsJoined (declaration_of self.now) words typed.now (option_map joined_view found)) }
     {
         if !opens {
             return Ok(None);
         }
-        if !is_long_with_equals(typed.as_bytes()) {
-            return Ok(None);
-        }
         match self.read_part(alloc, one_word(alloc, typed)?)? {
-            Some(said) => Ok(only_option(&said)),
+            Some(said) => joined_value(alloc, &said, typed),
             None => Ok(None),
         }
     }
 
-    // The option whose value is typed after `=`, if an option can come there.
+    // The option whose value is typed in the word, if an option can come there.
     fn joined(
         &self,
         alloc: Global,
         words: &[OsString],
         opens: bool,
         typed: &OsString,
-    ) -> Result<Option<&'a Declared<'a, F, V, M, S>>, AllocError>
+    ) -> Result<Option<Joined<'a, F, V, M, S>>, AllocError>
         requires { Opens (declaration_of self.now) words.now opens }
-        ensures { IfOk result (λ found. (i : Option ℕ)
-            × IsJoined (declaration_of self.now) words.now typed.now i
-            × IsOptionAt (options_of self.now) i found) }
+        ensures { IfOk result (λ found. (joined : Option spec.Joined)
+            × IsJoined (declaration_of self.now) words.now typed.now joined
+            × IsJoinedAt (options_of self.now) joined found) }
     {
         match self.joined_option(alloc, opens, typed)? {
-            Some(index) => Ok(Some(option_at(self.options(), index))),
+            Some((index, before)) => Ok(Some(Joined {
+                option: option_at(self.options(), index),
+                before,
+            })),
             None => Ok(None),
         }
     }
@@ -488,6 +555,21 @@ impl<'a, F, V, P, M, S> Options<'a, F, V, P, M, S> {
         match place {
             Some(Place::Argument(count)) => owners_of(alloc, self.positionals(), count),
             Some(Place::Value(_)) | None => Ok(Vec::new(alloc)),
+        }
+    }
+
+    /// Whether one of these words is a positional argument, as far as they begin a line that can be
+    /// legal.
+    ///
+    /// # Errors
+    ///
+    /// Memory ran out.
+    pub fn has_positional(&self, alloc: Global, words: &[OsString]) -> Result<bool, AllocError>
+        ensures { IfOk result (λ b. IsTrue b ↔ HasPositional (declaration_of self.now) words.now) }
+    {
+        match self.read_part(alloc, copies(alloc, words)?)? {
+            Some(said) => Ok(word_count(&said) > 0),
+            None => Ok(false),
         }
     }
 

@@ -131,6 +131,10 @@ pub enum Mistake<'a> {
     /// A required option does not occur: the names of the first such option of the declaration. No
     /// positional argument is missing, and each accepts its words.
     MissingOption(Names<'a>),
+    /// The variable of this name, by which shells ask, has a value that is not known. No words have
+    /// this mistake: only [`Options::answer_request`](crate::Options::answer_request) and
+    /// [`Options::from_env`](crate::Options::from_env) return it.
+    InvalidVariable(String),
 }
 
 impl fmt::Display for Mistake<'_> {
@@ -178,6 +182,11 @@ impl fmt::Display for Mistake<'_> {
                 )
             }
             Mistake::MissingOption(names) => write!(f, "missing option '{names}'"),
+            Mistake::InvalidVariable(name) => write!(
+                f,
+                "invalid value of {name}: one of bash_source, bash_complete, zsh_source, \
+                zsh_complete, fish_source, fish_complete"
+            ),
         }
     }
 }

@@ -161,6 +161,14 @@ impl<'a, F, V, P, M, S> Options<'a, F, V, P, M, S> {
         self.declaration.positionals
     }
 
+    /// The paragraphs at the end of the help.
+    pub fn epilogue(&self) -> &'a [&'a str]
+        ensures { map (λ paragraph. paragraph.now) result.now
+            ≡ (declaration_of self.now).epilogue }
+    {
+        self.declaration.epilogue
+    }
+
     // How many positional arguments are required.
     pub(crate) fn least(&self) -> usize
         ensures { result ≡ places.least (declaration_of self.now).positionals }

@@ -563,7 +563,7 @@ fn end_checked<'a, F: Drop, V: Drop, P: Copy, M: Drop, S: Drop>(
 // Whether nothing can be missing from a line with `count` positional arguments, and no word is to be
 // looked up in a list.
 fn is_complete<F, V, P, M, S>(options: &Options<'_, F, V, P, M, S>, count: usize) -> bool
-    ensures { IsTrue result → (least (declaration_of options.now).positionals ≤ count)
+    ensures { IsTrue result ↔ (least (declaration_of options.now).positionals ≤ count)
         × (list_any (λ p. has_list p) (positionals_of options.now) ≡ false)
         × (list_any (λ o. o.required) (options_of options.now) ≡ false) }
 {

@@ -25,8 +25,8 @@ pub struct Refused<'a, F, V = Infallible, P = Infallible, M = Infallible, S = In
     pub mistake: Mistake<'a>,
 }
 
-// Writes on a line where help is, if an option for it is declared.
-pub(crate) fn write_help<W: fmt::Write>(
+/// Writes on a line where help is, if an option for it is declared.
+pub fn write_help<W: fmt::Write>(
     program: &str,
     help: Option<Names<'_>>,
     f: &mut fmt::Formatter<W>,

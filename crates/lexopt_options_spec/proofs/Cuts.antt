@@ -1,14 +1,12 @@
 -- A line is read in the same way without words at its end that are left unread.
-use Rattle.std.proofs.Common.{◌≡◌, ◌≢◌, ◌<◌, ℕ, suc, true, false, List, [], ◌∷◌, ◌++◌, length, take, Option, Some, None, refl, sym, ap, subst, ◌∙◌, arith, inl, inr, append_assoc}
+use Rattle.std.proofs.Common.{◌≡◌, ◌≢◌, ◌<◌, ℕ, suc, true, false, List, [], ◌∷◌, ◌++◌, length, take, Some, None, refl, sym, ap, subst, ◌∙◌, arith, inl, inr, append_assoc}
 use Rattle.std.proofs.lemmas.List.{take_all}
-use Rattle.lexopt_spec.specs.UnreadLine.{dash, Tail, no_tail, UnreadLine, pending, IsPlainFront, IsNormalIn}
+use Rattle.lexopt_spec.specs.UnreadLine.{dash, no_tail, UnreadLine, pending, IsPlainFront, IsNormalIn}
 use Rattle.lexopt_spec.specs.Steps as steps
 use Rattle.lexopt_spec.specs.Steps.{Reply, Next, Value, NextStep, ValueStep, OptionalStep, ReadsShort, ReadsPositional, no_word_left, word_left, ReadsWord, no_word, reads_separator, reads_long, reads_cluster, reads_positional, joined_value, equals_value, next_in_cluster, after_separator, next_word, pending_value, takes_word, nothing_to_take, optional_pending, optional_none, IsOutOfMemory}
-use Rattle.lexopt_spec.specs.Views.{plain_front, available, available_with, without, ValuesStep, no_values, some_values}
-use Rattle.lexopt_spec.specs.Runs as calls
-use Rattle.lexopt_spec.specs.Runs.{Step}
+use Rattle.lexopt_spec.specs.Views.{plain_front, available, available_with, without, ValuesStep, some_values}
 use Rattle.lexopt_spec.proofs.PlainFronts.{front_only, left_after_front}
-use Rattle.lexopt_line_spec.specs.Table.{Item, Name, Table, kind, positional, option, many}
+use Rattle.lexopt_line_spec.specs.Table.{Item, Table}
 use Rattle.lexopt_line_spec.specs.Readings.{ReadsFirst, ReadsItems, first_positional, first_flag, first_one, first_optional, first_several, option_reply}
 use Rattle.lexopt_line_spec.proofs.FullValues.{FullStep, joined_one, attached_first, words_alone, nothing_given, full_step}
 use Rattle.lexopt_line_spec.proofs.ItemsRead.{option_given}

@@ -1,5 +1,5 @@
 -- Where the leading options stop at a mistake, the words mean none.
-use Rattle.std.proofs.Common.{◌≡◌, ◌≢◌, ℕ, true, List, [], ◌∷◌, ◌++◌, map, Option, Some, None, refl, sym, ap, subst, ◌∙◌}
+use Rattle.std.proofs.Common.{◌≡◌, ℕ, true, List, [], ◌∷◌, ◌++◌, map, Option, Some, None, refl, sym, ap, subst, ◌∙◌}
 use Rattle.std.proofs.lemmas.Bool.{false≢true}
 use Rattle.lexopt_spec.specs.UnreadLine.{UnreadLine}
 use Rattle.lexopt_spec.specs.Steps as steps
@@ -7,13 +7,13 @@ use Rattle.lexopt_spec.specs.Steps.{Reply, Next}
 use Rattle.lexopt_spec.specs.Runs.{next}
 use Rattle.lexopt_line_spec.specs.Table as spec
 use Rattle.lexopt_line_spec.specs.Table.{Item, Name, Table, kind}
-use Rattle.lexopt_line_spec.specs.Readings.{IsReading, item_after, items_said, option_reply, start}
+use Rattle.lexopt_line_spec.specs.Readings.{item_after, items_said, option_reply, start}
 use Rattle.lexopt_line_spec.specs.Speller.{IsOf}
 use Rattle.lexopt_line_spec.proofs.ItemsRead.{says_items}
 use Rattle.lexopt_line_spec.proofs.OneReading.{no_other_reading, option_reading, some_reading}
 use Rattle.lexopt_line_spec.proofs.ReadingSteps.{reads_last, reads_refused}
 use Rattle.lexopt_line_spec.proofs.RunAccounts.{step_line}
-use Rattle.lexopt_options_spec.specs.Declaration.{Declaration, Declared, index_of, is_sound, table}
+use Rattle.lexopt_options_spec.specs.Declaration.{Declaration, Declared, is_sound, table}
 use Rattle.lexopt_options_spec.specs.Leading.{IsSplit, SaysLeading, EndsOptions, ends, positional, IsOfOption, StopsOptions, at_option, lacks_option, LeadingStopsAt}
 use Rattle.lexopt_options_spec.specs.Legal as legal
 use Rattle.lexopt_options_spec.specs.Legal.{Said, are_accepted, is_option, occurs, positional_count, refused_value, said_item}

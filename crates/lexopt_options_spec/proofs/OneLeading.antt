@@ -1,25 +1,21 @@
 -- Words have one list of leading options, and one rest.
-use Rattle.std.proofs.Common.{◌≡◌, ◌≢◌, ℕ, Bool, true, false, List, [], ◌∷◌, ◌++◌, map, Option, Some, None, refl, sym, ap, subst, ◌∙◌, inl, inr, append_assoc, arith, true≢false}
-use Rattle.std.specs.Option.{option_map}
-use Rattle.lexopt_spec.specs.UnreadLine.{dash, no_tail, BeginsWith, IsPlain, TailStands, UnreadLine}
+use Rattle.std.proofs.Common.{◌≡◌, ◌≢◌, ℕ, false, List, [], ◌∷◌, ◌++◌, map, Some, None, refl, sym, ap, subst, ◌∙◌, inl, inr, append_assoc, arith, true≢false}
+use Rattle.lexopt_spec.specs.UnreadLine.{dash, BeginsWith, IsPlain, TailStands, UnreadLine}
 use Rattle.lexopt_spec.specs.Steps as steps
 use Rattle.lexopt_spec.specs.Steps.{Reply, Next, NextStep, ReadsPositional, no_word_left, word_left, ReadsWord, no_word, reads_separator, reads_long, reads_cluster, reads_positional, joined_value, equals_value, next_in_cluster, after_separator, next_word}
 use Rattle.lexopt_line_spec.specs.Table as spec
 use Rattle.lexopt_line_spec.specs.Table.{Item, Table}
 use Rattle.lexopt_line_spec.specs.Readings.{IsReading, ReadsFirst, ReadsItems, first_positional, first_flag, first_one, first_optional, first_several, start}
-use Rattle.lexopt_line_spec.specs.Spelling.{Spells}
 use Rattle.lexopt_line_spec.proofs.Exact.{next_same}
 use Rattle.lexopt_line_spec.proofs.ItemsRead.{one_line_left, says_items}
 use Rattle.lexopt_line_spec.proofs.Names.{spelled_shows}
 use Rattle.lexopt_line_spec.proofs.OneReading.{no_other_reading, some_reading}
 use Rattle.lexopt_line_spec.proofs.ReadingSteps.{says_positional}
-use Rattle.lexopt_line_spec.proofs.RunAccounts.{step_line}
-use Rattle.lexopt_spec.specs.Runs.{next}
 use Rattle.lexopt_line_spec.proofs.WholeLines.{shown_read}
-use Rattle.lexopt_options_spec.specs.Declaration.{Declaration, Declared, index_of, table}
+use Rattle.lexopt_options_spec.specs.Declaration.{Declaration, Declared, table}
 use Rattle.lexopt_options_spec.specs.Leading.{IsSplit}
 use Rattle.lexopt_options_spec.specs.Legal.{Said, positional, option, several, positional_count, said_item}
-use Rattle.lexopt_options_spec.proofs.Cuts.{enough, items_cut, with_words}
+use Rattle.lexopt_options_spec.proofs.Cuts.{enough, items_cut}
 use Rattle.lexopt_options_spec.proofs.Lists.{first_same, same_somes}
 use Rattle.lexopt_options_spec.proofs.LeadingOptions.{append_nil, word_read}
 use Rattle.lexopt_options_spec.proofs.LongerLines.{items_longer, longer, step_longer}

@@ -1,15 +1,15 @@
 -- What can come where a word is typed, after the words before it.
 -- The source is `docs/behaviour.md`.
-use Rattle.std.specs.Prelude.{◌≡◌, ◌<◌, ◌++◌, ◌==◌, ◌&&◌, ℕ}
-use Rattle.std.specs.Prelude.{Bool, true, false, nat_eq, List, [], ◌∷◌, map, Option, Some, None}
+use Rattle.std.specs.Prelude.{◌≡◌, ◌<◌, ◌++◌, ℕ}
+use Rattle.std.specs.Prelude.{true, nat_eq, List, [], ◌∷◌, map, Option, Some, None}
 use Rattle.std.specs.Prelude.{encode_utf8, filter, slice_get, unwrap_or}
 use Rattle.std.specs.Char.{IsScalar}
 use Rattle.std.specs.List.{Contains, flat_map, list_any, starts_with}
 use Rattle.std.specs.Option.{option_map, option_to_list}
 use Rattle.std.specs.Str.{IsUtf8}
-use Rattle.lexopt_spec.specs.UnreadLine.{dash, equals, BeginsWith}
+use Rattle.lexopt_spec.specs.UnreadLine.{dash, BeginsWith}
 use Rattle.lexopt_line_spec.specs.Table.{Name, short, long}
-use Rattle.lexopt_options_spec.specs.Declaration.{Declaration, Declared, has, has_name, index_of}
+use Rattle.lexopt_options_spec.specs.Declaration.{Declaration, Declared, has_name, index_of}
 use Rattle.lexopt_options_spec.specs.Declaration.{Positional, Words, listed}
 use Rattle.lexopt_options_spec.specs.Legal.{IsWithin, Said, Says, SaysFront, most, option}
 use Rattle.lexopt_options_spec.specs.Legal.{positional, positional_count, several}
@@ -63,6 +63,14 @@ names_of o = map short (option_to_list o.short_name) ++ map long (option_to_list
 abbrev pub spellings : List Declared → List (List ℕ)
 spellings options = flat_map (λ o. map spelling (names_of o)) options
 
+-- the spellings of an option, each with what the help tells of the option
+abbrev pub explained_by : Declared → List (List ℕ × List ℕ)
+explained_by o = map (λ n. (spelling n, o.help)) (names_of o)
+
+-- the same of these options, in order
+abbrev pub explained : List Declared → List (List ℕ × List ℕ)
+explained options = flat_map explained_by options
+
 -- a name is text, as each `char` and `&str` is
 abbrev pub IsText : Name → Type 0
 IsText (short c) = IsScalar c
@@ -112,22 +120,39 @@ pub record HasRole (d : Declaration) (words : List (List ℕ)) (typed : List ℕ
   pub plain : ¬ BeginsWith dash typed → IsPlainRole d words role
   pub dashed : BeginsWith dash typed → IsDashedRole d words role
 
--- ---- a value after `=`
+-- ---- a value in the word of its option
 
--- a long option, and `=`
-abbrev pub is_long_with_equals : List ℕ → Bool
-is_long_with_equals [] = false
-is_long_with_equals (b ∷ []) = false
-is_long_with_equals (b ∷ c ∷ rest) = b == dash && c == dash && has equals rest
+-- the first value of what is read, if it is an option that has one
+abbrev pub value_of : Said → Option (List ℕ)
+value_of (option j v) = v
+value_of (several j []) = None
+value_of (several j (v ∷ vs)) = Some v
+value_of (positional word) = None
 
--- an option can come after these words, and what was typed is this one, with a value after `=`
-abbrev pub IsJoined : Declaration → List (List ℕ) → List ℕ → Option ℕ → Type 0
-IsJoined d words typed None = (l : List Said) (i : ℕ) (s : Said)
-    → is_long_with_equals typed ≡ true → IsOpen d words l → SaysFront d (typed ∷ []) (s ∷ [])
-    → ¬ IsOption i s
-IsJoined d words typed (Some i) = (l : List Said) × (s : Said)
-    × (is_long_with_equals typed ≡ true) × IsOpen d words l × SaysFront d (typed ∷ []) (s ∷ [])
-    × IsOption i s
+-- An option can come after these words, and what was typed means options, of which the last is the
+-- option of this index. It has a value there, and this text comes before the value.
+pub record JoinsValue (d : Declaration) (words : List (List ℕ)) (typed : List ℕ) (index : ℕ)
+    (before : List ℕ) : Type 0 where
+  pub said : List Said
+  pub is_open : IsOpen d words said
+  pub others : List Said
+  pub last : Said
+  pub word_says : SaysFront d (typed ∷ []) (others ++ last ∷ [])
+  pub is : IsOption index last
+  pub value : List ℕ
+  pub has_value : value_of last ≡ Some value
+  pub apart : typed ≡ before ++ value
+  pub text : IsUtf8 before
+
+-- the index of an option, and what comes before its value in a word
+pub record Joined : Type 0 where
+  pub index : ℕ
+  pub before : List ℕ
+
+-- what was typed after these words has a value of this option in it; or it has none
+abbrev pub IsJoined : Declaration → List (List ℕ) → List ℕ → Option Joined → Type 0
+IsJoined d words typed None = (i : ℕ) (before : List ℕ) → ¬ JoinsValue d words typed i before
+IsJoined d words typed (Some joined) = JoinsValue d words typed joined.index joined.before
 
 -- ---- to which positional a word can belong
 
@@ -164,19 +189,10 @@ abbrev pub list_of : Words → List (List ℕ)
 list_of (listed values) = values
 list_of words = []
 
--- the words that are the option of this long name, with `=` and one of these values
-abbrev pub joined_words : Option (List ℕ) → List (List ℕ) → List (List ℕ)
-joined_words None values = []
-joined_words (Some name) values = map (λ v. spelling (long name) ++ equals ∷ v) values
-
--- the values in the list of an option, and the words that are this option with one of them
+-- the values in the list of an option
 abbrev pub listed_by : Option Declared → List (List ℕ)
 listed_by None = []
 listed_by (Some o) = list_of o.words
-
-abbrev pub joined_by : Option Declared → List (List ℕ)
-joined_by None = []
-joined_by (Some o) = joined_words o.long_name (list_of o.words)
 
 -- the values in the list of the option that a word is a value of
 abbrev pub values_at : List Declared → Option Role → List (List ℕ)
@@ -188,16 +204,17 @@ values_at options (Some (value i)) = listed_by (slice_get options i)
 abbrev pub words_at : List Positional → ℕ → List (List ℕ)
 words_at ps i = unwrap_or (option_map (λ p. list_of p.words) (slice_get ps i)) []
 
--- the words that are the option of this index, with `=` and a value of its list
-abbrev pub joined_at : List Declared → Option ℕ → List (List ℕ)
+-- the words with a value of the list of that option in them, where this is typed
+abbrev pub joined_at : List Declared → Option Joined → List (List ℕ)
 joined_at options None = []
-joined_at options (Some i) = joined_by (slice_get options i)
+joined_at options (Some joined) =
+    map (λ v. joined.before ++ v) (listed_by (slice_get options joined.index))
 
 -- Where a word would have this role, or belong to one of the positionals of these indices, and a
--- value of the option of this index is typed after `=`, these values in lists can come, in order:
--- those that begin with what was typed; the last ones with their option before them.
-abbrev pub offered_values : Declaration → List ℕ → Option Role → List ℕ → Option ℕ → List (List ℕ)
-offered_values d typed role owners index =
+-- value is typed in the word of its option, these values in lists can come, in order: those that
+-- begin with what was typed; the last ones with their option before them.
+abbrev pub offered_values : Declaration → List ℕ → Option Role → List ℕ → Option Joined → List (List ℕ)
+offered_values d typed role owners joined =
     filter (λ v. starts_with nat_eq v typed) (values_at d.options role)
     ++ filter (λ v. starts_with nat_eq v typed) (flat_map (words_at d.positionals) owners)
-    ++ filter (λ v. starts_with nat_eq v typed) (joined_at d.options index)
+    ++ filter (λ v. starts_with nat_eq v typed) (joined_at d.options joined)

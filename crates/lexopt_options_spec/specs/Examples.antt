@@ -1,6 +1,7 @@
 -- What the worked examples declare.
 use Rattle.std.specs.Prelude.{ℕ, List, [], ◌∷◌, Option, None, Some, codes, false, true}
 use Rattle.lexopt_line_spec.specs.Table.{Kind, one}
+use Rattle.lexopt_options_spec.specs.Completion.{Joined}
 use Rattle.lexopt_options_spec.specs.Declaration.{Declaration, Declared, Positional, Words, files}
 use Rattle.lexopt_options_spec.specs.Declaration.{listed, once}
 
@@ -52,3 +53,12 @@ listed_positionals = positional_of (codes "HOW") [] (listed (codes "fast" ∷ co
 
 abbrev pub lists : Declaration
 lists = declaration_of listed_options listed_positionals
+
+-- the option of this index, with its value typed after this
+abbrev pub joined_after : ℕ → List ℕ → Option Joined
+joined_after index before = Some (record { index = index; before = before })
+
+-- two options with a help text
+abbrev pub explained_options : List Declared
+explained_options = record (option_of (Some (codes "mode")) files) { help = codes "how fast" }
+    ∷ record (option_of None files) { help = codes "what else" } ∷ []

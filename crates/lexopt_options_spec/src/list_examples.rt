@@ -1,10 +1,12 @@
 //! Worked examples of lists of values, computed by the definitions.
 ghost use Rattle.std.specs.Prelude.{◌≡◌, ◌∷◌, [], None, Some, codes, false, true};
-ghost use Rattle.lexopt_options_spec.specs.Completion.{argument, offered_values, value};
+ghost use Rattle.lexopt_options_spec.specs.Completion.{argument, explained, offered_values, value};
 ghost use Rattle.lexopt_options_spec.specs.Declaration.{IsFirstBadList, accepts, are_listable};
 ghost use Rattle.lexopt_options_spec.specs.Declaration.{bad_list};
 ghost use Rattle.lexopt_options_spec.specs.Declaration.{directories, files, list_fault, listed, text};
-ghost use Rattle.lexopt_options_spec.specs.Examples.{listed_positionals, lists, positional_of};
+ghost use Rattle.lexopt_options_spec.specs.Examples.{explained_options, joined_after};
+ghost use Rattle.lexopt_options_spec.specs.Examples.{listed_positionals, lists};
+ghost use Rattle.lexopt_options_spec.specs.Examples.{positional_of};
 ghost use Rattle.lexopt_options_spec.specs.Places.{refused_word};
 
 /// A value in a list is accepted, and no other; without a list, any value is.
@@ -57,18 +59,29 @@ pub fn values_in_lists_are_offered()
     ensures nothing { offered_values lists [] None [] None ≡ [] }
 {}
 
-/// The words that are an option by its long name, with `=` and a value of its list.
+/// The spellings of options, each with the help of its option.
+pub fn spellings_are_explained()
+    ensures all { explained explained_options ≡ (codes "-m", codes "how fast")
+        ∷ (codes "--mode", codes "how fast") ∷ (codes "-m", codes "what else") ∷ [] }
+    ensures none { explained [] ≡ [] }
+{}
+
+/// The words with a value of a list in them, after what was typed before it.
 pub fn joined_values_are_offered()
-    ensures all { offered_values lists (codes "--mode=") None [] (Some 1)
+    ensures all { offered_values lists (codes "--mode=") None [] (joined_after 1 (codes "--mode="))
         ≡ codes "--mode=fast" ∷ codes "--mode=slow" ∷ codes "--mode=slower" ∷ [] }
-    ensures begun { offered_values lists (codes "--mode=f") None [] (Some 1)
+    ensures begun { offered_values lists (codes "--mode=f") None [] (joined_after 1 (codes "--mode="))
         ≡ codes "--mode=fast" ∷ [] }
-    ensures inside { offered_values lists (codes "--mode=low") None [] (Some 1) ≡ [] }
-    ensures no_list { offered_values lists (codes "--out=") None [] (Some 0) ≡ [] }
-    ensures no_long_name { offered_values lists [] None [] (Some 2) ≡ [] }
-    ensures no_option { offered_values lists (codes "--mode=") None [] (Some 3) ≡ [] }
-    ensures after_values { offered_values lists [] (Some (value 2)) [] (Some 1)
-        ≡ codes "tar" ∷ codes "--mode=fast" ∷ codes "--mode=slow" ∷ codes "--mode=slower" ∷ [] }
+    ensures inside { offered_values lists (codes "--mode=low") None [] (joined_after 1 (codes "--mode="))
+        ≡ [] }
+    ensures in_a_cluster { offered_values lists (codes "-vms") None [] (joined_after 1 (codes "-vm"))
+        ≡ codes "-vmslow" ∷ codes "-vmslower" ∷ [] }
+    ensures no_list { offered_values lists (codes "--out=") None [] (joined_after 0 (codes "--out="))
+        ≡ [] }
+    ensures no_option { offered_values lists (codes "--mode=") None [] (joined_after 3 (codes "--mode="))
+        ≡ [] }
+    ensures after_values { offered_values lists [] (Some (value 2)) [] (joined_after 1 (codes "-m"))
+        ≡ codes "tar" ∷ codes "-mfast" ∷ codes "-mslow" ∷ codes "-mslower" ∷ [] }
 {}
 
 /// The values in the lists of the positionals that a word can belong to.
@@ -80,9 +93,9 @@ pub fn words_in_lists_are_offered()
     ensures begun { offered_values lists (codes "z") (Some (argument 1)) (0 ∷ 1 ∷ []) None
         ≡ codes "zip" ∷ [] }
     ensures no_positional { offered_values lists [] (Some (argument 2)) (2 ∷ []) None ≡ [] }
-    ensures before_options { offered_values lists [] (Some (argument 0)) (0 ∷ []) (Some 1)
-        ≡ codes "fast" ∷ codes "slow" ∷ codes "--mode=fast" ∷ codes "--mode=slow"
-        ∷ codes "--mode=slower" ∷ [] }
+    ensures before_options { offered_values lists [] (Some (argument 0)) (0 ∷ [])
+        (joined_after 1 (codes "--mode=")) ≡ codes "fast" ∷ codes "slow" ∷ codes "--mode=fast"
+        ∷ codes "--mode=slow" ∷ codes "--mode=slower" ∷ [] }
 {}
 
 /// The first word that its positional does not accept.

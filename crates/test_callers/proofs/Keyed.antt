@@ -17,8 +17,9 @@ use Rattle.lexopt_declaration.specs.declared.declaration.Names.{Names}
 use Rattle.lexopt_options.specs.Declarations.{options_of}
 use Rattle.lexopt_options.specs.Keys.{AreSaid, IsSaid}
 use Rattle.lexopt_options.specs.Lines.{IsLineRead}
-use Rattle.lexopt_options.specs.Roles.{IsOptionAt, IsRoleAt}
+use Rattle.lexopt_options.specs.Roles.{IsJoinedAt, IsRoleAt}
 use Rattle.lexopt_options.specs.Usage.{ConvertsFor, is_maybe, is_value, is_values, maybe_names, named, value_names, values_names}
+use Rattle.lexopt_options.specs.declared.complete.Joined.{Joined}
 use Rattle.lexopt_options.specs.declared.complete.Role.{Role}
 use Rattle.lexopt_options.specs.declared.complete.Role.TheVariants as role
 use Rattle.lexopt_options.specs.declared.options.Options.{Options}
@@ -105,11 +106,11 @@ line_keys o words (line.Refused r) is = (_, keys (options_of o) _ r.before.items
 
 -- ---- what can be typed
 
-pub known : {F V M S : Type 0} (options : List (Declared F V M S)) (i : Option ℕ) (found : Option (Bor (Declared F V M S))) → IsOptionAt options i found → IsKnown options found
+pub known : {F V M S : Type 0} (options : List (Declared F V M S)) (j : Option completion.Joined) (found : Option (Joined F V M S)) → IsJoinedAt options j found → IsKnown options found
 known options None None is = tt
-known options (Some i) None is = tt
-known options None (Some option) is = absurd is
-known options (Some i) (Some option) is = (i, is)
+known options (Some j) None is = tt
+known options None (Some f) is = absurd is
+known options (Some j) (Some f) is = (j.index, is.0)
 
 pub known_role : {F V M S : Type 0} (options : List (Declared F V M S)) (r : Option completion.Role) (found : Option (Role F V M S)) → IsRoleAt options r found → IsKnownRole options found
 known_role options None None is = tt

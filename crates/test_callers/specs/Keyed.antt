@@ -12,6 +12,7 @@ use Rattle.lexopt_declaration.specs.declared.declaration.Declared.{Declared}
 use Rattle.lexopt_declaration.specs.declared.declaration.Kind.{Kind}
 use Rattle.lexopt_declaration.specs.declared.declaration.Kind.TheVariants as kind
 use Rattle.lexopt_declaration.specs.declared.declaration.Names.{Names}
+use Rattle.lexopt_options.specs.declared.complete.Joined.{Joined}
 use Rattle.lexopt_options.specs.declared.complete.Role.{Role}
 use Rattle.lexopt_options.specs.declared.complete.Role.TheVariants as role
 use Rattle.lexopt_options.specs.declared.refused.Line.{Line}
@@ -90,11 +91,10 @@ HaveKeys options (line.Refused r) = (l : List legal.Said)
 
 -- ---- what can be typed
 
--- it is one of the options, if it is there
-abbrev pub IsKnown : {F V M S : Type 0} → List (Declared F V M S)
-    → Option (Bor (Declared F V M S)) → Type 0
+-- its option is one of the options, if it is there
+abbrev pub IsKnown : {F V M S : Type 0} → List (Declared F V M S) → Option (Joined F V M S) → Type 0
 IsKnown options None = Unit {0}
-IsKnown options (Some option) = (i : ℕ) × (slice_get options i ≡ Some option.now)
+IsKnown options (Some joined) = (i : ℕ) × (slice_get options i ≡ Some joined.option.now)
 
 abbrev pub IsKnownRole : {F V M S : Type 0} → List (Declared F V M S) → Option (Role F V M S)
     → Type 0

@@ -97,6 +97,9 @@ mistake_line (mistake.InvalidArgument placeholder word values) = codes "invalid 
     ++ (codes ": one of " ++ list_text (map (λ v. v.now) values.now)))))
 mistake_line (mistake.MissingOption names) =
     codes "missing option '" ++ (names_line names ++ codes "'")
+mistake_line (mistake.InvalidVariable name) = codes "invalid value of " ++ (string_bytes name
+    ++ (codes ": one of bash_source, bash_complete, zsh_source, zsh_complete, fish_source, "
+    ++ codes "fish_complete"))
 
 -- where the help is
 abbrev pub try_line : List ℕ → Option Names → List ℕ

@@ -1,12 +1,18 @@
 -- The tool that `declared.rt` declares, by the grammar and by plain data.
 use Rattle.std.specs.Prelude.{◌≡◌, ℕ, List, [], ◌∷◌, Option, Some, None, codes, Bool, true, false}
-use Rattle.std.specs.Prelude.{◌⊎◌, ◌++◌, ◌-◌, ◌==◌, if◌then◌else◌, Contains, filter, length}
+use Rattle.std.specs.Prelude.{◌≢◌, ◌⊎◌, ◌++◌, ◌-◌, ◌==◌, ◌||◌, if◌then◌else◌, Contains, String}
+use Rattle.std.specs.Prelude.{encode_utf8, filter, length, nat_lt}
+use Rattle.std.specs.Global.{Global}
+use Rattle.std.specs.Str.{chars}
 use Rattle.std.specs.Prelude.{nat_eq, option_map}
 use Rattle.std.specs.Prelude.{map, slice_get, string_bytes}
 use Rattle.std.specs.List.{AllZip, flat_map, list_any, starts_with}
 use Rattle.lexopt_declaration.specs.declared.declaration.Names.{Names}
 use Rattle.lexopt_declaration.specs.declared.declaration.Names.TheVariants as names
 use Rattle.lexopt_declaration.specs.Scripts.{bash_script, fish_script, zsh_script}
+use Rattle.lexopt_declaration.specs.declared.shell.Shell.{Shell}
+use Rattle.lexopt_declaration.specs.declared.shell.Shell.TheVariants.{Bash, Zsh, Fish}
+use Rattle.lexopt_declaration.specs.declared.spellings.Spelling.{Spelling}
 use Rattle.lexopt_spec.specs.UnreadLine.{Tail}
 use Rattle.lexopt_line_spec.specs.Table.{Kind, flag, one, optional, several, short, long}
 use Rattle.lexopt_options_spec.specs.Declaration.{Declaration, Declared, once}
@@ -16,7 +22,7 @@ use Rattle.lexopt_options_spec.specs.Declaration.{Positional, directories, files
 use Rattle.lexopt_options_spec.specs.Asking.{AskFor, first_asked, said_before}
 use Rattle.lexopt_options_spec.specs.Completion as completion
 use Rattle.lexopt_options_spec.specs.Completion.{AreOwnersIn, Completes, HasRole, IsJoined}
-use Rattle.lexopt_options_spec.specs.Completion.{offered_values, spellings}
+use Rattle.lexopt_options_spec.specs.Completion.{offered_values}
 use Rattle.lexopt_options_spec.specs.Help.{IsHelp, Line as HelpLine, Wraps, below}
 use Rattle.lexopt_options_spec.specs.Leading.{AsksLeading, LeadingStopsAt, SaysLeading}
 use Rattle.lexopt_options_spec.specs.Legal as legal
@@ -27,6 +33,7 @@ use Rattle.lexopt_options_spec.specs.Stops as stops
 use Rattle.lexopt_options_spec.specs.Stops.{StopsAt, placeholder_at, required_placeholder}
 use Rattle.lexopt_options.specs.declared.answer.Answer.{Answer}
 use Rattle.lexopt_options.specs.declared.answer.Answer.TheVariants as answer
+use Rattle.lexopt_options.specs.declared.complete.Joined.{Joined}
 use Rattle.lexopt_options.specs.declared.complete.Role.{Role}
 use Rattle.lexopt_options.specs.declared.complete.Role.TheVariants as role
 use Rattle.lexopt_options.specs.declared.leading.Leading.{Leading}
@@ -37,6 +44,8 @@ use Rattle.lexopt_options.specs.declared.mistake.OptionName.TheVariants as name
 use Rattle.lexopt_options.specs.declared.refused.Line.{Line}
 use Rattle.lexopt_options.specs.declared.refused.Line.TheVariants as line
 use Rattle.lexopt_options.specs.declared.refused.Refused.{Refused}
+use Rattle.lexopt_options.specs.declared.request.Request.{Request}
+use Rattle.lexopt_options.specs.declared.request.Request.TheVariants as request
 use Rattle.lexopt_options.specs.declared.said.Asked.{Asked}
 use Rattle.lexopt_options.specs.declared.said.Asked.TheVariants as asked
 use Rattle.lexopt_options.specs.declared.said.Said.{Said}
@@ -191,6 +200,7 @@ StoppedBy S (mistake.MissingArgument placeholder) = (count : ℕ)
 StoppedBy S (mistake.MissingOption own) = (index : ℕ)
     × S (stops.missing_option index)
     × (o : Declared) × (slice_get tool_options index ≡ Some o) × HasNames o own
+StoppedBy S (mistake.InvalidVariable own) = ⊥
 
 abbrev pub ToolRefused : List (List ℕ) → Refused Flag Value Word Maybe Values → Type 0
 ToolRefused words r = (r.program.now ≡ codes "tool")
@@ -245,16 +255,33 @@ LeadingTells l rest (leading.Refused refused) = ⊥
 
 -- ---- what can be typed
 
--- the spellings of the options that begin so, in the order of the tool, or none
-abbrev pub AreInOrder : List ℕ → List (List ℕ) → Type 0
-AreInOrder typed offered =
-    (offered ≡ filter (λ s. starts_with nat_eq s typed) (spellings tool_options)) ⊎ (offered ≡ [])
+-- each spelling, and what the help tells of its option
+abbrev pub tool_spellings : List (List ℕ × List ℕ)
+tool_spellings = (codes "-v", codes "tell more") ∷ (codes "--verbose", codes "tell more")
+    ∷ (codes "-f", codes "by force") ∷ (codes "-o", codes "write there")
+    ∷ (codes "--output", codes "write there") ∷ (codes "--color", codes "paint")
+    ∷ (codes "-x", codes "leave out") ∷ (codes "-h", codes "help") ∷ (codes "--help", codes "help")
+    ∷ (codes "--version", codes "version") ∷ (codes "-u", codes "for whom")
+    ∷ (codes "--user", codes "for whom") ∷ []
 
--- both are something, or neither is
-abbrev pub AreBoth : {X Y : Type 0} → Option X → Option Y → Type 0
-AreBoth None None = Unit {0}
-AreBoth (Some x) (Some y) = Unit {0}
-AreBoth x y = ⊥
+-- those that begin so, in the order of the tool, or none
+abbrev pub AreInOrder : List ℕ → List (List ℕ × List ℕ) → Type 0
+AreInOrder typed offered =
+    (offered ≡ filter (λ p. starts_with nat_eq p.0 typed) tool_spellings) ⊎ (offered ≡ [])
+
+-- the words of the spellings
+abbrev pub words_of : List (List ℕ × List ℕ) → List (List ℕ)
+words_of offered = map (λ p. p.0) offered
+
+abbrev pub both_of : Spelling → List ℕ × List ℕ
+both_of spelling = (string_bytes spelling.text, spelling.help.now)
+
+-- an option has its value after this in the word, or none has
+abbrev pub IsSameJoined : Option completion.Joined → Option (Joined Flag Value Maybe Values)
+    → Type 0
+IsSameJoined None None = Unit {0}
+IsSameJoined (Some joined) (Some found) = joined.before ≡ string_bytes found.before
+IsSameJoined joined found = ⊥
 
 -- a value, a positional or nothing
 abbrev pub IsSameRole : Option completion.Role → Option (Role Flag Value Maybe Values) → Type 0
@@ -276,20 +303,19 @@ IsToolUsage width text = (lines : List HelpLine) × Wraps (width - 7) tool_usage
 
 -- ---- what the tool is to do
 
--- no shell asks by these words
-abbrev pub NoShellAsks : List (List ℕ) → Type 0
-NoShellAsks words = ((before : List (List ℕ)) (typed : List ℕ)
-    → ¬ (words ≡ codes "__complete" ∷ (before ++ typed ∷ [])))
-    × ¬ (words ≡ codes "__script" ∷ codes "bash" ∷ [])
-    × ¬ (words ≡ codes "__script" ∷ codes "zsh" ∷ [])
-    × ¬ (words ≡ codes "__script" ∷ codes "fish" ∷ [])
+-- the line for what completes the values of an option
+abbrev pub line_of : spec.Words → List ℕ
+line_of spec.files = codes "files\n"
+line_of spec.directories = codes "directories\n"
+line_of spec.text = []
+line_of (spec.listed values) = []
 
--- the line for what completes the values of an option, after this
-abbrev pub line_of : List ℕ → spec.Words → List ℕ
-line_of start spec.files = start ++ codes "files\n"
-line_of start spec.directories = start ++ codes "directories\n"
-line_of start spec.text = []
-line_of start (spec.listed values) = []
+-- the same of a value that comes after this in the word of its option
+abbrev pub line_after : List ℕ → spec.Words → List ℕ
+line_after before spec.files = codes "files" ++ 9 ∷ (before ++ 10 ∷ [])
+line_after before spec.directories = codes "directories" ++ 9 ∷ (before ++ 10 ∷ [])
+line_after before spec.text = []
+line_after before (spec.listed values) = []
 
 -- these are completed by the names of files
 abbrev pub are_files : spec.Words → Bool
@@ -305,9 +331,13 @@ are_directories spec.directories = true
 are_directories spec.text = false
 are_directories (spec.listed values) = false
 
-abbrev pub line_at : List ℕ → Option Declared → List ℕ
-line_at start None = []
-line_at start (Some o) = line_of start o.words
+abbrev pub line_at : Option Declared → List ℕ
+line_at None = []
+line_at (Some o) = line_of o.words
+
+abbrev pub line_at_after : List ℕ → Option Declared → List ℕ
+line_at_after before None = []
+line_at_after before (Some o) = line_after before o.words
 
 -- the words of a positional are completed by the names of files
 abbrev pub by_files : Option Positional → Bool
@@ -331,56 +361,103 @@ owners_line owners =
 abbrev pub role_line : Option completion.Role → List ℕ → List ℕ
 role_line None owners = []
 role_line (Some (completion.argument n)) owners = owners_line owners
-role_line (Some (completion.value i)) owners = line_at [] (slice_get tool_options i)
+role_line (Some (completion.value i)) owners = line_at (slice_get tool_options i)
 
--- the line for a value after `=`
-abbrev pub index_line : Option ℕ → List ℕ
-index_line None = []
-index_line (Some i) = line_at (codes "value ") (slice_get tool_options i)
+-- the line for a value in the word of its option
+abbrev pub joined_line : Option completion.Joined → List ℕ
+joined_line None = []
+joined_line (Some joined) = line_at_after joined.before (slice_get tool_options joined.index)
+
+abbrev pub blank_or_same : ℕ → List ℕ
+blank_or_same c = if nat_lt c 32 || c == 127 then 32 ∷ [] else encode_utf8 c
+
+-- the line for a spelling: it, a tab, and what the help tells, with blanks for control characters
+abbrev pub spelled_line : List ℕ × List ℕ → List ℕ
+spelled_line p = p.0 ++ codes "\t" ++ flat_map blank_or_same (chars p.1) ++ 10 ∷ []
+
+-- these of all, unless nothing was typed
+abbrev pub spelled_lines : List ℕ → List (List ℕ × List ℕ) → List ℕ
+spelled_lines [] offered = []
+spelled_lines (b ∷ bs) offered = flat_map spelled_line offered
 
 -- the line for a value in a list
 abbrev pub plus_line : List ℕ → List ℕ
 plus_line [] = 43 ∷ 10 ∷ []
 plus_line (b ∷ bs) = if b == 45 then b ∷ bs ++ 10 ∷ [] else 43 ∷ b ∷ bs ++ 10 ∷ []
 
--- The words ask what can be typed. The text has a line for each spelling, and one for each value in
--- a list. If a word is possible that is not an option, the line follows by what completes the
--- values of the option whose value it is, or the words of the positionals that it can belong to;
--- and if a value is typed after `=`, the line by what completes it.
-pub record IsOffer (words : List (List ℕ)) (text : List ℕ) : Type 0 where
-  pub before : List (List ℕ)
-  pub typed : List ℕ
-  pub asked : words ≡ codes "__complete" ∷ (before ++ typed ∷ [])
-  pub offered : List (List ℕ)
-  pub sound : (s : List ℕ) → Contains offered s → Completes tool before typed s
-  pub complete : (s : List ℕ) → Completes tool before typed s → Contains offered s
+-- What can come where this is typed after these words. The text has a line for each spelling, and
+-- one for each value in a list. If a word is possible that is not an option, the line follows by what
+-- completes the values of the option whose value it is, or the words of the positionals that it can
+-- belong to; and if a value is typed in the word of its option, the line by what completes it.
+pub record IsOffer (before : List (List ℕ)) (typed text : List ℕ) : Type 0 where
+  pub offered : List (List ℕ × List ℕ)
+  pub sound : (s : List ℕ) → Contains (words_of offered) s → Completes tool before typed s
+  pub complete : (s : List ℕ) → Completes tool before typed s → Contains (words_of offered) s
+  pub in_order : AreInOrder typed offered
   pub role : Option completion.Role
   pub word : HasRole tool before typed role
   pub owners : List ℕ
   pub arguments : AreOwnersIn tool_positionals role owners
-  pub index : Option ℕ
-  pub joined : IsJoined tool before typed index
-  pub written : text ≡ flat_map (λ s. s ++ 10 ∷ []) offered
-      ++ flat_map plus_line (offered_values tool typed role owners index)
-      ++ role_line role owners ++ index_line index
+  pub with_value : Option completion.Joined
+  pub joined : IsJoined tool before typed with_value
+  pub written : text ≡ spelled_lines typed offered
+      ++ flat_map plus_line (offered_values tool typed role owners with_value)
+      ++ role_line role owners ++ joined_line with_value
 
--- they ask for the script of this shell
-abbrev pub IsScript : List (List ℕ) → List ℕ → Type 0
-IsScript words text = ((words ≡ codes "__script" ∷ codes "bash" ∷ [])
-    × (text ≡ bash_script (codes "tool") ++ 10 ∷ []))
-    ⊎ ((words ≡ codes "__script" ∷ codes "zsh" ∷ [])
-    × (text ≡ zsh_script (codes "tool") ++ 10 ∷ []))
-    ⊎ ((words ≡ codes "__script" ∷ codes "fish" ∷ [])
-    × (text ≡ fish_script (codes "tool") ++ 10 ∷ []))
-
--- they ask for the help, or for the version
+-- the words ask for the help, or for the version
 abbrev pub IsAskedFor : List (List ℕ) → ℕ → List ℕ → Type 0
 IsAskedFor words width text = (AskFor tool words for_help × IsHelp tool width text)
     ⊎ ((version : List ℕ) × AskFor tool words (for_version version) × (text ≡ version ++ 10 ∷ []))
 
 abbrev pub ToolAnswer : List (List ℕ) → ℕ → Answer Flag Value Word Maybe Values → Type 0
-ToolAnswer words width (answer.Said own) = NoShellAsks words × ToolSays words own.items
-ToolAnswer words width (answer.Text text) = IsOffer words (string_bytes text)
-    ⊎ IsScript words (string_bytes text)
-    ⊎ (NoShellAsks words × IsAskedFor words width (string_bytes text))
-ToolAnswer words width (answer.Refused refused) = NoShellAsks words × ToolRefused words refused
+ToolAnswer words width (answer.Said own) = ToolSays words own.items
+ToolAnswer words width (answer.Text text) = IsAskedFor words width (string_bytes text)
+ToolAnswer words width (answer.Refused refused) = ToolRefused words refused
+
+-- ---- what a shell asks for
+
+-- the name of the variable by which it asks
+abbrev pub tool_variable : List ℕ
+tool_variable = codes "_TOOL_COMPLETE"
+
+abbrev pub tool_script : Shell → List ℕ
+tool_script Bash = bash_script (codes "tool") tool_variable ++ 10 ∷ []
+tool_script Zsh = zsh_script (codes "tool") tool_variable ++ 10 ∷ []
+tool_script Fish = fish_script (codes "tool") tool_variable ++ 10 ∷ []
+
+-- the variable has a value that is not known
+abbrev pub IsNotKnown : Refused Flag Value Word Maybe Values → Type 0
+IsNotKnown r = (r.program.now ≡ codes "tool") × (r.before.items ≡ [])
+    × ((name : String Global) × (string_bytes name ≡ tool_variable)
+    × (r.mistake ≡ mistake.InvalidVariable name))
+
+abbrev pub ToolRequest : Request → ℕ → Answer Flag Value Word Maybe Values → Type 0
+ToolRequest (request.Line words) width own = ToolAnswer words.items width own
+ToolRequest (request.Completion before typed) width (answer.Text text) =
+    IsOffer before.items typed (string_bytes text)
+ToolRequest (request.Script shell) width (answer.Text text) =
+    string_bytes text ≡ tool_script shell
+ToolRequest request.Unknown width (answer.Refused refused) = IsNotKnown refused
+ToolRequest asked width own = ⊥
+
+-- by these values of the variable a shell asks what can come
+abbrev pub AsksToComplete : List ℕ → Type 0
+AsksToComplete value = (value ≡ codes "bash_complete") ⊎ (value ≡ codes "zsh_complete")
+    ⊎ (value ≡ codes "fish_complete")
+
+-- and by this one for its script
+abbrev pub source_of : Shell → List ℕ
+source_of Bash = codes "bash_source"
+source_of Zsh = codes "zsh_source"
+source_of Fish = codes "fish_source"
+
+-- what is asked for by this value of the variable, if it is set, and these words
+abbrev pub IsAsked : Option (List ℕ) → List (List ℕ) → Request → Type 0
+IsAsked value words (request.Line own) = ((value ≡ None) ⊎ (value ≡ Some [])) × (own.items ≡ words)
+IsAsked value words (request.Completion before typed) =
+    ((text : List ℕ) × (value ≡ Some text) × AsksToComplete text)
+    × ((words ≡ before.items ++ typed ∷ [])
+    ⊎ ((words ≡ []) × (before.items ≡ []) × (typed ≡ [])))
+IsAsked value words (request.Script shell) = value ≡ Some (source_of shell)
+IsAsked value words request.Unknown = (text : List ℕ) × (value ≡ Some text) × (text ≢ [])
+    × ((shell : Shell) → text ≢ source_of shell) × ¬ AsksToComplete text

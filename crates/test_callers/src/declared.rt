@@ -1,7 +1,8 @@
 //! Callers of declared options, with clauses of their own about one tool. The clauses of the public
 //! functions cite definitions over the types of Rust; these restate them by the grammar and by
 //! plain data, so that no such definition can become weaker unnoticed.
-ghost use Rattle.std.specs.Prelude.{◌≡◌, ℕ, Contains, IfOk, List, Option, map, string_bytes};
+ghost use Rattle.std.specs.Prelude.{◌≡◌, ℕ, Contains, IfOk, List, Option, codes, map, option_map};
+ghost use Rattle.std.specs.Prelude.{string_bytes};
 ghost use Rattle.lexopt_options_spec.specs.Completion as completion;
 ghost use Rattle.lexopt_options_spec.specs.Completion.{AreOwnersIn, Completes, HasRole, IsJoined};
 ghost use Rattle.lexopt_options_spec.specs.Completion.{offered_values};
@@ -11,7 +12,8 @@ ghost use Rattle.lexopt_options_spec.specs.Leading.{SaysLeading};
 ghost use Rattle.lexopt_options_spec.specs.Legal as legal;
 ghost use Rattle.lexopt_options_spec.specs.Legal.{Says};
 ghost use Rattle.lexopt_items.specs.Items.{table_view};
-ghost use Rattle.test_callers.specs.Tool.{AreBoth, AreInOrder, IsSameRole, LeadingTells};
+ghost use Rattle.test_callers.specs.Tool.{AreInOrder, IsAsked, IsSameJoined, IsSameRole};
+ghost use Rattle.test_callers.specs.Tool.{LeadingTells, ToolRequest, both_of, words_of};
 ghost use Rattle.test_callers.specs.Tool.{LineTells, ToolLeading};
 ghost use Rattle.test_callers.specs.Tool.{IsToolUsage, ToolAnswer, ToolLine, tool};
 ghost use Rattle.test_callers.specs.Tool.{tool_options};
@@ -19,7 +21,7 @@ ghost use Rattle.test_callers.specs.Tool.{tool_options};
 use lexopt_items::items::Table;
 use lexopt_options::{
     Answer, Completion, Count, Declaration, Declared, Kind, Leading, Line, Names, Options,
-    OsString, Positional, Words,
+    OsString, Positional, Request, Words, variable,
 };
 use std::alloc::{AllocError, Global};
 
@@ -195,23 +197,25 @@ pub fn complete(
     typed: &OsString,
 ) -> Result<Completion<'static, Flag, Value, Maybe, Values>, AllocError>
     ensures sound { IfOk result (λ c. (s : List ℕ)
-        → Contains (map string_bytes c.spellings.items) s → Completes tool words.now typed.now s) }
+        → Contains (words_of (map both_of c.spellings.items)) s
+        → Completes tool words.now typed.now s) }
     ensures complete { IfOk result (λ c. (s : List ℕ)
-        → Completes tool words.now typed.now s → Contains (map string_bytes c.spellings.items) s) }
+        → Completes tool words.now typed.now s
+        → Contains (words_of (map both_of c.spellings.items)) s) }
     ensures in_order { IfOk result (λ c.
-        AreInOrder typed.now (map string_bytes c.spellings.items)) }
+        AreInOrder typed.now (map both_of c.spellings.items)) }
     ensures word { IfOk result (λ c. (role : Option completion.Role)
         × HasRole tool words.now typed.now role × IsSameRole role c.word) }
-    ensures joined { IfOk result (λ c. (index : Option ℕ)
-        × IsJoined tool words.now typed.now index × AreBoth index c.joined) }
+    ensures joined { IfOk result (λ c. (with_value : Option completion.Joined)
+        × IsJoined tool words.now typed.now with_value × IsSameJoined with_value c.joined) }
     ensures arguments { IfOk result (λ c. (role : Option completion.Role)
         × HasRole tool words.now typed.now role
         × AreOwnersIn tool.positionals role c.arguments.items) }
     ensures values { IfOk result (λ c. (role : Option completion.Role) × (owners : List ℕ)
-        × (index : Option ℕ) × HasRole tool words.now typed.now role
-        × AreOwnersIn tool.positionals role owners × IsJoined tool words.now typed.now index
+        × (with_value : Option completion.Joined) × HasRole tool words.now typed.now role
+        × AreOwnersIn tool.positionals role owners × IsJoined tool words.now typed.now with_value
         × (map string_bytes c.values.items
-        ≡ offered_values tool typed.now role owners index)) }
+        ≡ offered_values tool typed.now role owners with_value)) }
 {
     Options::new(&TOOL).complete(alloc, words, typed)
 }
@@ -225,6 +229,32 @@ pub fn answer(
     ensures { IfOk result (λ answer. ToolAnswer words.items width answer) }
 {
     Options::new(&TOOL).answer(alloc, words, width)
+}
+
+/// What the tool is to do about a request.
+pub fn answer_request(
+    alloc: Global,
+    request: Request,
+    width: usize,
+) -> Result<Answer<'static, Flag, Value, Word, Maybe, Values>, AllocError>
+    ensures { IfOk result (λ answer. ToolRequest request width answer) }
+{
+    Options::new(&TOOL).answer_request(alloc, request, width)
+}
+
+/// What is asked for by this value of the variable and these words.
+pub fn asked(alloc: Global, value: Option<&[u8]>, words: Vec<OsString>) -> Request
+    ensures { IsAsked (option_map (λ v. v.now) value.entry) words.items result }
+{
+    Request::new(alloc, value, words)
+}
+
+/// The variable of a program whose name has letters, a digit, another character of ASCII, and one
+/// of two bytes.
+pub fn odd_variable(alloc: Global) -> Result<String, AllocError>
+    ensures { IfOk result (λ name. string_bytes name ≡ codes "_AZ9_____COMPLETE") }
+{
+    variable(alloc, "aZ9-.é")
 }
 
 /// The usage line of the tool, and its help.

@@ -63,3 +63,28 @@ impl Env for Terminal<'_> {
         Err(FillError::NotPresent)
     }
 }
+
+/// The same with one environment variable, if it is set.
+#[derive(Drop)]
+pub struct Variable<'a> {
+    pub arguments: Arguments<'a>,
+    pub name: &'a str,
+    pub value: Option<&'a [u8]>,
+}
+
+impl Env for Variable<'_> {
+    fn arg(&self, i: usize, buf: &mut [u8]) -> Result<usize, FillError> {
+        self.arguments.arg(i, buf)
+    }
+
+    fn var(&self, name: &str, buf: &mut [u8]) -> Result<usize, FillError> {
+        match self.value {
+            Some(value) if name == self.name => fill(buf, value),
+            _ => Err(FillError::NotPresent),
+        }
+    }
+
+    fn var_at(&self, _i: usize, _buf: &mut [u8]) -> Result<usize, FillError> {
+        Err(FillError::NotPresent)
+    }
+}

@@ -4,9 +4,9 @@ use crate::archive::{
     archive, archive_of_files, debug_of, words_of,
 };
 use crate::texts::HELP_AT_80;
-use lexopt_options::{Answer, Declared, Names, Options, Positional, declare};
+use lexopt_options::{Answer, Declared, Names, Options, Positional, Request, declare};
 use std::alloc::{AllocError, Global};
-use test_helpers::environments::{Arguments, Terminal};
+use test_helpers::environments::{Arguments, Terminal, Variable};
 
 /// What a program is to do about a line.
 #[derive(Clone, Copy, PartialEq, Eq)]
@@ -37,7 +37,7 @@ Packs files.
 ";
 
 // Lines, what is to be done, and what is read or printed.
-static LINES: [(&[u8], Do, &str); 16] = [
+static LINES: [(&[u8], Do, &str); 9] = [
     (b"", Work, "[]"),
     (b"-v a", Work, "[Flag(Verbose), Positional(File, \"a\")]"),
     (b"-h", Print, HELP_AT_40),
@@ -51,34 +51,38 @@ static LINES: [(&[u8], Do, &str); 16] = [
     // It is a value here, and an argument.
     (b"-o --help", Work, "[Value(Output, \"--help\")]"),
     (b"-- --help", Work, "[Positional(File, \"--help\")]"),
-    (b"__complete --verb", Print, "--verbose\n"),
-    (b"__complete -o ", Print, "files\n"),
-    (b"__complete -- a -", Print, "files\n"),
-    (b"__complete -z ", Print, ""),
-    // A word that was typed is missing, or the hidden word is not the first.
-    (b"__complete", Work, "[Positional(File, \"__complete\")]"),
+    // No word is reserved for shells.
     (
-        b"-v __complete a",
+        b"__complete --verbose",
         Work,
-        "[Flag(Verbose), Positional(File, \"__complete\"), Positional(File, \"a\")]",
+        "[Positional(File, \"__complete\"), Flag(Verbose)]",
     ),
-    (b"__complete --output=x", Print, "value files\n"),
-    (b"__complete --verbose=x", Print, ""),
-    (
-        b"__script sh",
-        Work,
-        "[Positional(File, \"__script\"), Positional(File, \"sh\")]",
-    ),
+    (b"bash_source", Work, "[Positional(File, \"bash_source\")]"),
 ];
 
-// Lines that ask for a script, and how it begins.
-static SCRIPTS: [(&[u8], &str); 3] = [
-    (b"__script bash", "# Source this.\n_complete_archive() {"),
-    (b"__script zsh", "#compdef archive\n"),
+// Lines of which the last word is typed, and what is printed.
+static COMPLETED: [(&[u8], &str); 15] = [
+    (b"--verb", "--verbose\ttell more\n"),
     (
-        b"__script fish",
-        "# Source this, or put it into a folder of `fish_complete_path` as the file `archive.fish`.\n",
+        b"--ex",
+        "--exclude\tleave out the files whose names match one of these patterns of a shell\n",
     ),
+    // Nothing was typed.
+    (b"", "files\n"),
+    (b"-v ", "files\n"),
+    (b"-o ", "files\n"),
+    (b"-- a -", "files\n"),
+    (b"-z ", ""),
+    (b"__complete fi", "files\n"),
+    // A value in the word of its option.
+    (b"--output=x", "files\t--output=\n"),
+    (b"-ox", "files\t-o\n"),
+    (b"-vo=x", "files\t-vo=\n"),
+    (b"-vxfi", "files\t-vx\n"),
+    (b"-o", "-o\twrite to this file\n"),
+    (b"--verbose=x", ""),
+    // The separator ends the options.
+    (b"-- --output=x", "files\n"),
 ];
 
 // What is to be done about a line, and what is read or printed.
@@ -106,15 +110,32 @@ fn is_answered(
     Ok(done == wanted && found.as_str() == text)
 }
 
-// Whether a line asks for a script that begins like this.
-fn is_script(
+// Whether this is printed where the last word of this line is typed.
+fn is_completed(
     alloc: Global,
     options: &ArchiveOptions<'_>,
     line: &[u8],
-    front: &str,
+    wanted: &str,
 ) -> Result<bool, AllocError> {
-    let (done, text) = answer_to(alloc, options, line)?;
-    Ok(done == Print && text.as_str().starts_with(front) && text.as_str().ends_with('\n'))
+    let request = Request::new(alloc, Some(b"bash_complete"), words_of(alloc, line)?);
+    match options.answer_request(alloc, request, 40)? {
+        Answer::Text(text) => Ok(text.as_str() == wanted),
+        _ => Ok(false),
+    }
+}
+
+/// The first of these rows whose line is not completed so, or none.
+pub fn first_wrong_offer(
+    alloc: Global,
+    options: &ArchiveOptions<'_>,
+    rows: &[(&[u8], &'static str)],
+) -> Result<Option<usize>, AllocError> {
+    for (row, (line, text)) in rows.iter().enumerate() {
+        if !is_completed(alloc, options, line, text)? {
+            return Ok(Some(row));
+        }
+    }
+    Ok(None)
 }
 
 /// The first of these rows that does not hold, or none.
@@ -139,6 +160,14 @@ fn lines(rt: HostRuntime) {
     );
 }
 
+#[test]
+fn completions(rt: HostRuntime) {
+    assert_eq!(rt;
+        first_wrong_offer(rt.alloc(), &archive_of_files(), &COMPLETED).expect(&rt, "success"),
+        None
+    );
+}
+
 // Options whose values are directories, texts, and those in lists.
 static CHOICES: Archive<'static> = declare! {
     program: "archive",
@@ -153,42 +182,88 @@ static CHOICES: Archive<'static> = declare! {
     positionals: [any_number(Word::File, "FILE")],
 };
 
-// Lines that ask what can come, and what is printed.
-static OFFERED: [(&[u8], Do, &str); 12] = [
-    (b"__complete -o ", Print, "directories\n"),
-    (b"__complete --output=", Print, "value directories\n"),
-    (b"__complete -u ", Print, ""),
-    (b"__complete --user=a", Print, ""),
-    (b"__complete -x ", Print, "+links\n+pipes\n"),
-    (b"__complete -x p", Print, "+pipes\n"),
-    (b"__complete -x inks", Print, ""),
-    (b"__complete -x links l", Print, "+links\n"),
-    (b"__complete --exclude=l", Print, "--exclude=links\n"),
-    (
-        b"__complete --backup=n",
-        Print,
-        "--backup=new\n--backup=never\n",
-    ),
-    (b"__complete --backup=x", Print, ""),
+static OFFERED: [(&[u8], &str); 17] = [
+    (b"-o ", "directories\n"),
+    (b"--output=", "directories\t--output=\n"),
+    (b"-oa", "directories\t-o\n"),
+    (b"-u ", ""),
+    (b"--user=a", ""),
+    (b"-ua", ""),
+    (b"-x ", "+links\n+pipes\n"),
+    (b"-x p", "+pipes\n"),
+    (b"-x inks", ""),
+    (b"-x links l", "+links\n"),
+    (b"--exclude=l", "--exclude=links\n"),
+    (b"-xl", "-xlinks\n"),
+    (b"-x=", "-x=links\n-x=pipes\n"),
+    (b"--backup=n", "--backup=new\n--backup=never\n"),
+    (b"--backup=x", ""),
     // A value that may be left out is not the next word.
-    (b"__complete --backup n", Print, "files\n"),
+    (b"--backup n", "files\n"),
+    (b"--backup=", "--backup=new\n--backup=never\n--backup=old\n"),
 ];
 
 #[test]
 fn values(rt: HostRuntime) {
     assert_eq!(rt;
-        first_wrong(rt.alloc(), &Options::new(&CHOICES), &OFFERED).expect(&rt, "success"),
+        first_wrong_offer(rt.alloc(), &Options::new(&CHOICES), &OFFERED).expect(&rt, "success"),
         None
     );
 }
 
-// The first script that does not begin as in its row, or none.
-fn first_wrong_script(
-    alloc: Global,
-    options: &ArchiveOptions<'_>,
-) -> Result<Option<usize>, AllocError> {
-    for (row, (line, front)) in SCRIPTS.iter().enumerate() {
-        if !is_script(alloc, options, line, front)? {
+// A help text of several lines is put on one.
+static PAINT: Archive<'static> = declare! {
+    program: "archive",
+    options: [flag(Flag::Verbose, Names::Long("verbose"), "tell\nmore\tthan é\x7f")],
+};
+
+#[test]
+fn help_on_one_line(rt: HostRuntime) {
+    let rows: [(&[u8], &str); 1] = [(b"-", "--verbose\ttell more than é \n")];
+    assert_eq!(rt;
+        first_wrong_offer(rt.alloc(), &Options::new(&PAINT), &rows).expect(&rt, "success"),
+        None
+    );
+}
+
+// What is asked for by a value of the variable, and how what is printed begins.
+static REQUESTS: [(&[u8], Do, &str); 8] = [
+    (b"", Work, "[Flag(Verbose)]"),
+    (b"bash_source", Print, "# "),
+    (b"zsh_source", Print, "#compdef archive\n"),
+    (b"fish_source", Print, "# "),
+    (b"zsh_complete", Print, "-v\ttell more\n"),
+    (b"fish_complete", Print, "-v\ttell more\n"),
+    (b"tcsh_source", Refuse, NOT_KNOWN),
+    (b"bash_source ", Refuse, NOT_KNOWN),
+];
+
+const NOT_KNOWN: &str = "archive: invalid value of _ARCHIVE_COMPLETE: one of bash_source, \
+    bash_complete, zsh_source, zsh_complete, fish_source, fish_complete\n\
+    Try 'archive --help' for more information.";
+
+// What is to be done about the words `archive -v` where the variable has this value, and what is
+// read or printed.
+fn answer_by(alloc: Global, value: Option<&[u8]>) -> Result<(Do, String), AllocError> {
+    let words = words_of(alloc, b"archive -v")?;
+    let arguments = Arguments { words: &words };
+    let environment = Variable {
+        arguments,
+        name: "_ARCHIVE_COMPLETE",
+        value,
+    };
+    match archive_of_files().from_env(&(environment, alloc))? {
+        Answer::Said(said) => Ok((Work, debug_of(alloc, &said)?)),
+        Answer::Text(text) => Ok((Print, text)),
+        Answer::Refused(refused) => Ok((Refuse, refused.to_string(alloc)?)),
+    }
+}
+
+// The first of these rows that does not hold, or none.
+fn first_wrong_request(alloc: Global) -> Result<Option<usize>, AllocError> {
+    for (row, (value, wanted, front)) in REQUESTS.iter().enumerate() {
+        let (done, text) = answer_by(alloc, Some(value))?;
+        if done != *wanted || !text.as_str().starts_with(front) {
             return Ok(Some(row));
         }
     }
@@ -196,11 +271,17 @@ fn first_wrong_script(
 }
 
 #[test]
-fn scripts(rt: HostRuntime) {
+fn requests(rt: HostRuntime) {
     assert_eq!(rt;
-        first_wrong_script(rt.alloc(), &archive_of_files()).expect(&rt, "success"),
+        first_wrong_request(rt.alloc()).expect(&rt, "success"),
         None
     );
+    // The variable is not set, or has more bytes than are read.
+    let (done, text) = answer_by(rt.alloc(), None).expect(&rt, "success");
+    assert!(rt; done == Work && text.as_str() == "[Flag(Verbose)]");
+    let long: &[u8] = b"bash_completely_of_course";
+    let (done, text) = answer_by(rt.alloc(), Some(long)).expect(&rt, "success");
+    assert!(rt; done == Refuse && text.as_str() == NOT_KNOWN);
 }
 
 // Whether this is the answer to `-h` under these options and arguments.

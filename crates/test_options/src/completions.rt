@@ -2,7 +2,7 @@
 use crate::archive::{
     ARCHIVE, ArchiveOptions, Flag, Maybe, Value, Values, archive, archive_of_files, words_of,
 };
-use lexopt_options::{Options, OsString, Role};
+use lexopt_options::{Options, OsString, Role, Spelling};
 use std::alloc::{AllocError, Global};
 
 // What a word that is not an option would be.
@@ -152,7 +152,7 @@ static ROWS: [Row; 20] = [
 /// Whether these are the spellings, with blanks between them.
 pub fn are_spellings(
     alloc: Global,
-    spellings: &[String],
+    spellings: &[Spelling<'_>],
     wanted: &str,
 ) -> Result<bool, AllocError> {
     let mut text = String::new(alloc);
@@ -160,7 +160,7 @@ pub fn are_spellings(
         if !text.is_empty() {
             text.push(' ')?;
         }
-        text.push_str(spelling.as_str())?;
+        text.push_str(spelling.text.as_str())?;
     }
     Ok(text.as_str() == wanted)
 }

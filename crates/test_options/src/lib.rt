@@ -1,5 +1,5 @@
 //! Tests of declared options: what is read, printed, refused and offered, by rows that are written
-//! by hand and beside a plain reader.
+//! by hand.
 #![tactic(auto)]
 
 #[cfg(test)]
@@ -8,8 +8,6 @@ mod answers;
 mod archive;
 #[cfg(test)]
 mod asked;
-#[cfg(test)]
-mod brute;
 #[cfg(test)]
 mod completions;
 #[cfg(test)]

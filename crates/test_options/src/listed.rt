@@ -1,6 +1,5 @@
 //! Positional arguments with lists of words: what lines mean, how they are refused, what completes
 //! their words, and the help.
-use crate::answers::Do::{self, Print};
 use crate::archive::{Archive, Flag, Value, Word, archive};
 use crate::{answers, readings, refusals};
 use lexopt_options::{DeclarationError, Names, Options, Positional, declare};
@@ -116,34 +115,30 @@ fn refused(rt: HostRuntime) {
 }
 
 // What completes the words of these arguments.
-static OFFERED: [(&[u8], Do, &str); 10] = [
-    (
-        b"__complete ",
-        Print,
-        "-v\n--verbose\n-u\n--user\n-h\n--help\n+fast\n+slow\n",
-    ),
-    (b"__complete s", Print, "+slow\n"),
-    (b"__complete m", Print, ""),
+static OFFERED: [(&[u8], &str); 11] = [
+    (b"", "+fast\n+slow\n"),
+    (b"-", DASHED),
+    (b"s", "+slow\n"),
+    (b"m", ""),
     // The next word is a file or the form.
-    (b"__complete fast t", Print, "+tar\nfiles\n"),
-    (b"__complete fast a z", Print, "+zip\nfiles\n"),
+    (b"fast t", "+tar\nfiles\n"),
+    (b"fast a z", "+zip\nfiles\n"),
     // No line with an option after this word is legal.
-    (b"__complete medium -", Print, ""),
-    (b"__complete medium t", Print, "+tar\nfiles\n"),
-    (
-        b"__complete fast tar -",
-        Print,
-        "-v\n--verbose\n-u\n--user\n-h\n--help\n",
-    ),
-    (b"__complete -- ", Print, "+fast\n+slow\n"),
-    (b"__complete -u ", Print, "files\n"),
+    (b"medium -", ""),
+    (b"medium t", "+tar\nfiles\n"),
+    (b"fast tar -", DASHED),
+    (b"-- ", "+fast\n+slow\n"),
+    (b"-u ", "files\n"),
 ];
+
+const DASHED: &str = "-v\ttell more\n--verbose\ttell more\n-u\twhose it is\n--user\twhose it is\n\
+    -h\tprint this help and exit\n--help\tprint this help and exit\n";
 
 #[test]
 fn offers(rt: HostRuntime) {
     let pack = Options::new(&PACK);
     assert_eq!(rt;
-        answers::first_wrong(rt.alloc(), &pack, &OFFERED).expect(&rt, "success"),
+        answers::first_wrong_offer(rt.alloc(), &pack, &OFFERED).expect(&rt, "success"),
         None
     );
 }
@@ -159,19 +154,19 @@ static COPY: Archive<'static> = declare! {
     ],
 };
 
-static KINDS: [(&[u8], Do, &str); 5] = [
-    (b"__complete a", Print, ""),
-    (b"__complete a b", Print, "directories\n"),
-    (b"__complete a b c", Print, "files\n"),
-    (b"__complete a b c d", Print, ""),
-    (b"__complete -- a -", Print, "directories\n"),
+static KINDS: [(&[u8], &str); 5] = [
+    (b"a", ""),
+    (b"a b", "directories\n"),
+    (b"a b c", "files\n"),
+    (b"a b c d", ""),
+    (b"-- a -", "directories\n"),
 ];
 
 #[test]
 fn kinds(rt: HostRuntime) {
     let copy = Options::new(&COPY);
     assert_eq!(rt;
-        answers::first_wrong(rt.alloc(), &copy, &KINDS).expect(&rt, "success"),
+        answers::first_wrong_offer(rt.alloc(), &copy, &KINDS).expect(&rt, "success"),
         None
     );
 }

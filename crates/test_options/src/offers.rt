@@ -99,7 +99,7 @@ fn agrees(
         let is_offered = completion
             .spellings
             .iter()
-            .any(|text| text.as_str() == spelling);
+            .any(|own| own.text.as_str() == spelling);
         if is_offered != can_occur(rt, options, words, spelling, &kind) {
             return false;
         }

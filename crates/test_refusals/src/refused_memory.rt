@@ -7,7 +7,8 @@ use lexopt::os_string::arguments;
 use lexopt::replay::{Call, Reply, RunError, read_items, replay, run};
 use lexopt::spell::{Reason, SpellError, spell};
 use lexopt::{Arg, Error, OsStr, OsString, Parser, ValueExt};
-use lexopt_options::{Answer, Declaration, Leading, Names, Options, declare};
+use lexopt_commands::{Command, Commands, Step, declare_commands};
+use lexopt_options::{Answer, Declaration, Leading, Names, Options, Request, declare};
 use std::alloc::{AllocError, Global};
 use std::str::FromStr;
 use std::test::Fail;
@@ -911,6 +912,26 @@ fn answers_so(
     }
 }
 
+// The same of a request of a shell.
+fn requests_so(
+    alloc: Global,
+    options: Options<'static, Flag, Value, Word>,
+    value: &[u8],
+    lines: &[u8],
+    wanted: &str,
+) -> Result<(), Fail> {
+    let Ok(words) = split_words(alloc, lines) else {
+        return told(true, "the list");
+    };
+    match options.answer_request(alloc, Request::new(alloc, Some(value), words), 40) {
+        Ok(answer) => ended(
+            is_answer(alloc, &answer, wanted)?.then_some(false),
+            "answer_request",
+        ),
+        Err(_) => told(true, "answer_request"),
+    }
+}
+
 #[test]
 fn declared_line(rt: HostRuntime) -> Result<(), Fail> {
     answers_so(
@@ -971,11 +992,38 @@ fn declared_version(rt: HostRuntime) -> Result<(), Fail> {
 
 #[test]
 fn declared_completion(rt: HostRuntime) -> Result<(), Fail> {
-    answers_so(
+    requests_so(
         rt.alloc(),
         Options::new(&PACK),
-        b"__complete\n-v\n-o\nx\n--",
-        "--verbose\n--output\n--help\n--version\n",
+        b"bash_complete",
+        b"-v\n-o\nx\n--",
+        "--verbose\ttell more\n--output\twrite to this file\n\
+        --help\tprint this help and exit\n--version\tprint the version and exit\n",
+    )
+}
+
+// A value in the word of its option.
+#[test]
+fn declared_joined(rt: HostRuntime) -> Result<(), Fail> {
+    requests_so(
+        rt.alloc(),
+        Options::new(&PACK),
+        b"zsh_complete",
+        b"-vofi",
+        "files\t-vo\n",
+    )
+}
+
+// A request that is not known.
+#[test]
+fn declared_request(rt: HostRuntime) -> Result<(), Fail> {
+    requests_so(
+        rt.alloc(),
+        Options::new(&CHOOSE),
+        b"tcsh_source",
+        b"-v",
+        "choose: invalid value of _CHOOSE_COMPLETE: one of bash_source, bash_complete, \
+        zsh_source, zsh_complete, fish_source, fish_complete",
     )
 }
 
@@ -1014,11 +1062,12 @@ fn declared_argument(rt: HostRuntime) -> Result<(), Fail> {
 
 #[test]
 fn declared_owners(rt: HostRuntime) -> Result<(), Fail> {
-    answers_so(
+    requests_so(
         rt.alloc(),
         Options::new(&CHOOSE),
-        b"__complete\n",
-        "-v\n--verbose\n+fast\n+slow\n+tar\n",
+        b"fish_complete",
+        b"",
+        "+fast\n+slow\n+tar\n",
     )
 }
 
@@ -1055,4 +1104,123 @@ fn declared_leading(rt: HostRuntime) -> Result<(), Fail> {
         ),
         Err(_) => told(true, "read_leading"),
     }
+}
+
+static TASKS: &[Command<'static, u8>] = declare_commands![
+    command(1, "add", "add files"),
+    help("help"),
+];
+
+// Whether this is what a program with commands is to do.
+fn is_step(
+    alloc: Global,
+    step: &Step<'_, u8, Flag, Value, Word>,
+    wanted: &str,
+) -> Result<bool, AllocError> {
+    let mut text = String::with_capacity(alloc, 400)?;
+    match step {
+        Step::Command(said, key, own) => write!(text, "{said:?} {key} {own:?}")?,
+        Step::Text(own) => write!(text, "{own}")?,
+        Step::Refused(refused) => write!(text, "{refused}")?,
+    }
+    Ok(text.as_str() == wanted)
+}
+
+// What a program with commands is to do about these words where the variable has this value, or that
+// it was refused memory.
+fn steps_so(alloc: Global, value: Option<&[u8]>, lines: &[u8], wanted: &str) -> Result<(), Fail> {
+    let Ok(words) = split_words(alloc, lines) else {
+        return told(true, "the list");
+    };
+    let commands = Commands::new(Options::new(&PACK), TASKS);
+    match commands.answer_request(alloc, Request::new(alloc, value, words), 40) {
+        Ok(step) => ended(
+            is_step(alloc, &step, wanted)?.then_some(false),
+            "commands_answer_request",
+        ),
+        Err(_) => told(true, "commands_answer_request"),
+    }
+}
+
+#[test]
+fn commands_command(rt: HostRuntime) -> Result<(), Fail> {
+    steps_so(
+        rt.alloc(),
+        None,
+        b"-vo\nx\nhelp\nadd\n-q",
+        "[Flag(Verbose), Value(Output, \"x\")] 1 Line([\"-q\", \"--help\"])",
+    )
+}
+
+#[test]
+fn commands_help(rt: HostRuntime) -> Result<(), Fail> {
+    steps_so(
+        rt.alloc(),
+        None,
+        b"help",
+        "Usage: pack [OPTION]... [FILE]...\nPacks.\n\n  \
+        add        add files\n  \
+        help       print the help of a command\n\n  \
+        -v, --verbose\n             tell more\n  \
+        -o, --output=FILE\n             write to this file\n  \
+        -h, --help\n             print this help and exit\n      \
+        --version\n             print the version and exit\n",
+    )
+}
+
+#[test]
+fn commands_version(rt: HostRuntime) -> Result<(), Fail> {
+    steps_so(rt.alloc(), None, b"-v\n--version\nadd", "pack 1.0\n")
+}
+
+#[test]
+fn commands_unknown(rt: HostRuntime) -> Result<(), Fail> {
+    steps_so(
+        rt.alloc(),
+        None,
+        b"-v\nAdd",
+        "pack: unknown command \"Add\"; did you mean 'add'?\n\
+        Try 'pack --help' for more information.",
+    )
+}
+
+#[test]
+fn commands_missing(rt: HostRuntime) -> Result<(), Fail> {
+    steps_so(
+        rt.alloc(),
+        None,
+        b"-v",
+        "pack: missing command: one of add, help\nTry 'pack --help' for more information.",
+    )
+}
+
+#[test]
+fn commands_names(rt: HostRuntime) -> Result<(), Fail> {
+    steps_so(
+        rt.alloc(),
+        Some(b"bash_complete"),
+        b"-v\na",
+        "+add\tadd files\nfiles\n",
+    )
+}
+
+#[test]
+fn commands_asked(rt: HostRuntime) -> Result<(), Fail> {
+    steps_so(
+        rt.alloc(),
+        Some(b"bash_complete"),
+        b"-v\nadd\n-x\n-",
+        "[Flag(Verbose)] 1 Completion([\"-x\"], \"-\")",
+    )
+}
+
+#[test]
+fn commands_request(rt: HostRuntime) -> Result<(), Fail> {
+    steps_so(
+        rt.alloc(),
+        Some(b"tcsh_complete"),
+        b"-v",
+        "pack: invalid value of _PACK_COMPLETE: one of bash_source, bash_complete, zsh_source, \
+        zsh_complete, fish_source, fish_complete\nTry 'pack --help' for more information.",
+    )
 }

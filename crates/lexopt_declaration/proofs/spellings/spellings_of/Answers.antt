@@ -1,5 +1,5 @@
-use Rattle.std.proofs.Common.{ap, filter, map, nat_eq, ◌++◌, ◌∙◌, arith}
-use Rattle.lexopt_options_spec.specs.Completion.{names_of, spelling, spellings}
+use Rattle.std.proofs.Common.{◌++◌, ap, filter, map, nat_eq, ◌∙◌, arith}
+use Rattle.lexopt_options_spec.specs.Completion.{explained, explained_by}
 use Rattle.std.specs.List.{starts_with}
 use Rattle.std.proofs.lemmas.List.{take_all}
 use Rattle.lexopt_declaration.specs.Models.{option_view}
@@ -9,11 +9,11 @@ use Rattle.lexopt_declaration.proofs.spellings.spellings_of.Goals as goal
 pub loop-option-preserved : goal.loop-option-preserved
 loop-option-preserved g c = record {
   text = text_more c.args.options.now c.loop-option.option-index c.option-item.result c.loop-option-test.true c.option-item.is c.loop-option.invariant.text c.in_ok-add_spellings.ensures.text;
-  spellings = spelled_more (λ s. starts_with nat_eq s c.args.typed.now) c.args.options.now c.loop-option.option-index c.option-item.result _ c.loop-option-test.true c.option-item.is
-      (c.in_ok-add_spellings.ensures.added ∙ ap (λ l. l ++ filter (λ s. starts_with nat_eq s c.args.typed.now) (map spelling (names_of (option_view c.option-item.result)))) c.loop-option.invariant.spellings);
+  spellings = spelled_more (λ p. starts_with nat_eq p.0 c.args.typed.now) c.args.options.now c.loop-option.option-index c.option-item.result _ c.loop-option-test.true c.option-item.is
+      (c.in_ok-add_spellings.ensures.added ∙ ap (λ l. l ++ filter (λ p. starts_with nat_eq p.0 c.args.typed.now) (explained_by (option_view c.option-item.result))) c.loop-option.invariant.spellings);
 }
 
 pub returns-clause-spellings : goal.returns-clause-spellings
 returns-clause-spellings g c =
     c.loop-option.invariant.spellings
-    ∙ ap (λ os. filter (λ s. starts_with nat_eq s c.args.typed.now) (spellings (map option_view os))) (take_all c.loop-option.option-index c.args.options.now (omega (arith, c.loop-option-test.false)))
+    ∙ ap (λ os. filter (λ p. starts_with nat_eq p.0 c.args.typed.now) (explained (map option_view os))) (take_all c.loop-option.option-index c.args.options.now (omega (arith, c.loop-option-test.false)))

@@ -1,23 +1,45 @@
-use Rattle.std.proofs.Common.{◌≡◌, [], ◌∷◌, Some, None, true, false, codes, refl, sym, true≢false}
-use Rattle.lexopt_options_spec.specs.Legal.{option}
-use Rattle.lexopt_laws.proofs.WorkedOpen.{after_a_flag, at_the_start}
+use Rattle.std.proofs.Common.{◌≡◌, [], ◌∷◌, List, Some, None, true, codes, refl, ap, sym, ◌∙◌}
+use Rattle.lexopt_options_spec.specs.Completion.{value_of}
+use Rattle.lexopt_line_spec.proofs.Computing.{computing}
+use Rattle.lexopt_options_spec.specs.Legal.{option, several}
+use Rattle.lexopt_options_spec.proofs.Fronts.{one_front}
+use Rattle.lexopt_options_spec.proofs.LastWords.{same_last}
+use Rattle.lexopt_laws.proofs.WorkedOpen.{after_a_flag, at_the_start, at_the_start_otherwise}
 use Rattle.lexopt_laws.proofs.WorkedRoles as worked
 use Rattle.lexopt_laws.proofs.option_examples.values_are_joined.Goals as goal
 
 pub returns-clause-after_no_words : goal.returns-clause-after_no_words
-returns-clause-after_no_words c = ([], option 1 (Some (codes "fi")), refl, at_the_start, worked.output_says, refl)
+unfolding computing
+returns-clause-after_no_words c = worked.joins at_the_start [] (option 1 (Some (codes "fi"))) worked.output_says refl (codes "--output=") (codes "fi") refl refl (codes "--output=", (refl, refl))
 
 pub returns-clause-after_a_flag : goal.returns-clause-after_a_flag
-returns-clause-after_a_flag c = (option 0 None ∷ [], option 1 (Some (codes "fi")), refl, after_a_flag, worked.output_says, refl)
+unfolding computing
+returns-clause-after_a_flag c = worked.joins after_a_flag [] (option 1 (Some (codes "fi"))) worked.output_says refl (codes "--output=") (codes "fi") refl refl (codes "--output=", (refl, refl))
+
+pub returns-clause-in_a_cluster : goal.returns-clause-in_a_cluster
+unfolding computing
+returns-clause-in_a_cluster c = worked.joins at_the_start (option 0 None ∷ []) (option 1 (Some (codes "fi"))) worked.cluster_says refl (codes "-vo") (codes "fi") refl refl (codes "-vo", (refl, refl))
+
+pub returns-clause-after_a_sign : goal.returns-clause-after_a_sign
+unfolding computing
+returns-clause-after_a_sign c = worked.joins at_the_start [] (option 1 (Some (codes "fi"))) worked.sign_says refl (codes "-o=") (codes "fi") refl refl (codes "-o=", (refl, refl))
+
+pub returns-clause-without_the_setting : goal.returns-clause-without_the_setting
+unfolding computing
+returns-clause-without_the_setting c = worked.joins at_the_start_otherwise [] (option 1 (Some (codes "=fi"))) worked.setting_says refl (codes "-o") (codes "=fi") refl refl (codes "-o", (refl, refl))
+
+pub returns-clause-one_of_several : goal.returns-clause-one_of_several
+unfolding computing
+returns-clause-one_of_several c = worked.joins at_the_start [] (several 3 (codes "a" ∷ [])) worked.several_says refl (codes "-x") (codes "a") refl refl (codes "-x", (refl, refl))
 
 pub returns-clause-flag : goal.returns-clause-flag
-returns-clause-flag c l i s equals is_open says is = worked.verbose_says_nothing (s ∷ []) says
+returns-clause-flag c i before is = worked.verbose_says_nothing _ is.word_says
 
 pub returns-clause-after_the_separator : goal.returns-clause-after_the_separator
-returns-clause-after_the_separator c l i s equals is_open says is = worked.closed l is_open
+returns-clause-after_the_separator c i before is = worked.closed is.said is.is_open
 
 pub returns-clause-value_due : goal.returns-clause-value_due
-returns-clause-value_due c l i s equals is_open says is = worked.says_no_value l is_open.front
+returns-clause-value_due c i before is = worked.says_no_value is.said is.is_open.front
 
-pub returns-clause-without_equals : goal.returns-clause-without_equals
-returns-clause-without_equals c l i s equals is_open says is = let e : false ≡ true = equals in true≢false (sym e)
+pub returns-clause-no_value : goal.returns-clause-no_value
+returns-clause-no_value c i before is = worked.no_value_there is

@@ -1,25 +1,27 @@
-use Rattle.std.proofs.Common.{◌≡◌, [], ◌∷◌, Some, true, false, codes, refl, sym, subst, true≢false}
+use Rattle.std.proofs.Common.{◌≡◌, [], ◌∷◌, Some, codes, refl, subst, sym}
 use Rattle.lexopt_line_spec.proofs.Worked.{differ}
+use Rattle.lexopt_line_spec.proofs.Computing.{computing}
 use Rattle.lexopt_options_spec.specs.Legal.{option}
 use Rattle.lexopt_options_spec.specs.Completion.{IsOption}
-use Rattle.lexopt_options_spec.proofs.Fronts.{one_front}
 use Rattle.lexopt_laws.proofs.WorkedOpen.{at_the_start}
 use Rattle.lexopt_laws.proofs.WorkedRoles as worked
 use Rattle.lexopt_laws.proofs.option_examples.values_are_not_joined.Goals as goal
 
 pub returns-clause-not_none : goal.returns-clause-not_none
-returns-clause-not_none c none = none [] 1 (option 1 (Some (codes "fi"))) refl at_the_start worked.output_says refl
+unfolding computing
+returns-clause-not_none c none = none 1 (codes "--output=") (worked.joins at_the_start [] (option 1 (Some (codes "fi"))) worked.output_says refl (codes "--output=") (codes "fi") refl refl (codes "--output=", (refl, refl)))
 
 pub returns-clause-not_another : goal.returns-clause-not_another
-returns-clause-not_another c (l, s, equals, is_open, says, is) =
-    let e : s ∷ [] ≡ option 1 (Some (codes "fi")) ∷ [] = one_front _ _ (s ∷ []) (option 1 (Some (codes "fi")) ∷ []) says worked.output_says in
-    let same : s ≡ option 1 (Some (codes "fi")) = cc in differ 1 2 refl (subst (IsOption 2) same is)
+returns-clause-not_another c is = differ 1 2 refl (subst (IsOption 2) (worked.output_last is).0 is.is)
+
+pub returns-clause-not_more_before : goal.returns-clause-not_more_before
+returns-clause-not_more_before c is = worked.no_shorter_value is
 
 pub returns-clause-flag : goal.returns-clause-flag
-returns-clause-flag c (l, s, equals, is_open, says, is) = worked.verbose_says_nothing (s ∷ []) says
+returns-clause-flag c is = worked.verbose_says_nothing _ is.word_says
 
 pub returns-clause-after_the_separator : goal.returns-clause-after_the_separator
-returns-clause-after_the_separator c (l, s, equals, is_open, says, is) = worked.closed l is_open
+returns-clause-after_the_separator c is = worked.closed is.said is.is_open
 
-pub returns-clause-without_equals : goal.returns-clause-without_equals
-returns-clause-without_equals c (l, s, equals, is_open, says, is) = let e : false ≡ true = equals in true≢false (sym e)
+pub returns-clause-no_value : goal.returns-clause-no_value
+returns-clause-no_value c is = worked.no_value_there is

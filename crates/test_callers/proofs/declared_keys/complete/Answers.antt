@@ -7,4 +7,4 @@ pub returns-clause-word : goal.returns-clause-word
 returns-clause-word g c = IfOk-weaker c.complete.result _ _ (λ done is. known_role (options_of c.args.options.now) is.role done.word is.word) c.complete.ensures
 
 pub returns-clause-joined : goal.returns-clause-joined
-returns-clause-joined g c = IfOk-weaker c.complete.result _ _ (λ done is. known (options_of c.args.options.now) is.index done.joined is.joined) c.complete.ensures
+returns-clause-joined g c = IfOk-weaker c.complete.result _ _ (λ done is. known (options_of c.args.options.now) is.with_value done.joined is.joined) c.complete.ensures

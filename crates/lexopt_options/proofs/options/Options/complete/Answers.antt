@@ -26,7 +26,7 @@ returns g c =
       has_role = c.place_after-place.ensures.role d c.args.words.now opens dashed plain;
       word = c.role-word.ensures;
       arguments = c.in_ok-arguments.ensures;
-      index = c.in_ok-joined.ensures.0;
+      with_value = c.in_ok-joined.ensures.0;
       is_joined = c.in_ok-joined.ensures.1;
       joined = c.in_ok-joined.ensures.2;
     }

@@ -1,6 +1,7 @@
-use Rattle.std.proofs.Common.{List, String, map, refl, string_bytes, subst, sym}
-use Rattle.std.specs.Global.{Global}
+use Rattle.std.proofs.Common.{List, map, refl, subst, sym}
 use Rattle.std.specs.Option.{IsSome}
+use Rattle.lexopt_declaration.specs.declared.spellings.Spelling.{Spelling}
+use Rattle.lexopt_declaration.specs.Models.{spelling_view}
 use Rattle.lexopt_options.specs.Completions.{AreOffered, CanCome}
 use Rattle.lexopt_options.specs.Declarations.{declaration_of, options_of}
 use Rattle.lexopt_options.proofs.Completing.{all_named, none_stands, offered_all}
@@ -8,7 +9,7 @@ use Rattle.lexopt_options.proofs.options.Options.spellings_for.Goals as goal
 
 pub returns-then-not-can_come : goal.returns-then-not-can_come
 returns-then-not-can_come g c = λ words opens.
-    subst (λ (l : List (String Global)). AreOffered (declaration_of c.args.self.now) words c.args.typed.now (map string_bytes l)) (sym c.new.ensures.items)
+    subst (λ (l : List Spelling). AreOffered (declaration_of c.args.self.now) words c.args.typed.now (map spelling_view l)) (sym c.new.ensures.items)
     (none_stands (declaration_of c.args.self.now) words c.args.typed.now (subst (CanCome (declaration_of c.args.self.now) words) c.if-not-can_come.true opens))
 
 pub returns-in-Some : goal.returns-in-Some

@@ -1,0 +1,128 @@
+//! Commands that are declared once: `example_commands [OPTION].. COMMAND [ARGUMENT]..`, where the
+//! command `remote` has commands of its own. It prints what it has read, quoted.
+//! `_EXAMPLE_COMMANDS_COMPLETE=bash_source example_commands` prints a script that completes its
+//! lines.
+//!
+//! The exit status is 0, or 2 if the command line was refused, or 1 if memory ran out or a line
+//! could not be printed; then standard error says why.
+#![tactic(auto)]
+
+use lexopt_commands::{Command, Commands, Step, USAGE_ERROR, columns, declare_commands};
+use lexopt_options::{Answer, Declaration, Names, Options, Quoted, Request, Said, declare};
+use std::convert::Infallible;
+use std::fmt::Display;
+use std::io;
+use std::process::ExitCode;
+
+#[derive(Clone, Copy)]
+enum Task {
+    Add,
+    List,
+    Remote,
+}
+
+static GENERAL: Declaration<'static, Infallible, (), ()> = declare! {
+    program: "example_commands",
+    about: "Prints what it has read.",
+    options: [
+        value((), Names::Both('C', "directory"), "DIR", "where the files are").directories(),
+        help(Names::Both('h', "help")),
+    ],
+    positionals: [once((), "COMMAND").text(), any_number((), "ARGUMENT")],
+};
+
+static COMMANDS: &[Command<'static, Task>] = declare_commands![
+    command(Task::Add, "add", "add files"),
+    command(Task::List, "list", "list what was added"),
+    command(Task::Remote, "remote", "add a remote"),
+    help("help"),
+];
+
+static REMOTE: Declaration<'static, Infallible, Infallible, ()> = declare! {
+    program: "example_commands remote",
+    options: [help(Names::Both('h', "help"))],
+    positionals: [once((), "COMMAND").text(), any_number((), "ARGUMENT")],
+};
+
+static REMOTE_COMMANDS: &[Command<'static, ()>] = declare_commands![command(
+    (),
+    "add",
+    "add a remote"
+)];
+
+static ADD: Declaration<'static, Infallible, Infallible, ()> = declare! {
+    program: "example_commands add",
+    options: [help(Names::Both('h', "help"))],
+    positionals: [at_least_once((), "FILE")],
+};
+
+static LIST: Declaration<'static, Infallible> = declare! {
+    program: "example_commands list",
+    options: [help(Names::Both('h', "help"))],
+};
+
+static REMOTE_ADD: Declaration<'static, Infallible, Infallible, ()> = declare! {
+    program: "example_commands remote add",
+    options: [help(Names::Both('h', "help"))],
+    positionals: [once((), "NAME"), once((), "URL")],
+};
+
+fn refuse(rt: &HostRuntime, refused: &impl Display) -> ExitCode {
+    let _ = eprintln!(rt; "{refused}");
+    ExitCode::from(USAGE_ERROR)
+}
+
+fn work<P: Copy>(
+    rt: &HostRuntime,
+    options: &Options<'_, Infallible, Infallible, P>,
+    request: Request,
+) -> io::Result<ExitCode> {
+    match options.answer_request(rt.alloc(), request, columns(rt))? {
+        Answer::Said(line) => {
+            rt.println(options.program())?;
+            for said in line {
+                let Said::Positional(_, word) = said;
+                println!(rt; "{}", Quoted::new(word.as_bytes()))?;
+            }
+        }
+        Answer::Text(text) => rt.print(text)?,
+        Answer::Refused(refused) => return Ok(refuse(rt, &refused)),
+    }
+    Ok(ExitCode::SUCCESS)
+}
+
+fn remote(rt: &HostRuntime, request: Request) -> io::Result<ExitCode> {
+    let commands = Commands::new(Options::new(&REMOTE), REMOTE_COMMANDS);
+    match commands.answer_request(rt.alloc(), request, columns(rt))? {
+        Step::Command(_, (), own) => work(rt, &Options::new(&REMOTE_ADD), own),
+        Step::Text(text) => rt.print(text).map(|()| ExitCode::SUCCESS),
+        Step::Refused(refused) => Ok(refuse(rt, &refused)),
+    }
+}
+
+fn run(rt: &HostRuntime) -> io::Result<ExitCode> {
+    match Commands::new(Options::new(&GENERAL), COMMANDS).from_env(rt)? {
+        Step::Command(general, task, request) => {
+            if let (Request::Line(_), Some(Said::Value((), folder))) = (&request, general.last()) {
+                println!(rt; "in {}", Quoted::new(folder.as_bytes()))?;
+            }
+            match task {
+                Task::Add => work(rt, &Options::new(&ADD), request),
+                Task::List => work(rt, &Options::new(&LIST), request),
+                Task::Remote => remote(rt, request),
+            }
+        }
+        Step::Text(text) => rt.print(text).map(|()| ExitCode::SUCCESS),
+        Step::Refused(refused) => Ok(refuse(rt, &refused)),
+    }
+}
+
+fn main(rt: HostRuntime) -> ExitCode {
+    match run(&rt) {
+        Ok(status) => status,
+        Err(error) => {
+            let _ = eprintln!(rt; "example_commands: {error}");
+            ExitCode::FAILURE
+        }
+    }
+}

@@ -1,0 +1,32 @@
+-- The loop that looks for the first command that cannot be declared.
+use Rattle.std.proofs.Common.{◌≡◌, ◌==◌, ◌<◌, ◌+◌, Bool, if◌then◌else◌, ℕ, List, [], ◌∷◌, ◌++◌, length, take, get_or, Option, Some, None, ap, sym, subst, ◌∙◌}
+use Rattle.std.proofs.Math.ListN.{drop}
+use Rattle.std.specs.Cmp.Lexicographic.{pointwise}
+use Rattle.std.specs.List.{list_any}
+use Rattle.lexopt_line_spec.proofs.Lists.{list_any-map}
+use Rattle.std.proofs.lemmas.List.{drop_more, map-append, take_more}
+use Rattle.lexopt_commands.specs.declared.command.Command.{Command}
+use Rattle.lexopt_commands.specs.declared.command.Reason.{Reason}
+use Rattle.lexopt_commands.specs.declared.command.Reason.TheVariants.{SameName}
+use Rattle.lexopt_commands.specs.Names.{fault, first_fault, name_fault, names_of, or_else, with_fault}
+
+-- what is found among the commands from this index on
+abbrev pub found_from : {C : Type 0} → List (Command C) → ℕ → Option (List ℕ × Reason)
+found_from commands i = first_fault (names_of (take i commands)) (names_of (drop i commands))
+
+-- the command of this index has this fault, or none
+pub one_step : {C : Type 0} (commands : List (Command C)) (i : ℕ) (c : Command C) → i < length commands → c ≡ get_or commands i c
+    → found_from commands i ≡ with_fault c.name.now (fault (names_of (take i commands)) c.name.now) (found_from commands (i + 1))
+one_step commands i c within is =
+    let rest = drop_more commands i c within ∙ ap (λ x. x ∷ drop (i + 1) commands) (sym is) in
+    let front = ap names_of (take_more commands i c within ∙ ap (λ x. take i commands ++ x ∷ []) (sym is)) ∙ map-append (λ (x : Command _). x.name.now) (take i commands) (c ∷ []) in
+    ap (λ l. first_fault (names_of (take i commands)) (names_of l)) rest
+    ∙ ap (λ names. with_fault c.name.now (fault (names_of (take i commands)) c.name.now) (first_fault names (names_of (drop (i + 1) commands)))) (sym front)
+
+-- a name with no fault of its own cannot be declared if a command before it has it
+pub fault_among : {C : Type 0} (commands : List (Command C)) (name own : List ℕ) (is_among : Bool) → own ≡ name → None ≡ name_fault own → is_among ≡ list_any (λ (c : Command C). pointwise ◌==◌ c.name.now own) commands
+    → (if is_among then Some SameName else None) ≡ fault (names_of commands) name
+fault_among commands name own is_among same none among =
+    subst (λ n. (if is_among then Some SameName else None) ≡ fault (names_of commands) n) same
+    (ap (λ b. if b then Some SameName else None) (among ∙ sym (list_any-map (λ (c : Command _). c.name.now) (λ n. pointwise ◌==◌ n own) commands))
+    ∙ ap (λ r. or_else r (if list_any (λ n. pointwise ◌==◌ n own) (names_of commands) then Some SameName else None)) none)

@@ -1,0 +1,5 @@
+pub mod FirstFaults
+pub mod Found
+pub mod Entries
+pub mod LinesRead
+pub mod Placed

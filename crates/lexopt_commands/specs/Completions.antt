@@ -1,0 +1,144 @@
+-- What can come where a word is typed in a line of a program that has commands. The source is
+-- `docs/behaviour.md`.
+use Rattle.std.specs.Prelude.{◌≡◌, ◌⊎◌, ◌++◌, ◌∷◌, ℕ, if◌then◌else◌, nat_eq, List, []}
+use Rattle.std.specs.Prelude.{Option, Some, None, codes, string_bytes}
+use Rattle.std.specs.List.{AllZip, concat, flat_map, starts_with}
+use Rattle.std.specs.Str.{chars}
+use Rattle.lexopt_options_spec.specs.Asking.{first_asked}
+use Rattle.lexopt_options_spec.specs.Declaration.{Declaration}
+use Rattle.lexopt_options_spec.specs.Help.{line_feed}
+use Rattle.lexopt_options_spec.specs.Leading.{SaysLeading}
+use Rattle.lexopt_options_spec.specs.Legal as legal
+use Rattle.lexopt_options.specs.declared.leading.Leading.{Leading}
+use Rattle.lexopt_options.specs.declared.leading.Leading.TheVariants as leading
+use Rattle.lexopt_options.specs.declared.request.Request.TheVariants as request
+use Rattle.lexopt_options.specs.declared.said.Said.{Said}
+use Rattle.lexopt_options.specs.Answers.{IsCompletionText, on_one_line}
+use Rattle.lexopt_options.specs.Completions.{HasPositional}
+use Rattle.lexopt_options.specs.Declarations.{declaration_of, options_of}
+use Rattle.lexopt_options.specs.Keys.{AreSaid}
+use Rattle.lexopt_commands.specs.declared.answer.Step.{Step}
+use Rattle.lexopt_commands.specs.declared.answer.Step.TheVariants as step
+use Rattle.lexopt_commands.specs.declared.command.Command.{Command}
+use Rattle.lexopt_commands.specs.declared.command.Runs.{Runs}
+use Rattle.lexopt_commands.specs.declared.command.Runs.TheVariants as runs
+use Rattle.lexopt_commands.specs.declared.commands.Commands.{Commands}
+use Rattle.lexopt_commands.specs.Meanings.{runs_of}
+
+-- ---- the names of commands
+
+-- the line for a command: its name after `+`, a tab, and what the help tells of it
+abbrev pub name_line : {C : Type 0} → Command C → List ℕ
+name_line c = codes "+" ++ c.name.now ++ codes "\t" ++ flat_map on_one_line (chars c.help.now)
+    ++ line_feed ∷ []
+
+-- this, if its name begins with what was typed
+abbrev pub begun_line : {C : Type 0} → List ℕ → Command C → List ℕ
+begun_line typed c = if starts_with nat_eq c.name.now typed then name_line c else []
+
+-- this name can come after these words: they are general options that ask for nothing, and the name
+-- is the first word after them
+abbrev pub CanBeName : Declaration → List (List ℕ) → List ℕ → Type 0
+CanBeName d words name = (l : List legal.Said) × SaysLeading d (words ++ name ∷ []) l (name ∷ [])
+    × (first_asked d.options l ≡ None)
+
+-- the line of a command whose name begins with what was typed, and can come; no line of another
+abbrev pub IsNameLine : {C : Type 0} → Declaration → List (List ℕ) → List ℕ → Command C → List ℕ
+    → Type 0
+IsNameLine d words typed c line = (CanBeName d words c.name.now × (line ≡ begun_line typed c))
+    ⊎ ((¬ CanBeName d words c.name.now) × (line ≡ []))
+
+-- general options are legal, and this word alone is left after them
+abbrev pub LeavesOnly : {F V P M S : Type 0} → Leading F V P M S → List ℕ → Type 0
+LeavesOnly (leading.Said said rest) name = rest.items ≡ name ∷ []
+LeavesOnly found name = ⊥
+
+-- ---- where a word is typed
+
+pub data Place (C : Type 0) : Type 0 where
+  -- right after the general options
+  at_options : Place C
+  -- after these words of the command with this key
+  in_command : C → List (List ℕ) → Place C
+  -- right after a name that asks for the help
+  at_help : Place C
+  -- where no line goes on
+  nowhere : Place C
+
+-- by what the name does that comes after one that asks for the help, and by the words after it
+abbrev pub place_of_helped : {C : Type 0} → Option (Runs C) → List (List ℕ) → Place C
+place_of_helped (Some (runs.Command key)) rest = in_command key rest
+place_of_helped (Some runs.Help) rest = nowhere
+place_of_helped None rest = nowhere
+
+-- by the words after a name that asks for the help
+abbrev pub place_at_help : {C : Type 0} → List (Command C) → List (List ℕ) → Place C
+place_at_help commands [] = at_help
+place_at_help commands (word ∷ rest) = place_of_helped (runs_of commands word) rest
+
+-- by what the first name does, and by the words after it
+abbrev pub place_of : {C : Type 0} → List (Command C) → Option (Runs C) → List (List ℕ) → Place C
+place_of commands (Some (runs.Command key)) rest = in_command key rest
+place_of commands (Some runs.Help) rest = place_at_help commands rest
+place_of commands None rest = nowhere
+
+-- by the words after the general options
+abbrev pub place : {C : Type 0} → List (Command C) → List (List ℕ) → Place C
+place commands [] = at_options
+place commands (word ∷ rest) = place_of commands (runs_of commands word) rest
+
+-- ---- what can come
+
+-- where no command is among the words: the lines of names, and what can come by the general
+-- declaration
+abbrev pub IsOptionsText : {C F V P M S : Type 0} → Commands C F V P M S → List (List ℕ) → List ℕ
+    → List ℕ → Type 0
+IsOptionsText c words typed text = (lines : List (List ℕ))
+    × AllZip (IsNameLine (declaration_of c.options) words typed) c.commands.now lines
+    × (own : List ℕ) × IsCompletionText c.options words typed own × (text ≡ concat lines ++ own)
+
+-- what is to be done where this is typed at this place, after these general options
+abbrev pub IsPlaced : {C F V P M S : Type 0} → Commands C F V P M S → List (List ℕ) → List ℕ
+    → List (Said F V P M S) → Place C → Step C F V P M S → Type 0
+IsPlaced c words typed said at_options (step.Text text) =
+    IsOptionsText c words typed (string_bytes text)
+IsPlaced c words typed said (in_command key rest) (step.Command own found (request.Completion before last)) =
+    (own.items ≡ said) × (found ≡ key) × (before.items ≡ rest) × (last ≡ typed)
+IsPlaced c words typed said at_help (step.Text text) =
+    string_bytes text ≡ flat_map (begun_line typed) c.commands.now
+IsPlaced c words typed said nowhere (step.Text text) = string_bytes text ≡ []
+IsPlaced c words typed said place found = ⊥
+
+-- The words legally spell general options that ask for nothing, and then come these, where the place
+-- is by them.
+pub record IsPlacedAfter {C F V P M S : Type 0} (c : Commands C F V P M S)
+    (words : List (List ℕ)) (typed : List ℕ) (found : Step C F V P M S) : Type 0 where
+  pub read : List legal.Said
+  pub rest : List (List ℕ)
+  pub says : SaysLeading (declaration_of c.options) words read rest
+  pub nothing : first_asked (declaration_of c.options).options read ≡ None
+  pub said : List (Said F V P M S)
+  pub are : AreSaid (options_of c.options) read said
+  pub placed : IsPlaced c words typed said (place c.commands.now rest) found
+
+-- this text is to be written
+abbrev pub IsText : {C F V P M S : Type 0} → Step C F V P M S → List ℕ → Type 0
+IsText (step.Text found) text = string_bytes found ≡ text
+IsText found text = ⊥
+
+-- The words do not. Nothing can come if a positional is among them.
+pub record IsUnplaced {C F V P M S : Type 0} (c : Commands C F V P M S)
+    (words : List (List ℕ)) (typed : List ℕ) (found : Step C F V P M S) : Type 0 where
+  pub neither : (l : List legal.Said) (rest : List (List ℕ))
+      → SaysLeading (declaration_of c.options) words l rest
+      → first_asked (declaration_of c.options).options l ≡ None → ⊥
+  pub text : List ℕ
+  pub is_text : IsText found text
+  pub offered : (HasPositional (declaration_of c.options) words × (text ≡ []))
+      ⊎ ((¬ HasPositional (declaration_of c.options) words) × IsOptionsText c words typed text)
+
+-- what is to be done where this is typed after these words
+abbrev pub IsCompletionStep : {C F V P M S : Type 0} → Commands C F V P M S → List (List ℕ)
+    → List ℕ → Step C F V P M S → Type 0
+IsCompletionStep c words typed found =
+    IsPlacedAfter c words typed found ⊎ IsUnplaced c words typed found

@@ -1,0 +1,9 @@
+pub mod Names
+pub mod Meanings
+pub mod Mistakes
+pub mod Messages
+pub mod Lines
+pub mod Views
+pub mod Help
+pub mod Answers
+pub mod Completions

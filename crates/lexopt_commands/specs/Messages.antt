@@ -1,0 +1,36 @@
+-- What is printed of a line that is refused, and of a command that cannot be declared.
+-- The source is `docs/formats.md`.
+use Rattle.std.specs.Prelude.{ℕ, List, ◌++◌, Some, None, codes, map, string_bytes}
+use Rattle.lexopt_spec.specs.Text.{quoted}
+use Rattle.lexopt_options_spec.specs.Help.{list_text}
+use Rattle.lexopt_options.specs.Messages as options
+use Rattle.lexopt_commands.specs.declared.command.CommandError.{CommandError}
+use Rattle.lexopt_commands.specs.declared.command.Reason.{Reason}
+use Rattle.lexopt_commands.specs.declared.command.Reason.TheVariants.{EmptyName, DashName}
+use Rattle.lexopt_commands.specs.declared.command.Reason.TheVariants.{ReplacementInName}
+use Rattle.lexopt_commands.specs.declared.command.Reason.TheVariants.{BlankOrControlInName}
+use Rattle.lexopt_commands.specs.declared.command.Reason.TheVariants.{SameName}
+use Rattle.lexopt_commands.specs.declared.mistake.Mistake.{Mistake}
+use Rattle.lexopt_commands.specs.declared.mistake.Mistake.TheVariants as mistake
+
+-- why a command cannot be declared
+abbrev pub reason_text : Reason → List ℕ
+reason_text EmptyName = codes "its name is empty"
+reason_text DashName = codes "its name begins with '-'"
+reason_text ReplacementInName = codes "its name has U+FFFD in it"
+reason_text BlankOrControlInName = codes "its name has a blank or a control character in it"
+reason_text SameName = codes "a command before it has its name"
+
+-- which command, and why
+abbrev pub command_error_text : CommandError → List ℕ
+command_error_text error =
+    codes "command '" ++ (error.name.now ++ (codes "': " ++ reason_text error.reason))
+
+-- what is wrong with a line
+abbrev pub message : Mistake → List ℕ
+message (mistake.General own) = options.message own
+message (mistake.MissingCommand names) =
+    codes "missing command: one of " ++ list_text (map (λ name. name.now) names.items)
+message (mistake.UnknownCommand word None) = codes "unknown command " ++ quoted word
+message (mistake.UnknownCommand word (Some hint)) = codes "unknown command " ++ (quoted word
+    ++ (codes "; did you mean '" ++ (string_bytes hint ++ codes "'?")))

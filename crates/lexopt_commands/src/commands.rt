@@ -1,0 +1,83 @@
+//! The general options of a program and its commands.
+ghost use Rattle.std.specs.Prelude.{◌≡◌, true};
+ghost use Rattle.lexopt_commands.specs.Names.{can_be_declared, names_of};
+
+use crate::command::{Command, CommandError, first_fault};
+use lexopt_options::Options;
+use std::alloc::AllocError;
+use std::convert::Infallible;
+
+/// The general options of a program and its commands, where all of these can be declared together.
+///
+/// The names of the commands are distinct. None is empty or begins with `-`, and none has a blank,
+/// a control character of ASCII or U+FFFD in it.
+pub struct Commands<'a, C, F, V = Infallible, P = Infallible, M = Infallible, S = Infallible> {
+    options: Options<'a, F, V, P, M, S>,
+    commands: &'a [Command<'a, C>],
+    ghost sound: { can_be_declared (names_of commands.now) ≡ true },
+}
+
+impl<'a, C, F, V, P, M, S> Commands<'a, C, F, V, P, M, S> {
+    ghost use Rattle.std.specs.Prelude.{◌≡◌, [], ℕ, MatchResult, Some, slice_get, true};
+    ghost use Rattle.lexopt_commands.specs.declared.command.Command.{Command};
+    ghost use Rattle.lexopt_commands.specs.Meanings.{runs_of};
+    ghost use Rattle.lexopt_commands.specs.Names.{can_be_declared, first_fault, names_of};
+
+    /// These general options and commands, where the check computes that the commands can be
+    /// declared together: so it does for a constant or a static, and nothing is left to go wrong
+    /// when the program runs.
+    pub fn new(
+        options: Options<'a, F, V, P, M, S>,
+        commands: &'a [Command<'a, C>],
+    ) -> Commands<'a, C, F, V, P, M, S>
+        requires { can_be_declared (names_of commands.now) ≡ true }
+        ensures options { result.options ≡ options.entry }
+        ensures commands { result.commands.now ≡ commands.now }
+    {
+        Commands { options, commands }
+    }
+
+    /// The same, where the commands are known only when the program runs.
+    ///
+    /// The error names the first command that cannot be declared after those before it.
+    pub fn try_new(
+        options: Options<'a, F, V, P, M, S>,
+        commands: &'a [Command<'a, C>],
+    ) -> Result<Commands<'a, C, F, V, P, M, S>, CommandError<'a>>
+        ensures { MatchResult result
+            (λ made. (made.options ≡ options.entry) × (made.commands.now ≡ commands.now))
+            (λ error. first_fault [] (names_of commands.now)
+            ≡ Some (error.name.now, error.reason)) }
+    {
+        match first_fault(commands) {
+            Some(error) => Err(error),
+            None => Ok(Commands { options, commands }),
+        }
+    }
+
+    /// The general options.
+    pub fn options(&self) -> Options<'a, F, V, P, M, S>
+        ensures { result ≡ self.now.options }
+    {
+        self.options
+    }
+
+    /// The commands, in order.
+    pub fn commands(&self) -> &'a [Command<'a, C>]
+        ensures same { result.now ≡ self.now.commands.now }
+
+        // The name of each finds it.
+        ensures found { (i : ℕ) (c : Command C) → slice_get result.now i ≡ Some c
+            → runs_of result.now c.name.now ≡ Some c.runs }
+    {
+        self.commands
+    }
+}
+
+impl<C, F, V, P, M, S> Clone for Commands<'_, C, F, V, P, M, S> {
+    fn clone(&self) -> Result<Self, AllocError> {
+        Ok(*self)
+    }
+}
+
+impl<C, F, V, P, M, S> Copy for Commands<'_, C, F, V, P, M, S> {}

@@ -1,0 +1,284 @@
+//! What can come where a word is typed in a line of a program that has commands.
+ghost use Rattle.std.specs.Prelude.{◌≡◌, ◌↔◌, ◌∷◌, ◌++◌, ℕ, [], IfOk, IsTrue, List, MatchOption};
+ghost use Rattle.std.specs.Prelude.{OnOk, Vec, string_bytes};
+ghost use Rattle.std.specs.Global.{Global};
+ghost use Rattle.lexopt_options.specs.declared.leading.Leading.TheVariants as leadings;
+ghost use Rattle.lexopt_options.specs.declared.said.Said as rust;
+ghost use Rattle.std.specs.List.{flat_map};
+ghost use Rattle.lexopt_commands.specs.Completions.{LeavesOnly, begun_line, name_line, place};
+ghost use Rattle.lexopt_commands.specs.Completions.{place_at_help};
+ghost use Rattle.lexopt_commands.specs.Views.{place_view};
+
+use crate::answer::Step;
+use crate::command::{Command, Runs};
+use crate::commands::Commands;
+use crate::read::{runs_of, take_first};
+use lexopt_options::answer::push_help;
+use lexopt_options::{Leading, Request, Said};
+use lexopt_words::os_string::OsString;
+use lexopt_words::words::copies;
+use std::alloc::{AllocError, Global};
+
+// Where a word is typed, by the words after the general options.
+#[derive(Drop)]
+pub(crate) enum Place<C> {
+    // Right after the general options.
+    Options,
+    // After these words of a command.
+    Command(C, Vec<OsString>),
+    // Right after a name that asks for the help.
+    Help,
+    // Where no line goes on.
+    Nowhere,
+}
+
+// The same, by the words after a name that asks for the help.
+fn place_at_help<C: Copy>(commands: &[Command<'_, C>], words: Vec<OsString>) -> Place<C>
+    ensures { place_view result ≡ place_at_help commands.now words.items }
+{
+    let mut words = words;
+    let Some(word) = take_first(&mut words) else {
+        return Place::Help;
+    };
+    match runs_of(commands, word.as_bytes()) {
+        Some(Runs::Command(key)) => Place::Command(key, words),
+        Some(Runs::Help) | None => Place::Nowhere,
+    }
+}
+
+// Where a word is typed after these words.
+fn place_after<C: Copy>(commands: &[Command<'_, C>], words: Vec<OsString>) -> Place<C>
+    ensures { place_view result ≡ place commands.now words.items }
+{
+    let mut words = words;
+    let Some(word) = take_first(&mut words) else {
+        return Place::Options;
+    };
+    match runs_of(commands, word.as_bytes()) {
+        Some(Runs::Command(key)) => Place::Command(key, words),
+        Some(Runs::Help) => place_at_help(commands, words),
+        None => Place::Nowhere,
+    }
+}
+
+// Whether a word is this text.
+fn is_word(word: &OsString, text: &str) -> bool
+    ensures { IsTrue result ↔ (word.now ≡ text.now) }
+{
+    word.as_bytes() == text.as_bytes()
+}
+
+// Whether these words are this one alone.
+fn is_only(words: &[OsString], name: &str) -> bool
+    ensures { IsTrue result ↔ (words.now ≡ name.now ∷ []) }
+{
+    match words {
+        [word] => is_word(word, name),
+        _ => false,
+    }
+}
+
+// Whether general options are legal, and this word alone is left after them.
+fn leaves_only<F, V, P, M, S>(leading: &Leading<'_, F, V, P, M, S>, name: &str) -> bool
+    ensures { IsTrue result ↔ LeavesOnly leading.now name.now }
+{
+    match leading {
+        Leading::Said(_, rest) => is_only(rest, name),
+        Leading::Asked(_) => false,
+        Leading::Refused(_) => false,
+    }
+}
+
+// What general options mean, and the words after them, if they are legal and ask for nothing.
+fn said_of<F: Drop, V: Drop, P: Drop, M: Drop, S: Drop>(
+    leading: Leading<'_, F, V, P, M, S>,
+) -> Option<(Vec<Said<F, V, P, M, S>>, Vec<OsString>)>
+    ensures { MatchOption result
+        ((said : Vec (rust.Said F V P M S) Global) (rest : Vec (List ℕ) Global)
+        → leading.entry ≡ leadings.Said said rest → ⊥)
+        (λ found. leading.entry ≡ leadings.Said found.0 found.1) }
+{
+    match leading {
+        Leading::Said(said, rest) => Some((said, rest)),
+        Leading::Asked(_) => None,
+        Leading::Refused(_) => None,
+    }
+}
+
+// Adds the line for a command.
+fn push_name<C>(text: &mut String, command: &Command<'_, C>) -> Result<(), AllocError>
+    ensures { OnOk result
+        (string_bytes text.new ≡ string_bytes text.old ++ name_line command.now) }
+{
+    text.push('+')?;
+    text.push_str(command.name)?;
+    text.push('\t')?;
+    push_help(text, command.help)?;
+    text.push('\n')
+}
+
+// The same if its name begins with what was typed.
+fn push_begun<C>(
+    text: &mut String,
+    command: &Command<'_, C>,
+    typed: &OsString,
+) -> Result<(), AllocError>
+    ensures { OnOk result
+        (string_bytes text.new ≡ string_bytes text.old ++ begun_line typed.now command.now) }
+{
+    if command.name.as_bytes().starts_with(typed.as_bytes()) {
+        push_name(text, command)
+    } else {
+        Ok(())
+    }
+}
+
+// The lines for those of these commands whose names begin with what was typed.
+fn begun_names<C>(
+    alloc: Global,
+    commands: &[Command<'_, C>],
+    typed: &OsString,
+) -> Result<String, AllocError>
+    ensures { IfOk result (λ text.
+        string_bytes text ≡ flat_map (begun_line typed.now) commands.now) }
+{
+    let mut text = String::new(alloc);
+    for command in commands {
+        push_begun(&mut text, command, typed)?;
+    }
+    Ok(text)
+}
+
+impl<'a, C: Copy, F: Copy, V: Copy, P: Copy, M: Copy, S: Copy> Commands<'a, C, F, V, P, M, S> {
+    ghost use Rattle.std.specs.Prelude.{◌≡◌, ◌↔◌, ◌⊎◌, ◌++◌, ℕ, [], IfOk, IsTrue, List, OnOk};
+    ghost use Rattle.std.specs.Prelude.{string_bytes};
+    ghost use Rattle.std.specs.List.{AllZip, concat};
+    ghost use Rattle.lexopt_options.specs.Completions.{HasPositional};
+    ghost use Rattle.lexopt_options.specs.Declarations.{declaration_of};
+    ghost use Rattle.lexopt_commands.specs.Completions.{CanBeName, IsCompletionStep, IsNameLine};
+    ghost use Rattle.lexopt_commands.specs.Completions.{IsOptionsText, IsPlaced, place};
+
+    // Whether this name can come after these words.
+    fn can_be_name(&self, alloc: Global, words: &[OsString], name: &str) -> Result<bool, AllocError>
+        ensures { IfOk result (λ b. IsTrue b
+            ↔ CanBeName (declaration_of self.now.options) words.now name.now) }
+    {
+        let mut copy = copies(alloc, words)?;
+        copy.push(OsString::from_text(alloc, name)?)?;
+        let leading = self.options().read_leading(alloc, copy)?;
+        Ok(leaves_only(&leading, name))
+    }
+
+    // Adds the line for a command, if its name begins with what was typed and can come after these
+    // words.
+    fn push_possible(
+        &self,
+        alloc: Global,
+        text: &mut String,
+        words: &[OsString],
+        typed: &OsString,
+        command: &Command<'_, C>,
+    ) -> Result<(), AllocError>
+        ensures { OnOk result ((line : List ℕ)
+            × IsNameLine (declaration_of self.now.options) words.now typed.now command.now line
+            × (string_bytes text.new ≡ string_bytes text.old ++ line)) }
+    {
+        if self.can_be_name(alloc, words, command.name)? {
+            push_begun(text, command, typed)
+        } else {
+            Ok(())
+        }
+    }
+
+    // The lines for the commands whose names begin with what was typed and can come after these words.
+    fn possible_names(
+        &self,
+        alloc: Global,
+        words: &[OsString],
+        typed: &OsString,
+    ) -> Result<String, AllocError>
+        ensures { IfOk result (λ text. (lines : List (List ℕ))
+            × AllZip (IsNameLine (declaration_of self.now.options) words.now typed.now)
+            self.now.commands.now lines × (string_bytes text ≡ concat lines)) }
+    {
+        let mut text = String::new(alloc);
+        for command in self.commands() {
+            self.push_possible(alloc, &mut text, words, typed, command)?;
+        }
+        Ok(text)
+    }
+
+    // What can come where no command is among the words.
+    fn options_text(
+        &self,
+        alloc: Global,
+        words: &[OsString],
+        typed: &OsString,
+    ) -> Result<String, AllocError>
+        ensures { IfOk result (λ text.
+            IsOptionsText self.now words.now typed.now (string_bytes text)) }
+    {
+        let mut text = self.possible_names(alloc, words, typed)?;
+        let own = self.options().completion_text(alloc, words, typed)?;
+        text.push_str(own.as_str())?;
+        Ok(text)
+    }
+
+    // What can come where the words are not legal general options, nor with words after them.
+    fn unplaced_text(
+        &self,
+        alloc: Global,
+        words: &[OsString],
+        typed: &OsString,
+    ) -> Result<String, AllocError>
+        ensures { IfOk result (λ text.
+            (HasPositional (declaration_of self.now.options) words.now
+            × (string_bytes text ≡ []))
+            ⊎ ((¬ HasPositional (declaration_of self.now.options) words.now)
+            × IsOptionsText self.now words.now typed.now (string_bytes text))) }
+    {
+        if self.options().has_positional(alloc, words)? {
+            Ok(String::new(alloc))
+        } else {
+            self.options_text(alloc, words, typed)
+        }
+    }
+
+    // What to do where a word is typed after these general options and these words.
+    fn placed_step(
+        &self,
+        alloc: Global,
+        words: &[OsString],
+        typed: OsString,
+        said: Vec<Said<F, V, P, M, S>>,
+        rest: Vec<OsString>,
+    ) -> Result<Step<'a, C, F, V, P, M, S>, AllocError>
+        ensures { IfOk result (λ step. IsPlaced self.now words.now typed said.items
+            (place self.now.commands.now rest.items) step) }
+    {
+        match place_after(self.commands(), rest) {
+            Place::Options => Ok(Step::Text(self.options_text(alloc, words, &typed)?)),
+            Place::Command(key, own) => {
+                Ok(Step::Command(said, key, Request::Completion(own, typed)))
+            }
+            Place::Help => Ok(Step::Text(begun_names(alloc, self.commands(), &typed)?)),
+            Place::Nowhere => Ok(Step::Text(String::new(alloc))),
+        }
+    }
+
+    // What to do where this is typed after these words.
+    pub(crate) fn completion_step(
+        &self,
+        alloc: Global,
+        words: &[OsString],
+        typed: OsString,
+    ) -> Result<Step<'a, C, F, V, P, M, S>, AllocError>
+        ensures { IfOk result (λ step. IsCompletionStep self.now words.now typed step) }
+    {
+        let leading = self.options().read_leading(alloc, copies(alloc, words)?)?;
+        match said_of(leading) {
+            Some((said, rest)) => self.placed_step(alloc, words, typed, said, rest),
+            None => Ok(Step::Text(self.unplaced_text(alloc, words, &typed)?)),
+        }
+    }
+}

@@ -1,0 +1,67 @@
+//! Worked examples of the definitions.
+ghost use Rattle.std.specs.Prelude.{◌≡◌, ◌∷◌, ◌++◌, [], ℕ, List, None, Some, codes, true};
+ghost use Rattle.lexopt_commands.specs.declared.command.Reason.TheVariants as reason;
+ghost use Rattle.lexopt_commands.specs.declared.command.Runs.TheVariants as runs;
+ghost use Rattle.lexopt_commands.specs.Meanings.{command, help, help_word, meaning, missing};
+ghost use Rattle.lexopt_commands.specs.Meanings.{runs_of, unknown};
+ghost use Rattle.lexopt_commands.specs.Names.{can_be_declared, first_fault};
+
+use crate::command::Command;
+
+/// These names can be declared together.
+pub fn names_are_declared()
+    ensures none { can_be_declared [] ≡ true }
+    ensures two { can_be_declared (codes "add" ∷ codes "remove" ∷ []) ≡ true }
+    ensures front { can_be_declared (codes "add" ∷ codes "ad" ∷ codes "added" ∷ []) ≡ true }
+    ensures signs { can_be_declared (codes "a-b" ∷ codes "a=b" ∷ codes "+" ∷ []) ≡ true }
+    ensures accent { can_be_declared ((0xC3 ∷ 0xA9 ∷ []) ∷ []) ≡ true }
+{}
+
+/// Each of these cannot, and this is the first that cannot.
+pub fn names_are_refused()
+    ensures empty { first_fault [] ([] ∷ []) ≡ Some ([], reason.EmptyName) }
+    ensures dash { first_fault [] (codes "add" ∷ codes "-a" ∷ [])
+        ≡ Some (codes "-a", reason.DashName) }
+    ensures replacement { first_fault [] ((0x61 ∷ 0xEF ∷ 0xBF ∷ 0xBD ∷ []) ∷ [])
+        ≡ Some (0x61 ∷ 0xEF ∷ 0xBF ∷ 0xBD ∷ [], reason.ReplacementInName) }
+    ensures blank { first_fault [] (codes "a b" ∷ codes "add" ∷ [])
+        ≡ Some (codes "a b", reason.BlankOrControlInName) }
+    ensures control { first_fault [] (codes "a\n" ∷ [])
+        ≡ Some (codes "a\n", reason.BlankOrControlInName) }
+    ensures delete { first_fault [] ((0x61 ∷ 0x7F ∷ []) ∷ [])
+        ≡ Some (0x61 ∷ 0x7F ∷ [], reason.BlankOrControlInName) }
+    ensures same { first_fault [] (codes "add" ∷ codes "ad" ∷ codes "add" ∷ [])
+        ≡ Some (codes "add", reason.SameName) }
+    ensures first_reason { first_fault [] (codes "- " ∷ [] ∷ [])
+        ≡ Some (codes "- ", reason.DashName) }
+{}
+
+/// What words mean among commands where a name runs a command, and one, or another too, asks for the
+/// help.
+pub fn words_mean_so<C>(commands: &[Command<'_, C>])
+    ensures nothing { meaning commands.now [] ≡ missing }
+    ensures command { (key : C) (name : List ℕ) (rest : List (List ℕ))
+        → runs_of commands.now name ≡ Some (runs.Command key)
+        → meaning commands.now (name ∷ rest) ≡ command key rest }
+    ensures another { (name : List ℕ) (rest : List (List ℕ)) → runs_of commands.now name ≡ None
+        → meaning commands.now (name ∷ rest) ≡ unknown name }
+    ensures help_alone { (first : List ℕ) → runs_of commands.now first ≡ Some runs.Help
+        → meaning commands.now (first ∷ []) ≡ help }
+    ensures help_of_a_command { (key : C) (first name : List ℕ) (rest : List (List ℕ))
+        → runs_of commands.now first ≡ Some runs.Help
+        → runs_of commands.now name ≡ Some (runs.Command key)
+        → meaning commands.now (first ∷ name ∷ rest)
+        ≡ command key (rest ++ codes "--help" ∷ []) }
+    ensures help_twice { (first second : List ℕ) (rest : List (List ℕ))
+        → runs_of commands.now first ≡ Some runs.Help
+        → runs_of commands.now second ≡ Some runs.Help
+        → meaning commands.now (first ∷ second ∷ rest) ≡ help }
+    ensures help_by_option { (first : List ℕ) (rest : List (List ℕ))
+        → runs_of commands.now first ≡ Some runs.Help
+        → runs_of commands.now (codes "--help") ≡ None
+        → meaning commands.now (first ∷ codes "--help" ∷ rest) ≡ help }
+    ensures help_of_another { (first : List ℕ) (rest : List (List ℕ))
+        → runs_of commands.now first ≡ Some runs.Help
+        → runs_of commands.now (codes "-h") ≡ None
+        → meaning commands.now (first ∷ codes "-h" ∷ rest) ≡ unknown (codes "-h") }
+{}

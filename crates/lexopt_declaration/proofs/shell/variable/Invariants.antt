@@ -1,0 +1,6 @@
+use Rattle.std.proofs.Common.{◌≡◌, ◌++◌, codes, map, string_bytes, take}
+use Rattle.lexopt_declaration.specs.Scripts.{variable_byte}
+use Rattle.lexopt_declaration.proofs.shell.variable.Given as goal
+
+abbrev pub invariant-loop-byte : goal.invariant-loop-byte
+invariant-loop-byte l = string_bytes l.name ≡ codes "_" ++ map variable_byte (take l.byte-index l.program)

@@ -1,0 +1,8 @@
+use Rattle.std.proofs.Common.{◌≡◌, ◌++◌, string_bytes, take}
+use Rattle.std.specs.List.{flat_map}
+use Rattle.lexopt_declaration.specs.Models.{spelling_view}
+use Rattle.lexopt_options.specs.Answers.{spelling_line}
+use Rattle.lexopt_options.proofs.answer.push_spellings.Given as goal
+
+abbrev pub invariant-loop-spelling : goal.invariant-loop-spelling
+invariant-loop-spelling l = string_bytes l.text ≡ string_bytes l.initial.text ++ flat_map (λ s. spelling_line (spelling_view s)) (take l.spelling-index l.spellings)

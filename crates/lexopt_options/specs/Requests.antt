@@ -1,0 +1,30 @@
+-- What a program is asked for: by its user, or by a shell. The source is `docs/behaviour.md`.
+use Rattle.std.specs.Prelude.{◌≡◌, ◌≢◌, ◌⊎◌, ◌++◌, ◌∷◌, ℕ, List, [], Option, Some, None}
+use Rattle.lexopt_declaration.specs.Scripts.{request_text}
+use Rattle.lexopt_declaration.specs.declared.shell.Shell.{Shell}
+use Rattle.lexopt_declaration.specs.declared.shell.ShellRequest.{ShellRequest}
+use Rattle.lexopt_declaration.specs.declared.shell.ShellRequest.TheVariants as asks
+use Rattle.lexopt_options.specs.declared.request.Request.{Request}
+use Rattle.lexopt_options.specs.declared.request.Request.TheVariants.{Line, Completion, Script}
+use Rattle.lexopt_options.specs.declared.request.Request.TheVariants.{Unknown}
+
+-- the last of these words is typed, after those before it; or there is no word, and nothing is typed
+abbrev pub IsTyped : List (List ℕ) → List (List ℕ) → List ℕ → Type 0
+IsTyped words before typed = (words ≡ before ++ typed ∷ [])
+    ⊎ ((words ≡ []) × (before ≡ []) × (typed ≡ []))
+
+-- this asks what can come where the last of these words is typed
+abbrev pub IsCompletionRequest : List (List ℕ) → Request → Type 0
+IsCompletionRequest words (Completion before typed) = IsTyped words before.items typed
+IsCompletionRequest words request = ⊥
+
+-- what is asked for, where the variable by which shells ask has this value, or is not set, and the
+-- program was called with these words
+abbrev pub IsRequest : Option (List ℕ) → List (List ℕ) → Request → Type 0
+IsRequest value words (Line own) = ((value ≡ None) ⊎ (value ≡ Some [])) × (own.items ≡ words)
+IsRequest value words (Completion before typed) =
+    ((shell : Shell) × (value ≡ Some (request_text (asks.Completion shell))))
+    × IsTyped words before.items typed
+IsRequest value words (Script shell) = value ≡ Some (request_text (asks.Script shell))
+IsRequest value words Unknown = (text : List ℕ) × (value ≡ Some text) × (text ≢ [])
+    × ((request : ShellRequest) → text ≢ request_text request)

@@ -1,0 +1,191 @@
+//! The end of a line: what is missing, what is asked for, and which positional argument each word
+//! belongs to.
+use crate::plain::{Item, Place, Plan, PlanWord, Typed, text_of};
+use lexopt_options::{Asked, Count, Kind, Names, Words};
+use std::alloc::{AllocError, Global};
+
+/// How many positional arguments are among these.
+pub fn count_of(items: &[Item<'_>]) -> usize {
+    items
+        .iter()
+        .filter(|item| matches!(item, Item::Word(_)))
+        .count()
+}
+
+/// Whether a positional argument may occur more than once.
+pub fn may_repeat(count: Count) -> bool {
+    count == Count::AnyNumber || count == Count::AtLeastOnce
+}
+
+// Whether it is required.
+fn has_to_occur(count: Count) -> bool {
+    count == Count::Once || count == Count::AtLeastOnce
+}
+
+// The placeholder of the first required positional argument after `count` words.
+fn missing_argument(plan: &'static Plan, count: usize) -> Option<&'static str> {
+    plan.positionals
+        .iter()
+        .filter(|own| has_to_occur(own.count))
+        .nth(count)
+        .map(|own| own.placeholder)
+}
+
+// The names of the first required option that is not among these.
+fn missing_option(plan: &'static Plan, items: &[Item<'_>]) -> Option<Names<'static>> {
+    for (place, option) in plan.options.iter().enumerate() {
+        let occurs = items.iter().any(|item| matches!(item, Item::Option(own, _) if *own == place));
+        if option.required && !occurs {
+            return Some(option.names);
+        }
+    }
+    None
+}
+
+/// An option as messages have it, by its names.
+pub fn name_of(alloc: Global, names: Names<'_>) -> Result<String, AllocError> {
+    match names {
+        Names::Short(character) => text_of(alloc, Typed::Short(character)),
+        Names::Long(name) | Names::Both(_, name) => text_of(alloc, Typed::Long(name)),
+    }
+}
+
+// The words that a positional argument accepts, if it has a list.
+fn list_of(own: &PlanWord) -> Option<&'static [&'static str]> {
+    match own.words {
+        Words::Listed(values) => Some(values),
+        _ => None,
+    }
+}
+
+// The mistake that this positional argument does not accept a word, if it does not.
+fn unfit(
+    alloc: Global,
+    plan: &'static Plan,
+    place: Place,
+    word: &str,
+) -> Result<Option<String>, AllocError> {
+    for own in plan.positionals {
+        if let (true, Some(list)) = (own.key == place, list_of(own)) {
+            if !list.iter().any(|value| *value == word) {
+                let placeholder = own.placeholder;
+                let list = list.join(alloc, ", ")?;
+                return Ok(Some(format!(in alloc;
+                    "invalid argument \"{word}\" for {placeholder}: one of {list}"
+                )?));
+            }
+        }
+    }
+    Ok(None)
+}
+
+// The mistake of the first word that its positional argument does not accept.
+fn first_unfit(
+    alloc: Global,
+    plan: &'static Plan,
+    items: &[Item<'_>],
+) -> Result<Option<String>, AllocError> {
+    let places = places_of(alloc, plan, count_of(items))?;
+    let mut words = 0usize;
+    for item in items {
+        if let (Item::Word(word), Some(place)) = (item, places.get(words)) {
+            if let Some(mistake) = unfit(alloc, plan, *place, word)? {
+                return Ok(Some(mistake));
+            }
+            words = words.saturating_add(1);
+        }
+    }
+    Ok(None)
+}
+
+/// The places in the declaration of the positional arguments that the word after `count` others can
+/// belong to, with some more words after it or with none; and the words in their lists.
+pub fn owners_after(
+    alloc: Global,
+    plan: &'static Plan,
+    count: usize,
+) -> Result<(Vec<usize>, Vec<&'static str>), AllocError> {
+    let mut owners = Vec::new(alloc);
+    let mut words = Vec::new(alloc);
+    for (place, own) in plan.positionals.iter().enumerate() {
+        let mut can_own = false;
+        for more in 0..6usize {
+            let whole = count.saturating_add(1).saturating_add(more);
+            let places = places_of(alloc, plan, whole)?;
+            can_own |= places.len() == whole && places.get(count) == Some(&own.key);
+        }
+        if can_own {
+            owners.push(place)?;
+            for word in list_of(own).unwrap_or(&[]) {
+                words.push(*word)?;
+            }
+        }
+    }
+    Ok((owners, words))
+}
+
+/// What is wrong at the end of a line.
+pub fn missing(
+    alloc: Global,
+    plan: &'static Plan,
+    items: &[Item<'_>],
+) -> Result<Option<String>, AllocError> {
+    if let Some(placeholder) = missing_argument(plan, count_of(items)) {
+        return Ok(Some(format!(in alloc; "missing argument {placeholder}")?));
+    }
+    if let Some(mistake) = first_unfit(alloc, plan, items)? {
+        return Ok(Some(mistake));
+    }
+    let Some(names) = missing_option(plan, items) else {
+        return Ok(None);
+    };
+    let option = name_of(alloc, names)?;
+    Ok(Some(format!(in alloc; "missing option '{option}'")?))
+}
+
+/// What is asked for, by the first of these that asks.
+pub fn asked(plan: &Plan, items: &[Item<'_>]) -> Option<Asked<'static>> {
+    for item in items {
+        if let Item::Option(place, _) = item {
+            match plan.options.get(*place).map(|option| option.kind) {
+                Some(Kind::Help) => return Some(Asked::Help),
+                Some(Kind::Version(text)) => return Some(Asked::Version(text)),
+                _ => {}
+            }
+        }
+    }
+    None
+}
+
+// Whether one more word can belong to a positional argument that has this many.
+fn has_room(count: Count, taken: usize) -> bool {
+    may_repeat(count) || taken == 0
+}
+
+/// The key for each of `count` words, in order. Each required positional argument has its word,
+/// whether or not it is there, and the words that are left go to the first that can take more.
+pub fn places_of(alloc: Global, plan: &Plan, count: usize) -> Result<Vec<Place>, AllocError> {
+    let mut taken = Vec::new(alloc);
+    let mut left = count;
+    for own in plan.positionals {
+        let needed = usize::from(has_to_occur(own.count));
+        taken.push(needed)?;
+        left = left.saturating_sub(needed);
+    }
+    for (own, taken) in plan.positionals.iter().zip(taken.iter_mut()) {
+        for _ in 0..left {
+            if has_room(own.count, *taken) {
+                *taken = taken.saturating_add(1);
+                left = left.saturating_sub(1);
+            }
+        }
+    }
+    let mut places = Vec::new(alloc);
+    for (own, taken) in plan.positionals.iter().zip(&taken) {
+        for _ in 0..*taken {
+            places.push(own.key)?;
+        }
+    }
+    places.truncate(count);
+    Ok(places)
+}

@@ -1,0 +1,431 @@
+//! A plain reader of declared options, written from the rules alone. It looks at a declaration, and
+//! calls nothing of the library. It reads words of ASCII without `=` in a cluster and without
+//! characters that messages escape, and gives no hints.
+use crate::ends::{count_of, may_repeat, missing, name_of};
+use lexopt_options::{Declaration, Kind, Names, Positional, Words};
+use std::alloc::{AllocError, Global};
+
+/// The key of an option.
+#[derive(Debug, Clone, Copy, PartialEq, Eq)]
+pub enum Key {
+    Verbose,
+    Extra,
+    User,
+}
+
+/// The key of a positional argument.
+#[derive(Debug, Clone, Copy, PartialEq, Eq)]
+pub enum Place {
+    First,
+    Second,
+    Third,
+}
+
+pub type Plan = Declaration<'static, Key, Key, Place, Key, Key>;
+
+pub type PlanWord = Positional<'static, Place>;
+
+/// What is read.
+#[derive(Debug, PartialEq, Eq, Drop)]
+pub enum Item<'w> {
+    /// The option at this place of the declaration, and its values.
+    Option(usize, Vec<&'w str>),
+    Word(&'w str),
+}
+
+/// What a line is read as.
+#[derive(Drop)]
+pub struct Reading<'w> {
+    /// What is read, up to the mistake if there is one.
+    pub items: Vec<Item<'w>>,
+    /// Why the words cannot be read on.
+    pub mistake: Option<String>,
+    /// What is wrong at the end, if the words can be read to it.
+    pub missing: Option<String>,
+}
+
+/// An option as it was typed.
+#[derive(Clone, Copy)]
+pub enum Typed<'w> {
+    Short(char),
+    Long(&'w str),
+}
+
+// What the words so far leave open.
+#[derive(Clone, Copy)]
+enum Open<'w> {
+    Nothing,
+    // The next word is the value of the last item, of this placeholder and name.
+    Value(&'static str, Typed<'w>),
+    // Plain words that follow are values of the last item.
+    Values(&'static str, Typed<'w>),
+}
+
+/// What can come after words.
+#[derive(Debug, Clone, Copy, PartialEq, Eq)]
+pub enum Left {
+    /// An option, or a word that is no value.
+    Option,
+    /// An option, or a value of the option at this place.
+    OptionOrValue(usize),
+    /// A value of the option at this place, and nothing else.
+    Value(usize),
+    /// A value of the option at this place that is not like an option, and nothing else.
+    PlainValue(usize),
+    /// A positional argument, and nothing else.
+    Argument,
+    /// Nothing: the words have a mistake.
+    Nothing,
+}
+
+#[derive(Drop)]
+struct Reader<'w> {
+    alloc: Global,
+    plan: &'static Plan,
+    // The lists of values are looked at.
+    lists: bool,
+    items: Vec<Item<'w>>,
+    open: Open<'w>,
+    ended: bool,
+}
+
+// Whether an option has this name.
+fn is_named(names: Names<'_>, typed: Typed<'_>) -> bool {
+    match (names, typed) {
+        (Names::Short(own) | Names::Both(own, _), Typed::Short(character)) => own == character,
+        (Names::Long(own) | Names::Both(_, own), Typed::Long(name)) => own == name,
+        _ => false,
+    }
+}
+
+/// The place of the option of this name.
+pub fn place_of(plan: &Plan, typed: Typed<'_>) -> Option<usize> {
+    plan.options
+        .iter()
+        .position(|option| is_named(option.names, typed))
+}
+
+/// An option as messages have it.
+pub fn text_of(alloc: Global, typed: Typed<'_>) -> Result<String, AllocError> {
+    match typed {
+        Typed::Short(character) => format!(in alloc; "-{character}"),
+        Typed::Long(name) => format!(in alloc; "--{name}"),
+    }
+}
+
+// Whether a word is not an option before the separator, and not the separator.
+fn is_plain(word: &str) -> bool {
+    word == "-" || !word.starts_with('-')
+}
+
+// Whether no more positional arguments can come after these.
+fn is_full(plan: &Plan, items: &[Item<'_>]) -> bool {
+    !plan.positionals.iter().any(|own| may_repeat(own.count))
+        && count_of(items) >= plan.positionals.len()
+}
+
+/// The values that the option at this place accepts, if it has a list.
+pub fn list_at(plan: &Plan, place: usize) -> Option<&'static [&'static str]> {
+    match plan.options.get(place).map(|option| option.words) {
+        Some(Words::Listed(values)) => Some(values),
+        _ => None,
+    }
+}
+
+// The first of these values that is not in a list.
+fn first_unlisted<'w>(list: &[&str], values: &[&'w str]) -> Option<&'w str> {
+    values
+        .iter()
+        .find(|value| !list.iter().any(|own| own == *value))
+        .copied()
+}
+
+// The mistake that the option of an item does not accept one of its values, if it does not.
+fn unlisted(alloc: Global, plan: &Plan, item: &Item<'_>) -> Result<Option<String>, AllocError> {
+    let Item::Option(place, values) = item else {
+        return Ok(None);
+    };
+    let (Some(option), Some(list)) = (plan.options.get(*place), list_at(plan, *place)) else {
+        return Ok(None);
+    };
+    let Some(value) = first_unlisted(list, values) else {
+        return Ok(None);
+    };
+    let name = name_of(alloc, option.names)?;
+    let list = list.join(alloc, ", ")?;
+    Ok(Some(format!(in alloc; "invalid value \"{value}\" for '{name}': one of {list}")?))
+}
+
+impl<'w> Reader<'w> {
+    // Adds an option without values so far.
+    fn add(&mut self, place: usize) -> Result<(), AllocError> {
+        let item = Item::Option(place, Vec::new(self.alloc));
+        Ok(self.items.push(item)?)
+    }
+
+    // Adds a value to the last item.
+    fn give(&mut self, value: &'w str) -> Result<(), AllocError> {
+        if let Some(Item::Option(_, values)) = self.items.last_mut() {
+            values.push(value)?;
+        }
+        Ok(())
+    }
+
+    // Whether the last item has values.
+    fn has_values(&self) -> bool {
+        match self.items.last() {
+            Some(Item::Option(_, values)) => !values.is_empty(),
+            _ => false,
+        }
+    }
+
+    // The mistake that the last item has a value that its option does not accept. It is then not
+    // among what is read.
+    fn refuse(&mut self) -> Result<Option<String>, AllocError> {
+        let mistake = match self.items.last() {
+            Some(item) if self.lists => unlisted(self.alloc, self.plan, item)?,
+            _ => None,
+        };
+        if mistake.is_some() {
+            let _refused = self.items.pop();
+        }
+        Ok(mistake)
+    }
+
+    // The mistake that the option that is open has no value, if it needs one, or one that it does
+    // not accept.
+    fn close(&mut self) -> Result<Option<String>, AllocError> {
+        let (placeholder, typed) = match self.open {
+            Open::Nothing => return Ok(None),
+            Open::Value(placeholder, typed) | Open::Values(placeholder, typed) => {
+                (placeholder, typed)
+            }
+        };
+        self.open = Open::Nothing;
+        if self.has_values() {
+            return self.refuse();
+        }
+        let _without_value = self.items.pop();
+        let option = text_of(self.alloc, typed)?;
+        Ok(Some(format!(in self.alloc; "missing argument {placeholder} for option '{option}'")?))
+    }
+
+    // Reads an option and the value that follows it in its word. Returns the mistake, if there is
+    // one, and whether the rest of the word is read.
+    fn read_option(
+        &mut self,
+        typed: Typed<'w>,
+        value: Option<&'w str>,
+    ) -> Result<(Option<String>, bool), AllocError> {
+        let Some(place) = place_of(self.plan, typed) else {
+            let option = text_of(self.alloc, typed)?;
+            return Ok((
+                Some(format!(in self.alloc; "invalid option '{option}'")?),
+                true,
+            ));
+        };
+        let Some(option) = self.plan.options.get(place) else {
+            return Ok((None, true));
+        };
+        let joined = matches!(typed, Typed::Long(_));
+        match option.kind {
+            Kind::Flag(_) | Kind::Help | Kind::Version(_) => {
+                if let (true, Some(value)) = (joined, value) {
+                    let option = text_of(self.alloc, typed)?;
+                    let mistake = format!(in self.alloc;
+                        "unexpected argument for option '{option}': \"{value}\""
+                    )?;
+                    return Ok((Some(mistake), true));
+                }
+                self.add(place)?;
+                return Ok((None, value.is_none()));
+            }
+            Kind::Value(_, placeholder) => {
+                self.add(place)?;
+                if value.is_none() {
+                    self.open = Open::Value(placeholder, typed);
+                }
+            }
+            Kind::Maybe(_, _) => self.add(place)?,
+            Kind::Values(_, placeholder) => {
+                self.add(place)?;
+                if !joined || value.is_none() {
+                    self.open = Open::Values(placeholder, typed);
+                }
+            }
+        }
+        if let Some(value) = value {
+            self.give(value)?;
+            if let Open::Nothing = self.open {
+                return Ok((self.refuse()?, true));
+            }
+        }
+        Ok((None, true))
+    }
+
+    // Reads what follows the only leading dash of a word.
+    fn read_cluster(&mut self, cluster: &'w str) -> Result<Option<String>, AllocError> {
+        let mut rest = cluster.chars();
+        for _ in 0..cluster.len() {
+            let Some(character) = rest.next() else {
+                break;
+            };
+            let value = Some(rest.as_str()).filter(|value| !value.is_empty());
+            let (mistake, done) = self.read_option(Typed::Short(character), value)?;
+            if done {
+                return Ok(mistake);
+            }
+        }
+        Ok(None)
+    }
+
+    // Reads what follows the two leading dashes of a word.
+    fn read_long(&mut self, long: &'w str) -> Result<Option<String>, AllocError> {
+        let (name, value) = match long.split_once('=') {
+            Some((name, value)) => (name, Some(value)),
+            None => (long, None),
+        };
+        Ok(self.read_option(Typed::Long(name), value)?.0)
+    }
+
+    // Reads a word that no option takes.
+    fn read_own(&mut self, word: &'w str) -> Result<Option<String>, AllocError> {
+        if self.ended || is_plain(word) {
+            if is_full(self.plan, &self.items) {
+                return Ok(Some(format!(in self.alloc; "unexpected argument \"{word}\"")?));
+            }
+            self.items.push(Item::Word(word))?;
+            return Ok(None);
+        }
+        if word == "--" {
+            self.ended = true;
+            return Ok(None);
+        }
+        match word.strip_prefix("--") {
+            Some(long) => self.read_long(long),
+            None => self.read_cluster(word.strip_prefix("-").unwrap_or(word)),
+        }
+    }
+
+    // Reads a word. Returns the mistake, if there is one.
+    fn read_word(&mut self, word: &'w str) -> Result<Option<String>, AllocError> {
+        let takes = match self.open {
+            Open::Nothing => false,
+            Open::Value(_, _) => true,
+            Open::Values(_, _) => is_plain(word),
+        };
+        if takes {
+            self.give(word)?;
+            if let Open::Value(_, _) = self.open {
+                self.open = Open::Nothing;
+                return self.refuse();
+            }
+            return Ok(None);
+        }
+        if let Some(mistake) = self.close()? {
+            return Ok(Some(mistake));
+        }
+        self.read_own(word)
+    }
+
+    // Reads these words. Returns the mistake, if there is one.
+    fn read_words(&mut self, words: &[&'w str]) -> Result<Option<String>, AllocError> {
+        for word in words {
+            if let Some(mistake) = self.read_word(word)? {
+                return Ok(Some(mistake));
+            }
+        }
+        Ok(None)
+    }
+
+    // The same of all words.
+    fn read_all(&mut self, words: &[&'w str]) -> Result<Option<String>, AllocError> {
+        match self.read_words(words)? {
+            Some(mistake) => Ok(Some(mistake)),
+            None => self.close(),
+        }
+    }
+
+    // What can come next.
+    fn left(&self) -> Left {
+        match (self.open, self.items.last()) {
+            (Open::Value(_, _), Some(Item::Option(place, _))) => Left::Value(*place),
+            (Open::Values(_, _), Some(Item::Option(place, values))) => {
+                if values.is_empty() {
+                    Left::PlainValue(*place)
+                } else {
+                    Left::OptionOrValue(*place)
+                }
+            }
+            _ => {
+                if self.ended {
+                    Left::Argument
+                } else {
+                    Left::Option
+                }
+            }
+        }
+    }
+}
+
+// A reader that has read nothing.
+fn new_reader<'w>(alloc: Global, plan: &'static Plan, lists: bool) -> Reader<'w> {
+    Reader {
+        alloc,
+        plan,
+        lists,
+        items: Vec::new(alloc),
+        open: Open::Nothing,
+        ended: false,
+    }
+}
+
+/// What the words are read as.
+pub fn read<'w>(
+    alloc: Global,
+    plan: &'static Plan,
+    words: &[&'w str],
+) -> Result<Reading<'w>, AllocError> {
+    let mut reader = new_reader(alloc, plan, true);
+    let mistake = reader.read_all(words)?;
+    let items = reader.items;
+    let missing = missing(alloc, plan, &items)?;
+    Ok(Reading {
+        items,
+        mistake,
+        missing,
+    })
+}
+
+/// What can come after these words, whatever lists accept, and how many positional arguments are
+/// among them.
+pub fn left_after(
+    alloc: Global,
+    plan: &'static Plan,
+    words: &[&str],
+) -> Result<(Left, usize), AllocError> {
+    let mut reader = new_reader(alloc, plan, false);
+    match reader.read_words(words)? {
+        Some(_) => Ok((Left::Nothing, 0)),
+        None => Ok((reader.left(), count_of(&reader.items))),
+    }
+}
+
+/// Whether the last of these words is read as the option at this place, without a value so far,
+/// after `count` other things.
+pub fn ends_in_option(
+    alloc: Global,
+    plan: &'static Plan,
+    words: &[&str],
+    count: usize,
+    place: usize,
+) -> Result<bool, AllocError> {
+    let mut reader = new_reader(alloc, plan, true);
+    if reader.read_words(words)?.is_some() || reader.items.len() != count.saturating_add(1) {
+        return Ok(false);
+    }
+    match reader.items.last() {
+        Some(Item::Option(own, values)) => Ok(*own == place && values.is_empty()),
+        _ => Ok(false),
+    }
+}

@@ -1,0 +1,2 @@
+pub mod TaskLines
+pub mod TypedTasks

@@ -1,0 +1,162 @@
+//! What lines of words come to.
+use crate::git::{git, words_of};
+use lexopt_commands::CommandLine;
+use std::alloc::{AllocError, Global};
+
+// What a line comes to, as `Debug` writes it: the general options, the command and its words; or
+// what it asks for; or the general options before its mistake, and the mistake.
+fn text_of(alloc: Global, line: &[u8]) -> Result<String, AllocError> {
+    match git().read(alloc, words_of(alloc, line)?)? {
+        CommandLine::Command(said, task, words) => {
+            format!(in alloc; "{said:?} {task:?} {words:?}")
+        }
+        CommandLine::Asked(asked) => format!(in alloc; "{asked:?}"),
+        CommandLine::Refused(refused) => {
+            format!(in alloc; "{:?}, then {}", refused.before, refused.mistake)
+        }
+    }
+}
+
+// The first of these rows that does not hold, or none.
+fn first_wrong(alloc: Global, rows: &[(&[u8], &'static str)]) -> Result<Option<usize>, AllocError> {
+    for (row, (line, wanted)) in rows.iter().enumerate() {
+        if text_of(alloc, line)?.as_str() != *wanted {
+            return Ok(Some(row));
+        }
+    }
+    Ok(None)
+}
+
+static COMMANDS: [(&[u8], &str); 10] = [
+    (b"add", "[] Add []"),
+    (
+        b"-C dir add -f x",
+        "[Value(Directory, \"dir\")] Add [\"-f\", \"x\"]",
+    ),
+    (
+        b"-v remote add --help",
+        "[Flag(Verbose)] Remote [\"add\", \"--help\"]",
+    ),
+    (b"add add", "[] Add [\"add\"]"),
+    // After the name nothing is read, not even a separator or a mistake.
+    (b"add -- --bogus", "[] Add [\"--\", \"--bogus\"]"),
+    (b"remove -C", "[] Remove [\"-C\"]"),
+    // A separator before the name is no part of the words.
+    (b"-v -- add -v", "[Flag(Verbose)] Add [\"-v\"]"),
+    // What comes after an option with a value is its value.
+    (b"-C add remove", "[Value(Directory, \"add\")] Remove []"),
+    // The help and the version are asked for before the name, and not after it.
+    (b"add -h", "[] Add [\"-h\"]"),
+    (b"add \xFF", "[] Add [\"\\xFF\"]"),
+];
+
+#[test]
+fn commands(rt: HostRuntime) {
+    assert_eq!(rt;
+        first_wrong(rt.alloc(), &COMMANDS).expect(&rt, "success"),
+        None
+    );
+}
+
+static HELPS: [(&[u8], &str); 12] = [
+    (b"-h add", "Help"),
+    (b"-vh --bogus", "Help"),
+    (b"--version bogus", "Version(\"git 1.0\")"),
+    (b"help", "Help"),
+    (b"-v help", "Help"),
+    (b"help help", "Help"),
+    (b"help help add", "Help"),
+    (b"help --help", "Help"),
+    (b"help add", "[] Add [\"--help\"]"),
+    (b"-v help add", "[Flag(Verbose)] Add [\"--help\"]"),
+    (
+        b"help remote add -x",
+        "[] Remote [\"add\", \"-x\", \"--help\"]",
+    ),
+    (b"-- help add", "[] Add [\"--help\"]"),
+];
+
+#[test]
+fn helps(rt: HostRuntime) {
+    assert_eq!(rt;
+        first_wrong(rt.alloc(), &HELPS).expect(&rt, "success"),
+        None
+    );
+}
+
+static MISTAKES: [(&[u8], &str); 20] = [
+    (
+        b"",
+        "[], then missing command: one of add, remove, remote, help",
+    ),
+    (
+        b"-v",
+        "[Flag(Verbose)], then missing command: one of add, remove, remote, help",
+    ),
+    (
+        b"--",
+        "[], then missing command: one of add, remove, remote, help",
+    ),
+    (b"bogus", "[], then unknown command \"bogus\""),
+    (
+        b"-v bogus -h",
+        "[Flag(Verbose)], then unknown command \"bogus\"",
+    ),
+    // One edit of three characters is near, and one of two is not.
+    (
+        b"Add",
+        "[], then unknown command \"Add\"; did you mean 'add'?",
+    ),
+    (
+        b"abd",
+        "[], then unknown command \"abd\"; did you mean 'add'?",
+    ),
+    (b"ax", "[], then unknown command \"ax\""),
+    (
+        b"remoev",
+        "[], then unknown command \"remoev\"; did you mean 'remove'?",
+    ),
+    // Of two that are as near it is the first.
+    (
+        b"remoze",
+        "[], then unknown command \"remoze\"; did you mean 'remove'?",
+    ),
+    (
+        b"remotes",
+        "[], then unknown command \"remotes\"; did you mean 'remote'?",
+    ),
+    (
+        b"hlep",
+        "[], then unknown command \"hlep\"; did you mean 'help'?",
+    ),
+    // What only one name begins with.
+    (
+        b"ad",
+        "[], then unknown command \"ad\"; did you mean 'add'?",
+    ),
+    (b"re", "[], then unknown command \"re\""),
+    (b"-- ", "[], then unknown command \"\""),
+    (
+        b"a\xFFd",
+        "[], then unknown command \"a\\xFFd\"; did you mean 'add'?",
+    ),
+    // After `help` too.
+    (
+        b"help ad",
+        "[], then unknown command \"ad\"; did you mean 'add'?",
+    ),
+    (b"help -h", "[], then unknown command \"-h\""),
+    (
+        b"-v --bogus add",
+        "[Flag(Verbose)], then invalid option '--bogus'",
+    ),
+    (b"-C", "[], then missing argument DIR for option '-C'"),
+];
+
+#[test]
+fn mistakes(rt: HostRuntime) {
+    assert_eq!(rt;
+        first_wrong(rt.alloc(), &MISTAKES).expect(&rt, "success"),
+        None
+    );
+}
