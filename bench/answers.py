@@ -1,9 +1,9 @@
-"""The answers of both programs of the comparison, as `answers.rs` and `answers.rt` write them."""
+"""The results that both programs of the comparison print (`answers.rs`, `answers.rt`)."""
 
 import re
 from dataclasses import dataclass
 
-# The calls by the letters that stand for them in a case.
+# The calls, by their letters in a case.
 CALLS = {
     "n": "next",
     "u": "unexpected",
@@ -20,7 +20,8 @@ CALLS = {
     "b": "bin_name",
 }
 
-# What stands before the value in the message of an error, and what after it. An option stands in it as it is.
+# What comes before the value in the message of an error, and what comes after it. `%s` is the
+# option, as it is.
 AROUND = {
     "A": (b"unexpected argument ", rb""),
     "U": (b"unexpected argument for option '%s': ", rb""),
@@ -30,7 +31,7 @@ AROUND = {
 
 
 def quoted(text):
-    """The quoted form of bytes, as docs/formats.md says."""
+    """The quoted form of bytes, as docs/formats.md describes it."""
     named = {"\t": "\\t", "\n": "\\n", "\r": "\\r", "\0": "\\0", '"': '\\"', "\\": "\\\\"}
 
     def piece(character):
@@ -39,7 +40,7 @@ def quoted(text):
             return named[character]
         if code < 0x20 or code == 0x7F:
             return f"\\u{{{code:x}}}"
-        # Python's form of a byte that is no UTF-8.
+        # Python's form of a byte that is not UTF-8.
         if 0xDC80 <= code <= 0xDCFF:
             return f"\\x{code - 0xDC00:02X}"
         return character
@@ -61,7 +62,7 @@ class Answer:
         return self.fields[-1]
 
     def around_the_value(self):
-        """What the message has before the value and after it."""
+        """The parts of the message before the value and after it."""
         front, after = AROUND[self.letter]
         if b"%s" in front:
             front %= self.fields[0]
@@ -69,7 +70,7 @@ class Answer:
 
 
 def answers_of(text):
-    """The answers, one after another."""
+    """The results in a text, in order."""
     found = []
     for letter, fields, message in re.findall(r'([A-Z-])((?::[0-9a-f]*)*)("[0-9a-f]*)?', text.decode()):
         fields = tuple(bytes.fromhex(field) for field in fields.split(":")[1:])

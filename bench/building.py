@@ -1,4 +1,4 @@
-"""What the scripts of this folder share: how both programs are built, and how a command is run."""
+"""What the scripts of this folder share: building both programs, and running a command."""
 
 import os
 import shutil
@@ -15,7 +15,7 @@ def stop(why):
 
 
 def call(command, **how):
-    """Runs a command to its end, and gives what it wrote."""
+    """Runs a command to its end. Returns what it wrote."""
     try:
         done = subprocess.run(command, stdout=subprocess.PIPE, stderr=subprocess.PIPE, **how)
     except OSError as error:
@@ -31,14 +31,14 @@ def first_line(*command):
 
 
 def want(**commands):
-    """Ends where one of these commands is not there."""
+    """Stops if one of these commands does not exist."""
     for command, whose in commands.items():
         if not shutil.which(command):
-            stop(f"there is no {command}, {whose}")
+            stop(f"{command} was not found; it is {whose}")
 
 
 def build_port(name, *arguments, backend="llvm"):
-    """Proves and builds a program of this repository. Where nothing changed it is only run, on no input."""
+    """Proves, builds and runs a program of this repository. If nothing changed, it is only run."""
     folder = f"{TOP}/crates/{name}"
     environment = dict(os.environ, RT_BACKEND=backend)
     call(["rt", "run", "--", *arguments], cwd=folder, stdin=subprocess.DEVNULL, env=environment)
@@ -46,7 +46,7 @@ def build_port(name, *arguments, backend="llvm"):
 
 
 def build_crate(name):
-    """Builds a program over the Rust crate, which comes from its registry or from the folder that LEXOPT_SOURCE names."""
+    """Builds a program over the Rust crate, from its registry or the folder in LEXOPT_SOURCE."""
     command = ["cargo", "build", "--quiet", "--release", "--bin", name, "--target-dir", TARGET]
     # The processor that Rattle builds for.
     command += ["--config", 'build.rustflags=["-Ctarget-cpu=x86-64-v2"]']
@@ -54,7 +54,7 @@ def build_crate(name):
     if source:
         source = os.path.abspath(source)
         if not os.path.isfile(f"{source}/Cargo.toml"):
-            stop(f"LEXOPT_SOURCE: {source} has no Cargo.toml")
+            stop(f"LEXOPT_SOURCE: there is no {source}/Cargo.toml")
         command += ["--offline", "--config", f"patch.crates-io.lexopt.path='{source}'"]
     call(command, cwd=HERE)
     return f"{TARGET}/release/{name}"

@@ -1,6 +1,7 @@
-"""The cases of the comparison: words of a command line, and calls. What is made by chance has fixed seeds.
+"""The cases of the comparison: words of a command line, and calls. Random cases have fixed seeds.
 
-A case is a line, as `crates/test_lists/src/answers.rt` says. Run with no argument this lists the groups of cases.
+A case is a line in the form that `crates/test_lists/src/answers.rt` describes. Run without an
+argument this lists the groups of cases.
 """
 
 from dataclasses import dataclass
@@ -37,21 +38,22 @@ WORDS = [
     b"-a-",
 ]
 
-# Ends of the ranges of bytes that UTF-8 has, and their neighbours.
+# The ends of the ranges of bytes in UTF-8, and their neighbours.
 EDGES = [
     bytes([byte])
     for byte in bytes.fromhex("41 7f 80 8f 90 9f a0 bf c1 c2 df e0 e1 ed ee f0 f1 f4 f5 ff")
 ]
 
-# Bytes of which words are made by chance: each means something somewhere.
+# The bytes of random words. Each has a meaning somewhere.
 BYTES = list(b"--==aab019+\"\\' \t\n\r\x00\x1b\x7f\x80\x9d\x9e\xa0\xbf\xc2\xcc\xe2\xed\xf0\xff")
 
-# Every call, and the calls of the longer lists: those that read a line as a program does, and some of many kinds.
+# Every call; and the calls of longer lists: those by which a program reads a line, and some of many
+# kinds.
 CALLS = "n0 u0 v0 p0 o0 s0 s1 s2 s9 r0 r1 r9 t0 t1 t9 l0 i0 i1 i2 e0 e1 c0 b0".split()
 READING = "n0 v0 o0 s9".split()
 MIXED = "n0 v0 o0 s2 r1 t1 i1 e0".split()
 
-# How many cases by chance have one seed.
+# How many random cases share a seed.
 SEEDED = 20_000
 
 
@@ -60,7 +62,7 @@ def words_in_case(words):
 
 
 def each(words, lists, constructor="a"):
-    """A case of these words for each of these lists of calls."""
+    """A case with these words for each of these lists of calls."""
     front = f"{constructor} {words_in_case(words)} "
     return front + ("\n" + front).join(lists) + "\n"
 
@@ -70,18 +72,18 @@ def case(words, calls, constructor="a"):
 
 
 def up_to(count, things):
-    """All lists of no more than so many of these things."""
+    """All lists of at most this many of these things."""
     for length in range(count + 1):
         yield from product(things, repeat=length)
 
 
 def lists_of(count, calls, front=""):
-    """All lists of so many of these calls, after some others."""
+    """All lists of this many of these calls, each after the same first calls."""
     return [front + "".join(chosen) for chosen in product(calls, repeat=count)]
 
 
 def all_lists(least, most, lists, constructor="a"):
-    """All lists of so many words, each with all these lists of calls."""
+    """All lists of `least` to `most` words, each with all these lists of calls."""
 
     def blocks(_cases):
         for words in up_to(most, WORDS):
@@ -92,7 +94,7 @@ def all_lists(least, most, lists, constructor="a"):
 
 
 def edges(_cases):
-    """All byte lists of length 1 to 4 over the edges, each in many places."""
+    """All lists of 1 to 4 bytes over the edges, each in many places of a line."""
     cluster = ["n0n0n0n0n0", "n0v0n0", "n0n0v0n0", "u0u0u0u0u0", "n0s2n0", "n0c0n0c0v0"]
     after = ["n0n0n0n0n0n0", "n0v0n0", "n0o0n0", "n0p0n0", "n0l0n0", "e0n0s1n0"]
     for length in range(1, 5):
@@ -120,7 +122,7 @@ def numbers(_cases):
 
 
 def some_words(chance):
-    """One to six words of up to eight bytes; in half of the lists most begin with a dash."""
+    """One to six words of at most eight bytes. In half of the lists most begin with a dash."""
     count = chance.randrange(1, 7)
     words = [bytes(chance.choices(BYTES, k=chance.randrange(9))) for _ in range(count)]
     if chance.random() < 0.5:
@@ -129,7 +131,7 @@ def some_words(chance):
 
 
 def by_chance(cases):
-    """Words and calls by fixed seeds."""
+    """Random words and calls, with fixed seeds."""
     for seed in range(-(-cases // SEEDED)):
         chance = Random(seed)
         count = min(SEEDED, cases - seed * SEEDED)
@@ -143,7 +145,8 @@ def by_chance(cases):
 @dataclass(frozen=True)
 class Group:
     title: str
-    # From the number of cases by chance: blocks of cases, each with how many they are.
+    # Makes blocks of cases, each after its number of cases. Its argument is the number of random
+    # cases.
     blocks: Callable
 
 
@@ -158,9 +161,9 @@ GROUPS = [
         "three words by `from_iter`, `bin_name` and two calls of every kind",
         all_lists(3, 3, lists_of(2, CALLS, "b0"), "i"),
     ),
-    Group("byte lists of length 1 to 4 over the edges of UTF-8", edges),
+    Group("lists of 1 to 4 bytes over the edges of UTF-8", edges),
     Group("values that are numbers, or nearly", numbers),
-    Group("words and calls by chance", by_chance),
+    Group("random words and calls", by_chance),
 ]
 
 if __name__ == "__main__":

@@ -1,6 +1,8 @@
-"""The cases whose answers stand in `crates/test_cases/stdin`, and how they are written there (docs/formats.md).
+"""The cases whose results are in `crates/test_cases/stdin`, and the form in which they are written
+there (docs/formats.md).
 
-They have the calls that a script has. Some are chosen by hand, the others are by a fixed seed.
+They have the calls that a script has. Some are chosen by hand, and the others are random, with a
+fixed seed.
 """
 
 from random import Random
@@ -8,11 +10,11 @@ from random import Random
 from answers import answers_of, quoted
 from cases import case
 
-# The calls of a script, by how they stand in a case.
+# The calls of a script, by their letters in a case.
 CALLS = {"n": "next", "v": "value", "o": "optional", "s": "values", "r": "raw", "t": "try"}
 
 CHOSEN = [
-    # What is left of a cluster, by the switch.
+    # The rest of a cluster, under both settings of `short_equals`.
     ([b"-a=b"], "n0e0n0e1n0n0"),
     ([b"-a=b"], "n0e0v0n0"),
     ([b"-a=b"], "e0n0o0o0n0"),
@@ -24,7 +26,7 @@ CHOSEN = [
     ([b"-=="], "n0n0n0"),
     ([b"-=="], "e0n0n0n0"),
     ([b"--a=b", b"-c=d"], "e0n0v0n0n0v0n0"),
-    # A value, if one is pending.
+    # A value that is pending, if any.
     ([], "o0n0o0"),
     ([b"-a", b"b"], "o0n0o0n0o0n0"),
     ([b"-ab", b"c"], "n0o0o0n0n0"),
@@ -63,7 +65,7 @@ CHOSEN = [
     ([b"-a", b"b"], "t0n0t0r0n0v0"),
 ]
 
-# What words are made of by chance.
+# The pieces of random words.
 PIECES = [b"-", b"-", b"-", b"=", b"=", b"a", b"b", b"\xc3\xa9", b"\xff", b"\xf0\x9d", b'"', b"\\"]
 
 
@@ -86,7 +88,7 @@ RECORDED = "".join(case(*chosen) for chosen in [*CHOSEN, *by_chance(110)])
 
 
 def word_of_script(word):
-    """The line of a script that has this word."""
+    """The line of a script for this word."""
     text = "".join(
         "\\\\" if byte == 0x5C else chr(byte) if 0x20 <= byte < 0x7F else f"\\x{byte:02X}" for byte in word
     )
@@ -100,7 +102,7 @@ def call_of_script(letter, number):
 
 
 def reply(letter, answers):
-    """What a script writes for a reply."""
+    """The line that a script writes for a reply."""
     if letter == "e":
         return b"ok"
     if answers and answers[0].message:
@@ -120,14 +122,14 @@ def reply(letter, answers):
 
 
 def recorded(answers):
-    """The cases, and what the Rust crate answered to them."""
+    """The cases, with the results of the Rust crate."""
     lines = []
     for line, answer in zip(RECORDED.encode().splitlines(), answers.splitlines()):
         _constructor, words, calls = line.decode().split(" ")
         calls = list(zip(calls[::2], calls[1::2]))
         lines += ["> " + word_of_script(bytes.fromhex(word)) for word in words.split(".")[1:]]
         lines += ["> " + call_of_script(*call) for call in calls]
-        # What is left stands after the answers to the calls.
+        # The unread line comes after the results of the calls.
         for (letter, _), text in zip(calls, answer.split(b" ")):
             lines += ["< " + reply(letter, answers_of(text)).decode()]
         lines.append("")

@@ -1,6 +1,8 @@
-"""The workloads of the benchmark: each makes the words of a command line of any size. Nothing in them is by chance.
+"""The workloads of the benchmark. Each makes the words of a command line of a given size, always
+the same ones.
 
-Run with no argument it lists them, and with a number it writes the words of that one, each ended by a NUL.
+Run without an argument this lists them. With a number it writes the words of that one, each ended
+by a NUL.
 """
 
 import sys
@@ -10,17 +12,17 @@ from typing import Callable
 
 MIB = 1 << 20
 
-# By work: what a row may cost over what it costs the Rust crate, where its workload names nothing else, and why. Any other work
-# has 1.0.
+# By work: the bound of its rows, that is the greatest ratio to the Rust crate, and the reason. A
+# workload can have another bound. Other works have 1.0.
 BOUNDS = {
-    "said": (
+    "parsed": (
         1.2,
-        "A declaration is looked up when the program runs, and a `match` is compiled.",
+        "A declaration is looked up at run time, and a `match` is compiled.",
     ),
 }
 
-# By work: what its rows may cost by the geometric mean.
-MEANS = {"said": 1.0}
+# By work: the bound of the geometric mean of its rows.
+MEANS = {"parsed": 1.0}
 
 A_LINE = [
     b"-v",
@@ -37,7 +39,7 @@ A_LINE = [
     b"my file.txt",
 ]
 
-# Latin-1, a character that is cut off, a byte that begins no character, and a surrogate.
+# Latin-1, a truncated character, a byte that cannot begin a character, and a surrogate.
 DAMAGED_NAMES = [
     b"--caf\xe9",
     b"--note\xf0\x9f\x92",
@@ -59,61 +61,61 @@ DAMAGED_VALUES = [
 
 # Why a row may cost more.
 OF_ERRORS = (
-    "An `Error` has room for its cause, some 300 bytes. The function with the loop has one of them or more, which are zeroed as it "
-    "begins, once for each line."
+    "An `Error` has room for its cause, some 300 bytes. The function with the loop has at least one of them, and zeroes it once "
+    "for each line."
 )
 OF_EMPTY_WORDS = (
-    "A word that is taken leaves an empty one in its place, which is written and, at the end, dropped: some 10 instructions. The "
-    "owning iterator of a `Vec` would leave none, but std's cannot lend the words that are left as one slice."
+    "A word that is taken leaves an empty word in its place, which is written, and dropped at the end: some 10 instructions. The "
+    "owning iterator of a `Vec` would leave none, but that of Rattle's std cannot lend the unread words as one slice."
 )
 
 
 def repeated(words):
-    """As many of these words as are asked for, over and over."""
+    """As many words as are asked for: these, over and over."""
     return lambda size: list(islice(cycle(words), size))
 
 
 def after(front, words):
-    """These words, as many as are asked for, over and over, after one word."""
+    """One word, and after it as many words as are asked for: these, over and over."""
     return lambda size: [front, *islice(cycle(words), size)]
 
 
 def one_word(front, text):
-    """One word: this front, and after it the text over and over, as many bytes as are asked for."""
+    """One word: this front, and as many bytes of the repeated text as are asked for."""
     return lambda size: [front + (text * (size // len(text) + 1))[:size]]
 
 
 @dataclass(frozen=True)
 class Workload:
-    title: str  # as the table has it; {size} stands for the size
+    title: str  # as in the table, with {size} for the size
     size: int
     words: Callable[[int], list]
-    work: str = "next"  # the calls that both programs make: an argument that they know
-    times: int = 2  # over how many reads the cost of one is counted
-    is_timed: bool = False  # whether its time is taken too
+    work: str = "next"  # the calls that both programs make: an argument of theirs
+    times: int = 2  # the number of reads over which the cost of one is counted
+    is_timed: bool = False  # whether its time is measured too
     is_declared: bool = False  # whether its words are read by declared options too
-    # By work: the most that the ratio less the copy may be, and why, where BOUNDS has another.
+    # By work: its bound and the reason, in place of those in BOUNDS.
     bounds: dict = field(default_factory=dict)
 
     @property
     def works(self):
-        """The calls that are counted. What `next` reads is read by a table of options too."""
+        """The works that are counted. What `next` reads is also read by a table of options."""
         works = ["next", "items"] if self.work == "next" else [self.work]
-        return works + ["said"] if self.is_declared else works
+        return works + ["parsed"] if self.is_declared else works
 
     def bound(self, work):
-        """The most that the ratio less the copy may be, and why that much."""
+        """The greatest ratio without the copy that is allowed, and the reason."""
         return self.bounds.get(work, BOUNDS.get(work, (1.0, "")))
 
     @property
     def is_spelled(self):
-        """Whether what a table reads is spelled too."""
+        """Whether the items that a table reads are spelled too."""
         return "items" in self.works
 
 
 WORKLOADS = [
     Workload(
-        "a line of {size} words, as people type them",
+        "a typical line of {size} words",
         12,
         repeated(A_LINE),
         times=100,
@@ -122,15 +124,15 @@ WORKLOADS = [
     Workload("{size} positionals", 10_000, repeated([b"file.txt"]), is_declared=True),
     Workload("{size} words `--name=value`", 10_000, repeated([b"--name=value"]), is_declared=True),
     Workload(
-        "{size} words, `-n` and `value` in turn",
+        "{size} words, `-n value` repeated",
         20_000,
         repeated([b"-n", b"value"]),
         is_declared=True,
     ),
-    Workload("{size} words, a positional and a flag in turn", 10_000, repeated([b"file.txt", b"-v"])),
+    Workload("{size} words, `file.txt -v` repeated", 10_000, repeated([b"file.txt", b"-v"])),
     Workload("a cluster of {size} letters", 100_000, one_word(b"-", b"abcdefghijklm")),
     Workload(
-        "a cluster of letters of two bytes, {size} bytes",
+        "a cluster of {size} bytes, two-byte letters",
         200_000,
         one_word(b"-", "äöüßéèñ".encode()),
     ),
@@ -160,13 +162,13 @@ WORKLOADS = [
     ),
     Workload("{size} positionals, by `from_args`", 10_000, repeated([b"file.txt"]), work="collected"),
     Workload(
-        "{size} words, `-n` and `value` in turn, by a function that can fail",
+        "{size} words, `-n value` repeated, by a function that can fail",
         20_000,
         repeated([b"-n", b"value"]),
         work="fallible",
     ),
     Workload(
-        "a line of {size} words, by a function that can fail",
+        "a typical line of {size} words, by a function that can fail",
         12,
         repeated(A_LINE),
         work="fallible",
@@ -179,12 +181,12 @@ WORKLOADS = [
         after(b"-x", [b"value"]),
         work="items",
     ),
-    Workload("{size} words, `-x=a` and a positional in turn", 10_000, repeated([b"-x=a", b"b"]), work="items"),
+    Workload("{size} words, `-x=a b` repeated", 10_000, repeated([b"-x=a", b"b"]), work="items"),
 ]
 
 
 def input_of(workload, size):
-    """What both programs read."""
+    """The input of both programs."""
     return b"".join(word + b"\0" for word in workload.words(size))
 
 

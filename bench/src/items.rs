@@ -1,25 +1,27 @@
-//! A whole line, read by a table of options: over the Rust crate what `read_items` of this repository does.
+//! Reads a whole line by a table of options, over the Rust crate, as `read_items` of this
+//! repository does.
 
 use lexopt::{Arg, Error, Parser};
 use std::ffi::OsString;
 
-/// The options that have values, by how many they have; any other option has none. Names stand without their dashes.
+/// The options that have values, by how many they have. Any other option has none. Names are
+/// without their dashes.
 pub struct Table {
-    /// Options of one character with one value, always.
+    /// Short options with one value, always.
     pub shorts: Vec<char>,
-    /// Options with a name and one value, always.
+    /// Long options with one value, always.
     pub longs: Vec<String>,
-    /// Options of one character with a value that may be left out.
+    /// Short options with one value or none.
     pub optional_shorts: Vec<char>,
-    /// Options with a name and a value that may be left out.
+    /// Long options with one value or none.
     pub optional_longs: Vec<String>,
-    /// Options of one character with several values, one at least.
+    /// Short options with several values, at least one.
     pub several_shorts: Vec<char>,
-    /// Options with a name and several values, one at least.
+    /// Long options with several values, at least one.
     pub several_longs: Vec<String>,
 }
 
-/// What a line says, in order.
+/// An item of a line.
 pub enum Item {
     Short(char, Option<OsString>),
     Long(String, Option<OsString>),
@@ -28,13 +30,14 @@ pub enum Item {
     Positional(OsString),
 }
 
-/// Reads a whole line by a table: after each option of the table its values are read, and any other option has none.
+/// Reads a whole line by a table. After each option in the table its values are read; any other
+/// option is a flag.
 pub fn read_items(
     words: Vec<OsString>,
     short_equals: bool,
     table: &Table,
 ) -> Result<Vec<Item>, Error> {
-    // Room for a line as people type them; the items of a longer one grow.
+    // Room for a typical line. The list of a longer line grows.
     let mut items = Vec::with_capacity(words.len().min(16));
     let mut parser = Parser::from_args(words);
     parser.set_short_equals(short_equals);
@@ -52,7 +55,7 @@ pub fn read_items(
     Ok(items)
 }
 
-// The values of an option of one character.
+// Reads the values of a short option.
 fn read_short(parser: &mut Parser, option: char, table: &Table) -> Result<Item, Error> {
     if table.shorts.contains(&option) {
         Ok(Item::Short(option, Some(parser.value()?)))
@@ -65,7 +68,7 @@ fn read_short(parser: &mut Parser, option: char, table: &Table) -> Result<Item, 
     }
 }
 
-// The values of an option with a name.
+// Reads the values of a long option.
 fn read_long(parser: &mut Parser, name: String, table: &Table) -> Result<Item, Error> {
     if table.longs.contains(&name) {
         Ok(Item::Long(name, Some(parser.value()?)))

@@ -1,5 +1,6 @@
-//! Reads words many times, so that the cost of a read can be measured. `crates/bench_port/src/main.rt` does the same with
-//! this repository's port, and says what the arguments and standard input are.
+//! Reads words many times, so that the cost of a read can be measured.
+//! `crates/bench_port/src/main.rt` does the same with this repository's port, and describes the
+//! arguments and standard input.
 
 mod items;
 mod seen;
@@ -12,7 +13,7 @@ use std::ffi::{OsStr, OsString};
 use std::io::{self, Read};
 use std::os::unix::ffi::OsStrExt;
 
-// What a damaged name of the workloads is read as, which has a value there.
+// The text of the damaged long option in the workloads that has a value.
 const DAMAGED_NAME: &str = "\u{fffd}\u{fffd}\u{fffd}size";
 
 // What is done with the copies of the words.
@@ -53,7 +54,7 @@ fn copies(words: &[&[u8]]) -> Vec<OsString> {
     copied
 }
 
-// Takes the words that are left.
+// Takes the unread words.
 fn read_raw(words: Vec<OsString>, seen: &mut Seen) -> bool {
     let mut parser = Parser::from_args(words);
     match parser.raw_args() {
@@ -120,7 +121,7 @@ fn read_line(words: Vec<OsString>, seen: &mut Seen) -> bool {
     }
 }
 
-// Reads the whole line. Only `-n` takes values, as many as there are.
+// Reads the whole line. Only `-n` takes values, as many as possible.
 fn read_several(words: Vec<OsString>, seen: &mut Seen) -> bool {
     let mut parser = Parser::from_args(words);
     loop {
@@ -184,7 +185,7 @@ fn read_or_fail(words: Vec<OsString>, seen: &mut Seen) -> Result<(), Error> {
     }
 }
 
-// The table that `read_items` reads by: one option of one character and one with a name for each number of values.
+// The table for `read_items`: a short option and a long one for each kind.
 fn options() -> Table {
     Table {
         shorts: vec!['n'],
@@ -221,7 +222,7 @@ fn main() -> Result<(), Box<dyn std::error::Error>> {
                 seen.copies(&copied);
                 true
             }
-            // The Rust crate has one constructor for both.
+            // The Rust crate has the same constructor for both.
             Work::Next | Work::Collected => read_line(copied, &mut seen),
             Work::Fallible => match read_or_fail(copied, &mut seen) {
                 Ok(()) => true,
@@ -239,7 +240,7 @@ fn main() -> Result<(), Box<dyn std::error::Error>> {
             },
         };
         if !goes_on {
-            return Err("an error that no workload should lead to".into());
+            return Err("an error that no workload should cause".into());
         }
         seen.stop_hashing();
     }

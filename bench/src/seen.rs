@@ -1,4 +1,5 @@
-//! What the reads saw: counts, and a hash of the first read, since one of every read would cost more than what is measured.
+//! What the reads saw: counts, and a hash of the first read. A hash of every read would cost more
+//! than what is measured.
 use crate::items::Item;
 use lexopt::Error;
 use std::ffi::OsString;
@@ -33,7 +34,7 @@ impl Seen {
         }
     }
 
-    /// The first read is over.
+    /// Call this after the first read.
     pub fn stop_hashing(&mut self) {
         self.hashes = false;
     }
@@ -91,14 +92,14 @@ impl Seen {
         }
     }
 
-    // The value of an option, if it has one.
+    // The value of an option, if any.
     fn one(&mut self, value: &Option<OsString>) {
         if let Some(value) = value {
             self.value(value.as_bytes());
         }
     }
 
-    // The values of an option that has several.
+    // The values of an option with several.
     fn several(&mut self, values: &[OsString]) {
         self.text(b'c', &(values.len() as u64).to_le_bytes());
         for value in values {

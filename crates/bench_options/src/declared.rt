@@ -1,5 +1,5 @@
-//! What the program declares: options of every kind, with a short name, a long one or both, and any
-//! number of positional arguments.
+//! The declaration: options of every kind, with a short name, a long name or both, and any number
+//! of positionals.
 use lexopt_options::{Declaration, Names, declare};
 
 // A number is the place of the option in the declaration.

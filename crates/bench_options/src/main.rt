@@ -1,14 +1,14 @@
-//! Reads words by declared options many times, so that the cost of a read can be measured.
+//! Reads words by declared options many times, to measure the cost of a read.
 //! `bench/src/bin/options` does the same with the Rust crate, by a `match` over the names.
 //!
-//! The first argument is the work, and the second how many times it is done. Standard input has the
-//! words, each ended by a NUL. Each time
+//! The first word is the work, and the second is how many times it is done. Standard input has the
+//! words that are read, each followed by a NUL. Each time
 //!
 //! - `copy` copies the words;
-//! - `said` copies them too, and reads the copies by ten declared options;
+//! - `parsed` copies the words, and reads the copies by ten declared options;
 //! - `declare` declares these options, and copies nothing.
 //!
-//! Last it prints what was seen.
+//! Then it prints counts and a hash of what was read.
 #![tactic(auto)]
 
 mod declared;
@@ -22,11 +22,11 @@ use std::alloc::{AllocError, Global};
 use std::env;
 use std::io::Read;
 
-// What is done each time.
+// The work that is done each time.
 #[derive(Clone, Copy)]
 enum Work {
     Copy,
-    Said,
+    Parsed,
     Declare,
 }
 
@@ -34,7 +34,7 @@ impl Work {
     fn of_name(name: &str) -> Option<Work> {
         match name {
             "copy" => Some(Work::Copy),
-            "said" => Some(Work::Said),
+            "parsed" => Some(Work::Parsed),
             "declare" => Some(Work::Declare),
             _ => None,
         }
@@ -50,7 +50,7 @@ fn copies(alloc: Global, words: &[&[u8]]) -> Result<Vec<OsString>, AllocError> {
     Ok(copied)
 }
 
-// Declares the options, and counts them. It is not inlined, so that it is done each time.
+// Declares the options, and counts them. It is not inlined, so that each call does the work.
 #[inline(never)]
 fn declare<'a>(
     declaration: &'a Declaration<'a, Flag, Value, Word, Maybe, Values>,
@@ -65,7 +65,7 @@ fn declare<'a>(
     }
 }
 
-// Reads a line to its end.
+// Reads a line to its end. Returns whether it was read.
 fn read_line(
     alloc: Global,
     words: Vec<OsString>,
@@ -73,7 +73,7 @@ fn read_line(
     seen: &mut Seen,
 ) -> bool {
     match options.read(alloc, words) {
-        Ok(Line::Said(line)) => {
+        Ok(Line::Parsed(line)) => {
             seen.line(&line);
             true
         }
@@ -95,7 +95,7 @@ fn do_once(
             seen.copies(&copies(alloc, words)?);
             Ok(true)
         }
-        Work::Said => Ok(read_line(alloc, copies(alloc, words)?, options, seen)),
+        Work::Parsed => Ok(read_line(alloc, copies(alloc, words)?, options, seen)),
         Work::Declare => Ok(declare(declaration, seen).is_some()),
     }
 }
@@ -127,9 +127,9 @@ fn main(rt: HostRuntime) -> Result<()> {
     let alloc = rt.alloc();
     let mut args = env::args(&rt)?;
     let (Some(_program), Some(work), Some(times)) = (args.next(), args.next(), args.next()) else {
-        bail!("usage: bench_options copy|said|declare TIMES");
+        bail!("usage: bench_options copy|parsed|declare TIMES");
     };
-    let work = Work::of_name(&work).context("the work is copy, said or declare")?;
+    let work = Work::of_name(&work).context("the work is copy, parsed or declare")?;
     let times = times.parse::<u64>().context("how many times")?;
 
     let mut input = Vec::new(alloc);

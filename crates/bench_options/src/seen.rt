@@ -1,7 +1,7 @@
-//! What the reads saw: counts, and a hash of the first read, since one of every read would cost
-//! more than what is measured.
+//! Counts of what was read, and a hash of the first read. A hash of every read would cost more than
+//! the reads.
 use crate::declared::{Flag, Maybe, Value, Values, Word};
-use lexopt_options::{OsString, Said};
+use lexopt_options::{OsString, Parsed};
 use std::fmt;
 
 #[derive(Drop)]
@@ -11,7 +11,7 @@ pub struct Seen {
     values: u64,
     positionals: u64,
     bytes: u64,
-    // FNV-1a of what the first read saw.
+    // The FNV-1a hash of the first read.
     hash: u64,
     hashes: bool,
 }
@@ -29,12 +29,12 @@ impl Seen {
         }
     }
 
-    /// The first read is over.
+    /// Ends the hash, after the first read.
     pub fn stop_hashing(&mut self) {
         self.hashes = false;
     }
 
-    /// Options that are declared, and not read.
+    /// Counts options that are declared, and not read.
     pub fn options(&mut self, count: usize) {
         self.options = self.options.wrapping_add(count as u64);
     }
@@ -43,31 +43,31 @@ impl Seen {
         self.copies = self.copies.wrapping_add(words.len() as u64);
     }
 
-    /// What is read from a line.
-    pub fn line(&mut self, line: &[Said<Flag, Value, Word, Maybe, Values>]) {
-        for said in line {
-            match said {
-                Said::Flag(flag) => self.option(*flag as u64),
-                Said::Value(option, value) => {
+    /// Counts what was read from a line.
+    pub fn line(&mut self, line: &[Parsed<Flag, Value, Word, Maybe, Values>]) {
+        for parsed in line {
+            match parsed {
+                Parsed::Flag(flag) => self.option(*flag as u64),
+                Parsed::Value(option, value) => {
                     self.option(*option as u64);
                     self.value(value.as_bytes());
                 }
-                Said::Maybe(option, value) => {
+                Parsed::Maybe(option, value) => {
                     self.option(*option as u64);
                     if let Some(value) = value {
                         self.value(value.as_bytes());
                     }
                 }
-                Said::Values(option, values) => {
+                Parsed::Values(option, values) => {
                     self.option(*option as u64);
                     self.several(values);
                 }
-                Said::Positional(Word::File, word) => self.positional(word.as_bytes()),
+                Parsed::Positional(Word::File, word) => self.positional(word.as_bytes()),
             }
         }
     }
 
-    // The option at this place of the declaration.
+    // Counts the option at this place of the declaration.
     fn option(&mut self, place: u64) {
         self.options = self.options.wrapping_add(1);
         self.text(b'o', &place.to_le_bytes());
@@ -78,7 +78,7 @@ impl Seen {
         self.text(b'v', value);
     }
 
-    // The values of an option that has several.
+    // Counts the values of an option of several values.
     fn several(&mut self, values: &[OsString]) {
         self.text(b'c', &(values.len() as u64).to_le_bytes());
         for value in values {

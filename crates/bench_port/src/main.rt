@@ -1,21 +1,22 @@
-//! Reads words many times, so that the cost of a read can be measured. `bench/src/main.rs` does the
-//! same with the Rust crate.
+//! Reads words many times, to measure the cost of a read. `bench/src/main.rs` does the same with
+//! the Rust crate.
 //!
-//! The first argument is the work, and the second how many times it is done. Standard input has the
-//! words, each ended by a NUL. Each time the words are copied, and
+//! The first word is the work, and the second is how many times it is done. Standard input has the
+//! words that are read, each followed by a NUL. Each time the words are copied, and
 //!
-//! - `copy` does no more;
-//! - `next` reads the copies as a command line, in which `-n` and `--name` take a value, by a
-//!   parser that `from_vec` makes of them;
-//! - `collected` does so by a parser that `from_args` makes;
-//! - `fallible` does so up to the first error, and takes values by a function that can fail;
+//! - `copy` does nothing else;
+//! - `next` reads the copies as a line in which `-n` and `--name` take a value, by a parser that
+//!   `from_vec` makes;
+//! - `collected` reads the same line by a parser that `from_args` makes;
+//! - `fallible` reads the same line up to the first error, and takes values by a function that can
+//!   fail;
 //! - `values` reads a line in which `-n` takes several values;
 //! - `raw` takes the words unread;
 //! - `parse` parses each copy as a number, and reads no line;
-//! - `items` reads the line by a table of options, `spell` spells these items too, and `spelled`
-//!   copies the words that spell them.
+//! - `items` reads the line by a table of options, `spell` also spells these items, and `spelled`
+//!   also copies the words that spell them.
 //!
-//! Last it prints what was seen.
+//! Then it prints counts and a hash of what was read.
 #![tactic(auto)]
 
 mod seen;
@@ -29,10 +30,10 @@ use std::alloc::{AllocError, Global};
 use std::env;
 use std::io::Read;
 
-// What a damaged name of the workloads is read as, which has a value there.
+// The lossy text of the damaged name in the workloads. The option has a value there.
 const DAMAGED_NAME: &str = "\u{fffd}\u{fffd}\u{fffd}size";
 
-// What is done with the copies of the words.
+// The work that is done with the copies of the words.
 #[derive(Clone, Copy)]
 enum Work {
     Copy,
@@ -74,7 +75,7 @@ fn copies(alloc: Global, words: &[&[u8]]) -> Result<Vec<OsString>, AllocError> {
     Ok(copied)
 }
 
-// Takes the words that are left.
+// Takes the words unread.
 fn read_raw(words: Vec<OsString>, seen: &mut Seen) -> bool {
     let mut parser = Parser::from_vec(words);
     match parser.raw_args() {
@@ -142,13 +143,13 @@ fn read_all(parser: &mut Parser, seen: &mut Seen) -> bool {
     true
 }
 
-// Reads the whole line of words in a `Vec`.
+// Reads a whole line from a `Vec` of words.
 fn read_line(words: Vec<OsString>, seen: &mut Seen) -> bool {
     let mut parser = Parser::from_vec(words);
     read_all(&mut parser, seen)
 }
 
-// Reads the whole line of any iterator's words.
+// Reads a whole line from an iterator over words.
 fn read_collected(alloc: Global, words: Vec<OsString>, seen: &mut Seen) -> bool {
     match Parser::from_args(alloc, words) {
         Ok(mut parser) => read_all(&mut parser, seen),
@@ -222,8 +223,7 @@ fn read_or_fail(words: Vec<OsString>, seen: &mut Seen) -> Result<(), Error> {
     Ok(())
 }
 
-// The table that `read_items` reads by: one option of one character and one with a name for each
-// number of values.
+// The table by which `read_items` reads: a short and a long option of each kind that has values.
 fn options(alloc: Global) -> Result<Table, AllocError> {
     Ok(Table {
         shorts: vec![in alloc; 'n']?,
@@ -235,8 +235,8 @@ fn options(alloc: Global) -> Result<Table, AllocError> {
     })
 }
 
-// Spells the items, and copies the words that spell them, if the work wants it. It is not part
-// of what `items` costs.
+// Spells the items, and copies the words that spell them if the work is `spelled`. `items` does not
+// call it.
 #[cold]
 fn spell_items(
     alloc: Global,
@@ -277,7 +277,7 @@ fn main(rt: HostRuntime) -> Result<()> {
     let mut seen = Seen::new();
     for _ in 0..times {
         let copied = copies(alloc, &words)?;
-        let goes_on = match work {
+        let continues = match work {
             Work::Copy => {
                 seen.copies(&copied);
                 true
@@ -304,7 +304,7 @@ fn main(rt: HostRuntime) -> Result<()> {
                 }
             }
         };
-        if !goes_on {
+        if !continues {
             bail!("an error that no workload should lead to");
         }
         seen.stop_hashing();

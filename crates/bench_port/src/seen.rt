@@ -1,5 +1,5 @@
-//! What the reads saw: counts, and a hash of the first read, since one of every read would cost
-//! more than what is measured.
+//! Counts of what was read, and a hash of the first read. A hash of every read would cost more than
+//! the reads.
 use lexopt::replay::Item;
 use lexopt::{Error, OsString};
 use std::fmt;
@@ -13,7 +13,7 @@ pub struct Seen {
     positionals: u64,
     errors: u64,
     bytes: u64,
-    // FNV-1a of what the first read saw.
+    // The FNV-1a hash of the first read.
     hash: u64,
     hashes: bool,
 }
@@ -33,7 +33,7 @@ impl Seen {
         }
     }
 
-    /// The first read is over.
+    /// Ends the hash, after the first read.
     pub fn stop_hashing(&mut self) {
         self.hashes = false;
     }
@@ -97,14 +97,14 @@ impl Seen {
         }
     }
 
-    // The value of an option, if it has one.
+    // Counts the value of an option, if it has one.
     fn one(&mut self, value: &Option<OsString>) {
         if let Some(value) = value {
             self.value(value.as_bytes());
         }
     }
 
-    // The values of an option that has several.
+    // Counts the values of an option of several values.
     fn several(&mut self, values: &[OsString]) {
         self.text(b'c', &(values.len() as u64).to_le_bytes());
         for value in values {
@@ -112,7 +112,7 @@ impl Seen {
         }
     }
 
-    /// Whether reading goes on after this error.
+    /// Counts an error. Returns whether reading continues after it.
     pub fn error(&mut self, error: Error) -> bool {
         match error {
             Error::UnexpectedValue { option, value } => {

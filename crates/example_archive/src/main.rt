@@ -1,15 +1,15 @@
-//! Options that are declared once: `example_archive OPTION.. [FILE]..`.
+//! Declared options of each kind: `example_archive OPTION.. [FILE]..`.
 //!
-//! It packs nothing: it prints what it has read, quoted. A word may be of any bytes.
-//! `_EXAMPLE_ARCHIVE_COMPLETE=bash_source example_archive` prints a script that completes its lines
-//! in that shell; `zsh_source` and `fish_source` have one too.
+//! It packs nothing: it prints what it has read, quoted. A word may have any bytes. In bash,
+//! `_EXAMPLE_ARCHIVE_COMPLETE=bash_source example_archive` prints a script that completes its
+//! lines; `zsh_source` and `fish_source` do so for zsh and fish.
 //!
-//! The exit status is 0, or 2 if the command line was refused, or 1 if memory ran out or a line
-//! could not be printed; then standard error says why.
+//! The exit status is 0; 2 if the command line is refused; or 1 if memory runs out or a line cannot
+//! be printed. Standard error then has the reason.
 #![tactic(auto)]
 
 use lexopt_options::{
-    Answer, Declaration, Names, Options, OsString, Quoted, Said, USAGE_ERROR, declare,
+    Answer, Declaration, Names, Options, OsString, Parsed, Quoted, USAGE_ERROR, declare,
 };
 use std::io;
 use std::process::ExitCode;
@@ -74,29 +74,32 @@ fn print_word(rt: &impl Print, name: &str, word: &OsString) -> io::Result<()> {
     println!(rt; "{name}: {word}")
 }
 
-fn print_said(rt: &impl Print, said: &Said<Flag, Value, Word, Maybe, Values>) -> io::Result<()> {
-    match said {
-        Said::Flag(Flag::Verbose) => rt.println("verbose"),
-        Said::Value(Value::Output, file) => print_word(rt, "output", file),
-        Said::Value(Value::Directory, folder) => print_word(rt, "directory", folder),
-        Said::Value(Value::Format, format) => print_word(rt, "format", format),
-        Said::Maybe(Maybe::Backup, Some(suffix)) => print_word(rt, "backup", suffix),
-        Said::Maybe(Maybe::Backup, None) => rt.println("backup"),
-        Said::Values(Values::Exclude, patterns) => {
+fn print_parsed(
+    rt: &impl Print,
+    parsed: &Parsed<Flag, Value, Word, Maybe, Values>,
+) -> io::Result<()> {
+    match parsed {
+        Parsed::Flag(Flag::Verbose) => rt.println("verbose"),
+        Parsed::Value(Value::Output, file) => print_word(rt, "output", file),
+        Parsed::Value(Value::Directory, folder) => print_word(rt, "directory", folder),
+        Parsed::Value(Value::Format, format) => print_word(rt, "format", format),
+        Parsed::Maybe(Maybe::Backup, Some(suffix)) => print_word(rt, "backup", suffix),
+        Parsed::Maybe(Maybe::Backup, None) => rt.println("backup"),
+        Parsed::Values(Values::Exclude, patterns) => {
             for pattern in patterns {
                 print_word(rt, "exclude", pattern)?;
             }
             Ok(())
         }
-        Said::Positional(Word::File, file) => print_word(rt, "file", file),
+        Parsed::Positional(Word::File, file) => print_word(rt, "file", file),
     }
 }
 
 fn run(rt: &HostRuntime) -> io::Result<ExitCode> {
     match Options::new(&DECLARATION).from_env(rt)? {
-        Answer::Said(line) => {
-            for said in &line {
-                print_said(rt, said)?;
+        Answer::Parsed(line) => {
+            for parsed in &line {
+                print_parsed(rt, parsed)?;
             }
         }
         Answer::Text(text) => rt.print(text)?,

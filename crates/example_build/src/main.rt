@@ -1,12 +1,16 @@
-//! Commands, and options in the shapes that programs often have:
-//! `example_build [-v].. [--color|--no-color] COMMAND [ARGUMENT]..`. The commands are
-//! `build [-j N|--jobs=N] [-f NAME|--feature=NAME].. [TARGET]..` and `touch [--by=SECONDS] FILE..`.
+//! Commands by `next`, and options in the shapes that programs often have.
 //!
-//! It prints what it would do. If no option gives the number of jobs, the variable `BUILD_JOBS`
-//! of the environment does. A word may be of any bytes.
+//! ```text
+//! example_build [-v].. [--color|--no-color] COMMAND [ARGUMENT]..
+//!     build [-j N|--jobs=N] [-f NAME|--feature=NAME].. [TARGET]..
+//!     touch [--by=SECONDS] FILE..
+//! ```
 //!
-//! The exit status is 0, or 2 where the command line, or memory to read it, was refused, or 1 where
-//! a line could not be printed; then standard error says why.
+//! It prints what it would do. If no option has the number of jobs, the environment variable
+//! `BUILD_JOBS` has it. A word may have any bytes.
+//!
+//! The exit status is 0; 2 if the command line is refused, or memory runs out while it is read; or
+//! 1 if a line cannot be printed. Standard error then has the reason.
 #![tactic(auto)]
 
 use anyhow::bail;
@@ -32,7 +36,7 @@ build [OPTION].. [TARGET]..
 touch [OPTION].. FILE..
       --by=SECONDS  move the time of the files, back if this is less than 0";
 
-// The options that each command takes, before and after its name.
+// The options that may come before the name of a command and after it.
 #[derive(Clone, Copy, Debug)]
 struct General {
     verbosity: u32,
@@ -124,7 +128,7 @@ fn read_touch(alloc: Global, parser: &mut Parser, general: &mut General) -> Resu
     let mut files = Vec::new(alloc);
     for _ in 0..u64::MAX {
         match parser.next()? {
-            // `--by -10` is -10: a value may begin with a dash.
+            // `--by -10` has the value -10: a value may begin with a dash.
             Some(Long("by")) => by = parser.value()?.parse()?,
             Some(Short('h') | Long("help")) => return Ok(Request::Help),
             Some(Value(file)) => files.push(file)?,

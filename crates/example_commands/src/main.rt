@@ -1,14 +1,16 @@
-//! Commands that are declared once: `example_commands [OPTION].. COMMAND [ARGUMENT]..`, where the
-//! command `remote` has commands of its own. It prints what it has read, quoted.
+//! Declared commands: `example_commands [OPTION].. COMMAND [ARGUMENT]..`. The command `remote` has
+//! a command of its own.
+//!
+//! It prints what it has read, quoted. In bash,
 //! `_EXAMPLE_COMMANDS_COMPLETE=bash_source example_commands` prints a script that completes its
 //! lines.
 //!
-//! The exit status is 0, or 2 if the command line was refused, or 1 if memory ran out or a line
-//! could not be printed; then standard error says why.
+//! The exit status is 0; 2 if the command line is refused; or 1 if memory runs out or a line cannot
+//! be printed. Standard error then has the reason.
 #![tactic(auto)]
 
 use lexopt_commands::{Command, Commands, Step, USAGE_ERROR, columns, declare_commands};
-use lexopt_options::{Answer, Declaration, Names, Options, Quoted, Request, Said, declare};
+use lexopt_options::{Answer, Declaration, Names, Options, Parsed, Quoted, Request, declare};
 use std::convert::Infallible;
 use std::fmt::Display;
 use std::io;
@@ -78,10 +80,10 @@ fn work<P: Copy>(
     request: Request,
 ) -> io::Result<ExitCode> {
     match options.answer_request(rt.alloc(), request, columns(rt))? {
-        Answer::Said(line) => {
+        Answer::Parsed(line) => {
             rt.println(options.program())?;
-            for said in line {
-                let Said::Positional(_, word) = said;
+            for parsed in line {
+                let Parsed::Positional(_, word) = parsed;
                 println!(rt; "{}", Quoted::new(word.as_bytes()))?;
             }
         }
@@ -103,8 +105,8 @@ fn remote(rt: &HostRuntime, request: Request) -> io::Result<ExitCode> {
 fn run(rt: &HostRuntime) -> io::Result<ExitCode> {
     match Commands::new(Options::new(&GENERAL), COMMANDS).from_env(rt)? {
         Step::Command(general, task, request) => {
-            if let (Request::Line(_), Some(Said::Value((), folder))) = (&request, general.last()) {
-                println!(rt; "in {}", Quoted::new(folder.as_bytes()))?;
+            if let (Request::Line(_), Some(Parsed::Value((), dir))) = (&request, general.last()) {
+                println!(rt; "in {}", Quoted::new(dir.as_bytes()))?;
             }
             match task {
                 Task::Add => work(rt, &Options::new(&ADD), request),

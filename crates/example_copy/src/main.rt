@@ -1,10 +1,15 @@
-//! What is read, as a struct of the program's own, which it prints: `example_copy OPTION..
-//! --owner=USER SOURCE.. DEST`. The exit status is 0, or 2 if the command line was refused, or 1 if
-//! memory ran out or the line could not be printed; then standard error says why.
+//! Declared options as a struct of the program's own, which it prints.
+//!
+//! ```text
+//! example_copy OPTION.. --owner=USER SOURCE.. DEST
+//! ```
+//!
+//! The exit status is 0; 2 if the command line is refused; or 1 if memory runs out or the line
+//! cannot be printed. Standard error then has the reason.
 #![tactic(auto)]
 
 use lexopt_options::{
-    Answer, Declaration, Names, Options, OsString, Said, USAGE_ERROR, UsageError, declare,
+    Answer, Declaration, Names, Options, OsString, Parsed, USAGE_ERROR, UsageError, declare,
 };
 use std::alloc::Global;
 use std::io;
@@ -62,11 +67,11 @@ struct Settings {
     dest: OsString,
 }
 
-// What is read from a line, as settings. Of an option that occurs more than once the last counts.
+// Makes settings of what was read. If an option occurs more than once, the last one counts.
 fn settings_of(
     alloc: Global,
     options: &Options<'static, Flag, Value, Word>,
-    line: Vec<Said<Flag, Value, Word>>,
+    line: Vec<Parsed<Flag, Value, Word>>,
 ) -> Result<Settings, UsageError<'static>> {
     let mut set = Settings {
         verbosity: 0,
@@ -78,16 +83,16 @@ fn settings_of(
         sources: Vec::new(alloc),
         dest: OsString::new(alloc),
     };
-    for said in line {
-        match said {
-            Said::Flag(Flag::Verbose) => set.verbosity = set.verbosity.saturating_add(1),
-            Said::Flag(Flag::Force) => set.force = true,
-            Said::Value(Value::Jobs, word) => set.jobs = options.parse_value(Value::Jobs, &word)?,
-            Said::Value(Value::Owner, word) => set.owner = word,
-            Said::Value(Value::Backup, word) => set.backup = Some(word),
-            Said::Value(Value::Suffix, word) => set.suffix = Some(word),
-            Said::Positional(Word::Source, word) => set.sources.push(word)?,
-            Said::Positional(Word::Dest, word) => set.dest = word,
+    for parsed in line {
+        match parsed {
+            Parsed::Flag(Flag::Verbose) => set.verbosity = set.verbosity.saturating_add(1),
+            Parsed::Flag(Flag::Force) => set.force = true,
+            Parsed::Value(Value::Jobs, word) => set.jobs = options.parse_value(Value::Jobs, &word)?,
+            Parsed::Value(Value::Owner, word) => set.owner = word,
+            Parsed::Value(Value::Backup, word) => set.backup = Some(word),
+            Parsed::Value(Value::Suffix, word) => set.suffix = Some(word),
+            Parsed::Positional(Word::Source, word) => set.sources.push(word)?,
+            Parsed::Positional(Word::Dest, word) => set.dest = word,
         }
     }
     if set.jobs < 1 || set.jobs > 64 {
@@ -102,7 +107,7 @@ fn settings_of(
 fn run(rt: &HostRuntime) -> io::Result<ExitCode> {
     let options = Options::new(&DECLARATION);
     match options.from_env(rt)? {
-        Answer::Said(line) => match settings_of(rt.alloc(), &options, line) {
+        Answer::Parsed(line) => match settings_of(rt.alloc(), &options, line) {
             Ok(settings) => println!(rt; "{settings:?}")?,
             Err(error) => {
                 let report = options.report(error);

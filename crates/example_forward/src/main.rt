@@ -1,12 +1,14 @@
-//! Passes its line on, with one option changed: `example_forward OPTION.. [FILE]..`, with the
-//! options `-v|--verbose`, `-j|--jobs=N`, `--color[=WHEN]` and `-x|--exclude PATTERN..`.
+//! Passes its line on to another program, with one option changed:
+//! `example_forward OPTION.. [FILE]..`, with the options `-v|--verbose`, `-j|--jobs=N`,
+//! `--color[=WHEN]` and `-x|--exclude PATTERN..`.
 //!
-//! It prints the words that another program is to be called with, each quoted for a POSIX shell.
-//! They mean what its own line meant, but for `--color`, which is `always`: what the other program
-//! writes goes to a pipe. A word may be of any bytes but 00, which no argument of a program holds.
+//! It prints the words to call the other program with, each quoted for a POSIX shell. They mean
+//! what its own line means, except for `--color`, which is `always`, since the output of the other
+//! program goes to a pipe. A word may have any bytes except 00, which no argument of a program can
+//! have.
 //!
-//! The exit status is 0, or 2 where the command line, or memory to read it, was refused, or 1 where
-//! the line could not be printed; then standard error says why.
+//! The exit status is 0; 2 if the command line is refused, or memory runs out while it is read; or
+//! 1 if the line cannot be printed. Standard error then has the reason.
 #![tactic(auto)]
 
 mod shell;
@@ -31,7 +33,7 @@ const HELP: &str = "Usage: example_forward [OPTION].. [FILE]..
                       passed on: all words up to the next option
   -h, --help          print this and end";
 
-// Adds the options of the other program that have values, which are those of this one.
+// Adds the options with values of the other program, which this program has too.
 fn add_options(alloc: Global, table: &mut Table) -> Result<(), AllocError> {
     table.shorts.push('j')?;
     table.longs.push(String::from_str(alloc, "jobs")?)?;
@@ -58,8 +60,8 @@ fn forwarded_long(
     Ok(Item::Long(name, value))
 }
 
-// What an item is to be for the other program. An option that it does not have is refused, and so
-// is one with a damaged name.
+// The item for the other program. An option that it does not have is refused, and so is one with a
+// damaged name.
 fn forwarded(alloc: Global, item: Item) -> Result<Item, lexopt::Error> {
     match item {
         Item::Short('v', value) => Ok(Item::Short('v', value)),
@@ -79,7 +81,7 @@ fn is_help(item: &Item) -> bool {
     }
 }
 
-// What the line for the other program is to mean; `None` if help is asked for.
+// The items for the other program; `None` if the line asks for the help.
 fn forwarded_items(
     rt: &(impl Env + AllocGlobal),
     table: &Table,
@@ -97,7 +99,7 @@ fn forwarded_items(
     Ok(Some(items))
 }
 
-// The words that spell these items, quoted, on a line.
+// The words that spell these items, quoted, on one line.
 fn quoted_line(alloc: Global, items: &[Item], table: &Table) -> Result<Vec<u8>> {
     let mut line = Vec::new(alloc);
     for word in spell(alloc, items, true, table)? {
@@ -110,7 +112,7 @@ fn quoted_line(alloc: Global, items: &[Item], table: &Table) -> Result<Vec<u8>> 
     Ok(line)
 }
 
-// The line for the other program; `None` if help is asked for.
+// The line for the other program; `None` if the line of this one asks for the help.
 fn forwarded_line(rt: &(impl Env + AllocGlobal)) -> Result<Option<Vec<u8>>> {
     let alloc = rt.alloc();
     let mut table = Table::new(alloc);

@@ -5,7 +5,7 @@ ghost use Rattle.example_forward.specs.Shell as spec;
 
 use std::alloc::{AllocError, Global};
 
-// Whether a byte has no other meaning to a shell, wherever it occurs in an argument.
+// Whether a shell takes this byte as it is, wherever it occurs in an argument.
 fn is_plain(byte: u8) -> bool
     ensures { result ≡ spec.is_plain byte }
 {
@@ -28,9 +28,14 @@ fn needs_none(word: &[u8]) -> bool
     }
 }
 
-/// The word for a shell: as it is, or between single quotes if it needs them. A quote in it comes
-/// after a backslash, between two quoted parts: `it's` is `'it'\''s'`. A shell reads it back as the
-/// word, if that holds no byte 00, which no shell reads.
+/// Returns the word for a shell: as it is, or in single quotes if it needs them.
+///
+/// A quote in the word comes after a backslash, between two quoted parts: `it's` is `'it'\''s'`. A
+/// shell reads the result back as the word, unless that has the byte 00, which no shell reads.
+///
+/// # Errors
+///
+/// Returns an error if an allocation fails.
 pub fn quoted(alloc: Global, word: &[u8]) -> Result<Vec<u8>, AllocError>
     ensures form { IfOk result (λ bytes. bytes.items ≡ spec.quoted word.now) }
     ensures read_back { IfOk result (λ bytes. ¬ Contains word.now spec.nul

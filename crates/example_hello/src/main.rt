@@ -14,7 +14,7 @@ use std::process::ExitCode;
 
 const HELP: &str = "Usage: example_hello [-n|--number=NUM] [--shout] THING
 
-  -n, --number=NUM  greet so many times
+  -n, --number=NUM  greet NUM times
       --shout       greet in capital letters
   -h, --help        print this and end";
 

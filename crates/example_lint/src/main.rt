@@ -1,10 +1,14 @@
-//! Checks a command line, and reads on after an error:
-//! `example_lint [-v|--verbose] [-j|--jobs=NUM] [-o|--output=FILE] [FILE]..`.
+//! Checks a command line, and reads on after each error.
 //!
-//! It prints the message of each error on a line of its own. A word may be of any bytes.
+//! ```text
+//! example_lint [-v|--verbose] [-j|--jobs=NUM] [-o|--output=FILE] [FILE]..
+//! ```
 //!
-//! The exit status is 0 where there was no error, or 2 where there was one, or memory to read the
-//! line was refused, or 1 where a line could not be printed; then standard error says why.
+//! It prints the message of each error on a line of its own. A word may have any bytes.
+//!
+//! The exit status is 0 if there is no error; 2 if there is one, or memory runs out; or 1 if a line
+//! cannot be printed. If a line cannot be printed, or there is no memory for a parser, standard
+//! error has the reason.
 #![tactic(auto)]
 
 use lexopt_base::prelude::{Long, Short, Value, ValueExt};
@@ -19,7 +23,7 @@ Print what is wrong with these words.
 
   -h, --help  print this and end";
 
-// What is read at once.
+// What one step of the reading finds.
 #[derive(Clone, Copy)]
 enum Found {
     Argument,
@@ -27,7 +31,7 @@ enum Found {
     End,
 }
 
-// Reads one option with its value, or one positional argument.
+// Reads one option with its value, or one positional.
 fn read_argument(alloc: Global, parser: &mut Parser) -> Result<Found, Error> {
     match parser.next()? {
         Some(Short('v') | Long("verbose")) => {}
@@ -42,7 +46,7 @@ fn read_argument(alloc: Global, parser: &mut Parser) -> Result<Found, Error> {
         Some(Long(name)) => {
             let error = Long(name).unexpected(alloc);
             // A value that is joined to an unknown long option is not an error of its own. What
-            // comes after a short one may be more options, and is read on.
+            // comes after a short option may be more options, which are read next.
             let _value = parser.optional_value();
             return Err(error);
         }
@@ -66,7 +70,7 @@ fn print_errors(rt: &(impl Print + AllocGlobal), parser: &mut Parser) -> io::Res
             Err(error) => {
                 println!(rt; "example_lint: {error}")?;
                 errors = errors.saturating_add(1);
-                // The line may be as it was, so that the same call would be refused again.
+                // The line may be as it was, so the same call might fail again.
                 if matches!(error, Error::OutOfMemory) {
                     break;
                 }

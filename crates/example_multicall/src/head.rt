@@ -1,7 +1,7 @@
 //! `head [-NUM] [-n|--lines=NUM] [--number]` prints the first lines of standard input.
 //!
-//! `-NUM` is a number after one dash, as in `head -10`, which `next` would read as the options `1`
-//! and `0`.
+//! `-NUM` is a number after one dash, such as `-10`, which `next` would read as the options `1` and
+//! `0`.
 
 use crate::Request;
 use lexopt_base::prelude::{Long, Short, ValueExt};
@@ -9,14 +9,14 @@ use lexopt_base::{Error, OsStr, Parser};
 use std::alloc::Global;
 use std::io;
 
-// How many lines to print, and whether each has its number before it.
+// How many lines to print, and whether to print each with its number.
 #[derive(Clone, Copy)]
 pub struct Options {
     lines: usize,
     is_numbered: bool,
 }
 
-// The number of a word that is a dash and digits.
+// The number that a word has after one dash, if it is a dash and digits.
 fn number_of(word: OsStr<'_>) -> Option<usize> {
     let digits = word.to_str()?.strip_prefix('-')?;
     if digits.starts_with('+') {
@@ -25,8 +25,8 @@ fn number_of(word: OsStr<'_>) -> Option<usize> {
     digits.parse().ok()
 }
 
-// Takes the next word, if it is a number after one dash. In the middle of a word, as after `-q` of
-// `-q10`, there is none.
+// Takes the next word if it is a number after one dash. In the middle of a word, as after `-q` of
+// `-q10`, this takes nothing.
 fn take_dash_number(parser: &mut Parser) -> Option<usize> {
     let mut words = parser.try_raw_args()?;
     let number = number_of(words.peek()?)?;
@@ -34,8 +34,8 @@ fn take_dash_number(parser: &mut Parser) -> Option<usize> {
     Some(number)
 }
 
-// This tool has no positional arguments. A tool that has some stops looking for `-NUM` at the first
-// of them: it may come after `--`, where `-10` is a positional argument too.
+// This tool has no positionals. A tool that has some stops looking for `-NUM` at the first of them:
+// it may come after `--`, where `-10` is a positional too.
 pub fn read_request(alloc: Global, parser: &mut Parser) -> Result<Request, Error> {
     let mut options = Options {
         lines: 10,

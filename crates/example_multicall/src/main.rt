@@ -1,12 +1,12 @@
-//! Two tools in one program, as busybox has many: `head`, which prints the first lines of standard
-//! input, and `timeout`, which reads its own options and passes the rest of its line on.
+//! Two tools in one program, as in busybox: `head`, which prints the first lines of standard input,
+//! and `timeout`, which reads its own options and passes the rest of its line on.
 //!
-//! The name that the program is called by is the tool's. If no tool has that name, the first
-//! argument is the tool: `example_multicall head -3`.
+//! The program is the tool by whose name it is called. If no tool has that name, the first argument
+//! names the tool: `example_multicall head -3`.
 //!
-//! The exit status is 0, or 2 if the command line, or memory to read it, was refused, or 1 if a line
-//! could not be read or printed; then standard error says why, after the name that the program is
-//! called by.
+//! The exit status is 0; 2 if the command line is refused, or memory runs out while it is read; or
+//! 1 if a line cannot be read or printed. Standard error then has the reason, after the name that
+//! the program is called by.
 #![tactic(auto)]
 
 mod head;
@@ -19,7 +19,7 @@ use std::env::Env;
 use std::io;
 use std::process::ExitCode;
 
-// The program's name if it is called by none.
+// The name of the program if its command line has none.
 const NAME: &str = "example_multicall";
 
 const HELP: &str = "Usage: example_multicall TOOL [ARGUMENT]..
@@ -57,7 +57,8 @@ impl Tool {
     }
 }
 
-// The tool that the program is called by, or else the first argument; `None` if that asks for help.
+// The tool by whose name the program is called, or that the first argument names; `None` if that
+// asks for the help.
 fn read_tool(alloc: Global, parser: &mut Parser) -> Result<Option<Tool>, Error> {
     if let Some(tool) = parser
         .bin_name()

@@ -1,8 +1,11 @@
-//! `timeout [-s|--signal=NAME] [-k|--kill-after=SECONDS] SECONDS COMMAND [ARG]..` reads its own
-//! options, and passes the rest of the line on unchanged.
+//! The tool `timeout` reads its own options, and passes the rest of the line on unchanged.
 //!
-//! It starts no command: it prints what it has read, and then each word that the command would be
-//! started with, quoted. A word may be of any bytes.
+//! ```text
+//! timeout [-s|--signal=NAME] [-k|--kill-after=SECONDS] SECONDS COMMAND [ARG]..
+//! ```
+//!
+//! It starts no command. It prints what it has read, and then each word that it would start the
+//! command with, quoted. A word may have any bytes.
 
 use crate::Request;
 use lexopt_base::prelude::{Long, Short, Value, ValueExt};
@@ -10,7 +13,7 @@ use lexopt_base::{Error, OsString, Parser, Quoted};
 use std::alloc::Global;
 use std::io;
 
-// What comes before the command.
+// The limits, which come before the command.
 #[derive(Drop)]
 struct Limits {
     signal: Option<OsString>,
@@ -18,15 +21,15 @@ struct Limits {
     seconds: u32,
 }
 
-// A command, and what limits it.
+// A command, and its limits.
 #[derive(Drop)]
 pub struct Plan {
     limits: Limits,
     command: Vec<OsString>,
 }
 
-// Reads up to the first positional argument, which is the number of seconds; `None` if help is asked
-// for.
+// Reads up to the first positional, which is the number of seconds; `None` if an option asks for
+// the help.
 fn read_limits(alloc: Global, parser: &mut Parser) -> Result<Option<Limits>, Error> {
     let mut signal = None;
     let mut kill_after = None;
@@ -49,7 +52,7 @@ fn read_limits(alloc: Global, parser: &mut Parser) -> Result<Option<Limits>, Err
     Err(Error::from("missing argument SECONDS"))
 }
 
-// After the number of seconds no word is read as an option: each one is the command's own.
+// After the number of seconds no word is read as an option: each is for the command.
 pub fn read_request(alloc: Global, parser: &mut Parser) -> Result<Request, Error> {
     let Some(limits) = read_limits(alloc, parser)? else {
         return Ok(Request::Help);

@@ -1,10 +1,13 @@
-//! Options with a value that may be left out, and an option with several values:
-//! `example_values [--color[=WHEN]] [-i[SUFFIX]|--in-place[=SUFFIX]] [--files FILE..]`.
+//! Options whose value may be left out, and an option of several values.
 //!
-//! It prints what it has read, quoted. A word may be of any bytes.
+//! ```text
+//! example_values [--color[=WHEN]] [-i[SUFFIX]|--in-place[=SUFFIX]] [--files FILE..]
+//! ```
 //!
-//! The exit status is 0, or 2 where the command line, or memory to read it, was refused, or 1 where
-//! a line could not be printed; then standard error says why.
+//! It prints what it has read, quoted. A word may have any bytes.
+//!
+//! The exit status is 0; 2 if the command line is refused, or memory runs out while it is read; or
+//! 1 if a line cannot be printed. Standard error then has the reason.
 #![tactic(auto)]
 
 use anyhow::bail;
@@ -30,7 +33,7 @@ enum Color {
     Never,
 }
 
-// How files are changed in place: with a copy of each beside it, or with none.
+// How to change files in place: with a copy of each beside it, or without.
 #[derive(Drop)]
 enum InPlace {
     Kept(OsString),
@@ -70,8 +73,8 @@ impl Color {
     }
 }
 
-// `--color=auto` has a value, `--color` has none, and `--color auto` is the option and a positional
-// argument.
+// `--color=auto` has a value, `--color` has none, and `--color auto` is the option and a
+// positional.
 fn read_color(parser: &mut Parser) -> Result<Color, Error> {
     match parser.optional_value() {
         Some(value) => value.parse_with(Color::of_name),
@@ -86,7 +89,7 @@ fn read_in_place(parser: &mut Parser) -> InPlace {
     }
 }
 
-// Takes each word up to the next option.
+// Takes the words up to the next option.
 fn read_files(parser: &mut Parser, files: &mut Vec<OsString>) -> Result<(), Error> {
     for file in parser.values()? {
         files.push(file)?;

@@ -1,6 +1,6 @@
-//! Lists of calls, whole lines and scripts: `replay` makes calls on a parser, `read_items` reads a
-//! whole line by a table, and `run` reads a script, carries it out, and writes a line for each
-//! reply and for each whole line.
+//! Whole lines, lists of calls and scripts: `read_items` reads a whole line by a table, `replay`
+//! makes the calls of a list on a parser, and `run` reads a script, runs it, and writes a line for
+//! each reply and each whole line.
 
 pub use lexopt_calls::replay::replay;
 pub use lexopt_calls::reply::{Call, Reply};

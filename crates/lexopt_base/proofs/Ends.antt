@@ -1,4 +1,4 @@
--- A parser whose last value is described ends as described.
+-- The clause of `next` about the line after it, from the line that is known in the proof.
 use Rattle.std.proofs.Common.{◌≡◌, None, Some, refl, sym, subst}
 use Rattle.std.specs.Prelude.{Result, Option, ⊤}
 use Rattle.std.specs.Borrow.{MutBor}
@@ -18,7 +18,7 @@ use Rattle.lexopt_words.specs.declared.error.Arg.{Arg}
 use Rattle.lexopt_words.specs.declared.error.Error.{Error}
 use Rattle.lexopt_base.specs.contracts.parser.Parser.{the_row as R}
 
--- what was found is what is lent
+-- the reply of what was found is the reply of what is lent
 pub told_of : (u w : UnreadLine) (found said : Option Reply) → RepliesWith Next u found w → ((reply : Reply) → found ≡ Some reply → said ≡ Some reply) → RepliesWith Next u said w
 told_of u w None said gives same = absurd gives
 told_of u w (Some reply) said gives same = subst (λ (t : Option Reply). RepliesWith Next u t w) (sym (same reply refl)) gives

@@ -1,4 +1,4 @@
--- Lines with no value for the last option.
+-- Lines that have no value for the last option.
 use Rattle.std.proofs.Common.{◌≡◌, ℕ, Bool, List, [], ◌∷◌, Option, Some, None, IsSome, refl}
 use Rattle.lexopt_spec.specs.UnreadLine.{UnreadLine, pending, IsNormalIn}
 use Rattle.lexopt_spec.specs.Views.{plain_front, available, available_with}

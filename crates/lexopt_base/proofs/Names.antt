@@ -1,4 +1,4 @@
--- Names that are UTF-8 are shown as they are.
+-- The lossy text of a name that is UTF-8 is the name itself.
 use Rattle.std.proofs.Common.{◌≡◌, ℕ, zero, suc, List, [], ◌∷◌, ◌++◌, map, None, Some, Result, Ok, Err, OnOk, is_ok, if◌then◌else◌, IsUtf8, encode_utf8_all, refl, ap, ◌∙◌, sym, drop}
 use Rattle.std.specs.declared.alloc.AllocError.{AllocError}
 use Rattle.bstr.specs.Utf8.{decoded, pieces_from, or_replacement}
@@ -18,7 +18,7 @@ same_characters (suc most) (b ∷ bs) = ap (λ c. c ∷ map (λ (p : Piece). sho
 pub whole_name : (bs : List ℕ) → IsUtf8 bs → lossy bs ≡ bs
 whole_name bs utf8 = ap encode_utf8_all (same_characters _ bs) ∙ lossy_chars-utf8 bs utf8
 
--- where a name that is UTF-8 is put into an empty text, the text is that name
+-- if a name that is UTF-8 is pushed onto an empty text, the text is that name
 pub kept_whole : (r : Result (Unit {0}) AllocError) (empty text name new : List ℕ) → empty ≡ [] → new ≡ (if is_ok r then empty ++ text else empty)
     → text ≡ name → IsUtf8 name → OnOk r (new ≡ lossy name)
 kept_whole (Ok u) empty text name new none is same utf8 = is ∙ ap (λ l. l ++ text) none ∙ same ∙ sym (whole_name name utf8)

@@ -1,4 +1,4 @@
--- Refused memory, and refused values.
+-- Calls that run out of memory, and values that are refused.
 use Rattle.std.proofs.Common.{◌≡◌, ℕ, Bool, true, false, List, [], ◌∷◌, Option, Some, None, IsSome, string_bytes, refl, sym, ap, subst, ◌∙◌, inl, inr}
 use Rattle.lexopt_spec.specs.UnreadLine.{UnreadLine, LastOption, no_option, short_option, long_option, no_tail, spelling, pending, IsPlain}
 use Rattle.lexopt_spec.specs.Views.{RawStep, refuses_pending}
@@ -12,12 +12,12 @@ use Rattle.lexopt_base.specs.Refusals.{IsErrorOf, IsMissing, RefusesPending, ref
 use Rattle.lexopt_base.specs.declared.refusal.Refusal.{Refusal}
 use Rattle.lexopt_base.specs.declared.refusal.Refusal.TheVariants.{MissingValue, UnexpectedValue, OutOfMemory}
 
--- a call that was refused memory changes nothing, where its step would have made a text
+-- a call that runs out of memory for a text changes nothing
 pub refused : (Step : UnreadLine → Reply → UnreadLine → Type 0) (u : UnreadLine) (wanted : Reply) (there : UnreadLine) → Step u wanted there → TakesMemory wanted
     → RepliesWith (Answers Step) u (Some no_memory) u
 refused Step u wanted there step takes = inr (record { reply_is = refl; after_is = refl; in_place_of = (wanted, there, step, takes) })
 
--- what is there
+-- the value of an option that is not `None`
 pub some_of : {A : Type 0} (o : Option A) → IsSome o → (x : A) × (o ≡ Some x)
 some_of None is = let f : false ≡ true = is in cc
 some_of (Some x) is = (x, refl)
@@ -40,19 +40,19 @@ refuses u v known OutOfMemory is h =
     let step = refuses_joined u known option.0 is option.1 in
     inr (record { reply_is = refl; after_is = h.0; in_place_of = (unexpected option.0 known, record u { tail = no_tail }, step, tt) })
 
--- what a helper's relation gives, the call's relation gives
+-- if one relation implies another, so do their calls
 pub gives_map : (S T : UnreadLine → Reply → UnreadLine → Type 0) (u : UnreadLine) → ((r : Reply) (v : UnreadLine) → S u r v → T u r v)
     → (reply : Option Reply) (v : UnreadLine) → RepliesWith (Answers S) u reply v → RepliesWith (Answers T) u reply v
 gives_map S T u f None v h = absurd h
 gives_map S T u f (Some reply) v h = answers_map S T u f reply v h
 
--- what a step gives, a call gives where it may be refused memory
+-- a step is also a step of a call that may run out of memory
 pub gives_step : (S T : UnreadLine → Reply → UnreadLine → Type 0) (s u : UnreadLine) → ((r : Reply) (v : UnreadLine) → S s r v → T u r v)
     → (reply : Option Reply) (v : UnreadLine) → RepliesWith S s reply v → RepliesWith (Answers T) u reply v
 gives_step S T s u f None v h = absurd h
 gives_step S T s u f (Some reply) v h = inl (f reply v h)
 
--- a word that is not an option is a positional also before the separator
+-- a word that is not an option is also a positional before the separator
 pub positional_read : (u : UnreadLine) (word : List ℕ) (others : List (List ℕ)) (r : Reply) (v : UnreadLine) → u.words ≡ word ∷ others → IsPlain false word
     → ReadsPositional u r v → ReadsWord u r v
 positional_read u word others r v some plain (no_word_left none reply after) = let e = sym some ∙ none in cc
@@ -60,7 +60,7 @@ positional_read u word others r v some plain (word_left w ws is reply after) =
     let same : word ≡ w = cc in
     reads_positional w ws is (subst (λ (l : List ℕ). IsPlain false l) same plain) reply after
 
--- `raw_args` refuses what is pending, whatever would have been asked of the words
+-- `raw_args` refuses the pending value, whichever words are asked for
 pub refuses_raw : (Taken : UnreadLine → Reply → UnreadLine → Type 0) (u v : UnreadLine) (refusal : Refusal) → RefusesPending u refusal v
     → RepliesWith (Answers (RawStep Taken)) u (Some (refusal_reply refusal)) v
 refuses_raw Taken u v (MissingValue option) h = absurd h
@@ -71,14 +71,14 @@ refuses_raw Taken u v OutOfMemory h =
     let step = refuses_pending found.0.0 option.0 found.0.1 found.1 option.1 refl refl in
     inr (record { reply_is = refl; after_is = h.0; in_place_of = (unexpected option.0 found.0.0, record u { tail = no_tail }, step, tt) })
 
--- the reply of the error is that of the refusal
+-- the reply for the error is that for the refusal
 pub error_said : (refusal : Refusal) (e : Error) → IsErrorOf refusal e → error_reply e ≡ Some (refusal_reply refusal)
 error_said (MissingValue None) e is = ap error_reply is
 error_said (MissingValue (Some option)) e is = ap error_reply is
 error_said (UnexpectedValue option value) e is = ap error_reply is
 error_said OutOfMemory e is = ap error_reply is
 
--- a call for values finds none
+-- a call for values fails if there are none
 pub none_left : (Step : UnreadLine → Reply → UnreadLine → Type 0) (u : UnreadLine) (refusal : Refusal) → Step u (missing (spelling u.last)) u → IsMissing u.last refusal
     → Answers Step u (refusal_reply refusal) u
 none_left Step u (MissingValue option) step is = inl (subst (λ (o : Option (List ℕ)). Step u (missing o) u) (sym is) step)
@@ -87,12 +87,12 @@ none_left Step u OutOfMemory step is =
     refused Step u (missing (Some option.0)) u (subst (λ (o : Option (List ℕ)). Step u (missing o) u) option.1 step) tt
 none_left Step u (UnexpectedValue option value) step is = absurd is
 
--- the error that a refusal is made into is returned for it
+-- a call that gives a refusal gives the error that the refusal is turned into
 pub said_as_error : (Called : UnreadLine → Reply → UnreadLine → Type 0) (u v : UnreadLine) (refusal : Refusal) (e : Error) → IsErrorOf refusal e → Called u (refusal_reply refusal) v
     → RepliesWith Called u (error_reply e) v
 said_as_error Called u v refusal e is gives = subst (λ (r : Option Reply). RepliesWith Called u r v) (sym (error_said refusal e is)) gives
 
--- the name of a long option that was found
+-- `next` can lend the name of a long option that was found
 pub named : (u w : UnreadLine) (text : List ℕ) → RepliesWith Next u (found_as w.last found.Long) w → ((name : List ℕ) → w.last ≡ long_option name → text ≡ name) → Next u (long text) w
 named u w text step is = name_in w.last step is
   where

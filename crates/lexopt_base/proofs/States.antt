@@ -1,4 +1,4 @@
--- What the states of a parser stand for.
+-- The line that each state of a parser represents.
 use Rattle.std.proofs.Common.{◌≡◌, ◌≢◌, ℕ, zero, suc, ◌+◌, ◌-◌, get_or, ◌<◌, ◌≤◌, ◌==◌, ◌&&◌, Bool, true, false, List, [], ◌∷◌, length, drop, Option, Some, None, refl, sym, ap, ◌∙◌, arith, ⊎_elim, add-one, length-drop}
 use Rattle.std.proofs.lemmas.Bool.{cases_Bool, cond-true, cond-false, cases_lt}
 use Rattle.std.proofs.lemmas.List.{drop-drop, drop_all, get_or-drop}
@@ -21,7 +21,7 @@ use Rattle.lexopt_base.specs.declared.parser.Parser.TheInside.{Inside}
 
 -- ---- kept words
 
--- after the cursor is the word that it passes next
+-- the words after the cursor begin with the word that it passes next
 pub passed : (words : List (List ℕ)) (count : ℕ) → drop count words ≢ [] → drop count words ≡ word_before (count + 1) words ∷ drop (count + 1) words
 passed words count some = ⊎_elim
     (λ (within : count < length words). rw add-one (drop-cons words count [] within))
@@ -32,7 +32,7 @@ pub same_kept : (a b : Kept) → a.current ≡ b.current → a.left ≡ b.left �
 same_kept a b current left =
     ap (λ (w : List ℕ). record a { current = w }) current ∙ ap (λ (ws : List (List ℕ)). record b { left = ws }) left
 
--- a copy from the word just before the cursor on is seen as what it is a copy of
+-- contracts see a copy from the word just before the cursor on as they see the original
 pub seen_from : (words copied : List (List ℕ)) (count first : ℕ) → first ≡ count - 1 → copied ≡ drop first words
     → (word_before (count - first) copied ≡ word_before count words) × (drop (count - first) copied ≡ drop count words)
 seen_from words copied zero first is same =
@@ -56,7 +56,7 @@ no_rest word position below is =
     let some : 0 < length (drop position word) = omega (arith, length-drop position word) in
     let e = sym (rest_of-some (drop position word) some) ∙ is in cc
 
--- a state with no tail has none whatever word comes before the cursor
+-- a state without a tail has none, whichever word comes before the cursor
 pub placed_anywhere : (word other : List ℕ) (state : State) → IsPlaced word state → tail_of word state ≡ no_tail → IsPlaced other state
 placed_anywhere word other Ready placed is = tt
 placed_anywhere word other (PendingValue position) placed is = cc
@@ -80,7 +80,7 @@ word_taken p u (Some word) after seen placed none takes = (
       (ap (λ (l : UnreadLine). l.ended) seen) (ap (λ (l : UnreadLine). l.last) seen) (ap (λ (l : UnreadLine). l.short_equals) seen) (ap (λ (l : UnreadLine). l.bin_name) seen),
 )
 
--- ---- what is pending
+-- ---- pending values
 
 abbrev value_in : Option (List ℕ × Bool) → List ℕ
 value_in None = []
@@ -90,7 +90,7 @@ abbrev pub flag_in : Option (List ℕ × Bool) → Bool
 flag_in None = false
 flag_in (Some p) = p.1
 
--- the value in the rest of a cluster is what it ends with
+-- the rest of a cluster ends with its pending value
 rest_ends : (short_equals : Bool) (bytes value : List ℕ) (by_equals : Bool) → pending_in short_equals (rest_of bytes) ≡ Some (value, by_equals)
     → (k : ℕ) × (k ≤ length bytes) × (value ≡ drop k bytes)
 rest_ends short_equals [] value by_equals is = absurd (let e : None ≡ Some (value, by_equals) = is in cc)
@@ -101,7 +101,7 @@ rest_ends short_equals (b ∷ bs) value by_equals is = ⊎_elim
     (0, omega arith, sym (ap value_in (sym (cond-false _ (Some (bs, true)) (Some (b ∷ bs, false)) no) ∙ is))))
     (cases_Bool (short_equals && b == equals))
 
--- what is pending is what the word before the cursor ends with
+-- the word before the cursor ends with the pending value
 abbrev Ends : List ℕ → State → List ℕ → Type 0
 Ends word state value = (k : ℕ) × (k ≤ length word) × (value ≡ drop k word) × (0 < length word) × (ended_of state ≡ false)
 
@@ -115,13 +115,13 @@ pending_ends short_equals word (Shorts position) value by_equals placed is =
     let found = rest_ends short_equals (drop position word) value by_equals is in
     (position + found.0, omega (found.1, length-drop position word, placed, arith), found.2 ∙ drop-drop found.0 position word, omega (placed, arith), refl)
 
--- so it is the last bytes of that word
+-- so the value is the last bytes of that word
 last_is : (word value : List ℕ) (k count : ℕ) → k ≤ length word → value ≡ drop k word → length value ≡ count → last_bytes count word ≡ value
 last_is word value k count within is size =
     let left : length value ≡ length word - k = ap length is ∙ length-drop k word in
     ap (λ n. drop n word) (omega (within, left, size, arith)) ∙ sym is
 
--- there are `count` bytes to take
+-- the word before the cursor has `count` bytes to take
 pub within_word : (p : Inside) (u : UnreadLine) (count : ℕ) → line_of p ≡ u → IsPlaced p.words.current p.state → HasPending u count
     → (p.words.current ≢ []) × (count ≤ length p.words.current)
 within_word p u count seen placed has =
@@ -129,7 +129,7 @@ within_word p u count seen placed has =
     let left : length has.0 ≡ length p.words.current - ends.0 = ap length ends.2 ∙ length-drop ends.0 p.words.current in
     (λ none. let e : length p.words.current ≡ 0 = ap length none in omega (e, ends.3, arith), omega (left, has.3, ends.1, arith))
 
--- a value is taken out of the word before the cursor
+-- taking the last bytes of the word before the cursor takes the pending value
 pub value_taken : (p : Inside) (u : UnreadLine) (count : ℕ) (result : List ℕ) (after : Kept) → line_of p ≡ u → IsPlaced p.words.current p.state → HasPending u count
     → result ≡ last_bytes count p.words.current → after.left ≡ p.words.left → TakesPending u result (line_of (record p { words = after; state = Ready }))
 value_taken p u count result after seen placed has is left =

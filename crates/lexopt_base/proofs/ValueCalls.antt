@@ -1,4 +1,4 @@
--- Items asked of a view, as one call.
+-- Taking items from a view, as one call of `values`.
 use Rattle.std.proofs.Common.{◌≡◌, ◌≢◌, ℕ, List, [], subst, inl}
 use Rattle.lexopt_spec.specs.UnreadLine.{UnreadLine}
 use Rattle.lexopt_spec.specs.Steps.{items}

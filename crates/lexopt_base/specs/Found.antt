@@ -1,4 +1,4 @@
--- What `advance` finds, as a reply.
+-- The result of `advance`, as a reply.
 use Rattle.std.specs.Prelude.{Option, Some, None, Result, Ok, Err}
 use Rattle.lexopt_spec.specs.UnreadLine.{LastOption, no_option, short_option, long_option}
 use Rattle.lexopt_spec.specs.Steps.{Reply, short, long, positional, end}
@@ -7,20 +7,20 @@ use Rattle.lexopt_base.specs.declared.parser.Found.TheVariants as found
 use Rattle.lexopt_base.specs.declared.refusal.Refusal.{Refusal}
 use Rattle.lexopt_base.specs.Refusals.{refusal_reply}
 
--- the last option, if that is a long one
+-- the reply for the last option, if that is a long option
 abbrev pub name_of : LastOption → Option Reply
 name_of no_option = None
 name_of (short_option c) = None
 name_of (long_option name) = Some (long name)
 
--- what was found, where `last` is the last option now
+-- the reply for what was found, where `last` is now the last option
 abbrev pub found_as : LastOption → Found → Option Reply
 found_as last (found.Short c) = Some (short c)
 found_as last found.Long = name_of last
 found_as last (found.Value word) = Some (positional word)
 found_as last found.End = Some end
 
--- the reply of `advance`, after which `last` is the last option
+-- the reply for a result of `advance`, where `last` is now the last option
 abbrev pub advance_reply : LastOption → Result Found Refusal → Option Reply
 advance_reply last (Ok f) = found_as last f
 advance_reply last (Err refused) = Some (refusal_reply refused)

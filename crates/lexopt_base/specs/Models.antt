@@ -1,4 +1,4 @@
--- How a parser is seen: as an unread line.
+-- How contracts see a parser: as an unread line.
 use Rattle.std.specs.Prelude.{◌≡◌, ◌<◌, ◌≤◌, ℕ, List, Bool, true, false, length, drop, string_bytes}
 use Rattle.std.specs.Option.{option_map}
 use Rattle.lexopt_spec.specs.UnreadLine.{UnreadLine, Tail, no_tail, joined, rest_of}
@@ -12,7 +12,7 @@ use Rattle.lexopt_base.specs.declared.parser.LastOption.{LastOption}
 use Rattle.lexopt_base.specs.declared.parser.LastOption.TheVariants.{Nothing, Short, Long}
 use Rattle.lexopt_base.specs.declared.parser.Parser.TheInside.{Inside}
 
--- what is left of the word just before the cursor
+-- the tail that is left of the word just before the cursor
 abbrev pub tail_of : List ℕ → State → Tail
 tail_of word Ready = no_tail
 tail_of word (PendingValue position) = joined (drop position word)
@@ -40,14 +40,14 @@ line_of p = record {
   bin_name = option_map string_bytes p.bin_name;
 }
 
--- the position lies in the word: after a byte, and in a cluster before one
+-- the position is in the word: before its end in a cluster; otherwise after at least one byte
 abbrev pub IsPlaced : List ℕ → State → Type 0
 IsPlaced word Ready = Unit {0}
 IsPlaced word (PendingValue position) = (0 < position) × (position ≤ length word)
 IsPlaced word (Shorts position) = position < length word
 IsPlaced word FinishedOpts = Unit {0}
 
--- there is a tail only with a last option
+-- there is a tail only if there is a last option
 abbrev pub HasOption : LastOption → State → Type 0
 HasOption Nothing Ready = Unit {0}
 HasOption Nothing (PendingValue position) = ⊥
@@ -60,14 +60,14 @@ pub record IsSound (p : Inside) : Type 0 where
   pub placed : IsPlaced p.words.current p.state
   pub option : HasOption p.last_option p.state
 
--- what is read of a cluster from this position of its word on: a character, and the state after it
+-- a short option is read from this position of its word: its character, and the state after it
 pub record IsShortRead (word : List ℕ) (position c : ℕ) (state : State) : Type 0 where
   pub shown_is : c ≡ shown (first_piece (drop position word)).char
   pub tail : tail_of word state ≡ rest_of (after_first_piece (drop position word))
   pub ended : ended_of state ≡ false
   pub placed : IsPlaced word state
 
--- what is read of the word of a long option: its name, and the state after it
+-- a long option is read from its word: its name, and the state after it
 pub record IsLongRead (word name : List ℕ) (state : State) : Type 0 where
   pub option : IsLongOption (drop 2 word) name (tail_of word state)
   pub ended : ended_of state ≡ false

@@ -1,9 +1,9 @@
--- What a parser finds pending, as contracts see it.
+-- The pending value that a parser finds, as contracts see it.
 use Rattle.std.specs.Prelude.{◌≡◌, ℕ, List, Option, Some, None, length}
 use Rattle.lexopt_spec.specs.UnreadLine.{UnreadLine, no_tail, pending}
 use Rattle.lexopt_base.specs.declared.parser.Pending.{Pending}
 
--- what is found is what is pending, by its length; or nothing is pending
+-- the parser finds the length of the pending value, or that nothing is pending
 abbrev pub IsCounted : UnreadLine → Option Pending → Type 0
 IsCounted u None = u.tail ≡ no_tail
 IsCounted u (Some p) =

@@ -1,5 +1,4 @@
--- Why a call that lends nothing gives nothing, as a reply and as an error; and what is pending
--- where a value is refused or taken.
+-- A `Refusal` as a reply and as an error, and the pending value when it is refused or taken.
 use Rattle.std.specs.Prelude.{◌≡◌, ℕ, Bool, List, Some, IsSome, length, option_map}
 use Rattle.std.specs.Prelude.{string_bytes, Result, Ok, Err}
 use Rattle.lexopt_spec.specs.UnreadLine.{LastOption, UnreadLine, no_tail, spelling}
@@ -17,18 +16,18 @@ refusal_reply (MissingValue option) = missing (option_map string_bytes option)
 refusal_reply (UnexpectedValue option value) = unexpected (string_bytes option) value
 refusal_reply OutOfMemory = no_memory
 
--- the error that is made of it
+-- this is the error that a refusal is turned into
 abbrev pub IsErrorOf : Refusal → Error → Type 0
 IsErrorOf (MissingValue option) e = e ≡ error.MissingValue option
 IsErrorOf (UnexpectedValue option value) e = e ≡ error.UnexpectedValue option value
 IsErrorOf OutOfMemory e = e ≡ error.OutOfMemory
 
--- the reply of `take`
+-- the reply for a result of `take`
 abbrev pub take_reply : Result (List ℕ) Refusal → Reply
 take_reply (Ok word) = taken word
 take_reply (Err refusal) = refusal_reply refusal
 
--- no value is left for the last option, or there is no memory to name that option
+-- there is no value for the last option, or no memory to spell that option
 abbrev pub IsMissing : LastOption → Refusal → Type 0
 IsMissing last (MissingValue option) = option_map string_bytes option ≡ spelling last
 IsMissing last OutOfMemory = IsSome (spelling last)
@@ -44,7 +43,7 @@ abbrev pub TakesPending : UnreadLine → List ℕ → UnreadLine → Type 0
 TakesPending u value after = (by_equals : Bool) × (pending u ≡ Some (value, by_equals))
     × (after ≡ record u { tail = no_tail })
 
--- the pending value is refused: it is taken, or there is no memory to name its option
+-- the pending value is refused: it is consumed, or there is no memory to spell its option
 abbrev pub RefusesPending : UnreadLine → Refusal → UnreadLine → Type 0
 RefusesPending u (MissingValue option) after = ⊥
 RefusesPending u (UnexpectedValue option value) after =

@@ -1,4 +1,4 @@
--- How far a view of values has come, as contracts see it.
+-- Whether a view of values may yield more, as contracts see it.
 use Rattle.lexopt_spec.specs.Views as views
 use Rattle.lexopt_base.specs.declared.values.Stage.{Stage}
 use Rattle.lexopt_base.specs.declared.values.Stage.TheVariants.{GoingOn, End}

@@ -1,8 +1,8 @@
--- The words that an iterator yields.
+-- The words that an iterator yields. `Words` of `lexopt_spell` is about appending words.
 use Rattle.std.specs.Prelude.{◌≡◌, ℕ, List, Option}
 use Rattle.std.specs.Iterator.Runs.{WholeRun}
 
--- what is turned into an iterator yields these words, and then ends
+-- the iterator that `args` is turned into yields these words, and then ends
 abbrev pub YieldsWords : {I S : Type 0} → (I → S → Type 0)
     → (S → Option (List ℕ) → S → Type 0) → I → List (List ℕ) → Type 0
 YieldsWords {I} {S} turns_into gives args words =

@@ -1,7 +1,8 @@
-//! The words of a command line, in one vector that is kept.
+//! The words of a command line, in one vector with a cursor.
 //!
-//! Reading moves a cursor over the words. A word that is handed out is taken out whole, and an
-//! empty one stays in its place, so handing it out allocates nothing. No word moves.
+//! Reading moves the cursor over the words. A word that is returned is moved out of the vector, and
+//! an empty word takes its place, so this allocates nothing and moves no other word, except in
+//! `take_after`.
 ghost use Rattle.std.specs.Prelude.{◌≡◌, ◌≢◌, ◌≤◌, ◌∷◌, [], IfOk, Some, drop, length, vec_len};
 ghost use Rattle.std.specs.Prelude.{option_map};
 ghost use Rattle.lexopt_base.specs.KeptWords.{IsFirst, TakesNext, last_bytes};
@@ -12,13 +13,13 @@ use std::alloc::{AllocError, Global};
 use std::marker::Model;
 use std::mem;
 
-/// Words with a cursor. Contracts see the word just before the cursor, of which some may be unread,
-/// and the words after it, of which all are.
+/// Words with a cursor. Contracts see the word just before the cursor, which may be read in part,
+/// and the words after the cursor, which are unread.
 #[derive(Drop)]
 pub struct KeptWords {
     alloc: Global,
     words: Vec<OsString>,
-    // How many words come before the cursor.
+    // The number of words before the cursor.
     count: usize,
 }
 
@@ -35,7 +36,7 @@ impl Model for KeptWords {
 }
 
 impl KeptWords {
-    /// These words, with the cursor before the first.
+    /// Creates the list, with the cursor before the first word.
     pub fn new(alloc: Global, words: Vec<OsString>) -> KeptWords
         ensures { result ≡ record { current = []; left = words.items } }
     {
@@ -46,7 +47,7 @@ impl KeptWords {
         }
     }
 
-    /// The word just before the cursor.
+    /// Returns the bytes of the word just before the cursor.
     pub fn current(&self) -> &[u8]
         requires { self.now.current ≢ [] }
         ensures { result.now ≡ self.now.current }
@@ -54,14 +55,14 @@ impl KeptWords {
         self.words[self.count - 1].as_bytes()
     }
 
-    /// The word after the cursor.
+    /// Returns the word after the cursor, if there is one.
     pub fn first(&self) -> Option<&OsString>
         ensures { IsFirst (option_map (λ word. word.now) result) self.now.left }
     {
         self.words.get(self.count)
     }
 
-    /// Moves the cursor over a word.
+    /// Moves the cursor over the next word.
     pub fn pass(&mut self)
         requires { self.old.left ≢ [] }
         ensures { self.old.left ≡ self.new.current ∷ self.new.left }
@@ -69,7 +70,7 @@ impl KeptWords {
         self.count += 1;
     }
 
-    /// Takes the word after the cursor, which moves over its place.
+    /// Takes the word after the cursor, if there is one, and moves the cursor over its place.
     #[inline(always)]
     pub fn take_next(&mut self) -> Option<OsString>
         ensures { TakesNext self.old result self.new }
@@ -84,7 +85,8 @@ impl KeptWords {
         Some(word)
     }
 
-    /// Takes the word after the cursor. The word just before the cursor stays just before it.
+    /// Takes the word after the cursor, if there is one. The cursor moves over its place, and the
+    /// word just before the cursor moves along with it.
     #[inline(always)]
     pub fn take_after(&mut self) -> Option<OsString>
         requires { self.old.current ≢ [] }
@@ -102,14 +104,14 @@ impl KeptWords {
         Some(word)
     }
 
-    /// The words after the cursor.
+    /// Returns the words after the cursor.
     pub fn left(&self) -> &[OsString]
         ensures { result.now ≡ self.now.left }
     {
         &self.words[self.count..]
     }
 
-    /// A copy of the word just before the cursor and of the words after it.
+    /// Copies the word just before the cursor and the words after it. This allocates.
     pub fn copy(&self) -> Result<KeptWords, AllocError>
         ensures { IfOk result (λ kept. kept ≡ self.now) }
     {
@@ -121,7 +123,8 @@ impl KeptWords {
         })
     }
 
-    /// Takes the last `count` bytes of the word just before the cursor. Nothing is left of it.
+    /// Takes the last `count` bytes of the word just before the cursor. An empty word takes its
+    /// place.
     #[inline(always)]
     pub fn take_tail(&mut self, count: usize) -> OsString
         requires some { self.old.current ≢ [] }
@@ -129,8 +132,8 @@ impl KeptWords {
         ensures value { result ≡ last_bytes count self.old.current }
         ensures left { self.new.left ≡ self.old.left }
     {
-        // Before the word is taken out: after that, a call that borrows it would keep LLVM from
-        // following its parts into the caller.
+        // This is computed before the word is moved out: a call that borrowed the word afterwards
+        // would keep LLVM from following its parts into the caller.
         let front = self.current().len() - count;
         let empty = OsString::new(self.alloc);
         let word = mem::replace(&mut self.words[self.count - 1], empty);

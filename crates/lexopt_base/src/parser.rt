@@ -1,4 +1,4 @@
-//! The parser: a command line of which some is read.
+//! The parser: a command line, of which some words have been read.
 ghost use Rattle.std.specs.Prelude.{◌≡◌, ◌≢◌, ◌↔◌, ◌⊎◌, ◌<◌, ◌≤◌, ℕ, List, [], ◌∷◌, Some, None};
 ghost use Rattle.std.specs.Prelude.{false, IsTrue, IsSome, IfOk, IfErr, OnErr, OnOk, codes};
 ghost use Rattle.std.specs.Prelude.{drop, length, string_bytes};
@@ -33,59 +33,85 @@ use std::env::{Args, Env};
 use std::io::ErrorKind;
 use std::marker::Model;
 
-// What is left of the word just before the cursor. A position is a number of bytes of that word.
-// The states with nothing left come first, so that one comparison recognizes them.
+// What is left of the word just before the cursor. A position is a byte offset in that word. The
+// states with nothing left come first, so that one comparison recognizes them.
 #[derive(Clone, Copy)]
 enum State {
     // Nothing.
     Ready,
-    // Nothing, and the separator was read.
+    // Nothing, and the separator has been read.
     FinishedOpts,
-    // The rest of a cluster, as `-abc`, which begins here.
+    // The rest of a cluster, such as `bc` of `-abc`, which begins here.
     Shorts(usize),
     // The value of `--option=value`, which begins here.
     PendingValue(usize),
 }
 
-// The option that was read last.
+// The option read last.
 #[derive(Clone, Copy)]
 enum LastOption {
     Nothing,
     Short(char),
-    // Its name is kept by the parser.
+    // The parser keeps its name.
     Long,
 }
 
-/// What [`Parser::advance`] finds.
+/// What [`Parser::advance`] reads.
+///
+/// It differs from [`Arg`] in that it borrows nothing from the parser.
 #[derive(Drop)]
 pub enum Found {
     /// A short option. It is now the last option.
     Short(char),
     /// A long option. It is now the last option, and [`Parser::long_name`] lends its name.
     Long,
-    /// A positional argument.
+    /// A positional.
     Value(OsString),
-    /// The end of the line.
+    /// The end of the line: no word is left.
     End,
 }
 
-// The value that is left of the word of the last option.
+// The value that is left in the word of the last option.
 #[derive(Clone, Copy)]
 pub(crate) struct Pending {
-    // How many bytes it has.
+    // Its length in bytes.
     pub count: usize,
     // Whether `=` joins it to its option.
     pub is_joined: bool,
 }
 
-/// A command line of which some is read. Contracts see it as its unread line.
+/// A parser for a command line.
+///
+/// [`Parser::from_env_os`] creates one for the program's own words. [`Parser::next`] reads an
+/// option or a positional; [`Parser::value`], [`Parser::optional_value`] and [`Parser::values`]
+/// take the values of the option just read; [`Parser::raw_args`] takes words as they are.
+///
+/// Contracts see a parser as its unread line: the tail of the word being read, the unread words,
+/// whether the separator has been read, the last option, `short_equals`, and the binary name.
+///
+/// # Examples
+///
+/// ```rust
+/// let mut parser = Parser::from_env_os(rt, rt.alloc())?;
+/// for _ in 0..u64::MAX {
+///     match parser.next()? {
+///         Some(Short('v') | Long("verbose")) => verbose = true,
+///         Some(Short('o') | Long("output")) => output = Some(parser.value()?),
+///         Some(Value(file)) => files.push(file)?,
+///         Some(argument) => return Err(argument.unexpected(rt.alloc())),
+///         None => break,
+///     }
+/// }
+/// ```
+///
+/// Every loop has to be proved to end, so this one counts, where Rust would have `while let`.
 #[derive(Drop)]
 pub struct Parser {
     alloc: Global,
     words: KeptWords,
     state: State,
     last_option: LastOption,
-    // The name of the long option that was read last, which is lent from here.
+    // The name of the long option read last. `next` and `long_name` lend it from here.
     name: String,
     short_equals: bool,
     bin_name: Option<String>,
@@ -107,10 +133,24 @@ impl Parser {
     ghost use Rattle.std.specs.Borrow.{sem};
     ghost use Rattle.lexopt_base.specs.Ends.{LineAfterNext};
 
-    /// A parser of these words, of which none is read. There is no binary name among them.
+    /// Creates a parser from words that do not include the binary name.
     ///
-    /// All items are taken at once, so the iterator has to end. The only error is `OutOfMemory`,
-    /// after which the items are gone.
+    /// All items are taken at once, so the iterator must end. This allocates the list of words;
+    /// [`Parser::from_vec`] makes the same parser from a `Vec`, and allocates nothing. `bin_name`
+    /// returns `None`, and `short_equals` is on.
+    ///
+    /// # Errors
+    ///
+    /// `OutOfMemory` if the allocation fails. The items are gone.
+    ///
+    /// # Examples
+    ///
+    /// ```rust
+    /// let mut words = Vec::new(alloc);
+    /// words.push(OsString::from_text(alloc, "-n")?)?;
+    /// words.push(OsString::from_text(alloc, "10")?)?;
+    /// let mut parser = Parser::from_args(alloc, words)?;
+    /// ```
     #[inline(always)]
     pub fn from_args<I>(alloc: Global, args: I) -> Result<Parser, Error>
     where
@@ -126,11 +166,17 @@ impl Parser {
         Ok(Parser::unread(alloc, KeptWords::new(alloc, words), None))
     }
 
-    /// A parser of these words, of which none is read, in the memory that they have. There is no
-    /// binary name among them.
+    /// Creates a parser from words that do not include the binary name, without an allocation.
     ///
-    /// It is the parser that `from_args` makes of them, which copies the list of words, since it
-    /// takes any iterator.
+    /// It is the parser that [`Parser::from_args`] would make of these words. The parser keeps the
+    /// `Vec`, and allocates with the allocator of that `Vec`.
+    ///
+    /// # Examples
+    ///
+    /// ```rust
+    /// let words = vec![in alloc; OsString::from_text(alloc, "--help")?]?;
+    /// let mut parser = Parser::from_vec(words);
+    /// ```
     #[inline(always)]
     pub fn from_vec(words: Vec<OsString>) -> Parser
         ensures { result ≡ fresh words.items }
@@ -139,12 +185,21 @@ impl Parser {
         Parser::unread(alloc, KeptWords::new(alloc, words), None)
     }
 
-    /// A parser of these words but the first, of which none is read. The first word, if there is
-    /// one, is the binary name.
+    /// Creates a parser from words of which the first, if there is one, is the binary name.
     ///
-    /// Of the words `ls -l` the parser reads `-l`, and its `bin_name` is `ls`. All items are taken
-    /// at once, so the iterator has to end. The only error is `OutOfMemory`, after which the items
-    /// are gone.
+    /// The parser reads the words after the binary name. All items are taken at once, so the
+    /// iterator must end. This allocates the list of words, and the binary name as text.
+    ///
+    /// # Errors
+    ///
+    /// `OutOfMemory` if an allocation fails. The items are gone.
+    ///
+    /// # Examples
+    ///
+    /// ```rust
+    /// // The items of `words` are `ls` and `-l`: `bin_name` returns `ls`, and `next` reads `-l`.
+    /// let mut parser = Parser::from_iter(alloc, words)?;
+    /// ```
     pub fn from_iter<I>(alloc: Global, args: I) -> Result<Parser, Error>
     where
         I: IntoIterator<Item = OsString> + Drop,
@@ -159,13 +214,23 @@ impl Parser {
         Ok(Parser::invoked(alloc, all)?)
     }
 
-    /// A parser of the words that the program was called with, of which none is read. The first is
-    /// the binary name.
+    /// Creates a parser from the words that the program was called with, if all of them are UTF-8.
     ///
-    /// The words come as text, by `std::env::args`. If one is not UTF-8, as a file name may be, the
-    /// error is a `Custom` one that says `arguments unavailable`. So is any other failure of that
-    /// call, except that running out of memory is `OutOfMemory`. A program that takes file names
-    /// calls `from_env_os`. Only tests show which words these are.
+    /// The first word is the binary name. The words come from `std::env::args`. A program that
+    /// takes file names, which may be any bytes, calls [`Parser::from_env_os`]. No contract states
+    /// which words these are; only tests show that.
+    ///
+    /// # Errors
+    ///
+    /// - `OutOfMemory` if memory runs out.
+    /// - `Custom` with the message `arguments unavailable` if `std::env::args` fails otherwise, as
+    ///   for a word that is not UTF-8.
+    ///
+    /// # Examples
+    ///
+    /// ```rust
+    /// let mut parser = Parser::from_env(rt, rt.alloc())?;
+    /// ```
     pub fn from_env<R: Env + AllocGlobal>(rt: &R, alloc: Global) -> Result<Parser, Error>
         ensures ok { IfOk result (λ parser. (words : List (List ℕ)) × (parser ≡ invoked words)) }
         ensures err { IfErr result (λ e. (e ≡ Error.OutOfMemory)
@@ -178,11 +243,27 @@ impl Parser {
         }
     }
 
-    /// A parser of the words that the program was called with, of any bytes and any length, of
-    /// which none is read. The first is the binary name.
+    /// Creates a parser from the words that the program was called with. This is the usual way to
+    /// create a parser.
     ///
-    /// They are the words that `os_string::arguments` gives, and only tests show which these are.
-    /// The only error is `OutOfMemory`.
+    /// The words may be any bytes and any length. The first word is the binary name. The words come
+    /// from `os_string::arguments` of `lexopt_words`. No contract states which words these are;
+    /// only tests show that. This allocates the list, each word, and the binary name as text.
+    ///
+    /// `rt` is a reference to the runtime that `main` gets, and `rt.alloc()` is an allocator.
+    ///
+    /// # Errors
+    ///
+    /// `OutOfMemory` if an allocation fails.
+    ///
+    /// # Examples
+    ///
+    /// ```rust
+    /// fn read_options(rt: &(impl Env + AllocGlobal)) -> Result<Options, Error> {
+    ///     let mut parser = Parser::from_env_os(rt, rt.alloc())?;
+    ///     read_line(rt.alloc(), &mut parser)
+    /// }
+    /// ```
     pub fn from_env_os<R: Env>(rt: &R, alloc: Global) -> Result<Parser, Error>
         ensures ok { IfOk result (λ parser. (words : List (List ℕ)) × (parser ≡ invoked words)) }
         ensures err { IfErr result (λ e. e ≡ Error.OutOfMemory) }
@@ -191,36 +272,84 @@ impl Parser {
         Ok(Parser::invoked(alloc, words)?)
     }
 
-    /// The binary name that `from_iter`, `from_env` and `from_env_os` keep: the first word as text,
-    /// in which each damaged piece is one U+FFFD. `None` if there was no word, and after
-    /// `from_args` and `from_vec`. No call changes it.
+    /// Returns the name that the program was called by, for use in messages.
+    ///
+    /// It is the first word as lossy text: each damaged piece becomes one U+FFFD. `None` means that
+    /// there was no first word, or that the parser was created by `from_args` or `from_vec`. No
+    /// call changes it.
+    ///
+    /// # Examples
+    ///
+    /// ```rust
+    /// let name = parser.bin_name().unwrap_or("hello");
+    /// let _ = eprintln!(rt; "{name}: missing argument THING");
+    /// ```
     pub fn bin_name(&self) -> Option<&str>
         ensures { option_map (λ name. name.now) result ≡ self.now.bin_name }
     {
         self.bin_name.as_deref()
     }
 
-    /// Sets whether `=` separates a short option from its value, as it does at the start. It
-    /// counts from the next call on, even within a cluster.
+    /// Sets whether `=` separates a short option from its value.
     ///
-    /// With it off, the word `-a=b` gives `Short('a')`, `Short('=')` and `Short('b')`.
+    /// It is on in a new parser: the value of `-o=foo` is `foo`. If it is off, that value is
+    /// `=foo`, as `cut -d=` needs. In both cases `-ofoo` and `-o foo` have the value `foo`. The
+    /// setting takes effect at the next call, even inside a cluster. Long options do not depend on
+    /// it.
+    ///
+    /// # Examples
+    ///
+    /// ```rust
+    /// // Off for one option: `-d=` has the value `=`.
+    /// Some(Short('d') | Long("delimiter")) => {
+    ///     parser.set_short_equals(false);
+    ///     delimiter = Some(parser.value()?);
+    ///     parser.set_short_equals(true);
+    /// }
+    /// ```
     pub fn set_short_equals(&mut self, on: bool)
         ensures { self.new ≡ record self.old { short_equals = on } }
     {
         self.short_equals = on;
     }
 
-    /// Reads the next option or positional argument; `Ok(None)` at the end of the line.
+    /// Returns the next option or positional.
     ///
-    /// The words `-ab --name=x file` give `Short('a')`, `Short('b')`, `Long("name")`, then, if
-    /// nobody asks for it by `value`, an `UnexpectedValue` error with `x`, and then `Value` of
-    /// `file`. After the separator `--` each word is a `Value`. The syntax is that of POSIX and
-    /// GNU, as lexopt documents it; a short option is one character of UTF-8, and each damaged
-    /// piece of an option is read as one U+FFFD.
+    /// `Ok(None)` means that the line is at its end. A word is a positional if it is `-`, if it
+    /// does not begin with a dash, or if it comes after the separator `--`, which is not returned.
+    /// The rules are those of lexopt's documentation, which follow POSIX and GNU conventions.
     ///
-    /// Errors: `UnexpectedValue` if a value is joined by `=` to the last option and was not taken;
-    /// it is consumed. `OutOfMemory` only in place of a long option or of that error; nothing is
-    /// consumed. Reading can go on after an error.
+    /// A short option is one character of UTF-8. Each damaged piece of an option (by table 3-7 of
+    /// the Unicode Standard) is read as one U+FFFD. A positional keeps its bytes.
+    ///
+    /// The parser lends the name of a long option, so it can be called again once the name is no
+    /// longer used. Only the name of a long option and the error `UnexpectedValue` may allocate.
+    ///
+    /// # Errors
+    ///
+    /// - `UnexpectedValue` if a value is joined by `=` to the last option and was not taken. The
+    ///   value is consumed.
+    /// - `OutOfMemory` in place of a long option or of that error. Nothing is consumed.
+    ///
+    /// Reading can go on after an error.
+    ///
+    /// # Examples
+    ///
+    /// ```rust
+    /// for _ in 0..u64::MAX {
+    ///     match parser.next()? {
+    ///         Some(Short('v') | Long("verbose")) => verbose = true,
+    ///         Some(Short('o') | Long("output")) => output = Some(parser.value()?),
+    ///         Some(Value(file)) => files.push(file)?,
+    ///         Some(argument) => return Err(argument.unexpected(alloc)),
+    ///         None => break,
+    ///     }
+    /// }
+    /// ```
+    ///
+    /// The words `-ab --name=x file` give `Short('a')`, `Short('b')`, `Long("name")`, then the
+    /// error `UnexpectedValue` with `x` unless the program takes the value, and then `Value` of
+    /// `file`.
     #[inline(always)]
     pub fn next(&mut self) -> Result<Option<Arg<'_>>, Error>
         ensures* after { sem 𝓛 (LineAfterNext self.entry result) }
@@ -230,20 +359,31 @@ impl Parser {
         self.lend(found)
     }
 
-    /// Takes a value for the last option: what is left of its word, or else the next word, whatever
-    /// it looks like.
+    /// Takes a value for the last option, and returns it.
     ///
-    /// At `-n10`, `-n=10`, `-n 10`, `--number=10` and `--number 10` it gives `10`. The bytes are
-    /// those of the word.
+    /// The value is the one in the option's own word, if there is one; after `=` it may be empty.
+    /// Otherwise it is the next word, whatever it looks like: even `--`, which then does not end
+    /// the options. Call this right after `next` returned an option that has a value; this is how
+    /// the parser learns that the option has one. The value keeps its bytes. Only the error
+    /// allocates.
     ///
-    /// Errors: `MissingValue` if no word is left; `OutOfMemory` only in its place, if it names an
-    /// option. Neither consumes anything.
+    /// # Errors
+    ///
+    /// - `MissingValue` if the option's word has no value and no word is left. Nothing is consumed.
+    /// - `OutOfMemory` in place of a `MissingValue` that names an option. Nothing is consumed.
+    ///
+    /// # Examples
+    ///
+    /// ```rust
+    /// // `-n10`, `-n=10`, `-n 10`, `--number=10` and `--number 10` all give the value `10`.
+    /// Some(Short('n') | Long("number")) => number = parser.value()?.parse::<u32>()?,
+    /// ```
     #[inline(always)]
     pub fn value(&mut self) -> Result<OsString, Error>
         ensures { RepliesWith Value self.old (value_reply result) self.new }
     {
-        // This repeats the body of `take`. With a `match` on what `take` returns, a function that
-        // returns the error by `?` was measured to cost some 20 instructions more a call.
+        // This repeats the body of `take`. With a `match` on the result of `take`, a function that
+        // returns the error by `?` took some 20 more instructions per call when measured.
         if let Some(pending) = self.pending() {
             return Ok(self.take_value(pending.count));
         }
@@ -253,13 +393,21 @@ impl Parser {
         Err(Error::from(self.missing_value()))
     }
 
-    /// Takes a value for the last option, as [`Parser::value`] does, for whoever builds on the
-    /// parser: its error is smaller.
+    /// Takes a value for the last option, as [`Parser::value`] does, with a smaller error type.
     ///
-    /// At `-n10`, `-n=10`, `-n 10`, `--number=10` and `--number 10` it takes `10`.
+    /// It is for libraries that build on the parser. A program calls [`Parser::value`].
     ///
-    /// Errors: `MissingValue` if no word is left; `OutOfMemory` only in its place, if it names an
-    /// option. Neither consumes anything.
+    /// # Errors
+    ///
+    /// - `MissingValue` if the option's word has no value and no word is left. Nothing is consumed.
+    /// - `OutOfMemory` in place of a `MissingValue` that names an option. Nothing is consumed.
+    ///
+    /// # Examples
+    ///
+    /// ```rust
+    /// // After `advance` returned `Found::Short('n')` for `-n 10`, the value is `10`.
+    /// let value = parser.take()?;
+    /// ```
     #[inline(always)]
     pub fn take(&mut self) -> Result<OsString, Refusal>
         ensures { Value self.old (take_reply result) self.new }
@@ -273,11 +421,20 @@ impl Parser {
         Err(self.missing_value())
     }
 
-    /// Takes a value that belongs to the last option, if one is left of its word. It never takes
-    /// the next word.
+    /// Takes the value in the last option's own word, if there is one, and returns it.
     ///
-    /// At `-n10`, `-n=10` and `--number=10` it gives `10`; at `-n 10` and `--number 10` it gives
-    /// `None`.
+    /// `None` means that there is none; nothing is consumed. This never takes the next word, and
+    /// never allocates.
+    ///
+    /// # Examples
+    ///
+    /// ```rust
+    /// // `--color=auto` gives `auto`. `--color` and `--color auto` give `None`; in the latter,
+    /// // `auto` is read as a positional.
+    /// Some(Long("color")) => color = parser.optional_value(),
+    /// ```
+    ///
+    /// `-i.bak` and `-i=.bak` give `.bak`; `-i` and `-i .bak` give `None`.
     pub fn optional_value(&mut self) -> Option<OsString>
         ensures { OptionalStep self.old (maybe result) self.new }
     {
@@ -285,7 +442,7 @@ impl Parser {
         Some(self.take_value(count))
     }
 
-    // A parser of these words, the first of which is its name.
+    // Creates a parser from these words, of which the first, if there is one, is the binary name.
     fn invoked(alloc: Global, words: Vec<OsString>) -> Result<Parser, AllocError>
         ensures { IfOk result (λ parser. parser ≡ invoked words.items) }
     {
@@ -297,7 +454,7 @@ impl Parser {
         Ok(Parser::unread(alloc, words, bin_name))
     }
 
-    // A parser of the words after the cursor.
+    // Creates a parser of the words after the cursor, of which none has been read.
     #[inline(always)]
     fn unread(alloc: Global, words: KeptWords, bin_name: Option<String>) -> Parser
         ensures { result ≡ record (fresh words.left) {
@@ -315,17 +472,37 @@ impl Parser {
         }
     }
 
-    /// Reads the next option or positional argument, as [`Parser::next`] does, and lends nothing,
-    /// for whoever builds on the parser: the line that it leaves is a plain clause, and the parser
-    /// can be used at once.
+    /// Returns the next option or positional, as [`Parser::next`] does, but borrows nothing.
+    ///
+    /// It is for libraries that build on the parser. A program calls [`Parser::next`]. The result
+    /// lends no name, so the clause states the line that is left, and the parser can be called at
+    /// once; [`Parser::long_name`] returns the name of a long option.
+    ///
+    /// # Errors
+    ///
+    /// - `UnexpectedValue` if a value is joined by `=` to the last option and was not taken. The
+    ///   value is consumed.
+    /// - `OutOfMemory` in place of a long option or of that error. Nothing is consumed.
+    ///
+    /// Reading can go on after an error.
+    ///
+    /// # Examples
+    ///
+    /// ```rust
+    /// match parser.advance()? {
+    ///     Found::Short(option) => read_short(parser, option)?,
+    ///     Found::Long => {
+    ///         let name = String::from_str(alloc, parser.long_name())?;
+    ///         read_long(parser, name)?;
+    ///     }
+    ///     Found::Value(word) => words.push(word)?,
+    ///     Found::End => return Ok(()),
+    /// }
+    /// ```
     ///
     /// The words `-ab --name=x file` give `Short('a')`, `Short('b')`, `Long`, after which
-    /// `long_name` is `name`, then, if nobody takes it, an `UnexpectedValue` error with `x`, and
-    /// then `Value` of `file` and `End`.
-    ///
-    /// Errors: `UnexpectedValue` if a value is joined by `=` to the last option and was not taken;
-    /// it is consumed. `OutOfMemory` only in place of a long option or of that error; nothing is
-    /// consumed. Reading can go on after an error.
+    /// `long_name` returns `name`, then the error `UnexpectedValue` with `x` unless the value is
+    /// taken, then `Value` of `file`, and `End`.
     #[inline(always)]
     pub fn advance(&mut self) -> Result<Found, Refusal>
         ensures { RepliesWith Next self.old (advance_reply self.new.last result) self.new }
@@ -352,7 +529,8 @@ impl Parser {
         }
     }
 
-    // Reads a word before the separator. A long option is consumed once nothing can fail any more.
+    // Reads a word before the separator. A long option is consumed only after the last step that
+    // can fail.
     #[inline(always)]
     fn read_word(&mut self) -> Result<Found, Refusal>
         requires tail { self.old.tail ≡ no_tail }
@@ -389,7 +567,7 @@ impl Parser {
         }
     }
 
-    // Reads a word as a positional argument.
+    // Reads a word as a positional.
     #[inline(always)]
     fn read_positional(&mut self) -> Found
         requires { self.old.tail ≡ no_tail }
@@ -401,11 +579,18 @@ impl Parser {
         }
     }
 
-    /// The name of the last option, without its dashes, if that is a long one. Each damaged piece
-    /// of it is one U+FFFD.
+    /// Returns the name of the last option, without its dashes, if that is a long option.
     ///
-    /// After `advance` read `--name=x` it is `name`. If the last option is a short one, or there is
-    /// none, this is the name of the last long option before it, or empty.
+    /// Each damaged piece of the name is one U+FFFD. If the last option is a short one, or there is
+    /// none, this is the name of the long option read last, or the empty text; no clause states
+    /// that.
+    ///
+    /// # Examples
+    ///
+    /// ```rust
+    /// // After `advance` returned `Found::Long` for `--name=x`, this is `name`.
+    /// let name = parser.long_name();
+    /// ```
     #[inline(always)]
     pub fn long_name(&self) -> &str
         ensures { (name : List ℕ) → self.now.last ≡ long_option name → result.now ≡ name }
@@ -413,14 +598,14 @@ impl Parser {
         &self.name
     }
 
-    // Lends what was found: the name of a long option is the last option's.
+    // Turns the result of `advance` into that of `next`, which lends the name of a long option.
     #[inline(always)]
     fn lend(&self, found: Result<Found, Refusal>) -> Result<Option<Arg<'_>>, Error>
         ensures { (reply : Reply) → advance_reply self.now.last found ≡ Some reply
             → next_reply result ≡ Some reply }
     {
-        // Each result is returned at once. If they met at the end of the function, LLVM would not
-        // follow each of them into the caller's `match`.
+        // Each arm returns at once. If they met at the end of the function, LLVM would not follow
+        // each of them into the caller's `match`.
         match found {
             Ok(Found::Short(option)) => return Ok(Some(Arg::Short(option))),
             Ok(Found::Long) => return Ok(Some(Arg::Long(&self.name))),
@@ -430,7 +615,7 @@ impl Parser {
         }
     }
 
-    // The value that is left of the word of the last option, by its length.
+    // Returns the length of the value that is left in the word of the last option, if there is one.
     #[inline(always)]
     pub(crate) fn pending(&self) -> Option<Pending>
         ensures value { IsCounted self.now result }
@@ -464,7 +649,7 @@ impl Parser {
         value
     }
 
-    // Takes the next word. Nothing may be left of the word before it.
+    // Takes the next word. Nothing may be left of the word being read.
     #[inline(always)]
     pub(crate) fn take_word(&mut self) -> Option<OsString>
         requires { self.old.tail ≡ no_tail }
@@ -473,26 +658,26 @@ impl Parser {
         self.words.take_next()
     }
 
-    // Takes the next word, and keeps what is left of the word before it.
+    // Takes the next word, and keeps what is left of the word being read.
     #[inline(always)]
     pub(crate) fn take_whole_word(&mut self) -> Option<OsString>
         ensures { WordItem self.old result self.new }
     {
         match self.state {
             State::Ready | State::FinishedOpts => self.words.take_next(),
-            // No view of words is made then, but its type does not show that.
+            // A view of words is never made in these states, but its type does not show that.
             State::PendingValue(_) | State::Shorts(_) => self.words.take_after(),
         }
     }
 
-    // The words that are still unread.
+    // Returns the unread words.
     pub(crate) fn words_left(&self) -> &[OsString]
         ensures { result.now ≡ self.now.words }
     {
         self.words.left()
     }
 
-    // Whether the separator was read.
+    // Returns whether the separator has been read.
     #[inline(always)]
     fn is_ended(&self) -> bool
         ensures { result ≡ self.now.ended }
@@ -500,7 +685,7 @@ impl Parser {
         matches!(self.state, State::FinishedOpts)
     }
 
-    // Whether the next word can be one of several values.
+    // Returns whether the next word can be one of several values.
     #[inline(always)]
     pub(crate) fn has_plain_word(&self) -> bool
         ensures { IsTrue result ↔ IsNormalIn self.now.ended self.now.words }
@@ -511,13 +696,14 @@ impl Parser {
         }
     }
 
-    // Refuses the pending value, which has `count` bytes. It is then consumed.
+    // Refuses the pending value, which has `count` bytes and is then consumed; or returns
+    // `OutOfMemory`, and consumes nothing.
     //
-    // It is inlined, and `spelling` is not: an `Error` stores its cause inline, which is zeroed for
-    // each result of `next` unless LLVM sees that nothing of it is used. It does if the value goes
-    // into the error in the caller's own function, and the text comes out of a call that hands it
-    // over by its parts. If this function is a call, or `spelling` is inlined, each result costs
-    // some 70 instructions more; `bench/run --check` shows it.
+    // This function is inlined, and `spelling` is not. An `Error` stores its cause inline, and that
+    // space is zeroed for each result of `next` unless LLVM sees that it is unused. LLVM does see
+    // it if the value goes into the error in the caller's own function, and the text comes from a
+    // call that returns it in parts. If this function is a call, or `spelling` is inlined, each
+    // result takes some 70 more instructions; `bench/run --check` shows it.
     #[inline(always)]
     fn refuse(&mut self, count: usize) -> Refusal
         requires value { HasPending self.old count }
@@ -533,7 +719,7 @@ impl Parser {
         }
     }
 
-    // Refuses the pending value, if there is one.
+    // Refuses the pending value, if there is one, and consumes it.
     pub(crate) fn refuse_if_pending(&mut self) -> Result<(), Error>
         ensures ok { OnOk result ((self.old.tail ≡ no_tail) × (self.new ≡ self.old)) }
         ensures err { IfErr result (λ e. RawArgsFailWith self.old e self.new) }
@@ -544,7 +730,7 @@ impl Parser {
         Err(Error::from(self.refuse(pending.count)))
     }
 
-    // Refuses a line with no value for the last option.
+    // Refuses a line that has no value for the last option.
     #[inline(always)]
     pub(crate) fn refuse_if_missing(&self) -> Result<(), Refusal>
         ensures ok { OnOk result (available self.now ≢ []) }
@@ -556,7 +742,7 @@ impl Parser {
         Err(self.missing_value())
     }
 
-    // The error that no value is left for the last option.
+    // Returns the error for a line that has no value for the last option.
     #[cold]
     #[inline(never)]
     fn missing_value(&self) -> Refusal
@@ -568,7 +754,7 @@ impl Parser {
         }
     }
 
-    // How the last option is spelled, with its dashes. It is a function of its own for the sake of
+    // Returns the last option with its dashes. It is a function of its own for the sake of
     // `refuse`.
     #[cold]
     #[inline(never)]
@@ -580,7 +766,7 @@ impl Parser {
             LastOption::Nothing => return Ok(None),
             LastOption::Short(option) => format!(in self.alloc; "-{option}"),
             LastOption::Long => {
-                // This costs fewer instructions than `format!`.
+                // This takes fewer instructions than `format!`.
                 let name = self.name.as_str();
                 let mut text = String::with_capacity(self.alloc, name.len().saturating_add(2))?;
                 text.push_str("--")?;
@@ -597,7 +783,22 @@ impl Clone for Parser {
 
     ghost is_clone = { λ parser copy. copy ≡ parser };
 
-    /// A parser of the same unread line, with the same binary name.
+    /// Returns a parser of the same unread line, with the same binary name.
+    ///
+    /// Reading from the copy does not change the original. This copies the unread words, the name
+    /// of the last long option and the binary name, so it allocates.
+    ///
+    /// # Errors
+    ///
+    /// `AllocError` if an allocation fails.
+    ///
+    /// # Examples
+    ///
+    /// ```rust
+    /// // Looks at the next argument without reading it.
+    /// let mut ahead = parser.clone()?;
+    /// let is_last = ahead.next()?.is_none();
+    /// ```
     fn clone(&self) -> Result<Parser, AllocError> {
         let bin_name = self.bin_name.clone()?;
         Ok(Parser {
@@ -612,7 +813,7 @@ impl Clone for Parser {
     }
 }
 
-// The words of these texts.
+// Turns these texts into words. The texts are not copied.
 fn words_of(alloc: Global, texts: Args) -> Result<Vec<OsString>, AllocError> {
     let mut words = Vec::with_capacity(alloc, texts.len())?;
     for text in texts {
@@ -621,7 +822,8 @@ fn words_of(alloc: Global, texts: Args) -> Result<Vec<OsString>, AllocError> {
     Ok(words)
 }
 
-// All items of these.
+// Collects all items of an iterator. It is a function of its own so that one clause covers both
+// `from_args` and `from_iter`.
 fn collect_words<I>(alloc: Global, args: I) -> Result<Vec<OsString>, AllocError>
 where
     I: IntoIterator<Item = OsString> + Drop,
@@ -634,8 +836,8 @@ where
     Ok(items)
 }
 
-// Where the value begins that is left of a cluster, and whether `=` joins it to its option. The
-// bytes from this position on are still unread.
+// Returns where the value begins that is left of a cluster, and whether `=` joins it to its option.
+// The bytes from `position` on are unread.
 #[inline(always)]
 fn pending_at(cluster: &[u8], position: usize, short_equals: bool) -> (usize, bool)
     requires { position < length cluster.now }
@@ -650,7 +852,7 @@ fn pending_at(cluster: &[u8], position: usize, short_equals: bool) -> (usize, bo
     }
 }
 
-// The short option at this position of a word, and the state after it.
+// Returns the short option at this position of a word, and the state after it.
 #[inline(always)]
 fn read_short(word: &[u8], position: usize) -> (char, State)
     requires { position < length word.now }
@@ -666,7 +868,7 @@ fn read_short(word: &[u8], position: usize) -> (char, State)
     (piece.shown(), state)
 }
 
-// The name of the long option in a word, and the state after it.
+// Returns the bytes of a long option's name in its word, and the state after it.
 #[inline(always)]
 fn read_long(word: &[u8]) -> (&[u8], State)
     requires { 2 ≤ length word.now }
@@ -679,8 +881,8 @@ fn read_long(word: &[u8]) -> (&[u8], State)
     }
 }
 
-// Keeps the name of a long option, of which each damaged piece is shown as U+FFFD, in place of the
-// one that was kept. If memory runs out, that one stays.
+// Replaces the kept name by the lossy text of this one, in which each damaged piece is one U+FFFD.
+// If memory runs out, the kept name stays.
 fn keep_name(alloc: Global, kept: &mut String, name: &[u8]) -> Result<(), AllocError>
     ensures ok { OnOk result (string_bytes kept.new ≡ lossy name.now) }
     ensures err { OnErr result (string_bytes kept.new ≡ string_bytes kept.old) }

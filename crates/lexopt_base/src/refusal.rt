@@ -1,25 +1,27 @@
-//! Why a call that lends nothing gives nothing.
+//! The error of `advance`, `take` and `begin_values`.
 use lexopt_words::error::Error;
 use lexopt_words::os_string::OsString;
 use std::alloc::AllocError;
 
-/// Why a call that lends nothing gives nothing. `Error::from` makes the error of it that `next` or
-/// `value` returns.
+/// The error of the calls for libraries that build on the parser: `advance`, `take` and
+/// `begin_values`.
 ///
-/// It is smaller than an `Error`, which has room for a cause. `advance` never returns `MissingValue`,
-/// nor do `take` and `begin_values` return `UnexpectedValue`.
+/// `Error::from` turns it into the error that `next`, `value` or `values` returns. It is smaller
+/// than an `Error`, which has room for a cause. `advance` never returns `MissingValue`; `take` and
+/// `begin_values` never return `UnexpectedValue`.
 #[derive(Drop)]
 pub enum Refusal {
-    /// No value is left, for this option, with its dashes, if one was read. Nothing is consumed.
+    /// There is no value for the last option, which is given with its dashes; `None` if no option
+    /// was read. Nothing is consumed.
     MissingValue(Option<String>),
-    /// The last option has a value that was not taken.
+    /// A value is joined by `=` to the last option, and was not taken.
     UnexpectedValue {
-        /// The option with its dashes.
+        /// The last option, with its dashes.
         option: String,
         /// The value, which is consumed.
         value: OsString,
     },
-    /// Memory ran out. Nothing is consumed.
+    /// An allocation failed. Nothing is consumed.
     OutOfMemory,
 }
 
@@ -34,7 +36,8 @@ impl From<AllocError> for Refusal {
     }
 }
 
-// With a hint to inline it, LLVM would zero the space of an `Error` at each call of `next`.
+// Inlining is left to LLVM: with a hint, it would zero the space of an `Error` at each call of
+// `next`.
 impl From<Refusal> for Error {
     ghost use Rattle.lexopt_base.specs.Refusals.{IsErrorOf};
 

@@ -1,4 +1,5 @@
-//! Several values of one option.
+//! `values`: a view of several values of one option, which takes each from the parser when it is
+//! asked for. `values.rt` of `lexopt_items` reads the values of an option by its kind.
 ghost use Rattle.std.specs.Prelude.{◌≡◌, ◌≤◌, ℕ, List, IfOk};
 ghost use Rattle.lexopt_spec.specs.Views.{ValueItems};
 ghost use Rattle.lexopt_base.specs.Stages.{stage_of};
@@ -9,15 +10,17 @@ use lexopt_words::error::Error;
 use lexopt_words::os_string::OsString;
 use std::alloc::{AllocError, Global};
 
-// Whether a view may give more.
+// Whether a view of values may yield more.
 #[derive(Clone, Copy)]
 enum Stage {
     GoingOn,
     End,
 }
 
-/// The values of one option, each of which is taken when it is asked for. What is not asked for
-/// stays with the parser.
+/// A view of the values of one option, made by [`Parser::values`].
+///
+/// It is an iterator: each call of `next` takes one value. Values that are not taken stay with the
+/// parser. No call of it allocates.
 #[derive(Drop)]
 pub struct ValuesIter<'a> {
     parser: &'a mut Parser,
@@ -29,16 +32,29 @@ impl Parser {
     ghost use Rattle.std.specs.Borrow.{sem};
     ghost use Rattle.lexopt_base.specs.Views.{LendsValues, LineIfBeginFails, LineIfValuesFail};
 
-    /// Several values for the last option, of which there is one at least: what is left of its
-    /// word, and then the next words up to the first that looks like an option. A value that is
-    /// joined by `=` is the only one.
+    /// Returns a view of the values of the last option, of which there is at least one.
     ///
-    /// At `-a b c -d` it gives `b` and `c`, at `-ab c` too, and at `-a=b c` it gives `b`. After the
-    /// separator every word is a value. Nothing is taken before it is asked for: with `-a b c`, a
-    /// view that is asked once leaves `c`.
+    /// The values are the one in the option's own word, if there is one, and then the next words up
+    /// to the first option or separator. A value joined by `=` is the only one. After the
+    /// separator, every word is a value. The view takes nothing until it is asked: at `-a b c`, a
+    /// view that is asked once leaves `c`. Only the error allocates.
     ///
-    /// Errors: `MissingValue` if there is no value; `OutOfMemory` only in its place, if it names an
-    /// option. Neither consumes anything.
+    /// # Errors
+    ///
+    /// - `MissingValue` if there is no value. Nothing is consumed.
+    /// - `OutOfMemory` in place of a `MissingValue` that names an option. Nothing is consumed.
+    ///
+    /// # Examples
+    ///
+    /// ```rust
+    /// // `--files a b -v` and `--files a b --` give `a` and `b`; `--files=a b` gives `a`.
+    /// for file in parser.values()? {
+    ///     files.push(file)?;
+    /// }
+    /// ```
+    ///
+    /// `-a b c -d` and `-ab c -d` give `b` and `c`. `-a=b c` gives `b`, or `=b` and `c` if
+    /// `short_equals` is off.
     #[inline(always)]
     pub fn values(&mut self) -> Result<ValuesIter<'_>, Error>
         ensures* refused { sem 𝓛 (LineIfValuesFail self.entry result) }
@@ -53,13 +69,23 @@ impl Parser {
         }
     }
 
-    /// Several values for the last option, as [`Parser::values`] gives them, for whoever builds on
-    /// the parser: its error is smaller.
+    /// Returns a view of the values of the last option, as [`Parser::values`] does, with a smaller
+    /// error type.
     ///
-    /// At `-a b c -d` the view gives `b` and `c`.
+    /// It is for libraries that build on the parser. A program calls [`Parser::values`].
     ///
-    /// Errors: `MissingValue` if there is no value; `OutOfMemory` only in its place, if it names an
-    /// option. Neither consumes anything.
+    /// # Errors
+    ///
+    /// - `MissingValue` if there is no value. Nothing is consumed.
+    /// - `OutOfMemory` in place of a `MissingValue` that names an option. Nothing is consumed.
+    ///
+    /// # Examples
+    ///
+    /// ```rust
+    /// // After `advance` returned `Found::Short('a')` for `-a b c -d`, this takes `b` and `c`.
+    /// let mut view = parser.begin_values()?;
+    /// let values = take_values(alloc, &mut view, usize::MAX)?;
+    /// ```
     #[inline(always)]
     pub fn begin_values(&mut self) -> Result<ValuesIter<'_>, Refusal>
         ensures* refused { sem 𝓛 (LineIfBeginFails self.entry result) }
@@ -85,7 +111,8 @@ impl Iterator for ValuesIter<'_> {
 
     ghost remaining = { item_count (λ view. values_left (stage_of view.stage) view.parser.now) };
 
-    /// The next value. After the first `None` it gives `None` forever.
+    /// Takes the next value, and returns it. `None` means that no value is left; after the first
+    /// `None` it always returns `None`.
     #[inline(always)]
     fn next(&mut self) -> Option<OsString> {
         match self.stage {
@@ -100,7 +127,8 @@ impl ValuesIter<'_> {
     ghost use Rattle.lexopt_spec.specs.Views.{ValueItem};
     ghost use Rattle.lexopt_base.specs.Stages.{stage_of};
 
-    // What is left of the word of the option, or else the next word, if it can be a value.
+    // Takes the value in the option's own word if there is one, otherwise the next word if it can
+    // be a value.
     #[inline(always)]
     fn another(&mut self) -> Option<OsString>
         requires { self.old.stage ≡ Stage.GoingOn }
@@ -122,10 +150,19 @@ impl ValuesIter<'_> {
     }
 }
 
-/// Takes `count` values from a view, or fewer if it ends before.
+/// Takes up to `count` values from a view: fewer only if the view ends.
 ///
-/// At `-a b c -d`, two values of the view of `-a` are `b` and `c`, and so are ten. The only error is
-/// that memory ran out; the values that were taken are gone then.
+/// # Errors
+///
+/// `AllocError` if memory for the list runs out. The values that were taken are gone.
+///
+/// # Examples
+///
+/// ```rust
+/// // Of `--dim 10 20 file`, this takes `10` and `20`, and leaves `file`.
+/// let mut view = parser.values()?;
+/// let sides = take_values(alloc, &mut view, 2)?;
+/// ```
 pub fn take_values(
     alloc: Global,
     view: &mut ValuesIter<'_>,

@@ -1,4 +1,4 @@
--- The commands of a script, with one more whole line.
+-- The commands of a script after one more whole line.
 use Rattle.std.proofs.Common.{◌≡◌, List, [], ◌∷◌, ◌++◌, flat_map, Vec, Global, sym, ap, ◌∙◌, append_assoc, append-nil}
 use Rattle.std.proofs.lemmas.List.Concat.{flat_map-append}
 use Rattle.lexopt_calls.specs.Script.{whole_line}

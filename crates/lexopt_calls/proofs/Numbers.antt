@@ -1,4 +1,4 @@
--- Numbers of scripts.
+-- Numbers in scripts.
 use Rattle.std.proofs.Common.{◌≡◌, ◌≢◌, ◌<◌, ◌≤◌, ◌^◌, ◌==◌, ◌&&◌, ℕ, Bool, true, false, nat_le, List, [], ◌∷◌, length, get_or, Some, None, Result, Ok, Err, MatchResult, IsUtf8, if◌then◌else◌, refl, sym, ap, subst, ◌∙◌, arith, true≢false}
 use Rattle.std.specs.Str.{all_ascii_digits}
 use Rattle.std.specs.Str.Parse.{ParsesUnsigned, IsNumeral, digits_value, without_leading_plus}
@@ -22,7 +22,7 @@ none_of false b c n other = refl
 some_of : (a b c : Bool) (n : ℕ) → a ≡ true → b ≡ true → c ≡ true → (if a && (b && c) then Some n else None) ≡ Some n
 some_of a b c n is_a is_b is_c = rw (is_a, is_b, is_c) refl
 
--- what is not UTF-8 is not a number
+-- bytes that are not UTF-8 are not a number
 pub no_text : (bs : List ℕ) → (IsUtf8 bs → ⊥) → number bs ≡ None
 no_text bs other =
     none_of (nat_le 1 (length bs)) (nat_le (length bs) 9) (all_ascii_digits bs) (digits_value 10 bs)
@@ -45,11 +45,11 @@ parsed bs (Err e) short same parses =
     let fits : digits_value 10 bs < 2 ^ 64 = omega arith in
     parses ((subst (λ l. IsNumeral 10 l) (sym same) (least, model.to bs digits)), subst (λ l. digits_value 10 l < 2 ^ 64) (sym same) fits)))
 
--- a text of no more than nine bytes with no plus in front is read as its number
+-- a text of at most nine bytes without a plus at its front is read as its number
 pub number_read : {E : Type 0} (bs : List ℕ) (r : Result ℕ E) → length bs ≤ 9 → starts_with ◌==◌ bs (43 ∷ []) ≡ false → ParsesUnsigned 64 10 bs r → result_ok r ≡ number bs
 number_read bs r short other parses = parsed bs r short (without_leading_plus_none bs (no_plus bs other)) parses
 
--- ---- what a result is, known by its variant
+-- ---- results, by their variant
 
 pub is_value : {T E : Type 0} (P : T → Type 0) (Q : E → Type 0) (r : Result T E) (x : T) → MatchResult r P Q → result_ok r ≡ Some x → P x
 is_value P Q (Ok y) x met is = let same : y ≡ x = cc in subst P same met

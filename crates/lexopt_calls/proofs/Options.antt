@@ -1,4 +1,4 @@
--- Options that lines of a script name.
+-- The options that lines of a script name.
 use Rattle.std.proofs.Common.{◌≡◌, ℕ, List, ◌∷◌, Some, None, IsUtf8, true, false, Bool, sym, refl}
 use Rattle.std.proofs.lemmas.Str.{IsUtf8-from_is_utf8, is_utf8-from_IsUtf8}
 use Rattle.std.specs.Str.{is_utf8}

@@ -1,4 +1,4 @@
--- A list of calls that was cut short at some place.
+-- Lists of calls of which only a part was made.
 use Rattle.std.proofs.Common.{◌≡◌, ℕ, ◌+◌, ◌<◌, Result, Ok, Err, OnErr, List, [], ◌∷◌, ◌++◌, length, map, take, drop, get_or, sym, ap, subst, ◌∙◌, append_assoc}
 use Rattle.std.proofs.lemmas.List.{map-append, take_more, take-append-drop}
 use Rattle.lexopt_spec.specs.UnreadLine.{UnreadLine}
@@ -9,14 +9,14 @@ use Rattle.lexopt_line_spec.proofs.Parts.{part_cut}
 use Rattle.lexopt_calls.specs.declared.reply.Call.{Call}
 use Rattle.lexopt_calls.specs.Replies.{call_view}
 
--- a list is what is before a place, what is at it, and the others
+-- a list is the elements before a place, the one at it, and those after it
 at_place : (calls : List Call) (i : ℕ) (other : Call) → i < length calls
     → calls ≡ take i calls ++ get_or calls i other ∷ drop (i + 1) calls
 at_place calls i other some =
     sym (take-append-drop (i + 1) calls) ∙ ap (λ l. l ++ drop (i + 1) calls) (take_more calls i other some)
     ∙ append_assoc (take i calls) (get_or calls i other ∷ []) (drop (i + 1) calls)
 
--- the calls before a place were made, and the one there with some of its items
+-- the calls before a place were made, and the call there, with some of its items
 pub part_made : (u v w : UnreadLine) (calls : List Call) (i m : ℕ) (call : Call) (replies : List Reply) (reply : Reply) → call ≡ get_or calls i call
     → i < length calls → Run u (map call_view (take i calls)) replies v → Step (up_to m (call_view call)) v reply w → Part u (map call_view calls) w
 part_made u v w calls i m call replies reply is some run step =

@@ -1,4 +1,4 @@
--- What is written for commands, one after another.
+-- The output of commands, one after another.
 use Rattle.std.proofs.Common.{◌≡◌, ◌≢◌, ℕ, Bool, true, List, [], ◌∷◌, ◌++◌, map, fold, Option, Some, None, MatchOption, Result, Ok, Err, IfOk, IfErr, OnOk, is_ok, if◌then◌else◌, Vec, Global, codes, refl, sym, ap, subst, ◌∙◌, inl, inr, append_assoc, append-nil}
 use Rattle.std.specs.declared.alloc.AllocError.{AllocError}
 use Rattle.std.specs.List.{filter_map}
@@ -24,7 +24,7 @@ use Rattle.lexopt_calls.specs.Performed.{answer_text, replies_text, MakesCalls}
 
 -- ---- the result of a whole line
 
--- an error is written as its reply
+-- the text of an error is the text of its reply
 error_texts : (e : Error) → MatchOption (error_reply e) (Unit {0}) (λ r. (codes "error: " ++ message e ≡ reply_text r) × (r ≢ end))
 error_texts (MissingValue None) = (refl, λ is. let f : steps.missing None ≡ end = is in cc)
 error_texts (MissingValue (Some o)) = (refl, λ is. let f : steps.missing (Some _) ≡ end = is in cc)
@@ -47,7 +47,7 @@ answer_written t on words (Err e) reading (inl none) = memory_refused (ap (λ x.
 answer_written t on words (Err e) reading (inr ends) =
     let text = error_text e ends.0 ends.3 in line_refused ends.0 ends.1 ends.2 text.1 text.0
 
--- a text, and then the end of its line, were added
+-- a text and a newline were appended
 pub line_added : (r : Result (Unit {0}) AllocError) (P : List ℕ → Type 0) (old mid new text : List ℕ) → P text → mid ≡ old ++ text
     → new ≡ (if is_ok r then mid ++ codes "\n" else mid) → OnOk r ((line : List ℕ) × P line × (new ≡ old ++ with_newline line))
 line_added (Ok u) P old mid new text holds is_mid is_new = (text, holds, is_new ∙ ap (λ l. l ++ codes "\n") is_mid ∙ append_assoc old text (codes "\n"))
@@ -55,7 +55,7 @@ line_added (Err e) P old mid new text holds is_mid is_new = tt
 
 -- ---- commands
 
--- these commands were done on a parser of the words
+-- these commands were run on a parser of the words, with this text as output
 pub record Done (script : Script) (commands : List Command) (v : UnreadLine) (on : Bool) (text : List ℕ) : Type 0 where
   pub replies : List Reply
   pub run : Run (fresh script.words.items) (filter_map call_of commands) replies v
@@ -65,7 +65,7 @@ pub record Done (script : Script) (commands : List Command) (v : UnreadLine) (on
 pub nothing_done : (script : Script) (u : UnreadLine) (text : List ℕ) → u ≡ fresh script.words.items → text ≡ [] → Done script [] u true text
 nothing_done script u text is none = record { replies = []; run = is; written = none; on_is = refl }
 
--- one call more
+-- one more call
 call_done : (script : Script) (commands : List Command) (c : Call) (reply : Reply) (u v : UnreadLine) (on : Bool) (text : List ℕ) → Done script commands u on text
     → Step c u reply v → Done script (commands ++ call c ∷ []) v (short_equals_after on c) (text ++ with_newline (reply_text reply))
 call_done script commands c reply u v on text done step = record {
@@ -76,7 +76,7 @@ call_done script commands c reply u v on text done step = record {
   on_is = ap (λ b. short_equals_after b c) done.on_is ∙ sym (switch_after-call true commands c);
 }
 
--- the same at other commands and another text
+-- the same for equal commands and an equal text
 done_at : (script : Script) (a b : List Command) (v : UnreadLine) (on : Bool) (text new : List ℕ) → a ≡ b → text ≡ new → Done script a v on text → Done script b v on new
 done_at script a b v on text new same same_text done =
     subst (λ l. Done script l v on new) same (subst (λ t. Done script a v on t) same_text done)
@@ -94,13 +94,13 @@ run_done script commands (c ∷ cs) (r ∷ rs) u v on text done run =
     (run_done script (commands ++ call c ∷ []) cs rs run.0 v (short_equals_after on c) (text ++ with_newline (reply_text r))
     (call_done script commands c r u run.0 on text done run.1) run.2)
 
--- the script that makes these calls after its commands
+-- these calls were made after the commands
 pub calls_done : (script : Script) (commands : List Command) (calls : List Call) (u v : UnreadLine) (on now : Bool) (text new : List ℕ) → Done script commands u on text
     → MakesCalls calls u on text v now new → Done script (commands ++ map call calls) v now new
 calls_done script commands calls u v on now text new done made =
     rw (made.2, made.3) (run_done script commands calls made.0 u v on text done made.1)
 
--- the whole line once more
+-- one more whole line
 pub line_done : (script : Script) (commands : List Command) (u : UnreadLine) (on : Bool) (text line : List ℕ) → Done script commands u on text
     → WholeLineText (table_view script.table) on script.words.items line → Done script (commands ++ whole_line ∷ []) u on (text ++ with_newline line)
 line_done script commands u on text line done says = record {

@@ -1,4 +1,4 @@
--- Scripts, a line and a byte at a time.
+-- Scripts, one line and one byte at a time.
 use Rattle.std.proofs.Common.{◌≡◌, ◌≢◌, ℕ, ◌+◌, ◌<◌, ◌≤◌, Bool, true, false, ◌==◌, ◌||◌, List, [], ◌∷◌, ◌++◌, length, get_or, take, drop, Option, Some, None, refl, sym, ap, ◌∙◌, arith, append_assoc, append-nil}
 use Rattle.std.specs.List.{filter_map, cons_option}
 use Rattle.std.specs.Option.{option_map, option_to_list}
@@ -20,13 +20,13 @@ append-in_front : (done : List ℕ) (b : ℕ) (more : Option (List ℕ)) → opt
 append-in_front done b None = refl
 append-in_front done b (Some bs) = ap Some (sym (append_assoc done (b ∷ []) bs))
 
--- one more byte of a text
+-- one more byte of a text of a script
 pub unescaped_step : (done new rest after : List ℕ) (b : ℕ) (all : Option (List ℕ)) → unescaped rest ≡ in_front b (unescaped after) → new ≡ done ++ b ∷ []
     → option_map (λ bs. done ++ bs) (unescaped rest) ≡ all → option_map (λ bs. new ++ bs) (unescaped after) ≡ all
 unescaped_step done new rest after b all is is_new so_far =
     rw is_new (sym (append-in_front done b (unescaped after)) ∙ ap (option_map (λ bs. done ++ bs)) (sym is) ∙ so_far)
 
--- the first piece is a character, and takes all bytes
+-- the first piece is a character, and has all the bytes
 pub whole_character : (bs : List ℕ) (n c : ℕ) → (decoded bs).size ≡ n → n ≡ length bs → (decoded bs).char ≡ Some c → Some c ≡ one_character bs
 whole_character bs n c size all char =
     let same : length (take (decoded bs).size bs) ≡ length bs =
@@ -41,7 +41,7 @@ length-lines_of bs =
 
 -- ---- the first lines of a script
 
--- a command that reads the words is among these
+-- one of these commands reads the words
 abbrev pub called : List Command → Bool
 called [] = false
 called (c ∷ cs) = reads_words c || called cs
@@ -62,7 +62,7 @@ append-cons_option : {X : Type 0} (done : List X) (o : Option X) (xs : List X) �
 append-cons_option done None xs = ap (λ l. l ++ xs) (append-nil done)
 append-cons_option done (Some x) xs = append_assoc done (x ∷ []) xs
 
--- the first n lines have these words, this table and these commands, and none of them is bad
+-- the first `n` lines have these words, this table and these commands, and none is bad
 pub record ReadsTo (script : List ℕ) (n : ℕ) (words : List (List ℕ)) (t : Table) (commands : List Command) : Type 0 where
   pub words_are : words ++ filter_map (λ line. word_of (meaning line)) (drop n (lines_of script)) ≡ words_of script
   pub table_is : table_with t (filter_map (λ line. entry_of (meaning line)) (drop n (lines_of script))) ≡ table_of script

@@ -1,4 +1,4 @@
--- What a step that gives a reply returns.
+-- Replies that steps give, as results of calls.
 use Rattle.std.proofs.Common.{◌≡◌, Option, Some, None, IsSome, Result, Ok, Err, IfOk, IfErr, OnErr, refl, sym, subst, ◌∙◌}
 use Rattle.std.specs.declared.alloc.AllocError.{AllocError}
 use Rattle.lexopt_spec.specs.UnreadLine.{UnreadLine}
@@ -18,27 +18,27 @@ pub some_reply : (Answers : UnreadLine → Reply → UnreadLine → Type 0) (u :
 some_reply Answers u None after h = absurd h
 some_reply Answers u (Some r) after h = refl
 
--- a refusal is the reply that the call gave
+-- the reply for a refusal is the one that the call gave
 pub refusal_given : (Answers : UnreadLine → Reply → UnreadLine → Type 0) (u : UnreadLine) (reply : Option Reply) (r : Reply) (after : UnreadLine)
     → RepliesWith Answers u reply after → reply ≡ Some r → Answers u r after
 refusal_given Answers u reply r after h is = subst (λ (o : Option Reply). RepliesWith Answers u o after) is h
 
--- what holds of an error that was found
+-- a clause about errors holds for the error that was found
 pub err_told : {X Y : Type 0} (r : Result X Y) (e : Y) (P : Y → Type 0) → r ≡ Err e → OnErr r (IfErr r P) → P e
 err_told r e P is told = subst (λ q. OnErr q (IfErr q P)) is told
 
--- the copy of a reply is that reply
+-- the copy of a reply is equal to it
 pub copied : (copy : Result replies.Reply AllocError) (reply : Option Reply) (r : Reply) → reply ≡ Some r → IfOk copy (λ x. reply ≡ Some (reply_view x))
     → IfOk copy (λ x. reply_view x ≡ r)
 copied (Ok x) reply r is same = let e : Some (reply_view x) ≡ Some r = sym same ∙ is in cc
 copied (Err e) reply r is same = tt
 
--- this many items were asked for, and so the whole call was made
+-- all items were asked for, so the whole call was made
 pub all_told : {X E : Type 0} (answer : Result X E) (P Q : Type 0) (R : X → Type 0) → (P → Q) → IfOk answer (λ x. P × R x) → IfOk answer (λ x. Q × R x)
 all_told (Ok x) P Q R more told = (more told.0, told.1)
 all_told (Err e) P Q R more told = tt
 
--- what holds of any result holds of the one that came
+-- a fact can be added to a clause about a result
 pub told_also : {X E : Type 0} (answer : Result X E) (Q : Type 0) (R : X → Type 0) → Q → IfOk answer R → IfOk answer (λ x. Q × R x)
 told_also (Ok x) Q R holds told = (holds, told)
 told_also (Err e) Q R holds told = tt

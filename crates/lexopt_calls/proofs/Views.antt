@@ -1,4 +1,4 @@
--- Items asked of a view, as one call.
+-- Taking items from a view, as one call.
 use Rattle.std.proofs.Common.{◌≡◌, ◌≢◌, ℕ, Bool, List, ◌∷◌, Option, Some, None, refl, sym, ap, subst, ◌∙◌, inl}
 use Rattle.lexopt_spec.specs.UnreadLine.{UnreadLine, pending}
 use Rattle.lexopt_spec.specs.Steps.{items, busy, maybe}

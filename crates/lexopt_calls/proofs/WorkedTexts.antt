@@ -1,4 +1,4 @@
--- Texts of whole lines, in worked examples.
+-- The texts of whole lines, for worked examples.
 use Rattle.std.proofs.Common.{◌≡◌, ◌≢◌, ℕ, Bool, true, List, [], ◌∷◌, ◌++◌, Option, Some, None, codes, refl, sym, ap, subst, ◌∙◌, inl, inr, true≢false}
 use Rattle.lexopt_spec.specs.UnreadLine.{UnreadLine, dash, equals, fresh, no_tail, joined, rest}
 use Rattle.lexopt_spec.specs.Runs.{Call, next, Step, Run}
@@ -35,7 +35,7 @@ error_first steps.busy is error = absurd is
 error_first steps.done is error = absurd is
 error_first steps.no_memory is error = absurd is
 
--- words that show no list have no text but an error's
+-- the only texts of words that show no list are those of errors
 pub none_written : (t : Table) (on : Bool) (words : List (List ℕ)) (text : List ℕ) → ((l : List Item) → Shows t on words l → ⊥) → first text ≢ 0x65
     → WholeLineText t on words text → ⊥
 none_written t on words text none other (items_read l reading is) = none l (said_shows t on words l reading)
@@ -43,7 +43,7 @@ none_written t on words text none other (line_refused final l reading error is) 
     other (ap first is ∙ error_first final (asked_last _ reading.calls reading.replies reading.asked) error)
 none_written t on words text none other (memory_refused is) = other (ap first is)
 
--- words that show a list have its text, or memory ran out
+-- the text of words that show a list is that of the list, or of `OutOfMemory`
 pub only_written : (t : Table) (on : Bool) (words : List (List ℕ)) (text : List ℕ) (l : List Item) → Shows t on words l
     → text ≢ bracketed item_text l → text ≢ reply_text no_memory → WholeLineText t on words text → ⊥
 only_written t on words text l shows other memory (items_read m reading is) =
@@ -71,7 +71,7 @@ end_comes : (r : Reply) (v : UnreadLine) → Step next (fresh []) r v → r ≡ 
 end_comes r v (inl step) = at_the_end r v step
 end_comes r v (inr refused) = absurd (subst TakesMemory (at_the_end refused.in_place_of.0 refused.in_place_of.1 refused.in_place_of.2) refused.in_place_of.3)
 
--- what is written for it
+-- the output of `next` at the end of the line
 pub one_end : (t : Table) (text : List ℕ) (replies : List Reply) (v : UnreadLine) → Run (fresh []) (next ∷ []) replies v
     → Written t [] true (script.call next ∷ []) replies text → text ≡ codes "None\n"
 one_end t text [] v run written = absurd run
@@ -79,6 +79,6 @@ one_end t text (r ∷ []) v run written =
     written.2 ∙ ap (λ (l : List ℕ). with_newline (reply_text r) ++ l) written.1 ∙ ap (λ (x : Reply). with_newline (reply_text x) ++ []) (end_comes r run.0 run.1)
 one_end t text (r ∷ s ∷ rs) v run written = absurd run.2
 
--- a line that is bad
+-- a script with a bad line is not one without
 pub is_bad_line : (n : ℕ) (found : Option ℕ) → found ≡ Some n → found ≡ None → ⊥
 is_bad_line n found is none = let e : Some n ≡ None = sym is ∙ none in cc

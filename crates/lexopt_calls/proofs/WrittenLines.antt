@@ -1,4 +1,4 @@
--- What is written for commands, one command at a time.
+-- The output of commands, one command at a time.
 use Rattle.std.proofs.Common.{◌≡◌, Bool, ℕ, List, [], ◌∷◌, ◌++◌, refl, sym, ap, ◌∙◌, append_assoc, append-nil}
 use Rattle.lexopt_spec.specs.Steps.{Reply}
 use Rattle.lexopt_spec.specs.Runs.{Call}
@@ -6,7 +6,7 @@ use Rattle.lexopt_line_spec.specs.Table.{Table}
 use Rattle.lexopt_spec.specs.Runs.{short_equals_after}
 use Rattle.lexopt_calls.specs.Script.{Command, call, whole_line, reply_text, with_newline, WholeLineText, Written}
 
--- the switch after these commands
+-- `short_equals` after these commands
 abbrev pub switch_after : Bool → List Command → Bool
 switch_after on [] = on
 switch_after on (call c ∷ commands) = switch_after (short_equals_after on c) commands
@@ -22,7 +22,7 @@ switch_after-whole on [] = refl
 switch_after-whole on (call d ∷ commands) = switch_after-whole (short_equals_after on d) commands
 switch_after-whole on (whole_line ∷ commands) = switch_after-whole on commands
 
--- one call more
+-- one more call
 pub Written-call : (t : Table) (words : List (List ℕ)) (on : Bool) (commands : List Command) (replies : List Reply) (text : List ℕ) (c : Call) (reply : Reply)
     → Written t words on commands replies text
     → Written t words on (commands ++ call c ∷ []) (replies ++ reply ∷ []) (text ++ with_newline (reply_text reply))
@@ -42,7 +42,7 @@ Written-call t words on (whole_line ∷ commands) replies text c reply is = (
   ap (λ l. l ++ with_newline (reply_text reply)) is.4 ∙ append_assoc (with_newline is.0) is.1 (with_newline (reply_text reply)),
 )
 
--- the whole line once more
+-- one more whole line
 pub Written-whole : (t : Table) (words : List (List ℕ)) (on : Bool) (commands : List Command) (replies : List Reply) (text line : List ℕ)
     → Written t words on commands replies text → WholeLineText t (switch_after on commands) words line
     → Written t words on (commands ++ whole_line ∷ []) replies (text ++ with_newline line)

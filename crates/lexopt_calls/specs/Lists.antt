@@ -1,4 +1,4 @@
--- What `replay` ensures for a list of calls: the relations of the grammar, over calls and replies
+-- The clauses of `replay` for a list of calls: the relations of the grammar, for calls and replies
 -- of Rust.
 use Rattle.std.specs.Prelude.{◌≡◌, ◌+◌, ◌++◌, ◌≤◌, List, map}
 use Rattle.std.specs.List.{flat_map}
@@ -11,28 +11,28 @@ use Rattle.lexopt_calls.specs.Replies.{call_view, reply_view}
 use Rattle.lexopt_calls.specs.declared.reply.Call.{Call}
 use Rattle.lexopt_calls.specs.declared.reply.Reply.{Reply}
 
--- made in order, the calls have these replies, and leave this line
+-- the calls, made in order, have these replies and leave this line
 abbrev pub Replays : UnreadLine → List Call → List Reply → UnreadLine → Type 0
 Replays u calls replies v = runs.Run u (map call_view calls) (map reply_view replies) v
 
--- of a longer list of calls a part was made, and perhaps some of the next call
+-- some prefix of the calls was made, and perhaps part of the next call, and they leave this line
 abbrev pub ReplaysPart : UnreadLine → List Call → UnreadLine → Type 0
 ReplaysPart u calls v = runs.Part u (map call_view calls) v
 
--- Each byte of the line is in one segment of what the calls read, or still unread, in order. What
--- the replies hand out is what the segments show.
+-- Each byte of the line is in one segment that the calls read, or is unread, in order. The replies
+-- have the bytes that the segments show.
 abbrev pub AccountsForBytes : UnreadLine → List Call → List Reply → UnreadLine → Type 0
 AccountsForBytes u calls replies v = (segments : List Segment)
     × runs.AccountedRun u (map call_view calls) (map reply_view replies) segments v
     × (flat u ≡ bytes_of segments ++ flat v)
     × (flat_map bytes_handed_out (map reply_view replies) ≡ shown_of segments)
 
--- a cluster that is read by `next` alone is its lossy characters
+-- if `next` alone reads a cluster, the replies are its lossy characters
 abbrev pub ReplaysPieces : UnreadLine → List Call → List Reply → UnreadLine → Type 0
 ReplaysPieces u calls replies v =
     ReadsPieces u (map call_view calls) (map reply_view replies) v
 
--- The options, values and words that are handed out number at most what the line can give at the
--- start, less what it can still give at the end.
+-- The replies have at most as many options, positionals, values and words as the bound of the line
+-- at the start, less its bound at the end.
 abbrev pub KeepsBound : UnreadLine → List Reply → UnreadLine → Type 0
 KeepsBound u replies v = replies_count (map reply_view replies) + bound v ≤ bound u

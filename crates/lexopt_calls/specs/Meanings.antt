@@ -21,7 +21,7 @@ use Rattle.lexopt_calls.specs.declared.script.Meaning.TheVariants as meanings
 abbrev pub calls_view : List Call → List script.Command
 calls_view calls = map script.call (map call_view calls)
 
--- calls, and the whole line after them
+-- these calls, and then the whole line
 abbrev pub calls_and_line : Vec Call Global → List script.Command
 calls_and_line calls = calls_view calls.items ++ script.whole_line ∷ []
 
@@ -54,7 +54,7 @@ meaning_view (meanings.Call call) = script.command (script.call (call_view call)
 meaning_view meanings.Items = script.command script.whole_line
 meaning_view meanings.Bad = script.bad
 
--- what a line means was added
+-- adding the meaning of a line turns the first script into the second
 abbrev pub Adds : script.Meaning → Script → Script → Type 0
 Adds m old new = (new.words.items ≡ old.words.items ++ option_to_list (script.word_of m))
     × (table_view new.table

@@ -1,4 +1,4 @@
--- What is written for a script once it was read. No public clause cites this file.
+-- The output of a script that has been read. No public clause cites this file.
 use Rattle.std.specs.Prelude.{◌≡◌, ℕ, Bool, true, List, ◌++◌, map, fold, Result, Ok, Err, Vec}
 use Rattle.std.specs.Prelude.{codes}
 use Rattle.std.specs.Global.{Global}
@@ -17,7 +17,7 @@ use Rattle.lexopt_items.specs.Items.{item_view, table_view}
 use Rattle.lexopt_calls.specs.declared.script.Script.{Script}
 use Rattle.lexopt_calls.specs.Meanings.{commands_in}
 
--- the items of a line, or its error
+-- the text of a whole line: its items or its error
 abbrev pub answer_text : Result (Vec Item Global) Error → List ℕ
 answer_text (Ok items) = bracketed item_text (map item_view items.items)
 answer_text (Err e) = codes "error: " ++ message e
@@ -26,8 +26,8 @@ answer_text (Err e) = codes "error: " ++ message e
 abbrev pub replies_text : List Reply → List ℕ
 replies_text replies = flat_map (λ reply. with_newline (reply_text reply)) replies
 
--- the calls are made on a parser of this line, under this `short_equals` and after this text, and
--- leave these
+-- the calls, made at this line, with this `short_equals` and after this text, leave the second
+-- line, `short_equals` and text
 abbrev pub MakesCalls : List Call → UnreadLine → Bool → List ℕ → UnreadLine → Bool → List ℕ → Type 0
 MakesCalls calls u on text v now new =
     (replies : List Reply) × Run u calls replies v × (now ≡ fold short_equals_after on calls)

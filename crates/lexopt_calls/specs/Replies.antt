@@ -1,4 +1,4 @@
--- Calls and replies as contracts see them, and the word that `RawIf` takes.
+-- The types `Call` and `Reply` as contracts see them, and the word that `RawIf` takes.
 use Rattle.std.specs.Prelude.{◌≡◌, ℕ, List, ◌∷◌, Option, Some, None}
 use Rattle.std.specs.Prelude.{option_map, string_bytes}
 use Rattle.lexopt_spec.specs.UnreadLine.{UnreadLine}
@@ -37,7 +37,7 @@ reply_view (Missing option) = steps.missing (option_map string_bytes option)
 reply_view (Unexpected option word) = steps.unexpected (string_bytes option) word
 reply_view NoMemory = steps.no_memory
 
--- the next word is taken where it is this one
+-- the next word is taken if and only if it is this one
 abbrev pub TakesThis : List ℕ → UnreadLine → Option (List ℕ) → UnreadLine → Type 0
 TakesThis wanted u None after = (after ≡ u)
     × ((others : List (List ℕ)) → u.words ≡ wanted ∷ others → ⊥)

@@ -1,4 +1,4 @@
--- What a failed run prints, and the exit status for it.
+-- The messages and exit statuses of failed runs.
 use Rattle.std.specs.Prelude.{ℕ, List, ◌++◌, codes}
 use Rattle.std.specs.Fmt.{decimal}
 use Rattle.lexopt_calls.specs.declared.run_error.RunError.{RunError}
@@ -6,7 +6,7 @@ use Rattle.lexopt_calls.specs.declared.run_error.RunError.TheVariants.{BadLine, 
 use Rattle.lexopt_calls.specs.declared.run_error.RunError.TheVariants.{ReadFailed, WriteFailed}
 use Rattle.lexopt_calls.specs.declared.run_error.RunError.TheVariants.{NoMemory}
 
--- what `{}` writes
+-- the message that `{}` prints
 abbrev pub run_message : RunError → List ℕ
 run_message (BadLine line) = codes "line " ++ (decimal line ++ codes " refused")
 run_message TooLong = codes "script too long"

@@ -1,5 +1,5 @@
--- Scripts: what they mean, and what is written for them.
--- The source is `docs/formats.md`. A script is a list of bytes.
+-- Scripts: their meaning and their output. The source is `docs/formats.md`. A script is a list of
+-- bytes.
 use Prim.Native.String.{String}
 use Rattle.std.specs.Prelude.{◌≡◌, ◌≢◌, ℕ, ◌+◌, ◌*◌, ◌-◌, Bool, true, false, nat_le, ◌==◌, ◌&&◌}
 use Rattle.std.specs.Prelude.{◌||◌, List, [], ◌∷◌, ◌++◌, length, take, drop, Option, Some, None}
@@ -34,8 +34,8 @@ backslash = 0x5C
 
 -- ---- a line
 
--- what is before, between and after the newlines. After the last newline an empty line is not a
--- line of the script, and here it does no harm, since an empty line means nothing
+-- the lines before, between and after the newlines. The empty line after a last newline is not a
+-- line of the script; it does no harm here, since an empty line means nothing
 abbrev pub lines_of : List ℕ → List (List ℕ)
 lines_of script = slice_split (λ b. b == newline) script
 
@@ -51,7 +51,7 @@ hexadecimal c =
     else (if nat_le 0x61 c && nat_le c 0x66 then Some (c - 0x57)
     else None))
 
--- the byte of two digits is at the front
+-- the byte of two digits, in front of other bytes
 abbrev pub byte_in_front : Option ℕ → Option ℕ → Option (List ℕ) → Option (List ℕ)
 byte_in_front None low bytes = None
 byte_in_front (Some high) None bytes = None
@@ -59,7 +59,7 @@ byte_in_front (Some high) (Some low) bytes = in_front (16 * high + low) bytes
 
 abbrev mutual
   -- the bytes of a text: `\\` is a backslash, `\n` a newline, `\xHH` a byte, and each byte that is
-  -- not a backslash stands for itself
+  -- not a backslash represents itself
   pub unescaped : List ℕ → Option (List ℕ)
   unescaped [] = Some []
   unescaped (b ∷ bs) = if b == backslash then after_backslash bs else in_front b (unescaped bs)
@@ -77,19 +77,19 @@ abbrev mutual
   after_x (high ∷ []) = None
   after_x (high ∷ low ∷ bs) = byte_in_front (hexadecimal high) (hexadecimal low) (unescaped bs)
 
--- what is done on the words of a script
+-- a command of a script
 pub data Command : Type 0 where
-  -- a call on the parser of them
+  -- a call on the parser of the words
   call : Call → Command
-  -- all of them are read by the table, and the parser is left alone
+  -- all words are read by the table; the parser does not change
   whole_line : Command
 
--- an option joins the table, in the list of this kind
+-- an option of the table, with its kind
 pub record Entry : Type 0 where
   pub kind : Kind
   pub name : Name
 
--- what a line of a script means
+-- the meaning of a line of a script
 pub data Meaning : Type 0 where
   nothing : Meaning
   word : List ℕ → Meaning
@@ -101,7 +101,7 @@ abbrev pub word_or_bad : Option (List ℕ) → Meaning
 word_or_bad None = bad
 word_or_bad (Some bytes) = word bytes
 
--- the number that one to nine decimal digits write
+-- the number that one to nine decimal digits represent
 abbrev pub number : List ℕ → Option ℕ
 number text = if nat_le 1 (length text) && (nat_le (length text) 9 && all_ascii_digits text)
     then Some (digits_value 10 text) else None
@@ -110,7 +110,7 @@ abbrev pub call_or_bad : Option Call → Meaning
 call_or_bad None = bad
 call_or_bad (Some c) = command (call c)
 
--- the character that these bytes encode, if they are one and no more
+-- the character that these bytes encode, if they encode exactly one
 abbrev pub one_character : List ℕ → Option ℕ
 one_character bytes = if length (first_piece bytes).bytes == length bytes
     then (first_piece bytes).char else None
@@ -135,7 +135,7 @@ entry_or_bad (Some e) = entry e
 abbrev pub of_kind : Kind → Name → Entry
 of_kind k name = record { kind = k; name = name }
 
--- these bytes are this text
+-- the bytes are this text
 infix 20 ◌is◌
 abbrev pub ◌is◌ : List ℕ → String → Bool
 bytes is text = pointwise ◌==◌ bytes (codes text)
@@ -205,15 +205,15 @@ is_bad called (entry e) = called
 is_bad called (command c) = false
 is_bad called bad = true
 
--- the number of the first bad line among these, the first of which has the number n; such a command
--- comes before them if called is true
+-- the number of the first bad line among these, of which the first has the number `n`; `called` is
+-- whether a command that reads the words comes before them
 abbrev pub first_bad : ℕ → Bool → List (List ℕ) → Option ℕ
 first_bad n called [] = None
 first_bad n called (line ∷ lines) =
     if is_bad called (meaning line) then Some n
     else first_bad (n + 1) (called || is_reading (meaning line)) lines
 
--- the number of the first bad line of a script: lines count from 1
+-- the number of the first bad line of a script; lines are counted from 1
 abbrev pub bad_line : List ℕ → Option ℕ
 bad_line script = first_bad 1 false (lines_of script)
 
@@ -243,7 +243,7 @@ commands_of script = filter_map (λ line. command_of (meaning line)) (lines_of s
 abbrev pub calls_of : List ℕ → List Call
 calls_of script = filter_map call_of (commands_of script)
 
--- the table with one option more
+-- the table with one more option
 abbrev pub joined_to : Table → Kind → Name → Table
 joined_to t flag name = t
 joined_to t one (short c) = record t { shorts = t.shorts ++ c ∷ [] }
@@ -262,7 +262,7 @@ abbrev pub table_of : List ℕ → Table
 table_of script =
     table_with (one_value [] []) (filter_map (λ line. entry_of (meaning line)) (lines_of script))
 
--- ---- what is written
+-- ---- the output
 
 -- the text of a reply
 abbrev pub reply_text : Reply → List ℕ
@@ -283,7 +283,8 @@ reply_text no_memory = codes "error: " ++ no_memory_message
 abbrev pub with_newline : List ℕ → List ℕ
 with_newline text = text ++ newline ∷ []
 
--- what may be written for the whole line of these words, read by the table: its items, or its error
+-- the text may be written for these words, read as a whole line by the table: its items or its
+-- error
 pub data WholeLineText (t : Table) (on : Bool) (words : List (List ℕ)) (text : List ℕ)
     : Type 0 where
   items_read : (l : List Item) → IsReading t (start on words) end l → text ≡ bracketed item_text l
@@ -293,8 +294,8 @@ pub data WholeLineText (t : Table) (on : Bool) (words : List (List ℕ)) (text :
       → WholeLineText t on words text
   memory_refused : text ≡ reply_text no_memory → WholeLineText t on words text
 
--- a line for each command, in order: that of the reply to a call, or that of the whole line under
--- the setting as it is then
+-- a line for each command, in order: the text of the reply to a call, or that of the whole line
+-- with `short_equals` as it is then
 abbrev pub Written : Table → List (List ℕ) → Bool → List Command → List Reply → List ℕ → Type 0
 Written t words on [] [] text = text ≡ []
 Written t words on [] (reply ∷ replies) text = ⊥

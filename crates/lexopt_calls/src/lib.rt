@@ -1,6 +1,9 @@
-//! Lists of calls on a parser, and scripts: `replay` makes the calls of a list, and `run` reads a
-//! script, carries it out, and writes what comes of it. The crate `lexopt` re-exports its public
-//! items.
+//! Lists of calls on a parser, and scripts. `replay` makes the calls of a list and returns their
+//! replies; `run` reads a script, runs it, and writes the results. They are for tests and
+//! comparisons. `lexopt::replay` re-exports `Call`, `Reply`, `replay`, `run` and `RunError`.
+//!
+//! In the examples `alloc` is `rt.alloc()`, where `rt` is the runtime that `main` gets, and
+//! `parser` is a `Parser` of `lexopt_base`.
 #![tactic(auto)]
 
 pub mod replay;

@@ -1,4 +1,4 @@
-//! Lists of calls on a parser: `replay` makes them, and gives a reply for each.
+//! `replay`: makes the calls of a list on a parser, and returns a reply for each.
 ghost use Rattle.std.specs.Prelude.{◌≡◌, ◌++◌, ◌≤◌, ◌↔◌, ℕ, List, Some, IsSome, IsTrue, IfOk};
 ghost use Rattle.std.specs.Prelude.{IfErr, OnErr};
 ghost use Rattle.lexopt_spec.specs.Steps as steps;
@@ -18,7 +18,8 @@ use lexopt_words::error::{Arg, Error};
 use lexopt_words::os_string::{OsStr, OsString};
 use std::alloc::{AllocError, Global};
 
-// Copies a reply of `next` out of the parser.
+// Turns a result of `next` into a reply, which borrows nothing. The name of a long option is
+// copied.
 #[inline(always)]
 fn copy_reply(alloc: Global, reply: Result<Option<Arg<'_>>, Error>) -> Result<Reply, AllocError>
     requires { IsSome (next_reply reply) }
@@ -33,7 +34,7 @@ fn copy_reply(alloc: Global, reply: Result<Option<Arg<'_>>, Error>) -> Result<Re
     }
 }
 
-// The reply that an error of the parser is.
+// Returns the reply for an error of the parser.
 fn reply_of(error: Error) -> Reply
     requires { IsSome (error_reply error) }
     ensures { error_reply error ≡ Some (reply_view result) }
@@ -50,7 +51,7 @@ fn reply_of(error: Error) -> Reply
     }
 }
 
-// One call of `next`.
+// Makes one call of `next`.
 #[inline(always)]
 fn call_next(alloc: Global, parser: &mut Parser) -> Result<Reply, AllocError>
     ensures { (reply : steps.Reply) × Next parser.old reply parser.new
@@ -60,7 +61,7 @@ fn call_next(alloc: Global, parser: &mut Parser) -> Result<Reply, AllocError>
     copy_reply(alloc, reply)
 }
 
-// One call of `value`.
+// Makes one call of `value`.
 fn call_value(parser: &mut Parser) -> Reply
     ensures { Value parser.old (reply_view result) parser.new }
 {
@@ -70,8 +71,8 @@ fn call_value(parser: &mut Parser) -> Reply
     }
 }
 
-// One call of `values`, and `count` items of its view. If memory runs out for the list of them,
-// some were taken.
+// Makes one call of `values`, and takes up to `count` items from its view. If memory for the list
+// runs out, some items were taken.
 fn call_values(alloc: Global, parser: &mut Parser, count: usize) -> Result<Reply, AllocError>
     ensures { (m : ℕ) × (reply : steps.Reply) × (m ≤ count)
         × Step (values m) parser.old reply parser.new
@@ -83,7 +84,7 @@ fn call_values(alloc: Global, parser: &mut Parser, count: usize) -> Result<Reply
     }
 }
 
-// One call of `raw_args`, and `count` words.
+// Makes one call of `raw_args`, and takes up to `count` words.
 fn call_raw(alloc: Global, parser: &mut Parser, count: usize) -> Result<Reply, AllocError>
     ensures { (m : ℕ) × (reply : steps.Reply) × (m ≤ count)
         × Step (raw m) parser.old reply parser.new
@@ -95,7 +96,7 @@ fn call_raw(alloc: Global, parser: &mut Parser, count: usize) -> Result<Reply, A
     }
 }
 
-// One call of `try_raw_args`, and `count` words.
+// Makes one call of `try_raw_args`, and takes up to `count` words.
 fn call_try_raw(alloc: Global, parser: &mut Parser, count: usize) -> Result<Reply, AllocError>
     ensures { (m : ℕ) × (reply : steps.Reply) × (m ≤ count)
         × Step (try_raw m) parser.old reply parser.new
@@ -107,7 +108,7 @@ fn call_try_raw(alloc: Global, parser: &mut Parser, count: usize) -> Result<Repl
     }
 }
 
-// One call of `raw_args`, and its next word if it is this one.
+// Makes one call of `raw_args`, and takes the next word if it is this one.
 fn call_raw_if(parser: &mut Parser, wanted: &OsString) -> Reply
     ensures { Step (raw_if wanted.now) parser.old (reply_view result) parser.new }
 {
@@ -119,7 +120,8 @@ fn call_raw_if(parser: &mut Parser, wanted: &OsString) -> Reply
     }
 }
 
-// Takes the next word of a view if `is_wanted` finds that it is this one.
+// Takes the next word of a view if `is_wanted` returns true for it. It is a function of its own for
+// the prover's sake: its clauses name the closure.
 fn take_if<F: FnOnce(OsStr<'_>) -> bool + Drop>(
     view: &mut RawArgs<'_>,
     wanted: &OsString,
@@ -134,7 +136,7 @@ fn take_if<F: FnOnce(OsStr<'_>) -> bool + Drop>(
     view.next_if(is_wanted)
 }
 
-// `count` words of a view of words, or fewer if it ends before.
+// Takes up to `count` words from a view: fewer only if the view ends.
 fn take_words(
     alloc: Global,
     view: &mut RawArgs<'_>,
@@ -155,7 +157,8 @@ fn take_words(
     Ok(items)
 }
 
-// Makes one call, and gives its reply. If memory runs out for a list of items, some were taken.
+// Makes one call, and returns its reply. If memory for a list of items runs out, some items were
+// taken.
 fn reply_to(alloc: Global, parser: &mut Parser, call: &Call) -> Result<Reply, AllocError>
     ensures { (m : ℕ) × (reply : steps.Reply)
         × Step (up_to m (call_view call.now)) parser.old reply parser.new
@@ -177,33 +180,44 @@ fn reply_to(alloc: Global, parser: &mut Parser, call: &Call) -> Result<Reply, Al
     }
 }
 
-/// Makes these calls on a parser, in order, and gives a reply for each.
+/// Makes these calls on a parser, in order, and returns a reply for each.
 ///
-/// On the words `-a=b --n=x` the calls `Next`, `Value`, `Next`, `Next` get the replies
-/// `Short('a')`, `Taken` of `b`, `LongName` of `n`, and `Unexpected` of `--n` and `x`. An error of
-/// the parser is a reply like any other, `NoMemory` among them, and the calls after it are made.
+/// An error of the parser is a reply like any other, even `NoMemory`, and the next calls are still
+/// made. This allocates the list of replies, and copies the names of long options.
 ///
-/// The only error is `OutOfMemory`, if memory runs out for the list of the replies or for what is
-/// copied into it. Some prefix of the calls was made then, and perhaps the next one, of whose items
-/// some may have been given; the replies are gone.
+/// # Errors
+///
+/// `OutOfMemory` if memory runs out for the list of replies or for what is copied into it. Then
+/// some prefix of the calls was made, and perhaps part of the next call, which may have taken some
+/// of its items. The replies are gone.
+///
+/// # Examples
+///
+/// ```rust
+/// let calls = &[Call::Next, Call::Value, Call::Next, Call::Next];
+/// let replies = replay(alloc, &mut parser, calls)?;
+/// ```
+///
+/// On the words `-a=b --n=x`, the replies are `Short('a')`, `Taken` of `b`, `LongName` of `n`, and
+/// `Unexpected` of `--n` and `x`.
 pub fn replay(alloc: Global, parser: &mut Parser, calls: &[Call]) -> Result<Vec<Reply>, Error>
-    // The replies and the line that is left are those of the grammar.
+    // The replies, and the line that is left, are those of the grammar.
     ensures run { IfOk result (λ replies. Replays parser.old calls.now replies.items parser.new) }
 
-    // Each byte of the line is in one segment of what the calls read, or still unread, in order.
-    // What the replies hand out is what the segments show. The words left are a suffix of those at
+    // Each byte of the line is in one segment that the calls read, or is unread, in order. The
+    // replies have the bytes that the segments show. The words left are a suffix of the words at
     // the start.
     ensures account { IfOk result (λ replies.
         AccountsForBytes parser.old calls.now replies.items parser.new) }
     ensures words_left { (gone : List (List ℕ)) × (parser.old.words ≡ gone ++ parser.new.words) }
 
-    // A cluster that is read by `next` alone is its lossy characters. And no more is handed out
-    // than the line can give.
+    // If `next` alone reads a cluster, the replies are its lossy characters. The replies have no
+    // more options, positionals, values and words than the bound of the line allows.
     ensures pieces { IfOk result (λ replies.
         ReplaysPieces parser.old calls.now replies.items parser.new) }
     ensures bounded { IfOk result (λ replies. KeepsBound parser.old replies.items parser.new) }
 
-    // What an error leaves.
+    // The error, and the line that it leaves.
     ensures err { IfErr result (λ e. e ≡ Error.OutOfMemory) }
     ensures part { OnErr result (ReplaysPart parser.old calls.now parser.new) }
 {

@@ -1,60 +1,61 @@
-//! Calls on a command line, and what they return.
+//! Calls on a parser, and their replies.
 
 use lexopt_items::text::{write_list, write_long, write_positional, write_short, write_word};
 use lexopt_words::message::{write_missing_value, write_no_memory, write_unexpected_value};
 use lexopt_words::os_string::OsString;
 use std::fmt;
 
-/// A call on a command line. A view that it asks for is dropped after the items that are asked of
-/// it.
+/// A call on a parser, for [`replay`](crate::replay::replay). A call of a view takes some items
+/// from it, and then drops the view.
 #[derive(Debug, PartialEq, Eq, Drop)]
 pub enum Call {
-    /// `next`: asks for the next option or positional argument.
+    /// `next`: reads the next option or positional.
     Next,
-    /// `value`: asks for the value of the last option.
+    /// `value`: takes a value for the last option.
     Value,
-    /// `optional_value`: asks for a value of the last option that is left of its word.
+    /// `optional_value`: takes the value in the last option's own word, if there is one.
     Optional,
-    /// `values`: asks for several values of the last option, and for this many items of the view.
+    /// `values`: takes up to this many values of the last option.
     Values(usize),
-    /// `raw_args`: asks for the words that are left, and for this many items of the view.
+    /// `raw_args`: takes up to this many unread words.
     Raw(usize),
-    /// `try_raw_args`: asks for the words that are left if no value is pending, and for this many
-    /// items of the view.
+    /// `try_raw_args`: takes up to this many unread words, if no value is pending.
     TryRaw(usize),
-    /// `raw_args` and then `next_if`: asks for the next word if it is this one.
+    /// `raw_args` and then `next_if`: takes the next word if it is this one.
     RawIf(OsString),
     /// `set_short_equals`: sets whether `=` separates a short option from its value.
     Switch(bool),
 }
 
-/// What a call returned.
+/// The reply to a call: its result, without anything borrowed. It prints as a line of a script's
+/// output.
 #[derive(Debug, PartialEq, Eq, Drop)]
 pub enum Reply {
     /// `next` read a short option.
     Short(char),
-    /// `next` read a long option, whose name is here without its dashes.
+    /// `next` read a long option, here without its dashes.
     LongName(String),
-    /// `next` read a positional argument.
+    /// `next` read a positional.
     Positional(OsString),
-    /// `next` found nothing more.
+    /// `next` reached the end of the line.
     End,
-    /// `value` took this word.
+    /// `value` took this value.
     Taken(OsString),
-    /// `optional_value` took this value, or found none; or the next word was the one that was asked
-    /// for, or was not.
+    /// `optional_value` took this value, or found none; or `next_if` took the next word, or did
+    /// not.
     Maybe(Option<OsString>),
-    /// A view gave these values or words, of those that it was asked for.
+    /// These values or words were taken from a view.
     Items(Vec<OsString>),
-    /// `try_raw_args` gave no view, since a value is pending.
+    /// `try_raw_args` returned `None`, since a value is pending.
     Busy,
     /// `short_equals` was set.
     Done,
-    /// `value` or `values` found no word, for this option if one was read.
+    /// `value` or `values` found no value. The last option is given with its dashes; `None` means
+    /// that no option was read.
     Missing(Option<String>),
-    /// `next` or `raw_args` found a value of this option that nobody asked for.
+    /// `next` or `raw_args` found a value that was not taken. The option is given with its dashes.
     Unexpected(String, OsString),
-    /// Memory ran out.
+    /// The call ran out of memory.
     NoMemory,
 }
 

@@ -1,5 +1,4 @@
-//! Runs scripts: `run` reads a script, carries it out, and writes a line for each reply and each
-//! whole line.
+//! `run`: reads a script, runs it, and writes a line for each reply and each whole line.
 ghost use Rattle.std.specs.Prelude.{◌≡◌, ◌⊎◌, ◌+◌, ◌++◌, ◌≤◌, ◌<◌, ℕ, List, [], None, Some, Err, IfOk};
 ghost use Rattle.std.specs.Prelude.{IfErr, OnOk, fold, length, map, codes, string_bytes};
 ghost use Rattle.std.specs.Io.KnownBytes.{Appends, Consumes};
@@ -28,7 +27,7 @@ use lexopt_words::words::copies;
 use std::alloc::{AllocError, Global};
 use std::io::{Read, Write};
 
-// Writes these items in brackets, with a comma and a space between them.
+// Appends these items in brackets, with a comma and a space between them.
 fn write_items(items: &[Item], text: &mut String) -> Result<(), AllocError>
     ensures { OnOk result (string_bytes text.new
         ≡ string_bytes text.old ++ bracketed item_text (map item_view items.now)) }
@@ -43,7 +42,7 @@ fn write_items(items: &[Item], text: &mut String) -> Result<(), AllocError>
     text.push_str("]")
 }
 
-// Writes the result of reading a whole line: its items, or why it was refused.
+// Appends the result of reading a whole line: its items or its error.
 fn write_answer(answer: Result<Vec<Item>, Error>, text: &mut String) -> Result<(), AllocError>
     ensures { OnOk result (string_bytes text.new ≡ string_bytes text.old ++ answer_text answer) }
 {
@@ -53,7 +52,7 @@ fn write_answer(answer: Result<Vec<Item>, Error>, text: &mut String) -> Result<(
     }
 }
 
-// Reads these words as a whole line by the table, and writes a line for the result.
+// Reads these words as a whole line by the table, and appends a line for the result.
 fn write_whole_line(
     alloc: Global,
     words: &[OsString],
@@ -69,7 +68,7 @@ fn write_whole_line(
     text.push_str("\n")
 }
 
-// Writes a line for each of these replies.
+// Appends a line for each of these replies.
 fn write_replies(replies: &[Reply], text: &mut String) -> Result<(), AllocError>
     ensures { OnOk result (string_bytes text.new
         ≡ string_bytes text.old ++ replies_text (map reply_view replies.now)) }
@@ -80,7 +79,7 @@ fn write_replies(replies: &[Reply], text: &mut String) -> Result<(), AllocError>
     Ok(())
 }
 
-// `short_equals` after these calls.
+// Returns `short_equals` after these calls.
 fn short_equals_after(on: bool, calls: &[Call]) -> bool
     ensures { result ≡ fold short_equals_after on (map call_view calls.now) }
 {
@@ -93,7 +92,7 @@ fn short_equals_after(on: bool, calls: &[Call]) -> bool
     now
 }
 
-// Makes these calls, writes a line for each reply, and returns `short_equals` after them.
+// Makes these calls, appends a line for each reply, and returns `short_equals` after them.
 fn make_calls(
     alloc: Global,
     calls: &[Call],
@@ -112,7 +111,7 @@ fn make_calls(
     Ok(short_equals_after(on, calls))
 }
 
-// Carries out a script on a parser of its words, and writes a line for each command.
+// Runs a script on a parser of its words, and appends a line for each command.
 fn perform(
     alloc: Global,
     script: &Script,
@@ -132,7 +131,7 @@ fn perform(
     Ok(())
 }
 
-// Carries out a script, and returns what to write for it.
+// Runs a script, and returns its output.
 fn perform_all(alloc: Global, script: &Script) -> Result<String, RunError>
     ensures ok { IfOk result (λ text. IsWritten script.now (string_bytes text)) }
     ensures err { IfErr result (λ e. e ≡ RunError.NoMemory) }
@@ -143,7 +142,7 @@ fn perform_all(alloc: Global, script: &Script) -> Result<String, RunError>
     Ok(text)
 }
 
-// What to write for a script, or its first bad line.
+// Returns the output of a script, or its first bad line.
 fn output(alloc: Global, script: &[u8]) -> Result<String, RunError>
     requires { length script.now ≤ most_bytes }
     ensures ok { IfOk result (λ text. IsOutput script.now (string_bytes text)) }
@@ -154,23 +153,41 @@ fn output(alloc: Global, script: &[u8]) -> Result<String, RunError>
     perform_all(alloc, &script)
 }
 
-/// Reads a whole script, carries it out, and then writes a line for each reply of the parser and
-/// each whole line.
+/// Reads a whole script, runs it, and then writes a line for each reply and each whole line.
 ///
-/// The words `--out=x`, `file` and the calls `next`, `value`, `next` write `Long "out"`, `"x"` and
-/// `Value "file"`. With the line `t --out` before them, `items` writes
+/// `docs/formats.md` describes scripts and their output. A script has at most 1,048,576 bytes; at
+/// most 512 more are read. The script and the whole output are held in memory.
+///
+/// # Errors
+///
+/// - `TooLong` if more bytes were read than a script may have.
+/// - `BadLine` with the number of the first bad line.
+/// - `ReadFailed` if a read fails.
+/// - `NoMemory` if an allocation fails, except in a call of the parser or in `read_items`: then the
+///   output has the line `error: out of memory`, and the run goes on.
+/// - `WriteFailed` if a write or the flush fails. Some of the output may have been written; after
+///   the other errors nothing was.
+///
+/// # Examples
+///
+/// ```rust
+/// fn main(rt: HostRuntime) -> ExitCode {
+///     match run(rt.alloc(), &mut rt.reader(), &mut io::writer(&rt)) {
+///         Ok(()) => ExitCode::SUCCESS,
+///         Err(error) => ExitCode::from(error.status()),
+///     }
+/// }
+/// ```
+///
+/// With the words `--out=x` and `file`, the calls `next`, `value`, `next` write `Long "out"`, `"x"`
+/// and `Value "file"`. With the line `t --out` before them, `items` writes
 /// `[Long "out" = "x", Value "file"]`.
-///
-/// Errors: `TooLong` if more bytes were read than a script may have; `BadLine` with the number of
-/// the first bad line; `ReadFailed`; `NoMemory` if memory ran out, but not in a call of the parser
-/// or in `read_items`. After these nothing was written. After `WriteFailed` some of the output may
-/// have been.
 pub fn run<R: Read, W: Write>(alloc: Global, reader: &mut R, writer: &mut W) -> Result<(), RunError>
     ensures ok { OnOk result ((script text : List ℕ)
         × ReadsWhole (R.remaining reader.old) (R.remaining reader.new) script
         × IsOutput script text × Appends (W.contents writer.old) (W.contents writer.new) text) }
 
-    // When each error comes.
+    // The conditions of the errors.
     ensures bad_line { (line : ℕ) → result ≡ Err (RunError.BadLine line) → ((script : List ℕ)
         × ReadsWhole (R.remaining reader.old) (R.remaining reader.new) script
         × (bad_line script ≡ Some line)) }
@@ -181,7 +198,8 @@ pub fn run<R: Read, W: Write>(alloc: Global, reader: &mut R, writer: &mut W) -> 
         × ReadsWhole (R.remaining reader.old) (R.remaining reader.new) script
         × (bad_line script ≡ None)) }
 
-    // What an error leaves, and how much is read.
+    // Nothing is written on an error other than `WriteFailed`, and the number of bytes read is
+    // bounded.
     ensures untouched { IfErr result (λ e. (e ≡ RunError.WriteFailed) ⊎ (writer.new ≡ writer.old)) }
     ensures bounded { (script : List ℕ)
         × Consumes (R.remaining reader.old) (R.remaining reader.new) script

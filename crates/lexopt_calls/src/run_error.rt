@@ -1,28 +1,34 @@
-//! Why a run of a script gave up.
+//! The error of `run`.
 ghost use Rattle.std.specs.Prelude.{◌≡◌, Some};
 
 use std::alloc::{AllocError, AllocFailed};
 use std::fmt;
 
-/// Why a run of a script gave up.
+/// The error of [`run`](crate::run::run). It prints as a message.
 #[derive(Clone, Copy, Debug, PartialEq, Eq)]
 pub enum RunError {
-    /// This line of the script is the first bad one. Lines are numbered from 1.
+    /// The script has a bad line; this is the number of the first one, counted from 1.
     BadLine(usize),
     /// The script has more than 1,048,576 bytes.
     TooLong,
-    /// The script could not be read.
+    /// A read failed.
     ReadFailed,
-    /// The output could not be written.
+    /// A write failed.
     WriteFailed,
-    /// Memory ran out.
+    /// An allocation failed.
     NoMemory,
 }
 
 impl RunError {
     ghost use Rattle.lexopt_calls.specs.RunError.{status_of};
 
-    /// The exit status for a program: 2 if the script is at fault, otherwise 1.
+    /// Returns the exit status for a program: 2 for `BadLine` and `TooLong`, otherwise 1.
+    ///
+    /// # Examples
+    ///
+    /// ```rust
+    /// return ExitCode::from(error.status());
+    /// ```
     pub fn status(&self) -> u8
         ensures { result ≡ status_of self.now }
     {

@@ -1,22 +1,25 @@
-//! Scripts: the words of a command line, and the calls that are made on it.
+//! Parses scripts. A script has the words of a command line, the calls to make on a parser of them,
+//! and a table of options.
 //!
-//! A script is bytes, in lines that end with the byte 0A, which the last line may lack. A line is
-//! empty, or one of these.
+//! A script is a list of bytes. Each line ends with the byte 0A, which the last line may lack. A
+//! line is empty, or one of these:
 //!
 //! - `w`: the empty word.
-//! - `w TEXT`: the word TEXT, after one space. In it `\\` is a backslash, `\n` the byte 0A, and
-//!   `\xHH` the byte with these two hexadecimal digits; any other backslash makes the line bad.
+//! - `w TEXT`: the word TEXT, after one space. In TEXT, `\\` is a backslash, `\n` is the byte 0A,
+//!   and `\xHH` is the byte with these two hexadecimal digits; any other backslash makes the line
+//!   bad.
 //! - `next`, `value`, `optional`: a call.
-//! - `values N`, `raw N`, `try N`: a call of `values`, `raw_args` or `try_raw_args`, whose view is
-//!   asked for N items. N is one to nine decimal digits.
+//! - `values N`, `raw N`, `try N`: a call of `values`, `raw_args` or `try_raw_args`, which takes up
+//!   to N items from its view. N has one to nine decimal digits.
 //! - `on`, `off`: sets `short_equals`, whether `=` separates a short option from its value.
-//! - `t OPTION`, `topt OPTION`, `tmany OPTION`: adds an option to the table, with one value, a
-//!   value that may be left out, or several. OPTION is `-` and one character other than a dash, or
-//!   `--` and a name, which may be empty. It is UTF-8, with no escapes.
-//! - `items`: reads all words by the table, under `short_equals` as last set. The parser is left
-//!   alone.
+//! - `t OPTION`, `topt OPTION`, `tmany OPTION`: adds an option to the table, with one value, one or
+//!   none, or several. OPTION is `-` and one character other than a dash, or `--` and a name, which
+//!   may be empty. It is UTF-8, without escapes.
+//! - `items`: reads all words by the table, with `short_equals` as last set. It does not change the
+//!   parser.
 //!
-//! Every other line is bad. So is a word or an option after the first line that reads the words.
+//! Every other line is bad. A word or an option is also bad after the first line that reads the
+//! words.
 ghost use Rattle.std.specs.Prelude.{◌≡◌, ◌⊎◌, ℕ, ◌+◌, ◌<◌, ◌≤◌, List, [], None, Some, IfErr};
 ghost use Rattle.std.specs.Prelude.{IfOk, MatchOption, OnOk, drop, length, map};
 ghost use Rattle.std.specs.Option.{option_map};
@@ -48,11 +51,11 @@ use std::{mem, str};
 // The most bytes that a script may have.
 const LIMIT: usize = 1_048_576;
 
-// The size of one read: at most this many bytes are read past the limit.
+// The size of one read in bytes: at most this many are read past the limit.
 const ROOM: usize = 512;
 
-/// The words of a command line, the table of its options, and the calls on a parser of the words.
-/// Between calls the words are read as a whole line, by the table.
+/// A script: the words of a command line, the table of its options, and the calls on a parser of
+/// the words. Between calls the words are read as a whole line, by the table.
 #[derive(Drop)]
 pub struct Script {
     pub words: Vec<OsString>,
@@ -63,7 +66,7 @@ pub struct Script {
     pub last_calls: Vec<Call>,
 }
 
-/// Reads a script, to the end or past the limit.
+/// Reads the bytes of a script, up to the end or past the limit.
 pub fn read_script<R: Read>(alloc: Global, reader: &mut R) -> Result<Vec<u8>, RunError>
     ensures ok { IfOk result (λ script.
         ReadsWhole (R.remaining reader.old) (R.remaining reader.new) script.items) }
@@ -89,7 +92,7 @@ pub fn read_script<R: Read>(alloc: Global, reader: &mut R) -> Result<Vec<u8>, Ru
     }
 }
 
-/// The words, the table, the calls and the whole lines of a script, or its first bad line.
+/// Parses a script, or returns the number of its first bad line.
 pub fn parse_script(alloc: Global, script: &[u8]) -> Result<Script, RunError>
     requires { length script.now ≤ most_bytes }
     ensures ok { IfOk result (λ s. (s.words.items ≡ words_of script.now)
@@ -113,7 +116,7 @@ pub fn parse_script(alloc: Global, script: &[u8]) -> Result<Script, RunError>
 }
 
 impl Script {
-    // No words, no options and no calls.
+    // Creates a script of no words, no options and no calls.
     fn new(alloc: Global) -> Script
         ensures { (result.words.items ≡ []) × (table_view result.table ≡ one_value [] [])
             × (commands_in result ≡ []) }
@@ -126,7 +129,7 @@ impl Script {
         }
     }
 
-    // Adds what a line means.
+    // Adds the meaning of a line to the script.
     fn add(&mut self, alloc: Global, meaning: Meaning) -> Result<(), AllocError>
         ensures { OnOk result (Adds (meaning_view meaning) self.old self.new) }
     {
@@ -139,7 +142,7 @@ impl Script {
         }
     }
 
-    // Puts the last calls before a whole line.
+    // Ends the last calls with a whole line.
     fn end_calls(&mut self, alloc: Global) -> Result<(), AllocError>
         ensures { OnOk result (Adds (command whole_line) self.old self.new) }
     {
@@ -148,7 +151,7 @@ impl Script {
     }
 }
 
-// What a line of a script means.
+// The meaning of a line of a script.
 #[derive(Drop)]
 enum Meaning {
     Nothing,
@@ -159,7 +162,7 @@ enum Meaning {
     Bad,
 }
 
-// An option of the table, by how many values it has.
+// An option of the table, by its kind.
 #[derive(Drop)]
 enum Entry {
     One(Name),
@@ -167,7 +170,7 @@ enum Entry {
     Several(Name),
 }
 
-// An option's name: a character, or a text without its dashes.
+// The name of an option, without its dashes.
 #[derive(Drop)]
 enum Name {
     Short(char),
@@ -175,7 +178,7 @@ enum Name {
 }
 
 impl Meaning {
-    // Whether the line is bad. `is_read` tells whether the words were read before it.
+    // Returns whether the line is bad. `is_read` is whether a line before it reads the words.
     fn is_bad(&self, is_read: bool) -> bool
         ensures { result ≡ is_bad is_read (meaning_view self.now) }
     {
@@ -186,7 +189,7 @@ impl Meaning {
         }
     }
 
-    // Whether what the line means reads the words.
+    // Returns whether the line reads the words.
     fn reads_words(&self) -> bool
         ensures { result ≡ is_reading (meaning_view self.now) }
     {
@@ -214,7 +217,7 @@ fn join(table: &mut Table, entry: Entry) -> Result<(), AllocError>
     Ok(())
 }
 
-// The meaning of a line: a keyword, or a keyword, one space and a text.
+// Returns the meaning of a line, which is a keyword, or a keyword, one space and a text.
 fn meaning_of(alloc: Global, line: &[u8]) -> Result<Meaning, AllocError>
     ensures { IfOk result (λ m. meaning_view m ≡ meaning line.now) }
 {
@@ -228,7 +231,7 @@ fn meaning_of(alloc: Global, line: &[u8]) -> Result<Meaning, AllocError>
     }
 }
 
-// What is before the first space of a line, and what is after it, if it has one.
+// Cuts a line at its first space, if it has one.
 fn cut_at_space(line: &[u8]) -> (&[u8], Option<&[u8]>)
     ensures { (result.0.now ≡ keyword_of line.now)
         × (text_view result.1 ≡ text_of line.now) }
@@ -239,7 +242,7 @@ fn cut_at_space(line: &[u8]) -> (&[u8], Option<&[u8]>)
     }
 }
 
-// The meaning of a keyword alone.
+// Returns the meaning of a keyword alone.
 fn meaning_alone(alloc: Global, keyword: &str) -> Meaning
     ensures { meaning_view result ≡ meaning_by_keyword keyword.now None }
 {
@@ -256,7 +259,7 @@ fn meaning_alone(alloc: Global, keyword: &str) -> Meaning
     }
 }
 
-// The meaning of a keyword with a text.
+// Returns the meaning of a keyword with a text.
 fn meaning_with(alloc: Global, keyword: &str, text: &[u8]) -> Result<Meaning, AllocError>
     ensures { IfOk result (λ m. meaning_view m ≡ meaning_by_keyword keyword.now (Some text.now)) }
 {
@@ -272,7 +275,7 @@ fn meaning_with(alloc: Global, keyword: &str, text: &[u8]) -> Result<Meaning, Al
     }
 }
 
-// A word, if the text of the line is one.
+// Returns a word, or a bad line if its text is not a word.
 fn word_or_bad(word: Option<OsString>) -> Meaning
     ensures { meaning_view result ≡ word_or_bad word }
 {
@@ -282,7 +285,7 @@ fn word_or_bad(word: Option<OsString>) -> Meaning
     }
 }
 
-// A call, if the text of the line is a number.
+// Returns a call, or a bad line if its text is not a number.
 fn call_or_bad(call: Option<Call>) -> Meaning
     ensures { meaning_view result ≡ call_or_bad (option_map call_view call) }
 {
@@ -292,7 +295,7 @@ fn call_or_bad(call: Option<Call>) -> Meaning
     }
 }
 
-// An entry of the table, if the text of the line is an option.
+// Returns an entry of the table, or a bad line if its text is not an option.
 fn entry_or_bad(entry: Option<Entry>) -> Meaning
     ensures { meaning_view result ≡ entry_or_bad (option_map entry_view entry) }
 {
@@ -302,7 +305,7 @@ fn entry_or_bad(entry: Option<Entry>) -> Meaning
     }
 }
 
-// The option that a text names: `-` and a character, or `--` and a name.
+// Returns the option that a text names: `-` and a character, or `--` and a name.
 fn option_named(alloc: Global, text: &[u8]) -> Result<Option<Name>, AllocError>
     ensures { IfOk result (λ name. option_map name_view name ≡ option_named text.now) }
 {
@@ -318,7 +321,7 @@ fn option_named(alloc: Global, text: &[u8]) -> Result<Option<Name>, AllocError>
     }
 }
 
-// The character that these bytes encode, if they encode exactly one.
+// Returns the character that these bytes encode, if they encode exactly one.
 fn one_character(bytes: &[u8]) -> Option<char>
     ensures { result ≡ one_character bytes.now }
 {
@@ -328,7 +331,7 @@ fn one_character(bytes: &[u8]) -> Option<char>
     }
 }
 
-// The number that one to nine decimal digits write.
+// Returns the number that one to nine decimal digits represent.
 fn number(digits: &[u8]) -> Option<usize>
     ensures { result ≡ number digits.now }
 {
@@ -338,7 +341,7 @@ fn number(digits: &[u8]) -> Option<usize>
     str::from_utf8(digits).ok()?.parse().ok()
 }
 
-// The bytes that a text of a script stands for, if each backslash in it begins an escape.
+// Returns the bytes that a text of a script represents, if each backslash in it begins an escape.
 fn unescaped(alloc: Global, text: &[u8]) -> Result<Option<OsString>, AllocError>
     ensures { IfOk result (λ word. word ≡ unescaped text.now) }
 {
@@ -358,8 +361,8 @@ fn unescaped(alloc: Global, text: &[u8]) -> Result<Option<OsString>, AllocError>
     Ok(Some(OsString::from_vec(bytes)))
 }
 
-// The byte that an escape stands for, and what follows the escape. `text` begins after the
-// backslash.
+// Returns the byte that an escape represents, and the text after the escape. `text` begins after
+// the backslash.
 fn escaped(text: &[u8]) -> Option<(u8, &[u8])>
     ensures { MatchOption result (after_backslash text.now ≡ None)
         (λ p. (after_backslash text.now ≡ in_front p.0 (unescaped p.1.now))
@@ -377,7 +380,7 @@ fn escaped(text: &[u8]) -> Option<(u8, &[u8])>
     }
 }
 
-// The value of a hexadecimal digit of either case.
+// Returns the value of a hexadecimal digit of either case.
 fn hexadecimal(digit: u8) -> Option<u8>
     ensures { result ≡ hexadecimal digit }
 {

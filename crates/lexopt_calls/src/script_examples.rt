@@ -1,5 +1,4 @@
-//! Worked examples of scripts: what their lines mean, which are bad, and what is written for a
-//! script.
+//! Worked examples of scripts: the meanings of lines, bad lines, and output.
 ghost use Rattle.std.specs.Prelude.{◌≡◌, ◌++◌, [], ◌∷◌, ℕ, List, true, false, Some, None, codes};
 ghost use Rattle.std.specs.List.{flat_map};
 ghost use Rattle.lexopt_spec.specs.Runs.{next, optional, raw, set_short_equals, try_raw, value};
@@ -24,7 +23,7 @@ fn texts_are_unescaped()
     ensures nothing_after { unescaped (codes "\\") ≡ None }
 {}
 
-// The bounds of what a script may hold.
+// The bounds of numbers and of scripts.
 fn numbers_and_digits_are_read()
     ensures nine_digits { number (codes "012345678") ≡ Some 12345678 }
     ensures ten_digits { number (codes "0000000001") ≡ None }
@@ -121,7 +120,7 @@ fn replies_are_written()
         ≡ codes "[]\n[\"a\", \"b c\"]\nNone\n\"x\"\nNone\nok\n" }
 {}
 
-// What may be written for a whole line, and what may not.
+// Texts that may be written for a whole line, and texts that may not.
 fn whole_lines_have_these_texts()
     ensures items { WholeLineText (one_value (codes "o") (codes "out" ∷ [])) true
         (codes "-ox" ∷ codes "f" ∷ [])
@@ -142,7 +141,7 @@ fn whole_lines_have_these_texts()
         (codes "-v" ∷ []) (codes "error: missing argument") → ⊥ }
 {}
 
-// Lines for commands and replies that do not belong together.
+// Lists of commands and replies that do not match.
 fn lines_are_written_for_replies()
     ensures no_reply { Written (one_value [] []) [] true (call next ∷ []) [] [] → ⊥ }
     ensures no_command { Written (one_value [] []) [] true [] (end ∷ []) [] → ⊥ }
@@ -150,7 +149,7 @@ fn lines_are_written_for_replies()
     ensures something { Written (one_value [] []) [] true [] [] (codes "a") → ⊥ }
 {}
 
-// What may be written for a script, and what may not.
+// Texts that may be written for a script, and texts that may not.
 fn scripts_have_these_outputs()
     ensures replies { IsOutput (codes "w -x\nnext\nnext") (codes "Short \"x\"\nNone\n") }
     ensures whole_line { IsOutput (codes "w a\nitems") (codes "[Value \"a\"]\n") }

@@ -1,11 +1,11 @@
--- The help of a program that has commands.
+-- The help of a program with commands.
 use Rattle.std.proofs.Common.{◌≡◌, ◌<◌, ◌+◌, ◌++◌, ◌∷◌, [], ℕ, List, length, take, get_or, ap, sym, subst, ◌∙◌, append_assoc}
 use Rattle.std.proofs.lemmas.List.{take_more}
 use Rattle.lexopt_options_spec.specs.Help.{IsEntry, set_apart}
 use Rattle.lexopt_options_spec.proofs.Wrapping.{Listed, one_listed}
 use Rattle.lexopt_commands.specs.declared.command.Command.{Command}
 
--- the text is the entries of these commands
+-- the text has the entries of these commands
 abbrev pub AreEntries : {C : Type 0} → ℕ → List (Command C) → List ℕ → Type 0
 AreEntries width commands text = Listed (λ (c : Command _). IsEntry width c.name.now c.help.now) (λ (entry : List ℕ). entry) [] commands text
 
@@ -19,7 +19,7 @@ entry_more width commands i c text new entry within is had own same =
 pub appended : (old part text new : List ℕ) → new ≡ old ++ set_apart part → part ≡ text → new ≡ old ++ set_apart text
 appended old part text new e f = e ∙ ap (λ l. old ++ set_apart l) f
 
--- parts one after another
+-- the parts, one after another
 pub in_parts : (usage about positionals commands options epilogue two three four five six : List ℕ) → two ≡ usage ++ about → three ≡ two ++ positionals → four ≡ three ++ commands → five ≡ four ++ options → six ≡ five ++ epilogue
     → six ≡ usage ++ about ++ positionals ++ commands ++ options ++ epilogue
 in_parts usage about positionals commands options epilogue two three four five six e f g h i =

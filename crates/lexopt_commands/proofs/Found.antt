@@ -1,4 +1,4 @@
--- The name of each command finds it.
+-- Each command is found by its name.
 use Rattle.std.proofs.Common.{◌≡◌, ◌==◌, ◌+◌, nat_lt, not, suc, zero, ℕ, Bool, true, false, if◌then◌else◌, List, [], ◌∷◌, ◌++◌, length, take, position, Option, Some, None, refl, ap, sym, subst, ◌∙◌, append_assoc, arith}
 use Rattle.std.specs.Prelude.{is_none}
 use Rattle.std.specs.List.{list_any, position_or_len}
@@ -15,7 +15,7 @@ use Rattle.lexopt_commands.specs.declared.command.Reason.{Reason}
 use Rattle.lexopt_commands.specs.Names.{can_be_declared, fault, first_fault, name_fault, names_of, or_else, with_fault}
 use Rattle.lexopt_commands.specs.Meanings.{runs_at, runs_of}
 
--- ---- no fault in a list, none at each place
+-- ---- a list without a fault has none at any place
 
 no_fault_first : (name : List ℕ) (why : Option Reason) (others : Option (List ℕ × Reason)) → with_fault name why others ≡ None → (why ≡ None) × (others ≡ None)
 no_fault_first name None others none = (refl, none)
@@ -33,7 +33,7 @@ is_none_none : {X : Type 0} (o : Option X) → is_none o ≡ true → o ≡ None
 is_none_none None is = refl
 is_none_none (Some x) is = absurd (let e : false ≡ true = is in cc)
 
--- no command before has the name
+-- no command before it has the name
 not_among : (own : Option Reason) (among : Bool) (why : Reason) → or_else own (if among then Some why else None) ≡ None → among ≡ false
 not_among None true why none = absurd (let e : Some why ≡ None = none in cc)
 not_among None false why none = refl

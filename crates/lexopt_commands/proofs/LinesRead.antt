@@ -1,14 +1,14 @@
--- The line of general options and words that are given.
+-- The line of given general options and words.
 use Rattle.std.proofs.Common.{◌≡◌, ℕ, List, Option, Some, None, subst, sym, ◌∙◌, ◌∷◌, ap}
 use Rattle.lexopt_options_spec.specs.Asking.{first_asked}
 use Rattle.lexopt_options_spec.specs.Declaration as spec
-use Rattle.lexopt_options_spec.specs.Leading.{SaysLeading}
+use Rattle.lexopt_options_spec.specs.Leading.{MeansLeading}
 use Rattle.lexopt_options_spec.specs.Legal as legal
 use Rattle.lexopt_options.specs.declared.leading.Leading.{Leading}
 use Rattle.lexopt_options.specs.declared.options.Options.{Options}
-use Rattle.lexopt_options.specs.declared.said.Said.{Said}
+use Rattle.lexopt_options.specs.declared.parsed.Parsed.{Parsed}
 use Rattle.lexopt_options.specs.Declarations.{declaration_of, options_of}
-use Rattle.lexopt_options.specs.Keys.{AreSaid, asked_view}
+use Rattle.lexopt_options.specs.Keys.{AreParsedAs, asked_view}
 use Rattle.lexopt_options.specs.LeadingLines.{IsLeadingOf}
 use Rattle.lexopt_commands.specs.declared.commands.Commands.{Commands}
 use Rattle.lexopt_commands.specs.declared.refused.CommandLine.{CommandLine}
@@ -23,11 +23,11 @@ use Rattle.lexopt_commands.specs.Mistakes.{IsMistake}
 use Rattle.lexopt_commands.proofs.Found.{each_found}
 use Rattle.std.specs.Prelude.{slice_get}
 
--- what is read of each list of options and each rest that the words mean
+-- what is read, for each list of options and each rest that the words mean
 abbrev pub IsOfEach : {F V P M S : Type 0} → Options F V P M S → List (List ℕ) → Leading F V P M S → Type 0
-IsOfEach o words found = (l : List legal.Said) (rest : List (List ℕ)) → SaysLeading (declaration_of o) words l rest → IsLeadingOf o l rest found
+IsOfEach o words found = (l : List legal.Parsed) (rest : List (List ℕ)) → MeansLeading (declaration_of o) words l rest → IsLeadingOf o l rest found
 
--- by the options and by what was found
+-- the same, for the options and the result that calls return
 pub of_each : {F V P M S : Type 0} (o own : Options F V P M S) (words : List (List ℕ)) (found it : Leading F V P M S) → o ≡ own → found ≡ it → IsOfEach o words found → IsOfEach own words it
 of_each o own words found it same is of = subst (λ f. IsOfEach own words f) is (subst (λ x. IsOfEach x words found) same of)
 
@@ -37,48 +37,48 @@ same_asked one asked own is too = let e : Some own ≡ Some asked = sym is ∙ t
 pub none_asked : (one : Option spec.Asked) (asked : spec.Asked) → one ≡ None → one ≡ Some asked → ⊥
 none_asked one asked none is = let e : None ≡ Some asked = sym none ∙ is in cc
 
-pub of_said : {C F V P M S : Type 0} (c : Commands C F V P M S) (l : List legal.Said) (rest : List (List ℕ)) (others : List (List ℕ)) (said : List (Said F V P M S)) (it : CommandLine C F V P M S)
-    → (first_asked (declaration_of c.options).options l ≡ None) → AreSaid (options_of c.options) l said → others ≡ rest → IsLineAfter c said others it → IsLineOf c l rest it
-of_said c l rest others said it none are same after = record {
+pub of_parsed : {C F V P M S : Type 0} (c : Commands C F V P M S) (l : List legal.Parsed) (rest : List (List ℕ)) (others : List (List ℕ)) (parsed : List (Parsed F V P M S)) (it : CommandLine C F V P M S)
+    → (first_asked (declaration_of c.options).options l ≡ None) → AreParsedAs (options_of c.options) l parsed → others ≡ rest → IsLineAfter c parsed others it → IsLineOf c l rest it
+of_parsed c l rest others parsed it none are same after = record {
   asks = λ asked is. absurd (none_asked (first_asked (declaration_of c.options).options l) asked none is);
-  after = λ _. (said, are, subst (λ r. IsLineAfter c said r it) same after);
+  after = λ _. (parsed, are, subst (λ r. IsLineAfter c parsed r it) same after);
 }
 
-pub of_asked : {C F V P M S : Type 0} (c : Commands C F V P M S) (l : List legal.Said) (rest : List (List ℕ)) (asked : _) → first_asked (declaration_of c.options).options l ≡ Some (asked_view asked) → IsLineOf c l rest (line.Asked asked)
+pub of_asked : {C F V P M S : Type 0} (c : Commands C F V P M S) (l : List legal.Parsed) (rest : List (List ℕ)) (asked : _) → first_asked (declaration_of c.options).options l ≡ Some (asked_view asked) → IsLineOf c l rest (line.Asked asked)
 of_asked c l rest asked is = record {
   asks = λ other too. same_asked (first_asked (declaration_of c.options).options l) other (asked_view asked) is too;
   after = λ none. absurd (none_asked (first_asked (declaration_of c.options).options l) (asked_view asked) none is);
 }
 
--- ---- the command of a name
+-- ---- the command with a name
 
--- what words that mean this command come to
-is_command : {C F V P M S : Type 0} (c : Commands C F V P M S) (l : List legal.Said) (key : C) (words rest : List (List ℕ)) (said : List (Said F V P M S)) (it : CommandLine C F V P M S)
-    → AreSaid (options_of c.options) l said → meaning c.commands.now words ≡ command key rest → IsLineAfter c said words it → IsCommandLine c l key rest it
-is_command c l key words rest said (line.Command own k ws) are means (same, other) =
+-- the result for words that mean this command
+is_command : {C F V P M S : Type 0} (c : Commands C F V P M S) (l : List legal.Parsed) (key : C) (words rest : List (List ℕ)) (parsed : List (Parsed F V P M S)) (it : CommandLine C F V P M S)
+    → AreParsedAs (options_of c.options) l parsed → meaning c.commands.now words ≡ command key rest → IsLineAfter c parsed words it → IsCommandLine c l key rest it
+is_command c l key words rest parsed (line.Command own k ws) are means (same, other) =
     let e : command key rest ≡ command k ws.items = sym means ∙ other in
-    (subst (λ x. AreSaid (options_of c.options) l x) (sym same) are, key_is key k rest ws.items e, rest_is key k rest ws.items e)
+    (subst (λ x. AreParsedAs (options_of c.options) l x) (sym same) are, key_is key k rest ws.items e, rest_is key k rest ws.items e)
   where
     key_is : {C : Type 0} (key k : C) (rest ws : List (List ℕ)) → command key rest ≡ command k ws → k ≡ key
     key_is key k rest ws e = cc
 
     rest_is : {C : Type 0} (key k : C) (rest ws : List (List ℕ)) → command key rest ≡ command k ws → ws ≡ rest
     rest_is key k rest ws e = cc
-is_command c l key words rest said (line.Asked asked) are means (other, same) = absurd (let e : command key rest ≡ help = sym means ∙ other in cc)
-is_command c l key words rest said (line.Refused refused) are means after = no_mistake refused.mistake after.told
+is_command c l key words rest parsed (line.Asked asked) are means (other, same) = absurd (let e : command key rest ≡ help = sym means ∙ other in cc)
+is_command c l key words rest parsed (line.Refused refused) are means after = no_mistake refused.mistake after.told
   where
     no_mistake : (m : Mistake) → IsMistake c.commands.now words m → ⊥
     no_mistake (mistake.General own) told = told
     no_mistake (mistake.MissingCommand names) told = let e : command key rest ≡ missing = sym means ∙ told.0 in cc
     no_mistake (mistake.UnknownCommand word hint) told = let e : command key rest ≡ unknown word = sym means ∙ told.0 in cc
 
--- the name of a command and the words after it mean that command
+-- the name of a command, with the words after it, means that command
 name_means : {C F V P M S : Type 0} (c : Commands C F V P M S) (i : ℕ) (own : Command C) (key : C) (rest : List (List ℕ)) → slice_get c.commands.now i ≡ Some own → own.runs ≡ runs.Command key
     → meaning c.commands.now (own.name.now ∷ rest) ≡ command key rest
 name_means c i own key rest at is =
     ap (λ r. named c.commands.now r own.name.now rest) (each_found c.commands.now c.sound i own at ∙ ap (λ r. Some r) is)
 
-pub of_name : {C F V P M S : Type 0} (c : Commands C F V P M S) (i : ℕ) (own : Command C) (key : C) (l : List legal.Said) (rest : List (List ℕ)) (others : List (List ℕ)) (said : List (Said F V P M S)) (it : CommandLine C F V P M S)
-    → slice_get c.commands.now i ≡ Some own → own.runs ≡ runs.Command key → AreSaid (options_of c.options) l said → others ≡ own.name.now ∷ rest → IsLineAfter c said others it → IsCommandLine c l key rest it
-of_name c i own key l rest others said it at is are same after =
-    is_command c l key others rest said it are (ap (meaning c.commands.now) same ∙ name_means c i own key rest at is) after
+pub of_name : {C F V P M S : Type 0} (c : Commands C F V P M S) (i : ℕ) (own : Command C) (key : C) (l : List legal.Parsed) (rest : List (List ℕ)) (others : List (List ℕ)) (parsed : List (Parsed F V P M S)) (it : CommandLine C F V P M S)
+    → slice_get c.commands.now i ≡ Some own → own.runs ≡ runs.Command key → AreParsedAs (options_of c.options) l parsed → others ≡ own.name.now ∷ rest → IsLineAfter c parsed others it → IsCommandLine c l key rest it
+of_name c i own key l rest others parsed it at is are same after =
+    is_command c l key others rest parsed it are (ap (meaning c.commands.now) same ∙ name_means c i own key rest at is) after

@@ -1,4 +1,4 @@
--- What can come where a word is typed in a line of a program that has commands. The source is
+-- What can come where a word is typed in a line of a program with commands. The source is
 -- `docs/behaviour.md`.
 use Rattle.std.specs.Prelude.{◌≡◌, ◌⊎◌, ◌++◌, ◌∷◌, ℕ, if◌then◌else◌, nat_eq, List, []}
 use Rattle.std.specs.Prelude.{Option, Some, None, codes, string_bytes}
@@ -7,16 +7,16 @@ use Rattle.std.specs.Str.{chars}
 use Rattle.lexopt_options_spec.specs.Asking.{first_asked}
 use Rattle.lexopt_options_spec.specs.Declaration.{Declaration}
 use Rattle.lexopt_options_spec.specs.Help.{line_feed}
-use Rattle.lexopt_options_spec.specs.Leading.{SaysLeading}
+use Rattle.lexopt_options_spec.specs.Leading.{MeansLeading}
 use Rattle.lexopt_options_spec.specs.Legal as legal
 use Rattle.lexopt_options.specs.declared.leading.Leading.{Leading}
 use Rattle.lexopt_options.specs.declared.leading.Leading.TheVariants as leading
 use Rattle.lexopt_options.specs.declared.request.Request.TheVariants as request
-use Rattle.lexopt_options.specs.declared.said.Said.{Said}
+use Rattle.lexopt_options.specs.declared.parsed.Parsed.{Parsed}
 use Rattle.lexopt_options.specs.Answers.{IsCompletionText, on_one_line}
 use Rattle.lexopt_options.specs.Completions.{HasPositional}
 use Rattle.lexopt_options.specs.Declarations.{declaration_of, options_of}
-use Rattle.lexopt_options.specs.Keys.{AreSaid}
+use Rattle.lexopt_options.specs.Keys.{AreParsedAs}
 use Rattle.lexopt_commands.specs.declared.answer.Step.{Step}
 use Rattle.lexopt_commands.specs.declared.answer.Step.TheVariants as step
 use Rattle.lexopt_commands.specs.declared.command.Command.{Command}
@@ -27,30 +27,30 @@ use Rattle.lexopt_commands.specs.Meanings.{runs_of}
 
 -- ---- the names of commands
 
--- the line for a command: its name after `+`, a tab, and what the help tells of it
+-- the line for a command: its name after `+`, a tab, and its help text
 abbrev pub name_line : {C : Type 0} → Command C → List ℕ
 name_line c = codes "+" ++ c.name.now ++ codes "\t" ++ flat_map on_one_line (chars c.help.now)
     ++ line_feed ∷ []
 
--- this, if its name begins with what was typed
+-- the line for a command whose name begins with what was typed
 abbrev pub begun_line : {C : Type 0} → List ℕ → Command C → List ℕ
 begun_line typed c = if starts_with nat_eq c.name.now typed then name_line c else []
 
--- this name can come after these words: they are general options that ask for nothing, and the name
--- is the first word after them
+-- this name can come after these words: the words are general options that ask for nothing, and the
+-- name is the first word after them
 abbrev pub CanBeName : Declaration → List (List ℕ) → List ℕ → Type 0
-CanBeName d words name = (l : List legal.Said) × SaysLeading d (words ++ name ∷ []) l (name ∷ [])
+CanBeName d words name = (l : List legal.Parsed) × MeansLeading d (words ++ name ∷ []) l (name ∷ [])
     × (first_asked d.options l ≡ None)
 
--- the line of a command whose name begins with what was typed, and can come; no line of another
+-- the line for a command whose name can come and begins with what was typed; no line for another
 abbrev pub IsNameLine : {C : Type 0} → Declaration → List (List ℕ) → List ℕ → Command C → List ℕ
     → Type 0
 IsNameLine d words typed c line = (CanBeName d words c.name.now × (line ≡ begun_line typed c))
     ⊎ ((¬ CanBeName d words c.name.now) × (line ≡ []))
 
--- general options are legal, and this word alone is left after them
+-- general options are legal, and this is the only word after them
 abbrev pub LeavesOnly : {F V P M S : Type 0} → Leading F V P M S → List ℕ → Type 0
-LeavesOnly (leading.Said said rest) name = rest.items ≡ name ∷ []
+LeavesOnly (leading.Parsed parsed rest) name = rest.items ≡ name ∷ []
 LeavesOnly found name = ⊥
 
 -- ---- where a word is typed
@@ -58,14 +58,14 @@ LeavesOnly found name = ⊥
 pub data Place (C : Type 0) : Type 0 where
   -- right after the general options
   at_options : Place C
-  -- after these words of the command with this key
+  -- after the name of the command with this key, and these words
   in_command : C → List (List ℕ) → Place C
   -- right after a name that asks for the help
   at_help : Place C
-  -- where no line goes on
+  -- after words that begin no line
   nowhere : Place C
 
--- by what the name does that comes after one that asks for the help, and by the words after it
+-- by what the name after one that asks for the help does, and by the words after it
 abbrev pub place_of_helped : {C : Type 0} → Option (Runs C) → List (List ℕ) → Place C
 place_of_helped (Some (runs.Command key)) rest = in_command key rest
 place_of_helped (Some runs.Help) rest = nowhere
@@ -89,55 +89,56 @@ place commands (word ∷ rest) = place_of commands (runs_of commands word) rest
 
 -- ---- what can come
 
--- where no command is among the words: the lines of names, and what can come by the general
--- declaration
+-- what can come where no command is among the words: the lines for names, and what can come by the
+-- general declaration
 abbrev pub IsOptionsText : {C F V P M S : Type 0} → Commands C F V P M S → List (List ℕ) → List ℕ
     → List ℕ → Type 0
 IsOptionsText c words typed text = (lines : List (List ℕ))
     × AllZip (IsNameLine (declaration_of c.options) words typed) c.commands.now lines
     × (own : List ℕ) × IsCompletionText c.options words typed own × (text ≡ concat lines ++ own)
 
--- what is to be done where this is typed at this place, after these general options
+-- what to do where this is typed at this place, after these general options
 abbrev pub IsPlaced : {C F V P M S : Type 0} → Commands C F V P M S → List (List ℕ) → List ℕ
-    → List (Said F V P M S) → Place C → Step C F V P M S → Type 0
-IsPlaced c words typed said at_options (step.Text text) =
+    → List (Parsed F V P M S) → Place C → Step C F V P M S → Type 0
+IsPlaced c words typed parsed at_options (step.Text text) =
     IsOptionsText c words typed (string_bytes text)
-IsPlaced c words typed said (in_command key rest) (step.Command own found (request.Completion before last)) =
-    (own.items ≡ said) × (found ≡ key) × (before.items ≡ rest) × (last ≡ typed)
-IsPlaced c words typed said at_help (step.Text text) =
+IsPlaced c words typed parsed (in_command key rest) (step.Command own found (request.Completion before last)) =
+    (own.items ≡ parsed) × (found ≡ key) × (before.items ≡ rest) × (last ≡ typed)
+IsPlaced c words typed parsed at_help (step.Text text) =
     string_bytes text ≡ flat_map (begun_line typed) c.commands.now
-IsPlaced c words typed said nowhere (step.Text text) = string_bytes text ≡ []
-IsPlaced c words typed said place found = ⊥
+IsPlaced c words typed parsed nowhere (step.Text text) = string_bytes text ≡ []
+IsPlaced c words typed parsed place found = ⊥
 
--- The words legally spell general options that ask for nothing, and then come these, where the place
--- is by them.
+-- The words legally spell general options that ask for nothing, and then comes the rest, by which
+-- the place is found.
 pub record IsPlacedAfter {C F V P M S : Type 0} (c : Commands C F V P M S)
     (words : List (List ℕ)) (typed : List ℕ) (found : Step C F V P M S) : Type 0 where
-  pub read : List legal.Said
+  pub read : List legal.Parsed
   pub rest : List (List ℕ)
-  pub says : SaysLeading (declaration_of c.options) words read rest
+  pub means : MeansLeading (declaration_of c.options) words read rest
   pub nothing : first_asked (declaration_of c.options).options read ≡ None
-  pub said : List (Said F V P M S)
-  pub are : AreSaid (options_of c.options) read said
-  pub placed : IsPlaced c words typed said (place c.commands.now rest) found
+  pub parsed : List (Parsed F V P M S)
+  pub are : AreParsedAs (options_of c.options) read parsed
+  pub placed : IsPlaced c words typed parsed (place c.commands.now rest) found
 
--- this text is to be written
+-- this text is printed
 abbrev pub IsText : {C F V P M S : Type 0} → Step C F V P M S → List ℕ → Type 0
 IsText (step.Text found) text = string_bytes found ≡ text
 IsText found text = ⊥
 
--- The words do not. Nothing can come if a positional is among them.
+-- The words are not legal general options that ask for nothing, with a rest. Nothing can come if a
+-- positional is among them.
 pub record IsUnplaced {C F V P M S : Type 0} (c : Commands C F V P M S)
     (words : List (List ℕ)) (typed : List ℕ) (found : Step C F V P M S) : Type 0 where
-  pub neither : (l : List legal.Said) (rest : List (List ℕ))
-      → SaysLeading (declaration_of c.options) words l rest
+  pub neither : (l : List legal.Parsed) (rest : List (List ℕ))
+      → MeansLeading (declaration_of c.options) words l rest
       → first_asked (declaration_of c.options).options l ≡ None → ⊥
   pub text : List ℕ
   pub is_text : IsText found text
   pub offered : (HasPositional (declaration_of c.options) words × (text ≡ []))
       ⊎ ((¬ HasPositional (declaration_of c.options) words) × IsOptionsText c words typed text)
 
--- what is to be done where this is typed after these words
+-- what to do where this is typed after these words
 abbrev pub IsCompletionStep : {C F V P M S : Type 0} → Commands C F V P M S → List (List ℕ)
     → List ℕ → Step C F V P M S → Type 0
 IsCompletionStep c words typed found =

@@ -1,16 +1,16 @@
--- What a line comes to: the general options, and then what the words after them mean. The source is
--- `docs/behaviour.md`.
+-- The results of reading a line of a program with commands: the general options, and what the words
+-- after them mean. The source is `docs/behaviour.md`.
 use Rattle.std.specs.Prelude.{◌≡◌, ◌⊎◌, ℕ, List, Some, None}
 use Rattle.lexopt_options_spec.specs.Asking.{first_asked}
 use Rattle.lexopt_options_spec.specs.Declaration as spec
-use Rattle.lexopt_options_spec.specs.Leading.{AsksLeading, SaysLeading}
+use Rattle.lexopt_options_spec.specs.Leading.{AsksLeading, MeansLeading}
 use Rattle.lexopt_options_spec.specs.Legal as legal
 use Rattle.lexopt_declaration.specs.Lookups.{help_names}
 use Rattle.lexopt_options.specs.declared.options.Options.{Options}
-use Rattle.lexopt_options.specs.declared.said.Asked.TheVariants.{Help}
-use Rattle.lexopt_options.specs.declared.said.Said.{Said}
+use Rattle.lexopt_options.specs.declared.parsed.Asked.TheVariants.{Help}
+use Rattle.lexopt_options.specs.declared.parsed.Parsed.{Parsed}
 use Rattle.lexopt_options.specs.Declarations.{declaration_of, options_of}
-use Rattle.lexopt_options.specs.Keys.{AreSaid, asked_view}
+use Rattle.lexopt_options.specs.Keys.{AreParsedAs, asked_view}
 use Rattle.lexopt_options.specs.LeadingLines.{IsLeadingRefused}
 use Rattle.lexopt_commands.specs.declared.commands.Commands.{Commands}
 use Rattle.lexopt_commands.specs.declared.mistake.Mistake.{Mistake}
@@ -23,38 +23,38 @@ use Rattle.lexopt_commands.specs.Mistakes.{IsMistake}
 
 -- ---- by the words after the general options
 
--- These words have this mistake, where this was read before them.
+-- These words have this mistake, after general options that mean this.
 pub record IsRefusedAfter {C F V P M S : Type 0} (c : Commands C F V P M S)
-    (said : List (Said F V P M S)) (rest : List (List ℕ)) (refused : Refused F V P M S)
+    (parsed : List (Parsed F V P M S)) (rest : List (List ℕ)) (refused : Refused F V P M S)
     : Type 0 where
   pub program : refused.program.now ≡ (declaration_of c.options).program
   pub help : refused.help ≡ help_names (options_of c.options)
-  pub before : refused.before.items ≡ said
+  pub before : refused.before.items ≡ parsed
   pub told : IsMistake c.commands.now rest refused.mistake
 
--- the line of these general options, by the keys, and these words after them
-abbrev pub IsLineAfter : {C F V P M S : Type 0} → Commands C F V P M S → List (Said F V P M S)
+-- the result by these general options, by the keys, and these words after them
+abbrev pub IsLineAfter : {C F V P M S : Type 0} → Commands C F V P M S → List (Parsed F V P M S)
     → List (List ℕ) → CommandLine C F V P M S → Type 0
-IsLineAfter c said rest (line.Command own key words) =
-    (own.items ≡ said) × (meaning c.commands.now rest ≡ command key words.items)
-IsLineAfter c said rest (line.Asked asked) = (meaning c.commands.now rest ≡ help) × (asked ≡ Help)
-IsLineAfter c said rest (line.Refused refused) = IsRefusedAfter c said rest refused
+IsLineAfter c parsed rest (line.Command own key words) =
+    (own.items ≡ parsed) × (meaning c.commands.now rest ≡ command key words.items)
+IsLineAfter c parsed rest (line.Asked asked) = (meaning c.commands.now rest ≡ help) × (asked ≡ Help)
+IsLineAfter c parsed rest (line.Refused refused) = IsRefusedAfter c parsed rest refused
 
--- The words legally spell general options that ask for nothing, and then come these. The line is
--- the one of both.
+-- The words legally spell general options that ask for nothing, and then comes a rest. This is the
+-- result by both.
 pub record IsAfterOptions {C F V P M S : Type 0} (c : Commands C F V P M S)
     (words : List (List ℕ)) (line : CommandLine C F V P M S) : Type 0 where
-  pub read : List legal.Said
+  pub read : List legal.Parsed
   pub rest : List (List ℕ)
-  pub says : SaysLeading (declaration_of c.options) words read rest
+  pub means : MeansLeading (declaration_of c.options) words read rest
   pub nothing : first_asked (declaration_of c.options).options read ≡ None
-  pub said : List (Said F V P M S)
-  pub are : AreSaid (options_of c.options) read said
-  pub after : IsLineAfter c said rest line
+  pub parsed : List (Parsed F V P M S)
+  pub are : AreParsedAs (options_of c.options) read parsed
+  pub after : IsLineAfter c parsed rest line
 
 -- ---- by the general options alone
 
--- their reading comes to this mistake
+-- their reading stops at this mistake
 abbrev pub IsOptionMistake : {F V P M S : Type 0} → Options F V P M S → List (List ℕ)
     → Refused F V P M S → Mistake → Type 0
 IsOptionMistake o words refused (mistake.General own) = IsLeadingRefused o words (record {
@@ -68,35 +68,35 @@ IsOptionMistake o words refused m = ⊥
 -- they ask for the help or the version before any mistake, or have a mistake
 abbrev pub IsByOptions : {C F V P M S : Type 0} → Options F V P M S → List (List ℕ)
     → CommandLine C F V P M S → Type 0
-IsByOptions o words (line.Command said key own) = ⊥
+IsByOptions o words (line.Command parsed key own) = ⊥
 IsByOptions o words (line.Asked asked) = AsksLeading (declaration_of o) words (asked_view asked)
 IsByOptions o words (line.Refused refused) = IsOptionMistake o words refused refused.mistake
 
 -- ---- all
 
--- this is what the line of these words comes to
+-- the result of reading the line of these words
 abbrev pub IsLineRead : {C F V P M S : Type 0} → Commands C F V P M S → List (List ℕ)
     → CommandLine C F V P M S → Type 0
 IsLineRead c words line = IsByOptions c.options words line ⊎ IsAfterOptions c words line
 
--- the line asks for this
+-- the result is that the line asks for this
 abbrev pub IsLineAsking : {C F V P M S : Type 0} → spec.Asked → CommandLine C F V P M S → Type 0
 IsLineAsking asked (line.Asked own) = asked_view own ≡ asked
 IsLineAsking asked line = ⊥
 
--- the line is the one of this list of general options and these words after them: what the options
--- ask for, or, if they ask for nothing, what the words mean
-pub record IsLineOf {C F V P M S : Type 0} (c : Commands C F V P M S) (l : List legal.Said)
+-- the result by this list of general options and these words after them: what the options ask for;
+-- or, if they ask for nothing, what the words mean
+pub record IsLineOf {C F V P M S : Type 0} (c : Commands C F V P M S) (l : List legal.Parsed)
     (rest : List (List ℕ)) (line : CommandLine C F V P M S) : Type 0 where
   pub asks : (asked : spec.Asked) → first_asked (declaration_of c.options).options l ≡ Some asked
       → IsLineAsking asked line
   pub after : first_asked (declaration_of c.options).options l ≡ None
-      → (said : List (Said F V P M S)) × AreSaid (options_of c.options) l said
-      × IsLineAfter c said rest line
+      → (parsed : List (Parsed F V P M S)) × AreParsedAs (options_of c.options) l parsed
+      × IsLineAfter c parsed rest line
 
--- the line is the command of this key, with these words and this list of general options
-abbrev pub IsCommandLine : {C F V P M S : Type 0} → Commands C F V P M S → List legal.Said → C
+-- the result is the command with this key, with these words and this list of general options
+abbrev pub IsCommandLine : {C F V P M S : Type 0} → Commands C F V P M S → List legal.Parsed → C
     → List (List ℕ) → CommandLine C F V P M S → Type 0
-IsCommandLine c l key words (line.Command said own rest) =
-    AreSaid (options_of c.options) l said.items × (own ≡ key) × (rest.items ≡ words)
+IsCommandLine c l key words (line.Command parsed own rest) =
+    AreParsedAs (options_of c.options) l parsed.items × (own ≡ key) × (rest.items ≡ words)
 IsCommandLine c l key words line = ⊥

@@ -1,4 +1,4 @@
--- What the words from the name of a command on mean. The source is `docs/behaviour.md`.
+-- What words from the name of a command on mean. The source is `docs/behaviour.md`.
 use Rattle.std.specs.Prelude.{ℕ, ◌==◌, if◌then◌else◌, List, [], ◌∷◌, ◌++◌, codes}
 use Rattle.std.specs.Prelude.{Option, Some, None, position, slice_get}
 use Rattle.std.specs.Option.{option_map}
@@ -7,7 +7,7 @@ use Rattle.lexopt_commands.specs.declared.command.Command.{Command}
 use Rattle.lexopt_commands.specs.declared.command.Runs.{Runs}
 use Rattle.lexopt_commands.specs.declared.command.Runs.TheVariants as runs
 
--- what the command of this index does
+-- what the command at this index does
 abbrev pub runs_at : {C : Type 0} → List (Command C) → Option ℕ → Option (Runs C)
 runs_at commands None = None
 runs_at commands (Some i) = option_map (λ c. c.runs) (slice_get commands i)
@@ -27,30 +27,30 @@ pub data Meaning (C : Type 0) : Type 0 where
   -- this word is not the name of a command
   unknown : List ℕ → Meaning C
 
--- the word by which a command is asked for its help
+-- the word that asks a command for its help
 abbrev pub help_word : List ℕ
 help_word = codes "--help"
 
--- the word that comes after one that asks for the help, by what it does: a command gets the words
--- after its name, and is asked for its help by the last of them
+-- what a word and the words after it mean after a name that asks for the help, by what the word
+-- does: a command gets the words after its name, and then the word that asks for its help
 abbrev pub helped : {C : Type 0} → Option (Runs C) → List ℕ → List (List ℕ) → Meaning C
 helped (Some (runs.Command key)) word rest = command key (rest ++ help_word ∷ [])
 helped (Some runs.Help) word rest = help
 helped None word rest = if pointwise ◌==◌ word help_word then help else unknown word
 
--- the words after one that asks for the help
+-- what words mean after a name that asks for the help
 abbrev pub help_of : {C : Type 0} → List (Command C) → List (List ℕ) → Meaning C
 help_of commands [] = help
 help_of commands (word ∷ rest) = helped (runs_of commands word) word rest
 
--- the first word by what it does, and those after it
+-- what a word and the words after it mean, by what the word does
 abbrev pub named : {C : Type 0} → List (Command C) → Option (Runs C) → List ℕ → List (List ℕ)
     → Meaning C
 named commands (Some (runs.Command key)) word rest = command key rest
 named commands (Some runs.Help) word rest = help_of commands rest
 named commands None word rest = unknown word
 
--- the words after the general options
+-- what the words after the general options mean
 abbrev pub meaning : {C : Type 0} → List (Command C) → List (List ℕ) → Meaning C
 meaning commands [] = missing
 meaning commands (word ∷ rest) = named commands (runs_of commands word) word rest

@@ -1,5 +1,5 @@
--- What is printed of a line that is refused, and of a command that cannot be declared.
--- The source is `docs/formats.md`.
+-- The messages about a line that is refused, and about a command that cannot be declared. The
+-- source is `docs/formats.md`.
 use Rattle.std.specs.Prelude.{ℕ, List, ◌++◌, Some, None, codes, map, string_bytes}
 use Rattle.lexopt_spec.specs.Text.{quoted}
 use Rattle.lexopt_options_spec.specs.Help.{list_text}
@@ -21,7 +21,7 @@ reason_text ReplacementInName = codes "its name has U+FFFD in it"
 reason_text BlankOrControlInName = codes "its name has a blank or a control character in it"
 reason_text SameName = codes "a command before it has its name"
 
--- which command, and why
+-- which command cannot be declared, and why
 abbrev pub command_error_text : CommandError → List ℕ
 command_error_text error =
     codes "command '" ++ (error.name.now ++ (codes "': " ++ reason_text error.reason))

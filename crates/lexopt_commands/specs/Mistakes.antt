@@ -30,12 +30,12 @@ abbrev pub IsHinted : List spec.Declared → List ℕ → Option (List ℕ) → 
 IsHinted options name hint = (found : Option ℕ) × IsNearest options name found
     × (hint ≡ hinted_name options name found)
 
--- the name that may have been meant by this word: the one that would be if the names of the
--- commands were those of long options, and the word had been typed for one
+-- the hint for this word: that which it would have as a long option, if the names of the commands
+-- were those of long options
 abbrev pub IsHint : {C : Type 0} → List (Command C) → List ℕ → Option (List ℕ) → Type 0
 IsHint commands word hint = IsHinted (map option_of commands) (lossy word) hint
 
--- what is wrong with these words
+-- this is the mistake of these words
 abbrev pub IsMistake : {C : Type 0} → List (Command C) → List (List ℕ) → Mistake → Type 0
 IsMistake commands words (mistake.General own) = ⊥
 IsMistake commands words (mistake.MissingCommand names) =

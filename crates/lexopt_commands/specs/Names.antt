@@ -17,30 +17,30 @@ use Rattle.lexopt_commands.specs.declared.command.Reason.TheVariants.{SameName}
 abbrev pub names_of : {C : Type 0} → List (Command C) → List (List ℕ)
 names_of commands = map (λ c. c.name.now) commands
 
--- why this cannot be the name of a command, if it cannot
+-- what is wrong with a name, whatever the other names are
 abbrev pub name_fault : List ℕ → Option Reason
 name_fault [] = Some EmptyName
 name_fault (b ∷ bs) = if b == dash then Some DashName
     else (if has_replacement (b ∷ bs) then Some ReplacementInName
     else (if list_any is_blank_or_control (b ∷ bs) then Some BlankOrControlInName else None))
 
--- the first of these reasons
+-- the first of these reasons, if there is one
 abbrev pub or_else : Option Reason → Option Reason → Option Reason
 or_else None other = other
 or_else (Some reason) other = Some reason
 
--- why it cannot be declared after the commands with these names, if it cannot
+-- what is wrong with a name after commands with these names
 abbrev pub fault : List (List ℕ) → List ℕ → Option Reason
 fault before name = or_else (name_fault name)
     (if list_any (λ own. pointwise ◌==◌ own name) before then Some SameName else None)
 
--- this name with its fault; or what comes of the others, if it has none
+-- this name, if it has a fault; otherwise the first of the others that has one
 abbrev pub with_fault : List ℕ → Option Reason → Option (List ℕ × Reason)
     → Option (List ℕ × Reason)
 with_fault name (Some reason) others = Some (name, reason)
 with_fault name None others = others
 
--- the first of these names that cannot be declared after those before it, and why
+-- the first name that cannot be declared after those before it, and the reason
 abbrev pub first_fault : List (List ℕ) → List (List ℕ) → Option (List ℕ × Reason)
 first_fault before [] = None
 first_fault before (name ∷ names) =

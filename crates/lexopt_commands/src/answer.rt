@@ -1,4 +1,5 @@
-//! What a program that has commands does about the words that it was called with.
+//! What a program with commands has to do about its command line or about the request of a shell.
+//! The file of this name in `lexopt_options` has the same for a program without commands.
 ghost use Rattle.std.specs.Prelude.{IfOk, string_bytes};
 ghost use Rattle.lexopt_options.specs.Keys.{asked_view};
 ghost use Rattle.lexopt_commands.specs.Answers.{IsAskedText};
@@ -7,22 +8,22 @@ use crate::commands::Commands;
 use crate::read::general;
 use crate::refused::{CommandLine, Refused};
 use lexopt_options::answer::{columns, request_from};
-use lexopt_options::{Asked, Request, Said, variable};
+use lexopt_options::{Asked, Parsed, Request, variable};
 use lexopt_words::os_string::{OsString, arguments};
 use std::alloc::{AllocError, Global};
 use std::convert::Infallible;
 use std::env::Env;
 
-/// What a program is to do.
+/// What a program with commands has to do about a line or a request.
 #[derive(Debug, Drop)]
 pub enum Step<'a, C, F, V = Infallible, P = Infallible, M = Infallible, S = Infallible> {
-    /// A command is asked: what the general options before it mean, its key, and what it is asked
-    /// for, which its own declaration answers by `Options::answer_request`, or, if it has commands of
-    /// its own, [`Commands::answer_request`].
-    Command(Vec<Said<F, V, P, M, S>>, C, Request),
-    /// Write this to standard output, and end: the help, the version, or what a shell asked for.
+    /// Run this command: what the general options before its name mean, its key, and a request,
+    /// which the command's own declaration answers by `Options::answer_request`, or by
+    /// [`Commands::answer_request`] if the command has commands of its own.
+    Command(Vec<Parsed<F, V, P, M, S>>, C, Request),
+    /// Print this to standard output, and exit: the help, the version, or what a shell asked for.
     Text(String),
-    /// Write this to standard error, and end with the status [`USAGE_ERROR`](crate::USAGE_ERROR).
+    /// Print this to standard error, and exit with the status [`USAGE_ERROR`](crate::USAGE_ERROR).
     Refused(Refused<'a, F, V, P, M, S>),
 }
 
@@ -31,7 +32,7 @@ impl<C, F, V, P, M, S> Commands<'_, C, F, V, P, M, S> {
     ghost use Rattle.lexopt_options.specs.Keys.{asked_view};
     ghost use Rattle.lexopt_commands.specs.Answers.{IsAskedText};
 
-    // The text that is asked for, and a line feed after the version.
+    // The text for this request: the help, or the version and a line feed.
     fn asked_text(
         &self,
         alloc: Global,
@@ -54,17 +55,33 @@ impl<'a, C: Copy, F: Copy, V: Copy, P: Copy, M: Copy, S: Copy> Commands<'a, C, F
     ghost use Rattle.lexopt_options.specs.declared.request.Request.{Request};
     ghost use Rattle.lexopt_commands.specs.Answers.{IsRequestStep, IsStep};
 
-    /// What the program is to do about the words that it was called with, without its name.
+    /// Reads the words of a command line up to the name of a command, and returns what the program
+    /// has to do.
     ///
-    /// - If an option that asks for the help or the version occurs among the general options before
-    ///   any mistake, the result is the help for this width, by [`Commands::help`], or the text of
-    ///   the version and a line feed. It is the help too if a name that asks for it comes alone.
-    /// - All other words are read as by [`Commands::read`]. A command is asked for the line of the
-    ///   words after its name.
+    /// The words are without the name of the program. This call consumes them. If a general option
+    /// that asks for the help or the version occurs before any mistake, the first such option
+    /// counts: the result is the help of [`Commands::help`], wrapped to `width` columns, or the
+    /// text of the version and a line feed. Words that ask for the help by a name such as `help`
+    /// get the same help. Otherwise it is what [`Commands::read`] returns; a command gets the words
+    /// after its name as [`Request::Line`].
     ///
     /// # Errors
     ///
-    /// Memory ran out.
+    /// Returns `AllocError` if an allocation fails.
+    ///
+    /// # Examples
+    ///
+    /// With the declarations of [`declare_commands!`](crate::declare_commands), the words
+    /// `-C dir add -f x` are the command `add` with the line `-f x`:
+    ///
+    /// ```rust
+    /// match commands.answer(alloc, words, WIDTH)? {
+    ///     Step::Command(general, Task::Add, request) => add(rt, general, request),
+    ///     Step::Command(general, Task::Remote, request) => remote(rt, general, request),
+    ///     Step::Text(text) => rt.print(text),
+    ///     Step::Refused(refused) => refuse(rt, &refused),
+    /// }
+    /// ```
     pub fn answer(
         &self,
         alloc: Global,
@@ -74,32 +91,54 @@ impl<'a, C: Copy, F: Copy, V: Copy, P: Copy, M: Copy, S: Copy> Commands<'a, C, F
         ensures { IfOk result (λ step. IsStep self.now words.items width step) }
     {
         match self.read(alloc, words)? {
-            CommandLine::Command(said, key, own) => {
-                Ok(Step::Command(said, key, Request::Line(own)))
+            CommandLine::Command(parsed, key, own) => {
+                Ok(Step::Command(parsed, key, Request::Line(own)))
             }
             CommandLine::Asked(asked) => Ok(Step::Text(self.asked_text(alloc, asked, width)?)),
             CommandLine::Refused(refused) => Ok(Step::Refused(refused)),
         }
     }
 
-    /// What the program is to do about a request.
+    /// Returns what the program has to do about a request.
     ///
-    /// - About a line, as [`Commands::answer`].
-    /// - What can come where a word is typed: after general options that ask for nothing, and the
-    ///   name of a command, that command is asked, with the words after its name. Right after a name
-    ///   that asks for the help, the names of the commands can come. Where no command is among the
-    ///   words, the result is a text: a line for each name that can come there and begins with what
-    ///   was typed, the name after `+`, a tab, and what the help tells of it; and then the lines of
-    ///   `Options::completion_text` by the general declaration. Elsewhere nothing can come.
-    /// - For a shell, the script of `Options::script`.
-    /// - A request that is not known is refused.
+    /// - [`Request::Line`]: what [`Commands::answer`] returns.
+    /// - [`Request::Completion`] after general options that ask for nothing, and the name of a
+    ///   command: ask the command what can come, by [`Step::Command`] with the words after its name
+    ///   and what was typed. One name that asks for the help may come before the name of the
+    ///   command.
+    /// - [`Request::Completion`] right after a name that asks for the help: print a line for each
+    ///   command whose name begins with what was typed.
+    /// - [`Request::Completion`] where no positional is among the words: print such a line for each
+    ///   command whose name can come there, and then what `Options::completion_text` returns by the
+    ///   general declaration.
+    /// - [`Request::Completion`] anywhere else: print nothing.
+    /// - [`Request::Script`]: print what `Options::script` returns.
+    /// - [`Request::Unknown`]: refuse it.
     ///
-    /// Let the general declaration declare its first positional argument, the command, with `.text()`:
-    /// otherwise the names of files can come there too.
+    /// The line for a command is `+`, the name, a tab, and its help text. This call consumes the
+    /// request.
+    ///
+    /// The first positional of the general declaration represents the name of the command. Declare
+    /// it with `.text()`, or shells offer the names of files there too.
     ///
     /// # Errors
     ///
-    /// Memory ran out.
+    /// Returns `AllocError` if an allocation fails.
+    ///
+    /// # Examples
+    ///
+    /// The command `remote` has commands of its own:
+    ///
+    /// ```rust
+    /// fn remote(rt: &HostRuntime, request: Request) -> io::Result<ExitCode> {
+    ///     let commands = Commands::new(Options::new(&REMOTE), REMOTE_COMMANDS);
+    ///     match commands.answer_request(rt.alloc(), request, columns(rt))? {
+    ///         Step::Command(_, (), own) => remote_add(rt, own),
+    ///         Step::Text(text) => rt.print(text).map(|()| ExitCode::SUCCESS),
+    ///         Step::Refused(refused) => Ok(refuse(rt, &refused)),
+    ///     }
+    /// }
+    /// ```
     pub fn answer_request(
         &self,
         alloc: Global,
@@ -118,16 +157,33 @@ impl<'a, C: Copy, F: Copy, V: Copy, P: Copy, M: Copy, S: Copy> Commands<'a, C, F
         }
     }
 
-    /// What the program is to do about the words that it was called with, or about what a shell asks
-    /// by the environment, as `Options::from_env`: by [`Commands::answer_request`].
+    /// Reads the program's own command line, or the request of a shell in the environment, and
+    /// returns what the program has to do.
     ///
-    /// The width of the help is [`columns`](crate::columns). The first word is taken for the name
-    /// that the program was called by. The clause tells of some words, some value and some width: that
-    /// they are those of the environment no clause can tell.
+    /// The first word is taken for the name that the program was called by, and is not read. The
+    /// width of the help is [`columns`](crate::columns). Shells ask by the environment variable for
+    /// the program of the general declaration, as `Options::from_env` describes.
+    ///
+    /// The clause is about some words, some value and some width. No clause can state that they are
+    /// those of the environment.
     ///
     /// # Errors
     ///
-    /// Memory ran out.
+    /// Returns `AllocError` if an allocation fails.
+    ///
+    /// # Examples
+    ///
+    /// ```rust
+    /// match Commands::new(Options::new(&GENERAL), COMMANDS).from_env(rt)? {
+    ///     Step::Command(general, Task::Add, request) => add(rt, general, request),
+    ///     Step::Command(general, Task::Remote, request) => remote(rt, general, request),
+    ///     Step::Text(text) => rt.print(text),
+    ///     Step::Refused(refused) => refuse(rt, &refused),
+    /// }
+    /// ```
+    ///
+    /// A shell reads what the program prints, so print nothing before the call for the command has
+    /// returned, unless the request is [`Request::Line`].
     pub fn from_env<R: Env + AllocGlobal>(
         &self,
         rt: &R,

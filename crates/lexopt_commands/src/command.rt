@@ -1,4 +1,4 @@
-//! What a program declares of its commands.
+//! What a program declares of its commands, and which names can be declared.
 ghost use Rattle.std.specs.Prelude.{◌≡◌, ◌==◌, [], None, map, option_map, take};
 ghost use Rattle.std.specs.List.{list_any};
 ghost use Rattle.std.specs.Cmp.Lexicographic.{pointwise};
@@ -8,43 +8,48 @@ ghost use Rattle.lexopt_commands.specs.Names.{fault, first_fault, name_fault, na
 
 use std::fmt;
 
-/// What a declared name does.
+/// What the name of a command does.
 #[derive(Debug, Clone, Copy, PartialEq, Eq)]
 pub enum Runs<C> {
-    /// It runs a command: the program's own key for it.
+    /// Runs a command: the program's own key for it.
     Command(C),
-    /// It asks for the help of the program, or of the command that is named after it.
+    /// Asks for the help of the program, or of the command whose name is the next word.
     Help,
 }
 
-/// A command.
+/// A declared command.
 #[derive(Debug, Clone, Copy)]
 pub struct Command<'a, C> {
     /// Its name.
     pub name: &'a str,
-    /// What the help tells of it: words with single spaces between them.
+    /// Its help text: words with single blanks between them.
     pub help: &'a str,
     /// What its name does.
     pub runs: Runs<C>,
 }
 
-/// Why a name cannot be declared.
+/// Why a name cannot be declared. `Display` writes it, such as `its name is empty`. The `Reason` of
+/// `lexopt_options` is about options.
 #[derive(Debug, Clone, Copy, PartialEq, Eq)]
 pub enum Reason {
     /// It is empty.
     EmptyName,
-    /// It begins with `-`, so it would be read as an option, or as the separator.
+    /// It begins with `-`, so it would be read as an option or as the separator.
     DashName,
-    /// It has U+FFFD in it, which shows damage in what was typed.
+    /// It has U+FFFD in it, which represents damage in what was typed.
     ReplacementInName,
-    /// A byte of it is a blank or a control character of ASCII: a shell parts words at the one, and
-    /// a terminal acts on the other.
+    /// It has a blank or a control character of ASCII in it. A shell separates words at blanks, and
+    /// a terminal acts on control characters.
     BlankOrControlInName,
-    /// A command before it has this name.
+    /// A command before it has the same name.
     SameName,
 }
 
-/// A command that cannot be declared.
+/// A command that cannot be declared. `Display` writes it on one line:
+///
+/// ```text
+/// command '-a': its name begins with '-'
+/// ```
 #[derive(Debug, Clone, Copy, PartialEq, Eq)]
 pub struct CommandError<'a> {
     /// Its name.
@@ -86,7 +91,7 @@ impl fmt::Display for CommandError<'_> {
 
 impl std::error::Error for CommandError<'_> {}
 
-// Whether U+FFFD is in a name.
+// Whether a name has U+FFFD in it, as UTF-8.
 fn has_replacement(name: &[u8]) -> bool
     ensures { result ≡ has_replacement name.now }
 {
@@ -97,21 +102,21 @@ fn has_replacement(name: &[u8]) -> bool
     }
 }
 
-// Whether a byte is a blank, or a control character of ASCII.
+// Whether a byte is a blank or a control character of ASCII.
 fn is_blank_or_control(byte: u8) -> bool
     ensures { result ≡ spec.is_blank_or_control byte }
 {
     byte < b'!' || byte == 0x7F
 }
 
-// Whether such a byte is among these.
+// Whether a name has a blank or a control character of ASCII in it.
 fn has_blank_or_control(name: &[u8]) -> bool
     ensures { result ≡ list_any spec.is_blank_or_control name.now }
 {
     name.iter().any(|byte| is_blank_or_control(*byte))
 }
 
-// What is wrong with a name.
+// What is wrong with a name, whatever the other names are.
 fn name_fault(name: &[u8]) -> Option<Reason>
     ensures { result ≡ name_fault name.now }
 {
@@ -129,7 +134,7 @@ fn name_fault(name: &[u8]) -> Option<Reason>
     }
 }
 
-/// Whether this is the name of a command.
+/// Whether this is the name of the command.
 pub(crate) fn is_named<C>(command: &Command<'_, C>, name: &[u8]) -> bool
     ensures { result ≡ pointwise ◌==◌ command.now.name.now name.now }
 {

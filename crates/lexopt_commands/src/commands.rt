@@ -1,4 +1,4 @@
-//! The general options of a program and its commands.
+//! The general options of a program and its commands, which can be declared together.
 ghost use Rattle.std.specs.Prelude.{◌≡◌, true};
 ghost use Rattle.lexopt_commands.specs.Names.{can_be_declared, names_of};
 
@@ -7,10 +7,11 @@ use lexopt_options::Options;
 use std::alloc::AllocError;
 use std::convert::Infallible;
 
-/// The general options of a program and its commands, where all of these can be declared together.
+/// The general options of a program and its commands, which can be declared together.
 ///
-/// The names of the commands are distinct. None is empty or begins with `-`, and none has a blank,
-/// a control character of ASCII or U+FFFD in it.
+/// [`Commands::new`] and [`Commands::try_new`] make it. It borrows the commands and is `Copy`. The
+/// names of the commands are distinct. None is empty or begins with `-`, and none has a blank, a
+/// control character of ASCII or U+FFFD in it.
 pub struct Commands<'a, C, F, V = Infallible, P = Infallible, M = Infallible, S = Infallible> {
     options: Options<'a, F, V, P, M, S>,
     commands: &'a [Command<'a, C>],
@@ -23,9 +24,18 @@ impl<'a, C, F, V, P, M, S> Commands<'a, C, F, V, P, M, S> {
     ghost use Rattle.lexopt_commands.specs.Meanings.{runs_of};
     ghost use Rattle.lexopt_commands.specs.Names.{can_be_declared, first_fault, names_of};
 
-    /// These general options and commands, where the check computes that the commands can be
-    /// declared together: so it does for a constant or a static, and nothing is left to go wrong
-    /// when the program runs.
+    /// Returns these general options and commands, where the commands are known when the program is
+    /// built.
+    ///
+    /// The prover computes for a constant or a static that the commands can be declared together.
+    /// So a program with a faulty list of commands is refused, and this call cannot fail when the
+    /// program runs. [`Reason`](crate::Reason) lists the faults.
+    ///
+    /// # Examples
+    ///
+    /// ```rust
+    /// let commands = Commands::new(Options::new(&GENERAL), COMMANDS);
+    /// ```
     pub fn new(
         options: Options<'a, F, V, P, M, S>,
         commands: &'a [Command<'a, C>],
@@ -37,9 +47,27 @@ impl<'a, C, F, V, P, M, S> Commands<'a, C, F, V, P, M, S> {
         Commands { options, commands }
     }
 
-    /// The same, where the commands are known only when the program runs.
+    /// Returns these general options and commands, where the commands are known only when the
+    /// program runs.
     ///
-    /// The error names the first command that cannot be declared after those before it.
+    /// # Errors
+    ///
+    /// [`CommandError`] has the name of the first command that cannot be declared after those
+    /// before it, and the reason.
+    ///
+    /// # Examples
+    ///
+    /// ```rust
+    /// let commands = match Commands::try_new(options, &commands) {
+    ///     Ok(commands) => commands,
+    ///     Err(error) => {
+    ///         // If two commands have the name `add`, this prints:
+    ///         // git: command 'add': a command before it has its name
+    ///         let _ = eprintln!(rt; "git: {error}");
+    ///         return ExitCode::FAILURE;
+    ///     }
+    /// };
+    /// ```
     pub fn try_new(
         options: Options<'a, F, V, P, M, S>,
         commands: &'a [Command<'a, C>],
@@ -55,18 +83,18 @@ impl<'a, C, F, V, P, M, S> Commands<'a, C, F, V, P, M, S> {
         }
     }
 
-    /// The general options.
+    /// Returns the general options.
     pub fn options(&self) -> Options<'a, F, V, P, M, S>
         ensures { result ≡ self.now.options }
     {
         self.options
     }
 
-    /// The commands, in order.
+    /// Returns the commands, in the order of the declaration.
     pub fn commands(&self) -> &'a [Command<'a, C>]
         ensures same { result.now ≡ self.now.commands.now }
 
-        // The name of each finds it.
+        // Each is found by its name.
         ensures found { (i : ℕ) (c : Command C) → slice_get result.now i ≡ Some c
             → runs_of result.now c.name.now ≡ Some c.runs }
     {

@@ -1,9 +1,10 @@
-//! What can come where a word is typed in a line of a program that has commands.
+//! What can come where a word is typed in a line of a program with commands. The file of this name
+//! in `lexopt_options` has the same for declared options.
 ghost use Rattle.std.specs.Prelude.{◌≡◌, ◌↔◌, ◌∷◌, ◌++◌, ℕ, [], IfOk, IsTrue, List, MatchOption};
 ghost use Rattle.std.specs.Prelude.{OnOk, Vec, string_bytes};
 ghost use Rattle.std.specs.Global.{Global};
 ghost use Rattle.lexopt_options.specs.declared.leading.Leading.TheVariants as leadings;
-ghost use Rattle.lexopt_options.specs.declared.said.Said as rust;
+ghost use Rattle.lexopt_options.specs.declared.parsed.Parsed as rust;
 ghost use Rattle.std.specs.List.{flat_map};
 ghost use Rattle.lexopt_commands.specs.Completions.{LeavesOnly, begun_line, name_line, place};
 ghost use Rattle.lexopt_commands.specs.Completions.{place_at_help};
@@ -14,7 +15,7 @@ use crate::command::{Command, Runs};
 use crate::commands::Commands;
 use crate::read::{runs_of, take_first};
 use lexopt_options::answer::push_help;
-use lexopt_options::{Leading, Request, Said};
+use lexopt_options::{Leading, Parsed, Request};
 use lexopt_words::os_string::OsString;
 use lexopt_words::words::copies;
 use std::alloc::{AllocError, Global};
@@ -24,15 +25,15 @@ use std::alloc::{AllocError, Global};
 pub(crate) enum Place<C> {
     // Right after the general options.
     Options,
-    // After these words of a command.
+    // After the name of a command, and these words.
     Command(C, Vec<OsString>),
     // Right after a name that asks for the help.
     Help,
-    // Where no line goes on.
+    // After words that begin no line.
     Nowhere,
 }
 
-// The same, by the words after a name that asks for the help.
+// Where a word is typed, by the words after a name that asks for the help.
 fn place_at_help<C: Copy>(commands: &[Command<'_, C>], words: Vec<OsString>) -> Place<C>
     ensures { place_view result ≡ place_at_help commands.now words.items }
 {
@@ -46,7 +47,7 @@ fn place_at_help<C: Copy>(commands: &[Command<'_, C>], words: Vec<OsString>) -> 
     }
 }
 
-// Where a word is typed after these words.
+// Where a word is typed, by the words after the general options.
 fn place_after<C: Copy>(commands: &[Command<'_, C>], words: Vec<OsString>) -> Place<C>
     ensures { place_view result ≡ place commands.now words.items }
 {
@@ -68,7 +69,7 @@ fn is_word(word: &OsString, text: &str) -> bool
     word.as_bytes() == text.as_bytes()
 }
 
-// Whether these words are this one alone.
+// Whether this is the only word.
 fn is_only(words: &[OsString], name: &str) -> bool
     ensures { IsTrue result ↔ (words.now ≡ name.now ∷ []) }
 {
@@ -78,34 +79,35 @@ fn is_only(words: &[OsString], name: &str) -> bool
     }
 }
 
-// Whether general options are legal, and this word alone is left after them.
+// Whether general options are legal, and this is the only word after them.
 fn leaves_only<F, V, P, M, S>(leading: &Leading<'_, F, V, P, M, S>, name: &str) -> bool
     ensures { IsTrue result ↔ LeavesOnly leading.now name.now }
 {
     match leading {
-        Leading::Said(_, rest) => is_only(rest, name),
+        Leading::Parsed(_, rest) => is_only(rest, name),
         Leading::Asked(_) => false,
         Leading::Refused(_) => false,
     }
 }
 
-// What general options mean, and the words after them, if they are legal and ask for nothing.
-fn said_of<F: Drop, V: Drop, P: Drop, M: Drop, S: Drop>(
+// What general options mean, and the words after them; `None` if they ask for something or have a
+// mistake.
+fn parsed_of<F: Drop, V: Drop, P: Drop, M: Drop, S: Drop>(
     leading: Leading<'_, F, V, P, M, S>,
-) -> Option<(Vec<Said<F, V, P, M, S>>, Vec<OsString>)>
+) -> Option<(Vec<Parsed<F, V, P, M, S>>, Vec<OsString>)>
     ensures { MatchOption result
-        ((said : Vec (rust.Said F V P M S) Global) (rest : Vec (List ℕ) Global)
-        → leading.entry ≡ leadings.Said said rest → ⊥)
-        (λ found. leading.entry ≡ leadings.Said found.0 found.1) }
+        ((parsed : Vec (rust.Parsed F V P M S) Global) (rest : Vec (List ℕ) Global)
+        → leading.entry ≡ leadings.Parsed parsed rest → ⊥)
+        (λ found. leading.entry ≡ leadings.Parsed found.0 found.1) }
 {
     match leading {
-        Leading::Said(said, rest) => Some((said, rest)),
+        Leading::Parsed(parsed, rest) => Some((parsed, rest)),
         Leading::Asked(_) => None,
         Leading::Refused(_) => None,
     }
 }
 
-// Adds the line for a command.
+// Adds the line for a command: `+`, its name, a tab, and its help text.
 fn push_name<C>(text: &mut String, command: &Command<'_, C>) -> Result<(), AllocError>
     ensures { OnOk result
         (string_bytes text.new ≡ string_bytes text.old ++ name_line command.now) }
@@ -117,7 +119,7 @@ fn push_name<C>(text: &mut String, command: &Command<'_, C>) -> Result<(), Alloc
     text.push('\n')
 }
 
-// The same if its name begins with what was typed.
+// Adds the line for a command if its name begins with what was typed.
 fn push_begun<C>(
     text: &mut String,
     command: &Command<'_, C>,
@@ -133,7 +135,7 @@ fn push_begun<C>(
     }
 }
 
-// The lines for those of these commands whose names begin with what was typed.
+// The lines for the commands whose names begin with what was typed.
 fn begun_names<C>(
     alloc: Global,
     commands: &[Command<'_, C>],
@@ -190,7 +192,8 @@ impl<'a, C: Copy, F: Copy, V: Copy, P: Copy, M: Copy, S: Copy> Commands<'a, C, F
         }
     }
 
-    // The lines for the commands whose names begin with what was typed and can come after these words.
+    // The lines for the commands whose names begin with what was typed, and can come after these
+    // words.
     fn possible_names(
         &self,
         alloc: Global,
@@ -208,7 +211,8 @@ impl<'a, C: Copy, F: Copy, V: Copy, P: Copy, M: Copy, S: Copy> Commands<'a, C, F
         Ok(text)
     }
 
-    // What can come where no command is among the words.
+    // What can come where no command is among the words: names, and what can come by the general
+    // declaration.
     fn options_text(
         &self,
         alloc: Global,
@@ -224,7 +228,8 @@ impl<'a, C: Copy, F: Copy, V: Copy, P: Copy, M: Copy, S: Copy> Commands<'a, C, F
         Ok(text)
     }
 
-    // What can come where the words are not legal general options, nor with words after them.
+    // What can come after words that are not legal general options, nor such options and words
+    // after them.
     fn unplaced_text(
         &self,
         alloc: Global,
@@ -250,23 +255,23 @@ impl<'a, C: Copy, F: Copy, V: Copy, P: Copy, M: Copy, S: Copy> Commands<'a, C, F
         alloc: Global,
         words: &[OsString],
         typed: OsString,
-        said: Vec<Said<F, V, P, M, S>>,
+        parsed: Vec<Parsed<F, V, P, M, S>>,
         rest: Vec<OsString>,
     ) -> Result<Step<'a, C, F, V, P, M, S>, AllocError>
-        ensures { IfOk result (λ step. IsPlaced self.now words.now typed said.items
+        ensures { IfOk result (λ step. IsPlaced self.now words.now typed parsed.items
             (place self.now.commands.now rest.items) step) }
     {
         match place_after(self.commands(), rest) {
             Place::Options => Ok(Step::Text(self.options_text(alloc, words, &typed)?)),
             Place::Command(key, own) => {
-                Ok(Step::Command(said, key, Request::Completion(own, typed)))
+                Ok(Step::Command(parsed, key, Request::Completion(own, typed)))
             }
             Place::Help => Ok(Step::Text(begun_names(alloc, self.commands(), &typed)?)),
             Place::Nowhere => Ok(Step::Text(String::new(alloc))),
         }
     }
 
-    // What to do where this is typed after these words.
+    // What to do where `typed` is typed after these words.
     pub(crate) fn completion_step(
         &self,
         alloc: Global,
@@ -276,8 +281,8 @@ impl<'a, C: Copy, F: Copy, V: Copy, P: Copy, M: Copy, S: Copy> Commands<'a, C, F
         ensures { IfOk result (λ step. IsCompletionStep self.now words.now typed step) }
     {
         let leading = self.options().read_leading(alloc, copies(alloc, words)?)?;
-        match said_of(leading) {
-            Some((said, rest)) => self.placed_step(alloc, words, typed, said, rest),
+        match parsed_of(leading) {
+            Some((parsed, rest)) => self.placed_step(alloc, words, typed, parsed, rest),
             None => Ok(Step::Text(self.unplaced_text(alloc, words, &typed)?)),
         }
     }

@@ -1,13 +1,30 @@
-//! Commands in a constant, a line for each.
+//! `declare_commands!`: commands in a constant, with a line for each. The file of this name in
+//! `lexopt_options` declares options.
 
-/// A slice of [`Command`](crate::Command)s, as the value of a constant, a static or a local.
+/// Makes a slice of [`Command`](crate::Command)s, as the value of a constant, a static or a local.
 ///
-/// ```text
+/// - `command` has the program's key, the name and the help text.
+/// - `help` has the name that asks for the help. Its help text is `print the help of a command`.
+///
+/// The macro does not check the names; [`Commands::new`](crate::Commands::new) does.
+///
+/// # Examples
+///
+/// ```rust
 /// #[derive(Clone, Copy)]
 /// enum Task {
 ///     Add,
 ///     Remote,
 /// }
+///
+/// static GENERAL: Declaration<'static, Infallible, (), ()> = declare! {
+///     program: "git",
+///     options: [
+///         value((), Names::Both('C', "directory"), "DIR", "where the files are").directories(),
+///         help(Names::Both('h', "help")),
+///     ],
+///     positionals: [once((), "COMMAND").text(), any_number((), "ARGUMENT")],
+/// };
 ///
 /// static COMMANDS: &[Command<'static, Task>] = declare_commands![
 ///     command(Task::Add, "add", "add files"),
@@ -16,8 +33,7 @@
 /// ];
 /// ```
 ///
-/// `command` has the key, the name and the help. `help` has the name that asks for the help, such
-/// as `help`; the help tells of it `print the help of a command`.
+/// They declare lines such as `-C dir add -f x`, `remote add` and `help add`.
 #[macro_export]
 macro_rules! declare_commands {
     ($($what:ident $given:tt),* $(,)?) => {

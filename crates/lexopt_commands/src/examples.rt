@@ -1,4 +1,4 @@
-//! Worked examples of the definitions.
+//! Worked examples of the definitions, which the prover computes.
 ghost use Rattle.std.specs.Prelude.{◌≡◌, ◌∷◌, ◌++◌, [], ℕ, List, None, Some, codes, true};
 ghost use Rattle.lexopt_commands.specs.declared.command.Reason.TheVariants as reason;
 ghost use Rattle.lexopt_commands.specs.declared.command.Runs.TheVariants as runs;
@@ -8,7 +8,7 @@ ghost use Rattle.lexopt_commands.specs.Names.{can_be_declared, first_fault};
 
 use crate::command::Command;
 
-/// These names can be declared together.
+/// Lists of names that can be declared together.
 pub fn names_are_declared()
     ensures none { can_be_declared [] ≡ true }
     ensures two { can_be_declared (codes "add" ∷ codes "remove" ∷ []) ≡ true }
@@ -17,7 +17,7 @@ pub fn names_are_declared()
     ensures accent { can_be_declared ((0xC3 ∷ 0xA9 ∷ []) ∷ []) ≡ true }
 {}
 
-/// Each of these cannot, and this is the first that cannot.
+/// Lists of names that cannot be declared: the first name at fault, and the reason.
 pub fn names_are_refused()
     ensures empty { first_fault [] ([] ∷ []) ≡ Some ([], reason.EmptyName) }
     ensures dash { first_fault [] (codes "add" ∷ codes "-a" ∷ [])
@@ -36,8 +36,8 @@ pub fn names_are_refused()
         ≡ Some (codes "- ", reason.DashName) }
 {}
 
-/// What words mean among commands where a name runs a command, and one, or another too, asks for the
-/// help.
+/// What words mean, where the first of them run a command, ask for the help, or are not the names
+/// of commands.
 pub fn words_mean_so<C>(commands: &[Command<'_, C>])
     ensures nothing { meaning commands.now [] ≡ missing }
     ensures command { (key : C) (name : List ℕ) (rest : List (List ℕ))

@@ -1,4 +1,5 @@
-//! The help of a program that has commands.
+//! The help of a program with commands. The file of this name in `lexopt_declaration` has the help
+//! of declared options.
 ghost use Rattle.std.specs.Prelude.{◌≡◌, ◌++◌, ℕ, IfOk, List, string_bytes};
 ghost use Rattle.std.specs.List.{AllZip, concat};
 ghost use Rattle.lexopt_options_spec.specs.Help.{IsEntry};
@@ -30,7 +31,7 @@ fn command_entries<C>(
     Ok(text)
 }
 
-// The help.
+// The help, wrapped to `width` columns.
 fn help_of<C, F, V, P, M, S>(
     alloc: Global,
     options: &Options<'_, F, V, P, M, S>,
@@ -57,27 +58,40 @@ impl<C, F, V, P, M, S> Commands<'_, C, F, V, P, M, S> {
     ghost use Rattle.lexopt_options.specs.Declarations.{declaration_of};
     ghost use Rattle.lexopt_commands.specs.Help.{IsHelp};
 
-    /// The help: that of the general options, by [`Options::help`], and in it one entry for each
-    /// command, with its name as the label. These come in the order in which they are declared,
-    /// after the entries of the positional arguments and before those of the options, with an empty
-    /// line before them.
+    /// Returns the help of the program, wrapped to `width` columns.
+    ///
+    /// It is that of the general options (`Options::help` of `lexopt_options`), with an entry for
+    /// each command, whose label is the name. These entries are in the order of the declaration,
+    /// after those of the positionals and before those of the options, with an empty line before
+    /// the first.
+    ///
+    /// The positionals in the usage line are those of the general declaration, which are ignored
+    /// when a line is read. Declare `COMMAND` once and `ARGUMENT` any number of times.
+    ///
+    /// # Errors
+    ///
+    /// Returns `AllocError` if an allocation fails.
+    ///
+    /// # Examples
+    ///
+    /// ```rust
+    /// rt.print(commands.help(alloc, columns(rt))?)?;
+    /// ```
+    ///
+    /// For `example_commands` at 80 columns that prints
     ///
     /// ```text
     /// Usage: example_commands [OPTION]... COMMAND [ARGUMENT]...
     /// Prints what it has read.
     ///
     ///   add                   add files
-    ///   remote                add or remove a remote
+    ///   list                  list what was added
+    ///   remote                add a remote
     ///   help                  print the help of a command
     ///
     ///   -C, --directory=DIR   where the files are
     ///   -h, --help            print this help and exit
     /// ```
-    ///
-    /// The usage line has what the general declaration declares as its positional arguments, which
-    /// are not looked at when a line is read: `COMMAND` once, and `ARGUMENT` any number of times.
-    ///
-    /// The only error is that memory ran out.
     pub fn help(&self, alloc: Global, width: usize) -> Result<String, AllocError>
         ensures { IfOk result (λ text. IsHelp (declaration_of self.now.options)
             self.now.commands.now width (string_bytes text)) }

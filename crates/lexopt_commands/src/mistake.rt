@@ -1,4 +1,5 @@
-//! What can be wrong with a line of a program that has commands, and what is printed about it.
+//! What can be wrong with a line of a program with commands, and the messages about it. The file of
+//! this name in `lexopt_options` has the mistakes of options.
 ghost use Rattle.std.specs.Prelude.{◌≡◌, map, option_map, string_bytes, IfOk};
 ghost use Rattle.lexopt_declaration.specs.Models.{option_view};
 ghost use Rattle.lexopt_commands.specs.Mistakes.{IsHint, IsHinted, option_of};
@@ -14,19 +15,26 @@ use lexopt_words::os_string::{OsString, Quoted};
 use std::alloc::{AllocError, Global};
 use std::fmt;
 
-/// What is wrong with a line.
+/// What is wrong with a line of a program with commands. `Display` writes it on one line, without
+/// the name of the program:
+///
+/// ```text
+/// unknown command "ad"; did you mean 'add'?
+/// missing command: one of add, remote, help
+/// ```
 #[derive(Debug, Drop)]
 pub enum Mistake<'a> {
-    /// A mistake of the general options.
+    /// The general options have a mistake.
     General(lexopt_options::Mistake<'a>),
-    /// No word comes after the general options: the names that it could be.
+    /// No word comes after the general options. These are the names of all commands.
     MissingCommand(Vec<&'a str>),
-    /// A word that is not the name of a command.
+    /// The first word after the general options, or after a name that asks for the help, is not the
+    /// name of a command.
     UnknownCommand {
         /// The word.
         word: OsString,
-        /// The name of a command that may have been meant: the nearest one; or, if none is near,
-        /// the one that begins with the word, if exactly one does.
+        /// The name of a command that may have been meant: the nearest; or, if none is near, the
+        /// only one that begins with the word.
         hint: Option<String>,
     },
 }
@@ -61,9 +69,11 @@ impl fmt::Display for Mistake<'_> {
 
 impl std::error::Error for Mistake<'_> {}
 
-/// The names of these commands.
+/// Returns the names of these commands.
 ///
-/// The only error is that memory ran out.
+/// # Errors
+///
+/// Returns `AllocError` if an allocation fails.
 pub(crate) fn names_of<'a, C>(
     alloc: Global,
     commands: &[Command<'a, C>],
@@ -77,14 +87,14 @@ pub(crate) fn names_of<'a, C>(
     Ok(names)
 }
 
-// A long option with the name of a command.
+// A long option with the name of a command, for the hint.
 fn as_option<'a, C>(command: &Command<'a, C>) -> Declared<'a, ()>
     ensures { option_view result ≡ option_of command.now }
 {
     Declared::flag((), Names::Long(command.name), command.help)
 }
 
-// A long option with the name of each of these commands.
+// A long option with the name of each of these commands, for the hint.
 fn as_options<'a, C>(
     alloc: Global,
     commands: &[Command<'a, C>],
@@ -99,7 +109,7 @@ fn as_options<'a, C>(
     Ok(options)
 }
 
-// The long name that may have been meant by this one.
+// The long name that may have been meant by `name`.
 fn hinted<'a>(
     alloc: Global,
     options: &'a [Declared<'a, ()>],
@@ -114,9 +124,14 @@ fn hinted<'a>(
     }
 }
 
-/// The name of a command that may have been meant by this word.
+/// Returns the name of a command that may have been meant by this word.
 ///
-/// The only error is that memory ran out.
+/// It is the hint that the lossy text of the word would have as a long option, if the names of the
+/// commands were those of long options.
+///
+/// # Errors
+///
+/// Returns `AllocError` if an allocation fails.
 pub(crate) fn hint_for<C>(
     alloc: Global,
     commands: &[Command<'_, C>],

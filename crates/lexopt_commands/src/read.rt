@@ -1,4 +1,5 @@
-//! Reading a line up to the name of a command, and what its name and the words after it mean.
+//! Reads a line up to the name of a command, and what that name and the words after it mean. The
+//! file of this name in `lexopt_options` reads whole lines.
 ghost use Rattle.std.specs.Prelude.{◌≡◌, ◌==◌, ◌∷◌, ◌++◌, [], IfOk, None, position};
 ghost use Rattle.std.specs.Option.{MatchOption};
 ghost use Rattle.std.specs.Cmp.Lexicographic.{pointwise};
@@ -12,34 +13,34 @@ use crate::commands::Commands;
 use crate::mistake::{Mistake, hint_for, names_of};
 use crate::refused::{CommandLine, Refused};
 use lexopt_declaration::lookup::help_names_of;
-use lexopt_options::{Asked, Leading, Said};
+use lexopt_options::{Asked, Leading, Parsed};
 use lexopt_words::os_string::OsString;
 use std::alloc::{AllocError, Global};
 
-// The word by which a command is asked for its help.
+// The word that asks a command for its help.
 const HELP: &str = "--help";
 
 // What the words after the general options mean.
 #[derive(Drop)]
 pub(crate) enum Meaning<C> {
-    // A command, and the words for it.
+    // Run a command, with the words for it.
     Command(C, Vec<OsString>),
-    // The help of the program.
+    // Print the help of the program.
     Help,
     // There is no word.
     Missing,
-    // This word is not the name of a command.
+    // This word has to be the name of a command, and is not.
     Unknown(OsString),
 }
 
-// The place of the first command with this name.
+// The index of the first command with this name.
 fn place_of<C>(commands: &[Command<'_, C>], name: &[u8]) -> Option<usize>
     ensures { result ≡ position (λ c. pointwise ◌==◌ c.name.now name.now) commands.now }
 {
     commands.iter().position(|command| is_named(command, name))
 }
 
-// What the command of this index does.
+// What the command at this index does.
 fn runs_at<C: Copy>(commands: &[Command<'_, C>], index: Option<usize>) -> Option<Runs<C>>
     ensures { result ≡ runs_at commands.now index }
 {
@@ -49,14 +50,14 @@ fn runs_at<C: Copy>(commands: &[Command<'_, C>], index: Option<usize>) -> Option
     }
 }
 
-/// What the first command with this name does.
+/// What the first command with this name does; `None` if there is none.
 pub(crate) fn runs_of<C: Copy>(commands: &[Command<'_, C>], name: &[u8]) -> Option<Runs<C>>
     ensures { result ≡ runs_of commands.now name.now }
 {
     runs_at(commands, place_of(commands, name))
 }
 
-/// The first of these words, which leaves them.
+/// Takes the first of these words; `None` if there is none.
 pub(crate) fn take_first(words: &mut Vec<OsString>) -> Option<OsString>
     ensures { MatchOption result (words.old.items ≡ [])
         (λ word. words.old.items ≡ word ∷ words.new.items) }
@@ -68,7 +69,7 @@ pub(crate) fn take_first(words: &mut Vec<OsString>) -> Option<OsString>
     }
 }
 
-// These words, and the one that asks a command for its help.
+// These words, and after them the word that asks a command for its help.
 fn with_help(alloc: Global, words: Vec<OsString>) -> Result<Vec<OsString>, AllocError>
     ensures { IfOk result (λ all. all.items ≡ words.items ++ help_word ∷ []) }
 {
@@ -77,7 +78,7 @@ fn with_help(alloc: Global, words: Vec<OsString>) -> Result<Vec<OsString>, Alloc
     Ok(words)
 }
 
-// What a word that is not the name of a command means after one that asks for the help.
+// What a word that is not the name of a command means after a name that asks for the help.
 fn help_of_other<C>(word: OsString) -> Meaning<C>
     ensures { meaning_view result ≡ helped None word [] }
 {
@@ -88,7 +89,7 @@ fn help_of_other<C>(word: OsString) -> Meaning<C>
     }
 }
 
-// What the words after one that asks for the help mean.
+// What words mean after a name that asks for the help.
 fn help_of<C: Copy>(
     alloc: Global,
     commands: &[Command<'_, C>],
@@ -126,7 +127,7 @@ fn meaning_of<C: Copy>(
     }
 }
 
-/// A line whose general options were refused.
+/// Converts the refusal of general options into that of a line with commands.
 pub(crate) fn general<'a, F, V, P, M, S>(
     refused: lexopt_options::Refused<'a, F, V, P, M, S>,
 ) -> Refused<'a, F, V, P, M, S>
@@ -156,10 +157,10 @@ impl<'a, C, F, V, P, M, S> Commands<'a, C, F, V, P, M, S> {
     ghost use Rattle.lexopt_declaration.specs.Lookups.{help_names};
     ghost use Rattle.lexopt_options.specs.Declarations.{declaration_of, options_of};
 
-    // A line that is refused for this mistake after these general options.
+    // Refuses a line for this mistake, after these general options.
     fn refuse(
         &self,
-        before: Vec<Said<F, V, P, M, S>>,
+        before: Vec<Parsed<F, V, P, M, S>>,
         mistake: Mistake<'a>,
     ) -> Refused<'a, F, V, P, M, S>
         ensures program { result.program.now ≡ (declaration_of self.now.options).program }
@@ -180,76 +181,97 @@ impl<'a, C, F, V, P, M, S> Commands<'a, C, F, V, P, M, S> {
 impl<'a, C: Copy, F: Copy, V: Copy, P: Copy, M: Copy, S: Copy> Commands<'a, C, F, V, P, M, S> {
     ghost use Rattle.std.specs.Prelude.{◌≡◌, ◌∷◌, ℕ, IfOk, List, None, Some, slice_get};
     ghost use Rattle.lexopt_options_spec.specs.Asking.{first_asked};
-    ghost use Rattle.lexopt_options_spec.specs.Leading.{SaysLeading};
+    ghost use Rattle.lexopt_options_spec.specs.Leading.{MeansLeading};
     ghost use Rattle.lexopt_options_spec.specs.Legal as legal;
     ghost use Rattle.lexopt_options.specs.Declarations.{declaration_of};
     ghost use Rattle.lexopt_commands.specs.declared.command.Command as one;
     ghost use Rattle.lexopt_commands.specs.declared.command.Runs.TheVariants as runs;
     ghost use Rattle.lexopt_commands.specs.Lines.{IsCommandLine, IsLineAfter, IsLineOf, IsLineRead};
 
-    // What a line comes to by the words after its general options, which mean this.
+    // What a line means by its general options, `parsed`, and the words after them.
     fn end(
         &self,
         alloc: Global,
-        said: Vec<Said<F, V, P, M, S>>,
+        parsed: Vec<Parsed<F, V, P, M, S>>,
         words: Vec<OsString>,
     ) -> Result<CommandLine<'a, C, F, V, P, M, S>, AllocError>
-        ensures { IfOk result (λ line. IsLineAfter self.now said.items words.items line) }
+        ensures { IfOk result (λ line. IsLineAfter self.now parsed.items words.items line) }
     {
         match meaning_of(alloc, self.commands(), words)? {
-            Meaning::Command(key, own) => Ok(CommandLine::Command(said, key, own)),
+            Meaning::Command(key, own) => Ok(CommandLine::Command(parsed, key, own)),
             Meaning::Help => Ok(CommandLine::Asked(Asked::Help)),
             Meaning::Missing => {
                 let mistake = Mistake::MissingCommand(names_of(alloc, self.commands())?);
-                Ok(CommandLine::Refused(self.refuse(said, mistake)))
+                Ok(CommandLine::Refused(self.refuse(parsed, mistake)))
             }
             Meaning::Unknown(word) => {
                 let hint = hint_for(alloc, self.commands(), &word)?;
                 let mistake = Mistake::UnknownCommand { word, hint };
-                Ok(CommandLine::Refused(self.refuse(said, mistake)))
+                Ok(CommandLine::Refused(self.refuse(parsed, mistake)))
             }
         }
     }
 
-    /// Reads a line, without the name of the program, up to the name of a command.
+    /// Reads a line up to the name of a command.
     ///
-    /// The general options come first, by [`Options::read_leading`]; the word after them is the
-    /// name of a command, and all others are for that command, whose own declaration reads them.
-    /// Under the general option `C` of one value, `-C dir add -f x` is the option and its value,
-    /// and the command `add` with the words `-f x`.
+    /// The words are without the name of the program. This call consumes them. The general options
+    /// come first, as `Options::read_leading` reads them. The word after them is the name of a
+    /// command. All other words are for that command, and are not read.
     ///
     /// After a name that asks for the help ([`Runs::Help`]), such as `help`, the next word is the
-    /// name of a command: `help add` is `add --help`, and `help remote add` is `remote add --help`.
-    /// So a command that is to print its help by this declares the name `help` for a long option.
-    /// `help` alone, and `help --help`, ask for the help of the program.
+    /// name of a command: `help add` means `add --help`, and `help remote add` means
+    /// `remote add --help`. So that a command prints its help for these, its declaration has an
+    /// option for the help with the long name `help`. `help` alone, and `help --help`, ask for the
+    /// help of the program.
     ///
-    /// The only error is that memory ran out.
+    /// # Errors
+    ///
+    /// Returns `AllocError` if an allocation fails. A mistake is [`CommandLine::Refused`].
+    ///
+    /// # Examples
+    ///
+    /// With the declarations of [`declare_commands!`](crate::declare_commands):
+    ///
+    /// ```rust
+    /// // The words `-C dir add -f x`.
+    /// match commands.read(alloc, words)? {
+    ///     CommandLine::Command(general, task, own) => {
+    ///         // `general` is Value((), "dir"), `task` is Task::Add, and `own` is `-f`, `x`.
+    ///     }
+    ///     CommandLine::Asked(Asked::Help) => rt.print(commands.help(alloc, columns(rt))?)?,
+    ///     CommandLine::Asked(Asked::Version(version)) => rt.println(version)?,
+    ///     CommandLine::Refused(refused) => {
+    ///         let _ = eprintln!(rt; "{refused}");
+    ///     }
+    /// }
+    /// ```
     pub fn read(
         &self,
         alloc: Global,
         words: Vec<OsString>,
     ) -> Result<CommandLine<'a, C, F, V, P, M, S>, AllocError>
         // The words are general options that ask for nothing, and words that mean this command. Or
-        // they ask for the help or the version, the options before any mistake. Or the first
-        // mistake is this one: of the options, or of the words after them.
+        // the options ask for the help or the version before any mistake; or they ask for nothing,
+        // and the words after them ask for the help. Or this is the first mistake: of the options,
+        // or of the words after them.
         ensures line { IfOk result (λ line. IsLineRead self.now words.items line) }
 
-        // If the words are such options and words, the line is theirs.
-        ensures answered { (l : List legal.Said) (rest : List (List ℕ))
-            → SaysLeading (declaration_of self.now.options) words.items l rest
+        // If the words are general options and a rest, this is what those mean.
+        ensures answered { (l : List legal.Parsed) (rest : List (List ℕ))
+            → MeansLeading (declaration_of self.now.options) words.items l rest
             → IfOk result (λ line. IsLineOf self.now l rest line) }
 
-        // If they are options that ask for nothing, the name of a command and words for it, it is
-        // that command.
-        ensures named { (i : ℕ) (own : one.Command C) (key : C) (l : List legal.Said)
+        // If the words are general options that ask for nothing, the name of a command and words
+        // for it, this is that command.
+        ensures named { (i : ℕ) (own : one.Command C) (key : C) (l : List legal.Parsed)
             (rest : List (List ℕ)) → slice_get self.now.commands.now i ≡ Some own
             → own.runs ≡ runs.Command key
-            → SaysLeading (declaration_of self.now.options) words.items l (own.name.now ∷ rest)
+            → MeansLeading (declaration_of self.now.options) words.items l (own.name.now ∷ rest)
             → first_asked (declaration_of self.now.options).options l ≡ None
             → IfOk result (λ line. IsCommandLine self.now l key rest line) }
     {
         match self.options().read_leading(alloc, words)? {
-            Leading::Said(said, rest) => self.end(alloc, said, rest),
+            Leading::Parsed(parsed, rest) => self.end(alloc, parsed, rest),
             Leading::Asked(asked) => Ok(CommandLine::Asked(asked)),
             Leading::Refused(refused) => Ok(CommandLine::Refused(general(refused))),
         }

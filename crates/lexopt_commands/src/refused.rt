@@ -1,23 +1,29 @@
-//! What a line comes to, and a line that was refused.
+//! The result of reading a line of a program with commands, and such a line that was refused. The
+//! file of this name in `lexopt_options` has the same for declared options.
 use crate::mistake::Mistake;
 use lexopt_declaration::declaration::Names;
 use lexopt_options::refused::write_help;
-use lexopt_options::{Asked, Said};
+use lexopt_options::{Asked, Parsed};
 use lexopt_words::os_string::OsString;
 use std::convert::Infallible;
 use std::fmt;
 use std::fmt::Debug;
 
-/// A line that was refused.
+/// A line that was refused. `Display` writes what to print, without a line feed at the end:
+///
+/// ```text
+/// git: unknown command "ad"; did you mean 'add'?
+/// Try 'git --help' for more information.
+/// ```
 #[derive(Debug, Drop)]
 pub struct Refused<'a, F, V = Infallible, P = Infallible, M = Infallible, S = Infallible> {
     /// The name of the program.
     pub program: &'a str,
-    /// The general option that asks for the help, if one is declared.
+    /// The names of the first general option that asks for the help, if one is declared.
     pub help: Option<Names<'a>>,
-    /// What was read before the mistake: general options.
-    pub before: Vec<Said<F, V, P, M, S>>,
-    /// What is wrong.
+    /// What the general options before the mistake mean.
+    pub before: Vec<Parsed<F, V, P, M, S>>,
+    /// The mistake.
     pub mistake: Mistake<'a>,
 }
 
@@ -29,8 +35,8 @@ impl<F, V, P, M, S> fmt::Display for Refused<'_, F, V, P, M, S> {
     ghost output = { λ refused. Some (refusal_text refused.program.now refused.help
         (message refused.mistake)) };
 
-    /// Writes the name of the program and the mistake, as GNU programs do, and on a second line
-    /// where help is, if a general option for it is declared.
+    /// Writes the name of the program and the mistake, as GNU programs do; and on a second line
+    /// where the help is, if a general option for it is declared.
     fn fmt<W: fmt::Write>(&self, f: &mut fmt::Formatter<W>) -> fmt::Result {
         let program = self.program;
         let mistake = &self.mistake;
@@ -47,14 +53,14 @@ impl<
     S: Debug + Drop,
 > std::error::Error for Refused<'_, F, V, P, M, S> {}
 
-/// What a line comes to.
+/// The result of reading a line of a program with commands.
 #[derive(Debug, Drop)]
 pub enum CommandLine<'a, C, F, V = Infallible, P = Infallible, M = Infallible, S = Infallible> {
-    /// It is a command: what the general options before it mean, its key, and the words after its
-    /// name.
-    Command(Vec<Said<F, V, P, M, S>>, C, Vec<OsString>),
-    /// It asks for the help or the version before any mistake.
+    /// The line has a command: what the general options before it mean, its key, and the words
+    /// after its name.
+    Command(Vec<Parsed<F, V, P, M, S>>, C, Vec<OsString>),
+    /// The line asks for the help or the version before any mistake.
     Asked(Asked<'a>),
-    /// It has a mistake.
+    /// The line has a mistake.
     Refused(Refused<'a, F, V, P, M, S>),
 }

@@ -1,4 +1,4 @@
--- Positional arguments whose lists cannot be declared.
+-- Positionals whose lists cannot be declared.
 use Rattle.std.proofs.Common.{◌≡◌, ℕ, ◌+◌, ◌<◌, ◌≤◌, ◌&&◌, Bool, true, false, true≢false, List, [], ◌∷◌, map, length, take, get_or, if◌then◌else◌, Option, Some, None, option_map, is_none, refl, sym, ap, ◌∙◌, arith}
 use Rattle.std.specs.List.{list_all}
 use Rattle.std.proofs.lemmas.List.{get_or-map, length-map, take-map, take_all}
@@ -14,7 +14,7 @@ one_reason : (b : Bool) → is_none (if b then None else Some bad_list) ≡ fals
 one_reason true is = absurd (true≢false is)
 one_reason false is = refl
 
--- there is no other reason
+-- there is no other reason for a list
 bad_list_is : (words : spec.Words) → is_none (list_fault words) ≡ false → list_fault words ≡ Some bad_list
 bad_list_is files is = absurd (true≢false is)
 bad_list_is directories is = absurd (true≢false is)

@@ -1,4 +1,4 @@
--- How many positional arguments there are.
+-- How many positionals there are.
 use Rattle.std.proofs.Common.{◌≡◌, ℕ, suc, Bool, true, false, List, [], ◌∷◌, map, filter, length, Some, None, if◌then◌else◌, refl, sym, ap, ◌∙◌, ◌≢◌, ◌<◌, ◌≤◌, ◌+◌, ◌-◌, drop, get_or, add-one, drop-cons, arith}
 use Rattle.std.proofs.Math.ListN.{drop_of_length-le}
 use Rattle.std.specs.List.{list_any}
@@ -30,9 +30,9 @@ pub required_are : {P : Type 0} (ps : List (Positional P)) → length (filter (�
 required_are [] = refl
 required_are (p ∷ ps) = kept (has_to_occur (count_view p.count)) p _ _ (required_are ps)
 
--- ---- the one of a number
+-- ---- the required positional with a number
 
--- the first of those that are left
+-- the first of those left
 pub required_step : {P : Type 0} (ps : List (Positional P)) (i : ℕ) (d : Positional P) → i < length ps → required (map positional_view (drop i ps))
     ≡ (if has_to_occur (count_view (get_or ps i d).count) then positional_view (get_or ps i d) ∷ required (map positional_view (drop (i + 1) ps)) else required (map positional_view (drop (i + 1) ps)))
 required_step ps i d within = rw (add-one, drop-cons ps i d) refl

@@ -43,7 +43,7 @@ pub empty_list_fault : (values : List (Bor (List ℕ))) (none : Bool) → none �
 empty_list_fault [] none is so = refl
 empty_list_fault (v ∷ vs) none is so = absurd (let e : length (v ∷ vs) ≡ 0 = eqb-true (length (v ∷ vs)) 0 (sym is ∙ so) in omega arith)
 
--- and if there is a value in it
+-- the list of an option, if it has a value
 pub list_fault_is : (values : List (Bor (List ℕ))) (none good : Bool) → none ≡ (length values == 0) → none ≡ false → good ≡ list_all (λ (value : Bor (List ℕ)). is_listable value.now) values
     → list_fault (listed (map (λ (value : Bor (List ℕ)). value.now) values)) ≡ cond good None (Some bad_list)
 list_fault_is [] none good is so all = absurd (true≢false (sym is ∙ so))

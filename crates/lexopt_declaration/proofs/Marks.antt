@@ -9,7 +9,7 @@ use Rattle.lexopt_options_spec.specs.Help.{demanded, option_mark, options_mark, 
 use Rattle.lexopt_declaration.specs.declared.declaration.Declared.{Declared}
 use Rattle.lexopt_declaration.specs.Models.{option_view}
 
--- ---- those that may be left out
+-- ---- the options that are not required
 
 any_voluntary : List spec.Declared → Bool
 any_voluntary options = list_any (λ (o : spec.Declared). not o.hidden && not o.required) options
@@ -32,7 +32,7 @@ unfolding any_voluntary
 mark_is options b is = mark_if_any (map option_view options)
     ∙ ap (λ (x : Bool). cond x (codes "[OPTION]..." ∷ []) []) (list_any-map option_view (λ (o : spec.Declared). not o.hidden && not o.required) options ∙ sym is)
 
--- ---- those that are required
+-- ---- the required options
 
 required_marks : List spec.Declared → List (List ℕ)
 required_marks options = map option_mark (demanded (visible options))
@@ -54,7 +54,7 @@ marks_of_both l m =
     ∙ ap (map option_mark) (filter-append (λ (o : spec.Declared). o.required) (visible l) (visible m))
     ∙ map-append option_mark (demanded (visible l)) (demanded (visible m))
 
--- one option more
+-- one more option
 marks_more : {F V M S : Type 0} (options : List (Declared F V M S)) (i : ℕ) (d : Declared F V M S) (b : Bool) → i < length options → b ≡ (not (get_or options i d).hidden && (get_or options i d).required)
     → required_marks (map option_view (take (i + 1) options)) ≡ required_marks (map option_view (take i options)) ++ cond b (option_mark (option_view (get_or options i d)) ∷ []) []
 marks_more options i d b within is =

@@ -1,4 +1,4 @@
--- Positional arguments that may occur more than once.
+-- Positionals that may occur more than once.
 use Rattle.std.proofs.Common.{◌≡◌, ℕ, ◌+◌, ◌<◌, ◌≤◌, ◌||◌, Bool, true, false, not, List, [], ◌∷◌, map, filter, length, take, get_or, if◌then◌else◌, Some, refl, sym, ap, ◌∙◌, arith, length-append}
 use Rattle.std.specs.List.{list_any}
 use Rattle.std.proofs.lemmas.List.{get_or-map, length-map, map_more, take-map, take_all}
@@ -9,7 +9,7 @@ use Rattle.lexopt_options_spec.specs.Declaration.{IsSecondRepeated, are_clear, m
 use Rattle.lexopt_declaration.specs.declared.declaration.Positional.{Positional}
 use Rattle.lexopt_declaration.specs.Models.{count_view, positional_view}
 
--- how many of these may occur more than once
+-- how many of these positionals may occur more than once
 abbrev pub repeated_count : List spec.Positional → ℕ
 repeated_count ps = length (filter (λ (p : spec.Positional). may_repeat p.count) ps)
 
@@ -24,7 +24,7 @@ none_repeats (p ∷ ps) = elim (may_repeat p.count) as (λ (b : Bool). length (i
   | false ↦ λ none. none_repeats ps none
 ]
 
--- one at most
+-- at most one may
 are_clear_is : (ps : List spec.Positional) → repeated_count ps ≤ 1 → are_clear ps ≡ true
 unfolding any_repeats
 are_clear_is [] = λ few. refl

@@ -1,4 +1,4 @@
--- U+FFFD is not in a name without its first byte.
+-- A name without the first byte of U+FFFD does not have U+FFFD.
 use Rattle.std.proofs.Common.{◌≡◌, ℕ, true, false, ◌==◌, List, [], ◌∷◌, ◌++◌, encode_utf8, encode_utf8_all, refl, sym, ap, subst, ◌∙◌, ⊎_elim}
 use Rattle.std.specs.Str.{IsUtf8}
 use Rattle.std.proofs.lemmas.Bool.{true≢false, or_right, or_cases, false_from_ne_true, eqb-true}

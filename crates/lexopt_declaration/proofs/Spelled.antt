@@ -1,4 +1,4 @@
--- The spellings of one option more.
+-- The spellings of one more option.
 use Rattle.std.proofs.Common.{◌≡◌, ◌<◌, ◌+◌, ◌++◌, ◌∷◌, [], ℕ, Bool, List, filter, get_or, length, map, take, ap, sym, subst, ◌∙◌, append-nil}
 use Rattle.std.specs.List.{list_any}
 use Rattle.std.proofs.lemmas.List.{map_more}

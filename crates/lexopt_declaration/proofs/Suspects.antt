@@ -1,4 +1,4 @@
--- A name that has no byte that may be part of a fault.
+-- A name without a byte that can be part of a fault.
 use Rattle.std.proofs.Common.{◌≡◌, ℕ, Bool, true, false, ◌==◌, ◌||◌, List, [], ◌∷◌, length, None, Some, if◌then◌else◌, refl, sym, ◌∙◌, ⊎_elim}
 use Rattle.std.specs.List.{list_any}
 use Rattle.std.specs.Str.{IsUtf8}

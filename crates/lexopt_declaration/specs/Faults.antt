@@ -19,7 +19,8 @@ use Rattle.lexopt_declaration.specs.Models.{option_view, positional_view, reason
 abbrev pub is_suspect : ℕ → Bool
 is_suspect b = is_blank_or_control b || (b == equals || b == 0xEF)
 
--- the option with these names is the first that cannot be declared after those before it, and why
+-- the option with these names is the first that cannot be declared after those before it, for this
+-- reason
 abbrev pub IsOptionError : {F V M S : Type 0} → List (Declared F V M S) → Names → Reason → Type 0
 IsOptionError options names reason = (index : ℕ)
     × IsFirstFault (map option_view options) index (reason_view reason)
@@ -37,7 +38,7 @@ IsListError positionals placeholder = (index : ℕ)
     × IsFirstBadList (map positional_view positionals) index
     × (option_map (λ p. p.placeholder) (slice_get positionals index) ≡ Some placeholder)
 
--- it has such an option; or it has none and such a positional, of the one kind or the other
+-- the declaration has such an option; or no such option, but a positional with one of these faults
 abbrev pub IsDeclarationError : {F V P M S : Type 0} → Declaration F V P M S → DeclarationError
     → Type 0
 IsDeclarationError d (error.Option names reason) = IsOptionError d.options.now names reason

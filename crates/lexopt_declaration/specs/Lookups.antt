@@ -1,4 +1,4 @@
--- The option of an index, by the types of Rust.
+-- The option at an index, by the types of the code.
 use Rattle.std.specs.Prelude.{ℕ, Bool, true, false, List, Option, Some, None, option_map, position}
 use Rattle.std.specs.Prelude.{slice_get}
 use Rattle.lexopt_declaration.specs.declared.declaration.Declared.{Declared}
@@ -6,7 +6,7 @@ use Rattle.lexopt_declaration.specs.declared.declaration.Kind.{Kind}
 use Rattle.lexopt_declaration.specs.declared.declaration.Kind.TheVariants.{Help}
 use Rattle.lexopt_declaration.specs.declared.declaration.Names.{Names}
 
--- the names of the option of this index
+-- the names of the option at this index
 abbrev pub names_at : {F V M S : Type 0} → List (Declared F V M S) → Option ℕ → Option Names
 names_at options None = None
 names_at options (Some i) = option_map (λ o. o.names) (slice_get options i)

@@ -1,4 +1,4 @@
--- The scripts by which a shell completes the lines of a program, whose name is put into them.
+-- The scripts by which shells complete the lines of a program.
 use Rattle.std.specs.Prelude.{ℕ, List, ◌++◌, codes, if◌then◌else◌, map}
 use Rattle.std.specs.Char.{is_ascii_alphanumeric, to_ascii_uppercase}
 use Rattle.lexopt_declaration.specs.declared.shell.Shell.{Shell}
@@ -14,12 +14,12 @@ shell_name Fish = codes "fish"
 
 -- ---- what a shell asks for
 
--- the value of the variable by which it asks
+-- the value of the variable that makes this request
 abbrev pub request_text : ShellRequest → List ℕ
 request_text (asks.Script shell) = shell_name shell ++ codes "_source"
 request_text (asks.Completion shell) = shell_name shell ++ codes "_complete"
 
--- a letter in upper case, a digit, or an underscore in the place of any other byte
+-- a letter in upper case, a digit as it is, and an underscore for any other byte
 abbrev pub variable_byte : ℕ → ℕ
 variable_byte b = if is_ascii_alphanumeric b then to_ascii_uppercase b else 0x5F
 
@@ -111,7 +111,7 @@ bash_program =
     codes " \"${COMP_LINE:0:COMP_POINT}\"\n"
     ++ codes "    program=${words[0]}\n"
     ++ codes "    [[ $program == \\~/* ]] && program=$HOME${program:1}\n"
-    ++ codes "    # An alias is no command: then ask the program itself.\n"
+    ++ codes "    # An alias is not a command: then ask the program itself.\n"
     ++ codes "    type -P -- \"$program\" >/dev/null || program="
 
 unfoldable pub bash_words : List ℕ → List ℕ
@@ -212,7 +212,7 @@ zsh_typed =
     ++ codes "    typed=${(Q)typed}\n"
     ++ codes "    program=${(Q)words[1]}\n"
     ++ codes "    program=${program/#\\~\\//$HOME/}\n"
-    ++ codes "    # An alias is no command: then ask the program itself.\n"
+    ++ codes "    # An alias is not a command: then ask the program itself.\n"
     ++ codes "    whence -p -- \"$program\" >/dev/null || program="
 
 unfoldable pub zsh_words : List ℕ → List ℕ

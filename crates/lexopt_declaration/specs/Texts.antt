@@ -1,4 +1,4 @@
--- What is printed of an option's names, and of what cannot be declared.
+-- The text of an option's names, and the messages about what cannot be declared.
 use Rattle.std.specs.Prelude.{ℕ, List, ◌++◌, codes, encode_utf8}
 use Rattle.lexopt_declaration.specs.declared.declaration.DeclarationError.{DeclarationError}
 use Rattle.lexopt_declaration.specs.declared.declaration.DeclarationError.TheVariants as error
@@ -31,7 +31,7 @@ reason_text BadList =
     ++ codes "or has a blank or a control character in it"
 reason_text SameName = codes "an option before it has one of its names"
 
--- which option or positional argument, and why
+-- which option or positional cannot be declared, and why
 abbrev pub declaration_error_text : DeclarationError → List ℕ
 declaration_error_text (error.Option option reason) =
     codes "option '" ++ (names_text option ++ (codes "': " ++ reason_text reason))

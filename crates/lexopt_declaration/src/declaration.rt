@@ -1,4 +1,4 @@
-//! What a program declares: its options and its positional arguments.
+//! What a program declares: its options and its positionals; and why it cannot.
 ghost use Rattle.std.specs.Prelude.{◌≡◌, ◌==◌, ◌∷◌, [], true, map, option_map};
 ghost use Rattle.std.specs.Option.{MatchOption};
 ghost use Rattle.std.specs.List.{list_all, list_any};
@@ -16,14 +16,14 @@ use crate::positionals::{first_bad_list, second_repeated};
 use std::convert::Infallible;
 use std::fmt;
 
-/// An option's names, without dashes.
+/// The names of an option, without their dashes.
 #[derive(Debug, Clone, Copy, PartialEq, Eq)]
 pub enum Names<'a> {
-    /// One character: `v` for `-v`.
+    /// A character: `v` for `-v`.
     Short(char),
     /// A name: `verbose` for `--verbose`.
     Long(&'a str),
-    /// Both.
+    /// A character and a name: `v` and `verbose` for `-v` and `--verbose`.
     Both(char, &'a str),
 }
 
@@ -33,7 +33,7 @@ impl fmt::Display for Names<'_> {
 
     ghost output = { λ names. Some (names_text names) };
 
-    /// Writes the option with its dashes: by its name, if it has one.
+    /// Writes the option with its dashes: by its name if it has one, otherwise by its character.
     fn fmt<W: fmt::Write>(&self, f: &mut fmt::Formatter<W>) -> fmt::Result {
         match self {
             Names::Short(character) => write!(f, "-{character}"),
@@ -47,7 +47,7 @@ impl<'a> Names<'a> {
     ghost use Rattle.lexopt_options_spec.specs.Declaration as spec;
     ghost use Rattle.lexopt_declaration.specs.Models.{long_name, short_name};
 
-    /// The character, if there is one.
+    /// Returns the character, if there is one.
     pub fn short(self) -> Option<char>
         ensures { result ≡ short_name self.entry }
     {
@@ -57,7 +57,7 @@ impl<'a> Names<'a> {
         }
     }
 
-    /// The name, if there is one.
+    /// Returns the name, if there is one.
     pub fn long(self) -> Option<&'a str>
         ensures { option_map (λ name. name.now) result ≡ long_name self.entry }
     {
@@ -89,38 +89,39 @@ impl<'a> Names<'a> {
     }
 }
 
-/// How many values an option has, each with the placeholder that messages and the help show for it.
+/// How many values an option has, and the placeholder that messages and the help show for a value.
 #[derive(Debug, Clone, Copy)]
 pub enum Arity<'a> {
-    /// None.
+    /// No value.
     Zero,
-    /// One, always.
+    /// Always one value.
     One(&'a str),
-    /// One that may be left out.
+    /// One value, or none.
     Optional(&'a str),
-    /// One at least.
+    /// At least one value.
     Several(&'a str),
 }
 
-/// What an option is: a flag, or one with values; each with the program's own key for it, which the
-/// program gets when the option occurs. Or it asks for the help or the version.
+/// What an option is: a flag or an option with values, each with the program's own key, or a
+/// request for the help or the version.
 ///
-/// There is a type of keys for each kind: `F` for flags, `V` for options with a value, `M` for
-/// those whose value may be left out, and `S` for those with several values. Two options may have
-/// the same key; where one is looked up by its key, the first is found.
+/// Each kind has its own type of keys: `F` for flags, `V` for options of one value, `M` for those
+/// whose value may be left out, `S` for those of several values. Two options may have the same key.
+/// Then a program cannot tell them apart, and a message about a key names the first. The `Kind` of
+/// `lexopt_items` has no key and no placeholder: it is only how many values an option has.
 #[derive(Debug, Clone, Copy)]
 pub enum Kind<'a, F, V = Infallible, M = Infallible, S = Infallible> {
     /// No value: `-v`, `--verbose`.
     Flag(F),
-    /// One value, always, and its placeholder: `-o FILE`, `--output=FILE`.
+    /// Always one value, and its placeholder: `-o FILE`, `--output=FILE`.
     Value(V, &'a str),
-    /// One value that may be left out, and its placeholder: `-c[WHEN]`, `--color[=WHEN]`.
+    /// One value or none, and its placeholder: `-c[WHEN]`, `--color[=WHEN]`.
     Maybe(M, &'a str),
-    /// One value at least, and the placeholder for each: `-x PATTERN...`.
+    /// At least one value, and the placeholder of each: `-x PATTERN...`.
     Values(S, &'a str),
-    /// No value: it asks for the help.
+    /// No value: asks for the help.
     Help,
-    /// No value: it asks for the version, which is this text.
+    /// No value: asks for the version, which is this text.
     Version(&'a str),
 }
 
@@ -129,7 +130,7 @@ impl<'a, F, V, M, S> Kind<'a, F, V, M, S> {
     ghost use Rattle.lexopt_declaration.specs.Models.{arity_kind, arity_placeholder, kind_of};
     ghost use Rattle.lexopt_declaration.specs.Models.{placeholder_of};
 
-    /// How many values it has.
+    /// Returns how many values the option has, and their placeholder.
     pub fn arity(&self) -> Arity<'a>
         ensures kind { arity_kind result ≡ kind_of self.now }
         ensures placeholder { arity_placeholder result ≡ placeholder_of self.now }
@@ -142,7 +143,7 @@ impl<'a, F, V, M, S> Kind<'a, F, V, M, S> {
         }
     }
 
-    /// The placeholder for its value: empty if it has none.
+    /// Returns the placeholder of the value; the empty text for an option without values.
     pub fn placeholder(&self) -> &'a str
         ensures { result.now ≡ placeholder_of self.now }
     {
@@ -155,41 +156,46 @@ impl<'a, F, V, M, S> Kind<'a, F, V, M, S> {
     }
 }
 
-/// What the values of an option or the words of a positional argument may be, and what a shell
-/// completes them by.
+/// What the values of an option or the words of a positional may be, and how shells complete them.
 #[derive(Debug, Clone, Copy)]
 pub enum Words<'a> {
-    /// Any; by the names of files.
+    /// Anything. Shells complete the names of files.
     Files,
-    /// Any; by the names of directories.
+    /// Anything. Shells complete the names of directories.
     Directories,
-    /// Any; by nothing.
+    /// Anything. Shells complete nothing.
     Text,
-    /// These and no others; by these.
+    /// What is in this list, and nothing else. Shells complete it.
     Listed(&'a [&'a str]),
 }
 
-/// An option.
+/// A declared option.
 #[derive(Debug, Clone, Copy)]
 pub struct Declared<'a, F, V = Infallible, M = Infallible, S = Infallible> {
     /// Its names.
     pub names: Names<'a>,
     /// What it is.
     pub kind: Kind<'a, F, V, M, S>,
-    /// What the help tells of it: words with single spaces between them.
+    /// Its help text: words with single blanks between them.
     pub help: &'a str,
     /// Whether the help leaves it out.
     pub hidden: bool,
-    /// Whether every line has to have it.
+    /// Whether every legal line has it.
     pub required: bool,
-    /// What its values may be. The help tells of a list, even of a flag, which has no values.
+    /// What its values may be. The help shows a list, even that of a flag, which has no values.
     pub words: Words<'a>,
 }
 
 impl<'a, F, V, M, S> Declared<'a, F, V, M, S> {
     ghost use Rattle.std.specs.Prelude.{◌≡◌, codes, false, true};
 
-    /// An option with no value: `-v`, `--verbose`.
+    /// Declares a flag, an option without values: `-v`, `--verbose`.
+    ///
+    /// # Examples
+    ///
+    /// ```rust
+    /// Declared::flag(Flag::Verbose, Names::Both('v', "verbose"), "tell more")
+    /// ```
     pub fn flag(key: F, names: Names<'a>, help: &'a str) -> Declared<'a, F, V, M, S>
         ensures { result ≡ record {
           names = names.entry;
@@ -210,7 +216,13 @@ impl<'a, F, V, M, S> Declared<'a, F, V, M, S> {
         }
     }
 
-    /// An option with one value: `-o FILE`, `--output=FILE`.
+    /// Declares an option of one value: `-o FILE`, `--output=FILE`.
+    ///
+    /// # Examples
+    ///
+    /// ```rust
+    /// Declared::value(Value::Output, Names::Both('o', "output"), "FILE", "the archive")
+    /// ```
     pub fn value(
         key: V,
         names: Names<'a>,
@@ -236,7 +248,13 @@ impl<'a, F, V, M, S> Declared<'a, F, V, M, S> {
         }
     }
 
-    /// An option with a value that may be left out: `-c[WHEN]`, `--color[=WHEN]`.
+    /// Declares an option whose value may be left out: `-c[WHEN]`, `--color[=WHEN]`.
+    ///
+    /// # Examples
+    ///
+    /// ```rust
+    /// Declared::maybe(Maybe::Color, Names::Both('c', "color"), "WHEN", "use colours")
+    /// ```
     pub fn maybe(
         key: M,
         names: Names<'a>,
@@ -262,7 +280,13 @@ impl<'a, F, V, M, S> Declared<'a, F, V, M, S> {
         }
     }
 
-    /// An option with several values: `-x PATTERN...`.
+    /// Declares an option of several values, at least one: `-x PATTERN...`.
+    ///
+    /// # Examples
+    ///
+    /// ```rust
+    /// Declared::values(Values::Exclude, Names::Both('x', "exclude"), "PATTERN", "leave these out")
+    /// ```
     pub fn values(
         key: S,
         names: Names<'a>,
@@ -288,8 +312,14 @@ impl<'a, F, V, M, S> Declared<'a, F, V, M, S> {
         }
     }
 
-    /// An option that asks for the help, such as `-h`, `--help`. The help tells of it
+    /// Declares an option that asks for the help, such as `-h`, `--help`. Its help text is
     /// `print this help and exit`.
+    ///
+    /// # Examples
+    ///
+    /// ```rust
+    /// Declared::help(Names::Both('h', "help"))
+    /// ```
     pub fn help(names: Names<'a>) -> Declared<'a, F, V, M, S>
         ensures names { result.names ≡ names.entry }
         ensures kind { result.kind ≡ Kind.Help }
@@ -308,8 +338,14 @@ impl<'a, F, V, M, S> Declared<'a, F, V, M, S> {
         }
     }
 
-    /// An option that asks for the version, such as `--version`, and the text that it writes. The
-    /// help tells of it `print the version and exit`.
+    /// Declares an option that asks for the version, such as `--version`, and the text to print.
+    /// Its help text is `print the version and exit`.
+    ///
+    /// # Examples
+    ///
+    /// ```rust
+    /// Declared::version(Names::Long("version"), "pack 1.0")
+    /// ```
     pub fn version(names: Names<'a>, text: &'a str) -> Declared<'a, F, V, M, S>
         ensures names { result.names ≡ names.entry }
         ensures kind { result.kind ≡ Kind.Version text.entry }
@@ -328,7 +364,13 @@ impl<'a, F, V, M, S> Declared<'a, F, V, M, S> {
         }
     }
 
-    /// The same option, left out of the help.
+    /// Leaves the option out of the help. In all else it is like any other option.
+    ///
+    /// # Examples
+    ///
+    /// ```rust
+    /// Declared::flag(Flag::Trace, Names::Long("trace"), "").hidden()
+    /// ```
     pub fn hidden(self) -> Declared<'a, F, V, M, S>
         ensures { result ≡ record self.entry { hidden = true } }
     {
@@ -338,7 +380,13 @@ impl<'a, F, V, M, S> Declared<'a, F, V, M, S> {
         }
     }
 
-    /// The same option, which every line has to have.
+    /// Makes the option required: every legal line has it.
+    ///
+    /// # Examples
+    ///
+    /// ```rust
+    /// Declared::value(Value::Output, Names::Long("output"), "FILE", "the archive").required()
+    /// ```
     pub fn required(self) -> Declared<'a, F, V, M, S>
         ensures { result ≡ record self.entry { required = true } }
     {
@@ -348,7 +396,13 @@ impl<'a, F, V, M, S> Declared<'a, F, V, M, S> {
         }
     }
 
-    /// The same option, whose values a shell completes by the names of directories.
+    /// Has shells complete the values of the option by the names of directories.
+    ///
+    /// # Examples
+    ///
+    /// ```rust
+    /// Declared::value(Value::Folder, Names::Short('C'), "DIR", "where files are").directories()
+    /// ```
     pub fn directories(self) -> Declared<'a, F, V, M, S>
         ensures { result ≡ record self.entry { words = Words.Directories } }
     {
@@ -358,7 +412,13 @@ impl<'a, F, V, M, S> Declared<'a, F, V, M, S> {
         }
     }
 
-    /// The same option, whose values no shell completes.
+    /// Has shells complete the values of the option by nothing.
+    ///
+    /// # Examples
+    ///
+    /// ```rust
+    /// Declared::value(Value::Owner, Names::Long("owner"), "USER", "who owns the files").text()
+    /// ```
     pub fn text(self) -> Declared<'a, F, V, M, S>
         ensures { result ≡ record self.entry { words = Words.Text } }
     {
@@ -368,7 +428,14 @@ impl<'a, F, V, M, S> Declared<'a, F, V, M, S> {
         }
     }
 
-    /// The same option, which accepts no other value than these.
+    /// Makes the option accept only the values in this list, which shells complete and the help
+    /// shows.
+    ///
+    /// # Examples
+    ///
+    /// ```rust
+    /// Declared::value(Value::Mode, Names::Long("mode"), "MODE", "how").one_of(&["fast", "slow"])
+    /// ```
     pub fn one_of(self, values: &'a [&'a str]) -> Declared<'a, F, V, M, S>
         ensures { result ≡ record self.entry { words = Words.Listed values.entry } }
     {
@@ -379,20 +446,20 @@ impl<'a, F, V, M, S> Declared<'a, F, V, M, S> {
     }
 }
 
-/// How often a positional argument may occur.
+/// How often a positional may occur.
 #[derive(Debug, Clone, Copy, PartialEq, Eq)]
 pub enum Count {
-    /// Once, always.
+    /// Always once.
     Once,
-    /// Once, or not at all.
+    /// At most once.
     AtMostOnce,
     /// Any number of times.
     AnyNumber,
-    /// Once at least.
+    /// At least once.
     AtLeastOnce,
 }
 
-/// A positional argument.
+/// A declared positional.
 #[derive(Debug, Clone, Copy)]
 pub struct Positional<'a, P> {
     /// The program's own key for it.
@@ -401,17 +468,23 @@ pub struct Positional<'a, P> {
     pub placeholder: &'a str,
     /// How often it may occur.
     pub count: Count,
-    /// What the help tells of it. If that has no word and it has no list, the help has no entry for
-    /// it.
+    /// Its help text. The help has no entry for a positional without a list whose help text has no
+    /// word.
     pub help: &'a str,
-    /// What its words may be. The help tells of a list.
+    /// What its words may be. The help shows a list.
     pub words: Words<'a>,
 }
 
 impl<'a, P> Positional<'a, P> {
     ghost use Rattle.std.specs.Prelude.{◌≡◌};
 
-    /// One that is required: `FILE`.
+    /// Declares a positional that occurs once: `FILE`.
+    ///
+    /// # Examples
+    ///
+    /// ```rust
+    /// Positional::once(Word::Dest, "DEST", "where to")
+    /// ```
     pub fn once(key: P, placeholder: &'a str, help: &'a str) -> Positional<'a, P>
         ensures { result ≡ record {
           key = key;
@@ -430,7 +503,13 @@ impl<'a, P> Positional<'a, P> {
         }
     }
 
-    /// One that may be left out: `[FILE]`.
+    /// Declares a positional that may be left out: `[FILE]`.
+    ///
+    /// # Examples
+    ///
+    /// ```rust
+    /// Positional::at_most_once(Word::Target, "TARGET", "what to build")
+    /// ```
     pub fn at_most_once(key: P, placeholder: &'a str, help: &'a str) -> Positional<'a, P>
         ensures { result ≡ record {
           key = key;
@@ -449,7 +528,13 @@ impl<'a, P> Positional<'a, P> {
         }
     }
 
-    /// Any number of them: `[FILE]...`.
+    /// Declares a positional that may occur any number of times: `[FILE]...`.
+    ///
+    /// # Examples
+    ///
+    /// ```rust
+    /// Positional::any_number(Word::File, "FILE", "what to pack")
+    /// ```
     pub fn any_number(key: P, placeholder: &'a str, help: &'a str) -> Positional<'a, P>
         ensures { result ≡ record {
           key = key;
@@ -468,7 +553,13 @@ impl<'a, P> Positional<'a, P> {
         }
     }
 
-    /// One at least: `FILE...`.
+    /// Declares a positional that occurs at least once: `FILE...`.
+    ///
+    /// # Examples
+    ///
+    /// ```rust
+    /// Positional::at_least_once(Word::Source, "SOURCE", "what to copy")
+    /// ```
     pub fn at_least_once(key: P, placeholder: &'a str, help: &'a str) -> Positional<'a, P>
         ensures { result ≡ record {
           key = key;
@@ -487,7 +578,13 @@ impl<'a, P> Positional<'a, P> {
         }
     }
 
-    /// The same positional argument, whose words a shell completes by the names of directories.
+    /// Has shells complete the words of the positional by the names of directories.
+    ///
+    /// # Examples
+    ///
+    /// ```rust
+    /// Positional::once(Word::Dest, "DEST", "where to").directories()
+    /// ```
     pub fn directories(self) -> Positional<'a, P>
         ensures { result ≡ record self.entry { words = Words.Directories } }
     {
@@ -497,7 +594,13 @@ impl<'a, P> Positional<'a, P> {
         }
     }
 
-    /// The same positional argument, whose words no shell completes.
+    /// Has shells complete the words of the positional by nothing.
+    ///
+    /// # Examples
+    ///
+    /// ```rust
+    /// Positional::once(Word::Name, "NAME", "whom to greet").text()
+    /// ```
     pub fn text(self) -> Positional<'a, P>
         ensures { result ≡ record self.entry { words = Words.Text } }
     {
@@ -507,7 +610,14 @@ impl<'a, P> Positional<'a, P> {
         }
     }
 
-    /// The same positional argument, which accepts no other word than these.
+    /// Makes the positional accept only the words in this list, which shells complete and the help
+    /// shows.
+    ///
+    /// # Examples
+    ///
+    /// ```rust
+    /// Positional::once(Word::Mode, "MODE", "how").one_of(&["fast", "slow"])
+    /// ```
     pub fn one_of(self, values: &'a [&'a str]) -> Positional<'a, P>
         ensures { result ≡ record self.entry { words = Words.Listed values.entry } }
     {
@@ -518,44 +628,50 @@ impl<'a, P> Positional<'a, P> {
     }
 }
 
-/// Why an option cannot be declared.
+/// Why an option cannot be declared. `Display` writes it, such as `its name is empty`. The `Reason`
+/// of `lexopt_commands` is about the names of commands, that of `lexopt_spell` about items.
 #[derive(Debug, Clone, Copy, PartialEq, Eq)]
 pub enum Reason {
-    /// Its character is `-`: `--` is the separator, and `--name` a long option.
+    /// Its character is `-`: the word `--` is the separator, and `--name` is a long option.
     DashName,
     /// Its name is empty.
     EmptyName,
-    /// Its name has `=` in it: `--a=b` is `a` with a value.
+    /// Its name has `=` in it: the word `--a=b` is the option `a` with a value.
     EqualsInName,
-    /// Its character or its name has U+FFFD in it, which shows damage in what was typed.
+    /// Its character is U+FFFD, or its name has it. U+FFFD represents damage in what was typed.
     ReplacementInName,
-    /// Its character, or a byte of its name, is a blank or a control character of ASCII: a shell
-    /// parts words at the one, and a terminal acts on the other.
+    /// Its character is a blank or a control character of ASCII, or its name has one. A shell
+    /// separates words at blanks, and a terminal acts on control characters.
     BlankOrControlInName,
-    /// The placeholder of its value is empty, or begins with `-` or `=`: a form that the help shows
-    /// could be illegal with it, or mean another value.
+    /// The placeholder of its value is empty, or begins with `-` or `=`. A form that the help shows
+    /// could then be illegal, or mean another value.
     BadPlaceholder,
-    /// The list of its values is empty; or one of them is empty, or begins with `-` or `=`, or has
-    /// a blank or a control character of ASCII in it.
+    /// The list of its values is empty, or one of them is empty, begins with `-` or `=`, or has a
+    /// blank or a control character of ASCII in it.
     BadList,
-    /// An option before it has one of its names.
+    /// An option before it has the same character or name.
     SameName,
 }
 
-/// What cannot be declared.
+/// What cannot be declared. `Display` writes it on one line:
+///
+/// ```text
+/// option '--output': an option before it has one of its names
+/// positional argument FILE: one before it may occur more than once too
+/// ```
 #[derive(Debug, Clone, Copy, PartialEq, Eq)]
 pub enum DeclarationError<'a> {
     /// An option that cannot be declared after those before it.
     Option {
         /// The names of the option.
         option: Names<'a>,
-        /// Why it cannot be declared.
+        /// The reason.
         reason: Reason,
     },
-    /// A second positional argument that may occur more than once: its placeholder.
+    /// The second positional that may occur more than once: its placeholder.
     Positional(&'a str),
-    /// A positional argument whose list of values is empty, or has one that is empty, begins with
-    /// `-` or `=`, or has a blank or a control character of ASCII in it: its placeholder.
+    /// A positional whose list is empty, or has a word that is empty, begins with `-` or `=`, or
+    /// has a blank or a control character of ASCII in it: its placeholder.
     BadList(&'a str),
 }
 
@@ -610,36 +726,38 @@ impl fmt::Display for DeclarationError<'_> {
 
 impl std::error::Error for DeclarationError<'_> {}
 
-/// What a program declares.
+/// What a program declares. The macro `declare!` of `lexopt_options` writes it with a line for each
+/// option.
 ///
-/// Each option and each positional argument has the program's own key for it. There is a type of
-/// keys for each kind: `F` for flags, `V` for options with a value, `P` for positional arguments,
-/// `M` for options whose value may be left out, and `S` for those with several values. It is
-/// `Infallible` where a program has none of that kind.
+/// Each option and each positional has the program's own key for it. Each kind has its own type of
+/// keys: `F` for flags, `V` for options of one value, `P` for positionals, `M` for options whose
+/// value may be left out, `S` for options of several values. The type is `Infallible` if the
+/// program has none of that kind.
 #[derive(Debug, Clone, Copy)]
 pub struct Declaration<'a, F, V = Infallible, P = Infallible, M = Infallible, S = Infallible> {
     /// The name of the program.
     pub program: &'a str,
-    /// What it does, in a sentence or two. It may be empty.
+    /// What the program does, in a sentence or two; maybe the empty text.
     pub about: &'a str,
-    /// Its options, in the order of the help.
+    /// Its options. The help has them in this order.
     pub options: &'a [Declared<'a, F, V, M, S>],
-    /// Its positional arguments, in order.
+    /// Its positionals, in the order in which lines have them.
     pub positionals: &'a [Positional<'a, P>],
     /// Paragraphs at the end of the help.
     pub epilogue: &'a [&'a str],
-    /// Whether `=` in a cluster separates an option from its value.
+    /// Whether `=` in a cluster separates an option from its value, as in `-o=file`.
     pub short_equals: bool,
 }
 
-// Whether U+FFFD is among the characters of a name.
+// Whether a name has U+FFFD in it. It is separate from `has_replacement` for the proof: its
+// contract is by the characters of the name, and not by those of its lossy text.
 fn any_replacement(name: &str) -> bool
     ensures { result ≡ list_any (λ c. c == replacement) (chars name.now) }
 {
     name.chars().any(|character| character == '\u{FFFD}')
 }
 
-// Whether U+FFFD is in a name. Few names have its first byte, EF.
+// Whether a name has U+FFFD in it. Few names have its first byte, EF, so this looks for that first.
 fn has_replacement(name: &str) -> bool
     ensures { result ≡ has replacement (lossy_characters name.now) }
 {
@@ -649,14 +767,14 @@ fn has_replacement(name: &str) -> bool
     any_replacement(name)
 }
 
-// Whether a byte is a blank, or a control character of ASCII.
+// Whether a byte is a blank or a control character of ASCII.
 fn is_blank_or_control(byte: u8) -> bool
     ensures { result ≡ spec.is_blank_or_control byte }
 {
     byte < b'!' || byte == 0x7F
 }
 
-// Whether a blank, or a control character of ASCII, is in a name.
+// Whether a name has a blank or a control character of ASCII in it.
 fn has_blank_or_control(name: &str) -> bool
     ensures { result ≡ list_any spec.is_blank_or_control name.now }
 {
@@ -665,7 +783,7 @@ fn has_blank_or_control(name: &str) -> bool
         .any(|byte| is_blank_or_control(*byte))
 }
 
-// What is wrong with a character as a name.
+// What is wrong with the character of an option.
 fn short_fault(name: Option<char>) -> Option<Reason>
     ensures { option_map reason_view result ≡ spec.short_fault name }
 {
@@ -677,7 +795,7 @@ fn short_fault(name: Option<char>) -> Option<Reason>
     }
 }
 
-// Whether a byte of a name may be part of a fault: `=`, a blank or a control character of ASCII, or
+// Whether a byte of a name can be part of a fault: `=`, a blank or a control character of ASCII, or
 // the first byte of U+FFFD.
 fn is_suspect(byte: u8) -> bool
     ensures { result ≡ is_suspect byte }
@@ -689,14 +807,14 @@ fn is_suspect(byte: u8) -> bool
     byte < b'!' || byte == b'=' || byte == 0x7F || byte == 0xEF
 }
 
-// Whether such a byte is in a name.
+// Whether a name has a byte that can be part of a fault.
 fn has_suspect(name: &str) -> bool
     ensures { result ≡ list_any is_suspect name.now }
 {
     name.as_bytes().iter().any(|byte| is_suspect(*byte))
 }
 
-// What is wrong with a name. Each fault is looked for in turn.
+// What is wrong with a name. This looks for each fault in turn.
 fn exact_name_fault(name: &str) -> Option<Reason>
     ensures { option_map reason_view result ≡ spec.long_fault (Some name.now) }
 {
@@ -713,7 +831,8 @@ fn exact_name_fault(name: &str) -> Option<Reason>
     }
 }
 
-// What is wrong with a name. Few names have a byte that may be part of a fault.
+// What is wrong with a name. Few names have a byte that can be part of a fault, so this looks for
+// one first.
 fn name_fault(name: &str) -> Option<Reason>
     ensures { option_map reason_view result ≡ spec.long_fault (Some name.now) }
 {
@@ -723,7 +842,7 @@ fn name_fault(name: &str) -> Option<Reason>
     None
 }
 
-// What is wrong with a name, if there is one.
+// What is wrong with the name of an option, if it has one.
 fn long_fault(name: Option<&str>) -> Option<Reason>
     ensures { option_map reason_view result ≡ spec.long_fault (option_map (λ n. n.now) name.entry) }
 {
@@ -733,7 +852,7 @@ fn long_fault(name: Option<&str>) -> Option<Reason>
     }
 }
 
-// What is wrong with the placeholder for a value.
+// What is wrong with the placeholder of a value.
 fn placeholder_fault(arity: Arity<'_>) -> Option<Reason>
     ensures { option_map reason_view result
         ≡ spec.placeholder_fault (arity_kind arity.entry) (arity_placeholder arity.entry) }
@@ -750,7 +869,7 @@ fn placeholder_fault(arity: Arity<'_>) -> Option<Reason>
     }
 }
 
-// Whether this can be one of the values in a list.
+// Whether this can be in a list.
 fn is_listable(value: &str) -> bool
     ensures { result ≡ spec.is_listable value.now }
 {
@@ -760,14 +879,14 @@ fn is_listable(value: &str) -> bool
     }
 }
 
-// Whether each of these can be.
+// Whether each of these can be in a list.
 fn are_listable(values: &[&str]) -> bool
     ensures { result ≡ list_all (λ value. spec.is_listable value.now) values.now }
 {
     values.iter().all(|value| is_listable(value))
 }
 
-// What is wrong with what values or words may be.
+// What is wrong with a list, if there is one.
 pub(crate) fn list_fault(words: Words<'_>) -> Option<Reason>
     ensures { option_map reason_view result ≡ spec.list_fault (words_view words.entry) }
 {
@@ -786,7 +905,7 @@ pub(crate) fn list_fault(words: Words<'_>) -> Option<Reason>
     }
 }
 
-// Whether an option has a name of another.
+// Whether two options have a name in common.
 fn shares_name<F, V, M, S>(
     option: &Declared<'_, F, V, M, S>,
     other: &Declared<'_, F, V, M, S>,
@@ -804,7 +923,7 @@ fn shares_name<F, V, M, S>(
     short || long
 }
 
-// Whether one of these options has a name of another.
+// Whether an option has a name in common with one of these.
 fn any_shares_name<F, V, M, S>(
     option: &Declared<'_, F, V, M, S>,
     others: &[Declared<'_, F, V, M, S>],
@@ -815,7 +934,7 @@ fn any_shares_name<F, V, M, S>(
     others.iter().any(|other| shares_name(option, other))
 }
 
-// What is wrong with an option after these.
+// What is wrong with an option after these options.
 fn fault<F, V, M, S>(
     before: &[Declared<'_, F, V, M, S>],
     option: &Declared<'_, F, V, M, S>,
@@ -841,17 +960,18 @@ fn fault<F, V, M, S>(
     None
 }
 
-// A character is a Unicode scalar value.
+// States that a character is a Unicode scalar value. This and the next three functions do nothing:
+// they are there for their clauses.
 fn character_is_text(character: char)
     ensures { IsScalar character }
 {}
 
-// A text is UTF-8.
+// States that a text is UTF-8.
 fn name_is_text(name: &str)
     ensures { IsUtf8 name.now }
 {}
 
-// The names of an option are text.
+// States that the names of an option are text.
 fn option_is_text<F, V, M, S>(option: &Declared<'_, F, V, M, S>)
     ensures { AreText (option_view option.now ∷ []) }
 {
@@ -865,7 +985,7 @@ fn option_is_text<F, V, M, S>(option: &Declared<'_, F, V, M, S>)
     }
 }
 
-/// The names of these options are text. It does nothing, and is compiled to nothing.
+/// States that the names of these options are text. It does nothing, and compiles to nothing.
 pub fn are_text<F, V, M, S>(options: &[Declared<'_, F, V, M, S>])
     ensures { AreText (map option_view options.now) }
 {
@@ -874,7 +994,7 @@ pub fn are_text<F, V, M, S>(options: &[Declared<'_, F, V, M, S>])
     }
 }
 
-// The names of the first of these options that cannot be declared after those before it, and why.
+// The names of the first option that cannot be declared after those before it, and the reason.
 fn first_fault<'a, F, V, M, S>(
     options: &'a [Declared<'a, F, V, M, S>],
 ) -> Option<(Names<'a>, Reason)>
@@ -889,9 +1009,9 @@ fn first_fault<'a, F, V, M, S>(
     None
 }
 
-/// The first option that cannot be declared after those before it; or, if there is none, the second
-/// positional argument that may occur more than once; or, if there is none either, the first
-/// positional argument whose list cannot be declared.
+/// Returns the first fault of a declaration: the first option that cannot be declared after those
+/// before it; otherwise the second positional that may occur more than once; otherwise the first
+/// positional whose list cannot be declared.
 pub fn declaration_fault<'a, F, V, P, M, S>(
     declaration: &'a Declaration<'a, F, V, P, M, S>,
 ) -> Option<DeclarationError<'a>>

@@ -1,5 +1,5 @@
-//! The help of declared options, in the form that the GNU Coding Standards give `--help`, laid out
-//! as `ls --help` is.
+//! The help of declared options, in the form that the GNU Coding Standards give `--help`, and laid
+//! out like that of `ls`. The file of this name in `lexopt_commands` adds the commands.
 ghost use Rattle.std.specs.Prelude.{◌≡◌, ◌≤◌, ◌+◌, ◌-◌, ◌∷◌, ◌++◌, ◌&&◌, [], List, ℕ, IfOk, OnOk, nat_lt};
 ghost use Rattle.std.specs.Prelude.{if◌then◌else◌, codes, length, map, not, string_bytes};
 ghost use Rattle.std.specs.List.{AllZip, concat, flat_map, list_any};
@@ -15,14 +15,13 @@ use bstr::ByteSlice;
 use std::alloc::{AllocError, Global};
 use std::fmt::Write;
 
-/// How many columns a terminal of unknown width is taken to have: the width for the help where
-/// none is known.
+/// The width of the help, in columns, for a terminal whose width is not known.
 pub const WIDTH: usize = 80;
 
 // The column where the words of the usage line begin, after `Usage: `.
 const USAGE_COLUMN: usize = 7;
 
-// How many columns a text takes: one for each character as a person sees it.
+// How many columns a text takes: one for each grapheme cluster, which a person sees as a character.
 fn columns(text: &str) -> usize
     ensures count { result ≡ spec.columns text.now }
     ensures bound { result ≤ length text.now }
@@ -30,7 +29,7 @@ fn columns(text: &str) -> usize
     text.as_bytes().graphemes().count()
 }
 
-// `count` blanks.
+// Adds `count` blanks.
 fn push_blanks(out: &mut String, count: usize) -> Result<(), AllocError>
     ensures { IfOk result (λ _. string_bytes out.new ≡ string_bytes out.old ++ spec.blanks count) }
 {
@@ -40,7 +39,7 @@ fn push_blanks(out: &mut String, count: usize) -> Result<(), AllocError>
     Ok(())
 }
 
-// What comes after a character, if there is no long name.
+// Adds what comes after the character of an option that has no long name.
 fn push_after_short(out: &mut String, arity: Arity<'_>) -> Result<(), AllocError>
     ensures { IfOk result (λ _. string_bytes out.new ≡ string_bytes out.old
         ++ spec.after_short (arity_kind arity.entry) (arity_placeholder arity.entry)) }
@@ -53,7 +52,7 @@ fn push_after_short(out: &mut String, arity: Arity<'_>) -> Result<(), AllocError
     }
 }
 
-// What comes after a character, if a long name follows.
+// Adds what comes after the character of an option that has a long name.
 fn push_before_long(out: &mut String, arity: Arity<'_>) -> Result<(), AllocError>
     ensures { IfOk result (λ _. string_bytes out.new ≡ string_bytes out.old
         ++ spec.before_long (arity_kind arity.entry) (arity_placeholder arity.entry)) }
@@ -64,7 +63,7 @@ fn push_before_long(out: &mut String, arity: Arity<'_>) -> Result<(), AllocError
     }
 }
 
-// What comes after a long name.
+// Adds what comes after the long name of an option.
 fn push_after_long(out: &mut String, arity: Arity<'_>) -> Result<(), AllocError>
     ensures { IfOk result (λ _. string_bytes out.new ≡ string_bytes out.old
         ++ spec.after_long (arity_kind arity.entry) (arity_placeholder arity.entry)) }
@@ -77,7 +76,7 @@ fn push_after_long(out: &mut String, arity: Arity<'_>) -> Result<(), AllocError>
     }
 }
 
-// The label of an option.
+// Adds the label of an option.
 fn push_label(out: &mut String, names: Names<'_>, arity: Arity<'_>) -> Result<(), AllocError>
     ensures { IfOk result (λ _. string_bytes out.new ≡ string_bytes out.old
         ++ spec.label_of (short_name names.entry) (long_name names.entry) (arity_kind arity.entry)
@@ -101,7 +100,7 @@ fn push_label(out: &mut String, names: Names<'_>, arity: Arity<'_>) -> Result<()
     }
 }
 
-// The words of a text, between its blanks.
+// The words of a text: what is between its blanks.
 fn words_of<'a>(alloc: Global, text: &'a str) -> Result<Vec<&'a str>, AllocError>
     ensures { IfOk result (λ words. map (λ w. w.now) words.items ≡ spec.words_of text.now) }
 {
@@ -110,7 +109,7 @@ fn words_of<'a>(alloc: Global, text: &'a str) -> Result<Vec<&'a str>, AllocError
         .collect(alloc)
 }
 
-// The column where the help of an entry begins.
+// The column where the text of an entry begins, counted from 0.
 fn help_column(width: usize) -> usize
     ensures value { result ≡ spec.help_column width }
     ensures bound { result ≤ width }
@@ -118,7 +117,7 @@ fn help_column(width: usize) -> usize
     (width / 3).min(24)
 }
 
-// The end of a line, and blanks up to this column.
+// Adds the end of a line, and blanks up to this column of the next.
 fn push_break(out: &mut String, column: usize) -> Result<(), AllocError>
     ensures { IfOk result (λ _. string_bytes out.new
         ≡ string_bytes out.old ++ spec.line_feed ∷ spec.blanks column) }
@@ -127,8 +126,8 @@ fn push_break(out: &mut String, column: usize) -> Result<(), AllocError>
     push_blanks(out, column)
 }
 
-// A word: after a blank, if `room` columns hold both; else on a line of its own, which has `limit`
-// columns after `column` blanks. Returns how many columns are left on the line.
+// Adds a word: after a blank if `room` columns have room for both, otherwise on a new line, which
+// has `limit` columns after `column` blanks. Returns how many columns are left on the line.
 fn push_word(
     out: &mut String,
     word: &str,
@@ -153,7 +152,7 @@ fn push_word(
     Ok(limit.saturating_sub(needed))
 }
 
-// Words on lines of at most `limit` columns, each line but the first after `column` blanks.
+// Adds words on lines of `limit` columns. Each line but the first has `column` blanks before it.
 fn push_lines(
     out: &mut String,
     first: &str,
@@ -173,7 +172,7 @@ fn push_lines(
     Ok(())
 }
 
-// The same, and a line feed at the end.
+// Adds words as `push_lines`, and a line feed.
 fn push_whole_lines(
     out: &mut String,
     first: &str,
@@ -190,7 +189,7 @@ fn push_whole_lines(
     out.push('\n')
 }
 
-// What comes between a label and its help.
+// Adds what comes between a label and its help text.
 fn push_gap(out: &mut String, label: &str, column: usize) -> Result<(), AllocError>
     ensures { IfOk result (λ _. string_bytes out.new
         ≡ string_bytes out.old ++ spec.gap column label.now) }
@@ -203,7 +202,7 @@ fn push_gap(out: &mut String, label: &str, column: usize) -> Result<(), AllocErr
     }
 }
 
-// What comes after a label: its help, if it has one.
+// Adds what comes after a label: its help text, if it has a word.
 fn push_beside(
     out: &mut String,
     label: &str,
@@ -222,7 +221,7 @@ fn push_beside(
     push_lines(out, first, others, limit, column)
 }
 
-// A label, and these words beside it.
+// Adds a label, and these words beside it.
 fn push_labelled(
     out: &mut String,
     label: &str,
@@ -241,11 +240,10 @@ fn push_labelled(
     out.push('\n')
 }
 
-// What is told of an option or a positional argument: its help, and the values in its list, if it
-// has one.
-fn told_of(alloc: Global, help: &str, words: Words<'_>) -> Result<String, AllocError>
+// The text of an entry: the help text, and the list if there is one.
+fn with_list(alloc: Global, help: &str, words: Words<'_>) -> Result<String, AllocError>
     ensures { IfOk result (λ text.
-        string_bytes text ≡ spec.told_of help.now (words_view words.entry)) }
+        string_bytes text ≡ spec.with_list help.now (words_view words.entry)) }
 {
     match words {
         Words::Files | Words::Directories | Words::Text => String::from_str(alloc, help),
@@ -254,7 +252,11 @@ fn told_of(alloc: Global, help: &str, words: Words<'_>) -> Result<String, AllocE
     }
 }
 
-/// A label, and this text beside it.
+/// Adds an entry: a label, and this text beside it, wrapped to `width` columns.
+///
+/// # Errors
+///
+/// Returns `AllocError` if an allocation fails.
 pub fn push_described(
     out: &mut String,
     alloc: Global,
@@ -269,7 +271,7 @@ pub fn push_described(
     push_labelled(out, label, words.as_slice(), width)
 }
 
-// The entry of an option.
+// Adds the entry of an option.
 fn push_entry<F, V, M, S>(
     out: &mut String,
     alloc: Global,
@@ -277,23 +279,27 @@ fn push_entry<F, V, M, S>(
     width: usize,
 ) -> Result<(), AllocError>
     ensures { let o = option_view option.now in IfOk result (λ _. (text : List ℕ)
-        × IsEntry width (spec.label o) (spec.told_of o.help o.words) text
+        × IsEntry width (spec.label o) (spec.with_list o.help o.words) text
         × (string_bytes out.new ≡ string_bytes out.old ++ text)) }
 {
     let mut label = String::new(alloc);
     push_label(&mut label, option.names, option.kind.arity())?;
-    let told = told_of(alloc, option.help, option.words)?;
+    let told = with_list(alloc, option.help, option.words)?;
     push_described(out, alloc, label.as_str(), told.as_str(), width)
 }
 
-/// The entries of the options that are not hidden.
+/// Returns the entries of the options that are not hidden, wrapped to `width` columns.
+///
+/// # Errors
+///
+/// Returns `AllocError` if an allocation fails.
 pub fn option_entries<F, V, M, S>(
     alloc: Global,
     options: &[Declared<'_, F, V, M, S>],
     width: usize,
 ) -> Result<String, AllocError>
     ensures { IfOk result (λ text. (entries : List (List ℕ))
-        × AllZip (λ o. IsEntry width (spec.label o) (spec.told_of o.help o.words))
+        × AllZip (λ o. IsEntry width (spec.label o) (spec.with_list o.help o.words))
         (spec.visible (map option_view options.now)) entries
         × (string_bytes text ≡ concat entries)) }
 {
@@ -307,20 +313,25 @@ pub fn option_entries<F, V, M, S>(
     Ok(text)
 }
 
-/// The entries of the positional arguments of which something is told.
+/// Returns the entries of the positionals that have a list, or a help text with a word, wrapped to
+/// `width` columns.
+///
+/// # Errors
+///
+/// Returns `AllocError` if an allocation fails.
 pub fn positional_entries<P>(
     alloc: Global,
     positionals: &[Positional<'_, P>],
     width: usize,
 ) -> Result<String, AllocError>
     ensures { IfOk result (λ text. (entries : List (List ℕ))
-        × AllZip (λ p. IsEntry width p.placeholder (spec.told_of p.help p.words))
+        × AllZip (λ p. IsEntry width p.placeholder (spec.with_list p.help p.words))
         (spec.described (map positional_view positionals.now)) entries
         × (string_bytes text ≡ concat entries)) }
 {
     let mut text = String::new(alloc);
     for positional in positionals {
-        let told = told_of(alloc, positional.help, positional.words)?;
+        let told = with_list(alloc, positional.help, positional.words)?;
         let words = words_of(alloc, told.as_str())?;
         let words = words.as_slice();
         if words.is_empty() {
@@ -331,7 +342,11 @@ pub fn positional_entries<P>(
     Ok(text)
 }
 
-/// A paragraph, on lines of at most `width` columns.
+/// Adds a paragraph, wrapped to `width` columns. Adds nothing if it has no word.
+///
+/// # Errors
+///
+/// Returns `AllocError` if an allocation fails.
 pub fn push_paragraph(
     out: &mut String,
     alloc: Global,
@@ -345,7 +360,7 @@ pub fn push_paragraph(
     push_paragraph_lines(out, words.as_slice(), width)
 }
 
-// The same of its words.
+// Adds a paragraph of these words.
 fn push_paragraph_lines(out: &mut String, words: &[&str], width: usize) -> Result<(), AllocError>
     ensures { IfOk result (λ _. (lines : List spec.Line)
         × Wraps width (map (λ w. w.now) words.now) lines
@@ -357,7 +372,11 @@ fn push_paragraph_lines(out: &mut String, words: &[&str], width: usize) -> Resul
     push_whole_lines(out, first, others, width, 0)
 }
 
-/// A part of the help, after an empty line. Adds nothing if the part is empty.
+/// Adds a part of the help, after an empty line. Adds nothing if the part is empty.
+///
+/// # Errors
+///
+/// Returns `AllocError` if an allocation fails.
 pub fn push_apart(out: &mut String, part: &str) -> Result<(), AllocError>
     ensures { IfOk result (λ _.
         string_bytes out.new ≡ string_bytes out.old ++ spec.set_apart part.now) }
@@ -369,7 +388,11 @@ pub fn push_apart(out: &mut String, part: &str) -> Result<(), AllocError>
     out.push_str(part)
 }
 
-/// The paragraphs of the epilogue.
+/// Adds the paragraphs of the epilogue, each after an empty line, wrapped to `width` columns.
+///
+/// # Errors
+///
+/// Returns `AllocError` if an allocation fails.
 pub fn push_epilogue(
     out: &mut String,
     alloc: Global,
@@ -389,21 +412,21 @@ pub fn push_epilogue(
     Ok(())
 }
 
-// Whether the help shows an option, and every line may leave it out.
+// Whether an option is neither hidden nor required.
 fn is_voluntary<F, V, M, S>(option: &Declared<'_, F, V, M, S>) -> bool
     ensures { result ≡ (not option.now.hidden && not option.now.required) }
 {
     !option.hidden && !option.required
 }
 
-// Whether there is such an option.
+// Whether one of these options is neither hidden nor required.
 fn any_voluntary<F, V, M, S>(options: &[Declared<'_, F, V, M, S>]) -> bool
     ensures { result ≡ list_any (λ o. not o.hidden && not o.required) options.now }
 {
     options.iter().any(|option| is_voluntary(option))
 }
 
-// Adds a mark for the options that may be left out, if one of them is not hidden.
+// Adds `[OPTION]...` to the words of the usage line, if an option is neither hidden nor required.
 fn add_options_mark<F, V, M, S>(
     alloc: Global,
     marks: &mut Vec<String>,
@@ -419,7 +442,7 @@ fn add_options_mark<F, V, M, S>(
     Ok(())
 }
 
-// An option with its value.
+// Adds an option with its value, as the usage line has it.
 fn push_mark(out: &mut String, names: Names<'_>, arity: Arity<'_>) -> Result<(), AllocError>
     ensures { IfOk result (λ _. string_bytes out.new ≡ string_bytes out.old
         ++ spec.mark_of (short_name names.entry) (long_name names.entry) (arity_kind arity.entry)
@@ -437,7 +460,7 @@ fn push_mark(out: &mut String, names: Names<'_>, arity: Arity<'_>) -> Result<(),
     }
 }
 
-// An option in the usage line.
+// An option with its value, as the usage line has it.
 fn option_mark<F, V, M, S>(
     alloc: Global,
     option: &Declared<'_, F, V, M, S>,
@@ -450,14 +473,14 @@ fn option_mark<F, V, M, S>(
     Ok(mark)
 }
 
-// Whether the help shows an option, and every line has to have it.
+// Whether an option is required, and not hidden.
 fn is_demanded<F, V, M, S>(option: &Declared<'_, F, V, M, S>) -> bool
     ensures { result ≡ (not option.now.hidden && option.now.required) }
 {
     !option.hidden && option.required
 }
 
-// Adds the options that are required and not hidden.
+// Adds the options that are required and not hidden to the words of the usage line.
 fn add_required_marks<F, V, M, S>(
     alloc: Global,
     marks: &mut Vec<String>,
@@ -474,7 +497,7 @@ fn add_required_marks<F, V, M, S>(
     Ok(())
 }
 
-// A positional argument in the usage line.
+// A positional, as the usage line has it.
 fn positional_mark<P>(alloc: Global, positional: &Positional<'_, P>) -> Result<String, AllocError>
     ensures { IfOk result (λ text. string_bytes text
         ≡ spec.positional_mark (positional_view positional.now)) }
@@ -488,7 +511,7 @@ fn positional_mark<P>(alloc: Global, positional: &Positional<'_, P>) -> Result<S
     }
 }
 
-// Adds the positional arguments.
+// Adds the positionals to the words of the usage line.
 fn add_positional_marks<P>(
     alloc: Global,
     marks: &mut Vec<String>,
@@ -503,7 +526,7 @@ fn add_positional_marks<P>(
     Ok(())
 }
 
-// What the program can be called with.
+// The words of the usage line after the name of the program.
 fn marks_of<F, V, P, M, S>(
     alloc: Global,
     declaration: &Declaration<'_, F, V, P, M, S>,
@@ -518,7 +541,7 @@ fn marks_of<F, V, P, M, S>(
     Ok(marks)
 }
 
-// These texts, borrowed.
+// Borrows these texts.
 fn texts_of<'a>(alloc: Global, texts: &'a [String]) -> Result<Vec<&'a str>, AllocError>
     ensures { IfOk result (λ words. map (λ w. w.now) words.items ≡ map string_bytes texts.now) }
 {
@@ -529,7 +552,7 @@ fn texts_of<'a>(alloc: Global, texts: &'a [String]) -> Result<Vec<&'a str>, Allo
     Ok(words)
 }
 
-// The usage line, of these words after the name of the program.
+// Adds the usage line, of the name of the program and these words.
 fn push_usage_lines(
     out: &mut String,
     program: &str,
@@ -546,7 +569,7 @@ fn push_usage_lines(
     push_whole_lines(out, program, words, limit, USAGE_COLUMN)
 }
 
-// The usage line.
+// Adds the usage line.
 fn push_usage<F, V, P, M, S>(
     out: &mut String,
     alloc: Global,
@@ -562,7 +585,11 @@ fn push_usage<F, V, P, M, S>(
     push_usage_lines(out, declaration.program, words.as_slice(), width)
 }
 
-/// The usage line, on lines of at most `width` columns, with the line feed at its end.
+/// Returns the usage line, wrapped to `width` columns, with a line feed at its end.
+///
+/// # Errors
+///
+/// Returns `AllocError` if an allocation fails.
 pub fn usage<F, V, P, M, S>(
     alloc: Global,
     declaration: &Declaration<'_, F, V, P, M, S>,
@@ -576,7 +603,7 @@ pub fn usage<F, V, P, M, S>(
     Ok(text)
 }
 
-// The help.
+// Adds the help.
 fn push_help<F, V, P, M, S>(
     out: &mut String,
     alloc: Global,
@@ -596,7 +623,11 @@ fn push_help<F, V, P, M, S>(
     push_epilogue(out, alloc, declaration.epilogue, width)
 }
 
-/// The help, for lines of `width` columns.
+/// Returns the help, wrapped to `width` columns.
+///
+/// # Errors
+///
+/// Returns `AllocError` if an allocation fails.
 pub fn help<F, V, P, M, S>(
     alloc: Global,
     declaration: &Declaration<'_, F, V, P, M, S>,

@@ -1,6 +1,11 @@
-//! What a program declares of its options and positional arguments, and what follows from that
-//! alone: the nearest name to one that was typed, the help, spellings, and the scripts by which
-//! shells complete lines. `lexopt_options` reads lines by it.
+//! What a program declares of its options and positionals, and what follows from that alone: the
+//! help, the declared name nearest to a mistyped one, the spellings that completion offers, and the
+//! scripts by which shells complete lines. `lexopt_options` reads lines by it, and re-exports what
+//! a program needs.
+//!
+//! In the examples `rt` is a reference to the runtime that `main` gets, and `alloc` is
+//! `rt.alloc()`. The program has the enums `Flag`, `Value`, `Word`, `Maybe` and `Values`, whose
+//! variants are its keys.
 #![tactic(auto)]
 
 pub mod declaration;

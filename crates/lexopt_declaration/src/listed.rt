@@ -1,11 +1,11 @@
-//! The values in a list, as they are printed.
+//! Prints the values in a list. The file of this name in `lexopt_options` checks values by a list.
 ghost use Rattle.std.specs.Prelude.{◌++◌, codes, map};
 ghost use Rattle.std.specs.Fmt.{WritesOnOk};
 ghost use Rattle.std.specs.List.{flat_map};
 
 use std::fmt;
 
-/// Values, printed with a comma and a blank between them.
+/// The values in a list. `Display` writes them with a comma and a blank between them.
 #[derive(Debug, Clone, Copy)]
 pub struct Listed<'a>(pub &'a [&'a str]);
 

@@ -1,4 +1,4 @@
-//! Which option has a name, and what is declared of the option of an index.
+//! Finds an option by its name, and what is declared of the option at an index.
 ghost use Rattle.std.specs.Prelude.{◌≡◌, map, option_map, position};
 ghost use Rattle.lexopt_line_spec.specs.Table as table;
 ghost use Rattle.lexopt_options_spec.specs.Declaration.{index_of};
@@ -10,7 +10,8 @@ ghost use Rattle.lexopt_declaration.specs.Lookups.{help_names, is_help, names_at
 
 use crate::declaration::{Declared, Kind, Names};
 
-// The place of the first option with this character.
+// The index of the first option with this character. It is separate from `index_of_short` only for
+// the proof: its contract is by `position`.
 fn place_of_short<F, V, M, S>(
     options: &[Declared<'_, F, V, M, S>],
     character: char,
@@ -23,7 +24,8 @@ fn place_of_short<F, V, M, S>(
         .position(|option| option.names.is_short(character))
 }
 
-// The place of the first option with this name.
+// The index of the first option with this name. It is separate from `index_of_long` only for the
+// proof: its contract is by `position`.
 fn place_of_long<F, V, M, S>(options: &[Declared<'_, F, V, M, S>], name: &str) -> Option<usize>
     ensures { result
         ≡ position (λ o. spec.has_name (table.long name.now) (option_view o)) options.now }
@@ -31,7 +33,8 @@ fn place_of_long<F, V, M, S>(options: &[Declared<'_, F, V, M, S>], name: &str) -
     options.iter().position(|option| option.names.is_long(name))
 }
 
-/// Which option has this character, counted from 0: the first.
+/// Returns the index of the first option with this character, counted from 0; `None` if there is
+/// none.
 pub fn index_of_short<F, V, M, S>(
     options: &[Declared<'_, F, V, M, S>],
     character: char,
@@ -41,14 +44,14 @@ pub fn index_of_short<F, V, M, S>(
     place_of_short(options, character)
 }
 
-/// Which option has this name, counted from 0: the first.
+/// Returns the index of the first option with this name, counted from 0; `None` if there is none.
 pub fn index_of_long<F, V, M, S>(options: &[Declared<'_, F, V, M, S>], name: &str) -> Option<usize>
     ensures { result ≡ index_of (map option_view options.now) (table.long name.now) }
 {
     place_of_long(options, name)
 }
 
-/// The names of the option of this index.
+/// Returns the names of the option at this index.
 pub fn names_of<'a, F, V, M, S>(
     options: &'a [Declared<'a, F, V, M, S>],
     index: Option<usize>,
@@ -61,28 +64,28 @@ pub fn names_of<'a, F, V, M, S>(
     }
 }
 
-// Whether this is the kind of an option that asks for the help.
+// Whether an option of this kind asks for the help.
 fn is_help<F, V, M, S>(kind: &Kind<'_, F, V, M, S>) -> bool
     ensures { result ≡ is_help kind.now }
 {
     matches!(kind, Kind::Help)
 }
 
-// The place of the first option that asks for the help.
+// The index of the first option that asks for the help.
 fn place_of_help<F, V, M, S>(options: &[Declared<'_, F, V, M, S>]) -> Option<usize>
     ensures { result ≡ position (λ o. is_help o.kind) options.now }
 {
     options.iter().position(|option| is_help(&option.kind))
 }
 
-/// The names of the first option that asks for the help.
+/// Returns the names of the first option that asks for the help; `None` if there is none.
 pub fn help_names_of<'a, F, V, M, S>(options: &'a [Declared<'a, F, V, M, S>]) -> Option<Names<'a>>
     ensures { result ≡ help_names options.now }
 {
     names_of(options, place_of_help(options))
 }
 
-/// The long name of the option of this index.
+/// Returns the long name of the option at this index; `None` if it has none.
 pub fn long_name_of<'a, F, V, M, S>(
     options: &'a [Declared<'a, F, V, M, S>],
     index: Option<usize>,
@@ -96,7 +99,7 @@ pub fn long_name_of<'a, F, V, M, S>(
     }
 }
 
-/// The placeholder of the value of the option of this index: empty if there is none.
+/// Returns the placeholder of the option at this index; the empty text if it has none.
 pub fn option_placeholder<'a, F, V, M, S>(
     options: &'a [Declared<'a, F, V, M, S>],
     index: usize,

@@ -1,4 +1,4 @@
-//! How many positional arguments there may be, and whether they can be declared.
+//! How many positionals a line has to have and may have, and whether they can be declared.
 ghost use Rattle.std.specs.Prelude.{◌≡◌, filter, length, map, true};
 ghost use Rattle.std.specs.List.{list_any};
 ghost use Rattle.std.specs.Option.{MatchOption};
@@ -12,7 +12,7 @@ ghost use Rattle.lexopt_declaration.specs.Models.{count_view, positional_view};
 
 use crate::declaration::{Count, Positional, list_fault};
 
-// Whether a positional argument may occur more than once.
+// Whether a positional may occur more than once.
 fn may_repeat<P>(positional: &Positional<'_, P>) -> bool
     ensures { result ≡ spec.may_repeat (count_view positional.now.count) }
 {
@@ -22,7 +22,7 @@ fn may_repeat<P>(positional: &Positional<'_, P>) -> bool
     }
 }
 
-// Whether a positional argument is required.
+// Whether a positional is required.
 fn is_required<P>(positional: &Positional<'_, P>) -> bool
     ensures { result ≡ spec.has_to_occur (count_view positional.now.count) }
 {
@@ -32,14 +32,14 @@ fn is_required<P>(positional: &Positional<'_, P>) -> bool
     }
 }
 
-// Whether one of these may occur more than once.
+// Whether one of these positionals may occur more than once.
 fn is_unlimited<P>(positionals: &[Positional<'_, P>]) -> bool
     ensures { result ≡ list_any (λ p. spec.may_repeat (count_view p.count)) positionals.now }
 {
     positionals.iter().any(|positional| may_repeat(positional))
 }
 
-/// How many positional arguments there may be at most, if there is a limit.
+/// Returns how many positionals a line may have; `None` if there is no limit.
 pub fn most_of<P>(positionals: &[Positional<'_, P>]) -> Option<usize>
     ensures { result ≡ most (map positional_view positionals.now) }
 {
@@ -50,7 +50,8 @@ pub fn most_of<P>(positionals: &[Positional<'_, P>]) -> Option<usize>
     }
 }
 
-// How many of these are required.
+// How many of these positionals are required. It is separate from `least_of` only for the proof:
+// its contract is by `filter`.
 fn required_count<P>(positionals: &[Positional<'_, P>]) -> usize
     ensures { result
         ≡ length (filter (λ p. spec.has_to_occur (count_view p.count)) positionals.now) }
@@ -61,14 +62,15 @@ fn required_count<P>(positionals: &[Positional<'_, P>]) -> usize
         .count()
 }
 
-/// How many positional arguments are required.
+/// Returns how many positionals are required.
 pub fn least_of<P>(positionals: &[Positional<'_, P>]) -> usize
     ensures { result ≡ least (map positional_view positionals.now) }
 {
     required_count(positionals)
 }
 
-/// The placeholder of this one, counted from 0, of the positional arguments that are required.
+/// Returns the placeholder of the required positional with this number, counted from 0; the empty
+/// text if there is none.
 pub fn argument_placeholder<'a, P>(positionals: &'a [Positional<'a, P>], n: usize) -> &'a str
     ensures { result.now ≡ required_placeholder (map positional_view positionals.now) n }
 {
@@ -84,7 +86,7 @@ pub fn argument_placeholder<'a, P>(positionals: &'a [Positional<'a, P>], n: usiz
     ""
 }
 
-// The placeholder of the second of these that may occur more than once.
+// The placeholder of the second positional that may occur more than once.
 pub(crate) fn second_repeated<'a, P>(positionals: &'a [Positional<'a, P>]) -> Option<&'a str>
     ensures { MatchOption result (are_clear (map positional_view positionals.now) ≡ true)
         (IsPositionalError positionals.now) }
@@ -101,7 +103,7 @@ pub(crate) fn second_repeated<'a, P>(positionals: &'a [Positional<'a, P>]) -> Op
     None
 }
 
-// The placeholder of the first of these whose list cannot be declared.
+// The placeholder of the first positional whose list cannot be declared.
 pub(crate) fn first_bad_list<'a, P>(positionals: &'a [Positional<'a, P>]) -> Option<&'a str>
     ensures { MatchOption result (are_listable (map positional_view positionals.now) ≡ true)
         (IsListError positionals.now) }

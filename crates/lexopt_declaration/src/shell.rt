@@ -1,4 +1,4 @@
-//! Scripts by which a shell completes the lines of a program.
+//! The scripts by which shells complete the lines of a program, and what shells ask the program.
 ghost use Rattle.std.specs.Prelude.{◌≡◌, ◌↔◌, ◌∷◌, [], IfOk, Some, encode_utf8, string_bytes};
 ghost use Rattle.std.specs.Fmt.{WritesOnOk};
 ghost use Rattle.lexopt_declaration.specs.Scripts.{bash_words, bash_answers, bash_script};
@@ -9,7 +9,7 @@ ghost use Rattle.lexopt_declaration.specs.Scripts.{zsh_words, zsh_answers, zsh_e
 use std::alloc::{AllocError, Global};
 use std::fmt;
 
-/// A shell that is completed in.
+/// A shell that completes lines by a script.
 #[derive(Clone, Copy, PartialEq, Eq, Debug)]
 pub enum Shell {
     /// GNU bash.
@@ -20,17 +20,24 @@ pub enum Shell {
     Fish,
 }
 
-/// What a shell asks a program for by the value of its variable.
+/// What a shell asks a program for, by the value of an environment variable, as for Python's click.
 #[derive(Clone, Copy, PartialEq, Eq, Debug)]
 pub enum ShellRequest {
-    /// The script for this shell: `bash_source`.
+    /// The script of this shell: the value `bash_source` and the like.
     Script(Shell),
-    /// What can come where a word is typed in this shell: `bash_complete`.
+    /// What can come where a word is typed in this shell: the value `bash_complete` and the like.
     Completion(Shell),
 }
 
 impl ShellRequest {
-    /// The request that this value is, if it is one.
+    /// Returns the request by this value of the variable; `None` if the value is not known.
+    ///
+    /// # Examples
+    ///
+    /// ```rust
+    /// let request = ShellRequest::from_value(b"zsh_source");
+    /// // Some(ShellRequest::Script(Shell::Zsh))
+    /// ```
     pub fn from_value(value: &[u8]) -> Option<ShellRequest>
         ensures { (request : ShellRequest) → (result ≡ Some request)
             ↔ (value.now ≡ request_text request) }
@@ -47,7 +54,7 @@ impl ShellRequest {
     }
 }
 
-// A letter of ASCII in upper case, a digit of ASCII as it is, and `_` for any other byte.
+// A letter of ASCII in upper case, a digit of ASCII as it is, `_` for any other byte.
 fn variable_character(byte: u8) -> char
     ensures { encode_utf8 result ≡ variable_byte byte ∷ [] }
 {
@@ -58,13 +65,20 @@ fn variable_character(byte: u8) -> char
     }
 }
 
-/// The name of the environment variable by which shells ask a program of this name: after `_` its
-/// letters of ASCII in upper case, its digits of ASCII, and `_` for each other byte, and then
-/// `_COMPLETE`, as Python's click has it: `_EXAMPLE_ARCHIVE_COMPLETE` for `example_archive`.
+/// Returns the name of the environment variable by which shells ask the program of this name.
+///
+/// It has the form that Python's click uses: `_`, the name of the program, and `_COMPLETE`. Letters
+/// of ASCII are in upper case, digits of ASCII are as they are, and each other byte is `_`.
 ///
 /// # Errors
 ///
-/// There is no memory for the name.
+/// Returns `AllocError` if an allocation fails.
+///
+/// # Examples
+///
+/// ```rust
+/// let name = variable(alloc, "example-archive")?; // _EXAMPLE_ARCHIVE_COMPLETE
+/// ```
 pub fn variable(alloc: Global, program: &str) -> Result<String, AllocError>
     ensures { IfOk result (λ name. string_bytes name ≡ variable_name program.now) }
 {
@@ -76,25 +90,37 @@ pub fn variable(alloc: Global, program: &str) -> Result<String, AllocError>
     Ok(name)
 }
 
-/// A script by which a shell completes the lines of a program, as `Display` writes it. Its last
-/// line has no line feed.
+/// A script by which a shell completes the lines of a program. `Display` writes it, without a line
+/// feed at the end of its last line.
 ///
-/// A shell that has read it calls the program with the words before the one that is typed, and what
-/// is typed of that one; its variable then has the value `bash_complete`, `zsh_complete` or
-/// `fish_complete`. Redirections are left out. `Options::from_env` replies to that. The script
-/// offers each line that begins with a dash, and of a line that begins with `+` what follows: up to
-/// a tab, after which zsh and fish show the help. For a line `files` it offers the names of files,
-/// and for a line `directories` those of directories; if a tab and a text follow, what comes after
-/// this text in the word is completed by them. If the program fails, the shell completes the names
-/// of files.
+/// A shell that has read the script calls the program with the words before the one that is typed,
+/// and what was typed of that word. The variable then has the value `bash_complete`, `zsh_complete`
+/// or `fish_complete`. Redirections are not among the words. The script reads the lines that the
+/// program prints, those of `Options::completion_text`:
+///
+/// - Of a line that begins with a dash or `+`, it offers the text up to a tab, without the `+`. zsh
+///   and fish show what comes after the tab.
+/// - For the line `files` it offers the names of files, and for the line `directories` those of
+///   directories. If a tab and a text come after that, the names come after this text in the word.
+///
+/// If the program fails, the shell offers what it offers without the script, such as the names of
+/// files.
+///
+/// # Examples
+///
+/// ```rust
+/// let name = variable(alloc, "pack")?;
+/// let script = Script { shell: Shell::Fish, program: "pack", variable: name.as_str() };
+/// println!(rt; "{script}")?;
+/// ```
 #[derive(Clone, Copy, PartialEq, Eq, Debug)]
 pub struct Script<'a> {
     /// The shell that reads the script.
     pub shell: Shell,
-    /// The name that the program is called by. It is in the script unquoted, and in names of
-    /// functions: let it have ASCII letters, digits, `-`, `_`, `.` and `+` alone.
+    /// The name that the program is called by. It may have only ASCII letters, digits, `-`, `_`,
+    /// `.` and `+`: the script has it unquoted, and in names of functions.
     pub program: &'a str,
-    /// The variable by which the shell asks: what [`variable`] returns for the program.
+    /// The environment variable by which the shell asks: what [`variable`] returns for the program.
     pub variable: &'a str,
 }
 
@@ -172,7 +198,7 @@ const BASH_COMPLETE: &str = r#"() {
 const BASH_PROGRAM: &str = r#" "${COMP_LINE:0:COMP_POINT}"
     program=${words[0]}
     [[ $program == \~/* ]] && program=$HOME${program:1}
-    # An alias is no command: then ask the program itself.
+    # An alias is not a command: then ask the program itself.
     type -P -- "$program" >/dev/null || program="#;
 
 const BASH_ASK: &str = r#"
@@ -280,7 +306,7 @@ const ZSH_TYPED: &str = r#"() {
     typed=${(Q)typed}
     program=${(Q)words[1]}
     program=${program/#\~\//$HOME/}
-    # An alias is no command: then ask the program itself.
+    # An alias is not a command: then ask the program itself.
     whence -p -- "$program" >/dev/null || program="#;
 
 const ZSH_OFFERS: &str = r#"=zsh_complete "$program" "${(@Q)words[2,CURRENT-1]}" "$typed" \

@@ -1,4 +1,4 @@
-//! The words that are options and nothing else, and the values in lists.
+//! The spellings of options, and the values in lists, that begin with what was typed.
 ghost use Rattle.std.specs.Prelude.{◌≡◌, ◌∷◌, ◌++◌, [], IfOk, OnOk, filter, map, nat_eq};
 ghost use Rattle.std.specs.Prelude.{string_bytes};
 ghost use Rattle.std.specs.Char.{IsScalar};
@@ -12,16 +12,16 @@ ghost use Rattle.lexopt_declaration.specs.Models.{option_view, spelling_view, wo
 use crate::declaration::{Declared, Words};
 use std::alloc::{AllocError, Global};
 
-/// A word that is an option and nothing else.
+/// A word that is an option without a value.
 #[derive(Debug, Drop)]
 pub struct Spelling<'a> {
     /// The word: `-c` or `--name`.
     pub text: String,
-    /// What the help tells of the option.
+    /// The help text of the option.
     pub help: &'a str,
 }
 
-// The word `-c`.
+// The word `-c` of a character.
 fn short_spelling(alloc: Global, character: char) -> Result<String, AllocError>
     ensures text { IsScalar character }
     ensures spelled { IfOk result (λ s. string_bytes s ≡ spelling (table.short character)) }
@@ -29,7 +29,7 @@ fn short_spelling(alloc: Global, character: char) -> Result<String, AllocError>
     format!(in alloc; "-{character}")
 }
 
-// The word `--name`.
+// The word `--name` of a name.
 fn long_spelling(alloc: Global, name: &str) -> Result<String, AllocError>
     ensures text { IsUtf8 name.now }
     ensures spelled { IfOk result (λ s. string_bytes s ≡ spelling (table.long name.now)) }
@@ -37,7 +37,7 @@ fn long_spelling(alloc: Global, name: &str) -> Result<String, AllocError>
     format!(in alloc; "--{name}")
 }
 
-// Adds a spelling of an option that has this help, if it begins with what was typed.
+// Adds a spelling of an option if it begins with what was typed.
 fn add_spelling<'a>(
     spellings: &mut Vec<Spelling<'a>>,
     text: String,
@@ -54,7 +54,7 @@ fn add_spelling<'a>(
     Ok(())
 }
 
-// Adds those of an option's spellings that begin with what was typed.
+// Adds the spellings of an option that begin with what was typed.
 fn add_spellings<'a, F, V, M, S>(
     alloc: Global,
     spellings: &mut Vec<Spelling<'a>>,
@@ -81,7 +81,11 @@ fn add_spellings<'a, F, V, M, S>(
     Ok(())
 }
 
-/// The spellings of these options that begin with what was typed.
+/// Returns the spellings of these options that begin with what was typed, in order.
+///
+/// # Errors
+///
+/// Returns `AllocError` if an allocation fails.
 pub fn spellings_of<'a, F, V, M, S>(
     alloc: Global,
     options: &[Declared<'a, F, V, M, S>],
@@ -110,7 +114,7 @@ fn add_word(found: &mut Vec<String>, word: String, typed: &[u8]) -> Result<(), A
     Ok(())
 }
 
-// Adds those of these values that begin with what was typed.
+// Adds the values that begin with what was typed.
 fn add_listed(
     alloc: Global,
     found: &mut Vec<String>,
@@ -126,7 +130,11 @@ fn add_listed(
     Ok(())
 }
 
-/// Adds those values of a list that begin with what was typed.
+/// Adds the values in a list, if there is one, that begin with what was typed.
+///
+/// # Errors
+///
+/// Returns `AllocError` if an allocation fails.
 pub fn add_values(
     alloc: Global,
     found: &mut Vec<String>,
@@ -142,15 +150,14 @@ pub fn add_values(
     }
 }
 
-// The word that has this value after what was typed before it.
+// The word with this value after `before`.
 fn joined_word(alloc: Global, before: &str, value: &str) -> Result<String, AllocError>
     ensures { IfOk result (λ s. string_bytes s ≡ before.now ++ value.now) }
 {
     format!(in alloc; "{before}{value}")
 }
 
-// Adds the words that have one of these values after what was typed before it, if they begin with
-// what was typed.
+// Adds the words that have one of these values after `before`, and begin with what was typed.
 fn add_joined_words(
     alloc: Global,
     found: &mut Vec<String>,
@@ -168,8 +175,12 @@ fn add_joined_words(
     Ok(())
 }
 
-/// Adds the words that have a value of a list after what was typed before it, if they begin with
-/// what was typed.
+/// Adds the words that have a value in a list, if there is one, after `before`, and begin with what
+/// was typed.
+///
+/// # Errors
+///
+/// Returns `AllocError` if an allocation fails.
 pub fn add_joined(
     alloc: Global,
     found: &mut Vec<String>,

@@ -1,4 +1,4 @@
--- The turns of `read_items`.
+-- The turns of the loop of `read_items`.
 use Rattle.std.proofs.Common.{◌≡◌, ◌<◌, ℕ, Bool, true, false, List, [], ◌∷◌, Some, None, refl, sym, ap, subst, ◌∙◌, arith, inl, inr, ⊎_elim, true≢false, ◌++◌, ◌⊎◌, append-nil, string_bytes}
 use Rattle.lexopt_spec.specs.UnreadLine.{UnreadLine}
 use Rattle.lexopt_spec.specs.Steps as steps
@@ -6,7 +6,7 @@ use Rattle.lexopt_spec.specs.Steps.{Reply, Next}
 use Rattle.lexopt_spec.specs.Runs as calls
 use Rattle.lexopt_spec.specs.Runs.{Call, Step}
 use Rattle.lexopt_line_spec.specs.Table.{Name, short, long, Item, option, positional, Kind, flag, one, optional, several, holds_in, kind, Table}
-use Rattle.lexopt_line_spec.specs.Readings.{option_reply, IsDue, IsReading, SaysUpTo, start}
+use Rattle.lexopt_line_spec.specs.Readings.{option_reply, IsDue, IsReading, MeansUpTo, start}
 use Rattle.lexopt_line_spec.specs.Bound.{bound}
 use Rattle.lexopt_line_spec.proofs.Bounds.{given_falls, step_bound}
 use Rattle.lexopt_line_spec.proofs.ReadingSteps.{says_flag, says_value, says_optional, says_several, says_positional, reads_last, reads_refused}
@@ -53,7 +53,7 @@ pub is_flag : (t : Table) (name : Name) → IsHeld t one name false → IsHeld t
 unfolding kind
 is_flag t name a b c = rw (a, b, c) refl
 
--- ---- what is read
+-- ---- one item
 
 option_falls : (u v : UnreadLine) (name : Name) → Next u (option_reply name) v → bound v < bound u
 option_falls u v (short c) step = given_falls u v (steps.short c) (λ is. let e : steps.short c ≡ steps.end = is in cc) (λ is. let e : steps.short c ≡ steps.no_memory = is in cc) step
@@ -65,18 +65,18 @@ positional_read t u v word step = (
   given_falls u v (steps.positional word) (λ is. let e : steps.positional word ≡ steps.end = is in cc) (λ is. let e : steps.positional word ≡ steps.no_memory = is in cc) step,
 )
 
--- no call takes from the line what it does not have
+-- no call after an option raises the bound of the line, so an option and its values lower it
 falls_on : (u v w : UnreadLine) (name : Name) (call : Call) (reply : Reply) → Next u (option_reply name) v → Step call v reply w → bound w < bound u
 falls_on u v w name call reply step takes =
     let first = option_falls u v name step in
     let then = step_bound call v reply w takes in
     omega arith
 
--- an option, and its values
+-- an option and its values are one item
 pub option_read : (t : Table) (u v w : UnreadLine) (name : Name) (k : copies.Kind) (values : Values) → kind_view k ≡ kind t name → Next u (option_reply name) v
     → ReadsValues k v values w → ReadsItem t u (item_with name values) w
 option_read t u v w name Flag (AtMostOne None) is step reads = (
-  subst (SaysUpTo t u (option name None ∷ [])) (sym reads) (says_flag t u v name (sym is) step),
+  subst (MeansUpTo t u (option name None ∷ [])) (sym reads) (says_flag t u v name (sym is) step),
   subst (λ (x : UnreadLine). bound x < bound u) (sym reads) (option_falls u v name step),
 )
 option_read t u v w name One (AtMostOne (Some word)) is step reads =
@@ -87,14 +87,14 @@ option_read t u v w name Several (All values) is step reads =
     (says_several t u v w name reads.0 values.items (sym is) reads.1 step reads.2, falls_on u v w name (calls.values reads.0) (steps.items values.items) step reads.2)
 option_read t u v w name k values is step reads = absurd reads
 
--- an item that was read joins a list
+-- an item that was read is appended to the list
 pub joins : (t : Table) (u v : UnreadLine) (before after : List Item) (item : Item) (r : Result Bool Refusal) → ReadsItem t u item v
-    → IfOk r (λ goes_on. (goes_on ≡ true) × (after ≡ before ++ item ∷ [])) → IfOk r (λ goes_on. ReadsInto t u before goes_on v after)
+    → IfOk r (λ continues. (continues ≡ true) × (after ≡ before ++ item ∷ [])) → IfOk r (λ continues. ReadsInto t u before continues v after)
 joins t u v before after item (Ok true) reads h = (item, h.1, reads)
 joins t u v before after item (Ok false) reads h = absurd (true≢false (sym h.0))
 joins t u v before after item (Err e) reads h = tt
 
--- the list cannot grow
+-- the list cannot grow, so memory ran out
 pub cannot_join : (t : Table) (u : UnreadLine) (r : Result Bool Refusal) → IfErr r (λ refusal. refusal ≡ OutOfMemory) → IfErr r (EndsBy t u)
 cannot_join t u (Ok b) h = tt
 cannot_join t u (Err e) h = inl h
@@ -105,7 +105,7 @@ cannot_join t u (Err e) h = inl h
 pub value_refused : (k : copies.Kind) (u v : UnreadLine) (refusal : Refusal) (call : Call) → IsDue (kind_view k) call → Step call u (refusal_reply refusal) v → ValuesEndBy k u refusal
 value_refused k u v refusal call due gives = inr (call, v, due, gives)
 
--- so the reading ends
+-- so the reading ends in that refusal
 pub option_refused : (t : Table) (u v : UnreadLine) (name : Name) (k : copies.Kind) (refusal : Refusal) → kind_view k ≡ kind t name → Next u (option_reply name) v → ValuesEndBy k v refusal
     → EndsBy t u refusal
 option_refused t u v name k refusal is step (inl none) = inl none
@@ -113,37 +113,37 @@ option_refused t u v name k (MissingValue o) is step (inr r) = inr (_, reads_ref
 option_refused t u v name k (UnexpectedValue o x) is step (inr r) = inr (_, reads_refused t u v r.1 name (kind_view k) r.0 (refusal_reply (UnexpectedValue o x)) (sym is) r.2 tt step r.3)
 option_refused t u v name k OutOfMemory is step (inr r) = inl refl
 
--- `next` ends the reading
+-- `next` is refused, so the reading ends in that refusal
 pub next_refused : (t : Table) (u v : UnreadLine) (refusal : Refusal) → Next u (refusal_reply refusal) v → EndsBy t u refusal
 next_refused t u v (MissingValue o) step = inr (_, reads_last t u v (refusal_reply (MissingValue o)) tt step)
 next_refused t u v (UnexpectedValue o x) step = inr (_, reads_last t u v (refusal_reply (UnexpectedValue o x)) tt step)
 next_refused t u v OutOfMemory step = inl refl
 
--- what was read before
-pub refused_later : (t : Table) (u v : UnreadLine) (l : List Item) (refusal : Refusal) → SaysUpTo t u l v → EndsBy t v refusal → EndsBy t u refusal
+-- if the reading of the rest ends in a refusal, so does the reading of the whole line
+pub refused_later : (t : Table) (u v : UnreadLine) (l : List Item) (refusal : Refusal) → MeansUpTo t u l v → EndsBy t v refusal → EndsBy t u refusal
 refused_later t u v l refusal says (inl is) = inl is
 refused_later t u v l refusal says (inr reading) = inr (_, says (refusal_reply refusal) reading.0 reading.1)
 
--- the error of what ended it
+-- the error that a refusal is turned into ends the reading
 pub is_refused : (t : Table) (u : UnreadLine) (refusal : Refusal) (e : Error) → EndsBy t u refusal → IsErrorOf refusal e → FailsWith t u e
 is_refused t u OutOfMemory e ends is = inl is
 is_refused t u (MissingValue o) e (inl none) is = let f : MissingValue o ≡ OutOfMemory = none in cc
 is_refused t u (UnexpectedValue o x) e (inl none) is = let f : UnexpectedValue o x ≡ OutOfMemory = none in cc
 is_refused t u refusal e (inr r) is = inr (_, r.0, r.1, error_said refusal e is)
 
--- what was read before, and then the end
-pub end_read : (t : Table) (u v w : UnreadLine) (before after : List Item) (goes_on : Bool) → goes_on ≡ false → SaysUpTo t u before v → ReadsInto t v before goes_on w after
+-- the items read before, and then the end, are a whole reading
+pub end_read : (t : Table) (u v w : UnreadLine) (before after : List Item) (continues : Bool) → continues ≡ false → MeansUpTo t u before v → ReadsInto t v before continues w after
     → IsReading t u steps.end after
 end_read t u v w before after false is says reads =
     subst (IsReading t u steps.end) (append-nil before ∙ sym reads.0) (says steps.end [] (reads_last t v w steps.end tt reads.1))
 end_read t u v w before after true is says reads = absurd (true≢false is)
 
--- ---- what a step gave
+-- ---- results of a step
 
 pub gave : (u v : UnreadLine) (found x : Found) → RepliesWith Next u (found_as v.last found) v → found ≡ x → RepliesWith Next u (found_as v.last x) v
 gave u v found x h is = subst (λ (f : Found). RepliesWith Next u (found_as v.last f) v) is h
 
--- an error, of which more is known
+-- a clause about an error implies a weaker one
 pub err_says : {X Y : Type 0} (r : Result X Y) (P Q : Y → Type 0) → IsErrAnd r P → ((y : Y) → P y → Q y) → IfErr r Q
 err_says (Ok x) P Q h more = tt
 err_says (Err y) P Q h more = more y h
@@ -152,15 +152,15 @@ pub err_alone : {X Y : Type 0} (r : Result X Y) (P : Y → Type 0) (Q : X → Ty
 err_alone (Ok x) P Q h = absurd h
 err_alone (Err y) P Q h = tt
 
--- an error that a `?` hands on
+-- an error that `?` returns
 pub handed_on : {X Y : Type 0} (r : Result X Y) (e : Y) (Q : Y → Type 0) → IsErrAnd r (λ y. y ≡ e) → Q e → IfErr r Q
 handed_on r e Q is h = err_says r (λ y. y ≡ e) Q is (λ y same. subst Q (sym same) h)
 
--- what holds of an error that was found
+-- a clause about errors holds for the error that was found
 pub err_told : {X Y : Type 0} (r : Result X Y) (e : Y) (P : Y → Type 0) → r ≡ Err e → OnErr r (IfErr r P) → P e
 err_told r e P is told = subst (λ q. OnErr q (IfErr q P)) is told
 
--- ---- what a whole reading shows
+-- ---- whole readings, and what words show
 
 no_error : (x : Error) → error_reply x ≡ Some steps.end → ⊥
 no_error (error.MissingValue None) is = let f : Some (steps.missing None) ≡ Some steps.end = is in cc
@@ -173,7 +173,7 @@ no_error (error.NonUnicodeValue x) is = let f : None ≡ Some steps.end = is in 
 no_error (error.Custom c) is = let f : None ≡ Some steps.end = is in cc
 no_error error.OutOfMemory is = let f : Some steps.no_memory ≡ Some steps.end = is in cc
 
--- where a reading ends in an error, the words show nothing
+-- if a reading ends in an error, the words show nothing
 pub refused_shows_none : (t : Table) (short_equals : Bool) (words : List (List ℕ)) (e : Error) → FailsWith t (start short_equals words) e
     → (e ≡ error.OutOfMemory) ⊎ ((l : List Item) → Shows t short_equals words l → ⊥)
 refused_shows_none t short_equals words e (inl is) = inl is

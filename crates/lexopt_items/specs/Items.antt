@@ -1,4 +1,5 @@
--- Tables, items and errors as contracts see them, and what one turn of `read_items` reads.
+-- Tables, items and errors as contracts see them, and what one turn of the loop of `read_items`
+-- does.
 use Rattle.std.specs.Prelude.{◌≡◌, ◌<◌, ◌⊎◌, ℕ, Bool, true, false, List, [], ◌∷◌, ◌++◌, length, map}
 use Rattle.std.specs.Prelude.{Some, None}
 use Rattle.std.specs.Prelude.{string_bytes}
@@ -8,7 +9,7 @@ use Rattle.lexopt_spec.specs.Runs as calls
 use Rattle.lexopt_spec.specs.Runs.{Step}
 use Rattle.lexopt_line_spec.specs.Table as spec
 use Rattle.lexopt_line_spec.specs.Table.{short, long, option, many, positional}
-use Rattle.lexopt_line_spec.specs.Readings.{IsDue, IsReading, SaysUpTo}
+use Rattle.lexopt_line_spec.specs.Readings.{IsDue, IsReading, MeansUpTo}
 use Rattle.lexopt_line_spec.specs.Bound.{bound}
 use Rattle.lexopt_base.specs.Replies.{error_reply}
 use Rattle.lexopt_words.specs.declared.error.Error.{Error}
@@ -48,12 +49,12 @@ kind_view One = spec.one
 kind_view Optional = spec.optional
 kind_view Several = spec.several
 
--- an option with these values
+-- the item of an option with these values
 abbrev pub item_with : spec.Name → Values → spec.Item
 item_with name (AtMostOne value) = option name value
 item_with name (All values) = many name values.items
 
--- the values of an option of this kind are read
+-- an option of this kind has these values, and reading them leaves the line `v`
 abbrev pub ReadsValues : Kind → UnreadLine → Values → UnreadLine → Type 0
 ReadsValues Flag u (AtMostOne None) v = v ≡ u
 ReadsValues One u (AtMostOne (Some word)) v = Value u (taken word) v
@@ -62,29 +63,29 @@ ReadsValues Several u (All values) v = (n : ℕ) × (length values.items < n)
     × Step (calls.values n) u (items values.items) v
 ReadsValues k u values v = ⊥
 
--- memory runs out, or the call for the values of an option of this kind fails with this refusal
+-- the refusal is `OutOfMemory`, or the call for the values of an option of this kind fails with it
 abbrev pub ValuesEndBy : Kind → UnreadLine → Refusal → Type 0
 ValuesEndBy k u refused =
     (refused ≡ OutOfMemory) ⊎ ((call : calls.Call) × (v : UnreadLine)
     × IsDue (kind_view k) call × Step call u (refusal_reply refused) v)
 
--- this item is read next
+-- reading the next item gives this one, and leaves the line `v`
 abbrev pub ReadsItem : spec.Table → UnreadLine → spec.Item → UnreadLine → Type 0
-ReadsItem t u item v = SaysUpTo t u (item ∷ []) v × (bound v < bound u)
+ReadsItem t u item v = MeansUpTo t u (item ∷ []) v × (bound v < bound u)
 
--- the item that is read next joins a list, and the line goes on; or it is at its end
+-- the next item is appended to the list, and the line goes on; or the line is at its end
 abbrev pub ReadsInto : spec.Table → UnreadLine → List spec.Item → Bool → UnreadLine
     → List spec.Item → Type 0
 ReadsInto t u before true v after = (item : spec.Item) × (after ≡ before ++ item ∷ [])
     × ReadsItem t u item v
 ReadsInto t u before false v after = (after ≡ before) × Next u end v
 
--- out of memory, or a reading of the line ends with this refusal
+-- the refusal is `OutOfMemory`, or a reading of the line ends in it
 abbrev pub EndsBy : spec.Table → UnreadLine → Refusal → Type 0
 EndsBy t u refusal = (refusal ≡ OutOfMemory)
     ⊎ ((l : List spec.Item) × IsReading t u (refusal_reply refusal) l)
 
--- out of memory, or a reading of the line ends with this error
+-- the error is `OutOfMemory`, or a reading of the line ends in it
 abbrev pub FailsWith : spec.Table → UnreadLine → Error → Type 0
 FailsWith t u e = (e ≡ error.OutOfMemory)
     ⊎ ((final : Reply) × (l : List spec.Item) × IsReading t u final l

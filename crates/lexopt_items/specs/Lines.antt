@@ -1,4 +1,4 @@
--- What `read_items` ensures for a whole line: the relations of the grammar, over a table and items
+-- The clauses of `read_items` for a whole line: the relations of the grammar, for a table and items
 -- of Rust.
 use Rattle.std.specs.Prelude.{◌≡◌, ℕ, Bool, List, map, Result, Vec, IfOk, IfErr}
 use Rattle.std.specs.Global.{Global}
@@ -30,12 +30,12 @@ abbrev pub LineSpells : Table → Bool → List (List ℕ) → List Item → Typ
 LineSpells table short_equals words items =
     Spells (table_view table) short_equals words (map item_view items)
 
--- a reading of the words comes to the end of the line, and gives these items
+-- a reading of the words reaches the end of the line, and gives these items
 abbrev pub LineReads : Table → Bool → List (List ℕ) → List Item → Type 0
 LineReads table short_equals words items =
     IsReading (table_view table) (start short_equals words) end (map item_view items)
 
--- memory is refused, or a reading of the words ends with this error
+-- the error is `OutOfMemory`, or a reading of the words ends in it
 abbrev pub LineFails : Table → Bool → List (List ℕ) → Error → Type 0
 LineFails table short_equals words e = FailsWith (table_view table) (start short_equals words) e
 
@@ -53,7 +53,7 @@ abbrev pub ShowsNothing : Table → Bool → List (List ℕ) → Type 0
 ShowsNothing table short_equals words =
     (l : List spec.Item) → ShowsList table short_equals words l → ⊥
 
--- this list is returned, or `OutOfMemory`
+-- the result is this list, or `OutOfMemory`
 abbrev pub IsAnswered : List spec.Item → Result (Vec Item Global) Error → Type 0
 IsAnswered l answer =
     IfOk answer (λ items. map item_view items.items ≡ l) × IfErr answer (λ e. e ≡ OutOfMemory)

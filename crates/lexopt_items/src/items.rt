@@ -1,4 +1,4 @@
-//! Whole lines, read by a table of options.
+//! `read_items`: reads a whole line by a table of options.
 ghost use Rattle.std.specs.Prelude.{◌≡◌, ◌∷◌, ◌++◌, ◌⊎◌, ℕ, [], List, IfErr, IfOk, map, true};
 ghost use Rattle.std.specs.Prelude.{string_bytes};
 ghost use Rattle.std.specs.Result.{IsErrAnd};
@@ -24,12 +24,13 @@ use lexopt_words::os_string::OsString;
 use std::alloc::Global;
 use std::fmt;
 
-/// The options that have values, by how many they have; any other option has none. Names are
-/// without their dashes.
+/// The options that have values, in lists by kind. Any other option is a flag.
 ///
-/// Membership alone counts: a name that is listed twice, or that holds an `=` and so cannot be an
-/// option's, does no harm. If lists of several kinds hold an option, the kind that comes first here
-/// counts.
+/// Names are without their dashes. A program fills the lists by `push`. It does no harm to list a
+/// name twice, or to list a name with `=`, which no option can have. If an option is in lists of
+/// several kinds, one value takes precedence over one or none, and that over several.
+///
+/// # Examples
 ///
 /// ```rust
 /// let mut table = Table::new(alloc);
@@ -40,34 +41,35 @@ use std::fmt;
 /// ```
 #[derive(Debug, Drop)]
 pub struct Table {
-    /// Options of one character with one value, always: `o` for `-o`.
+    /// Short options that always have one value: `o` for `-o`.
     pub shorts: Vec<char>,
-    /// Options with a name and one value, always: `out` for `--out`.
+    /// Long options that always have one value: `output` for `--output`.
     pub longs: Vec<String>,
-    /// Options of one character with a value that may be left out: it is in their word, never
-    /// in the next.
+    /// Short options with one value or none. The value is in the option's own word, never in the
+    /// next: `-i.bak`.
     pub optional_shorts: Vec<char>,
-    /// Options with a name and a value that may be left out: it comes after `=`.
+    /// Long options with one value or none. The value comes after `=`: `--color=auto`.
     pub optional_longs: Vec<String>,
-    /// Options of one character with several values, one at least: a value joined by `=` alone,
-    /// or all up to the next word that looks like an option.
+    /// Short options with several values, at least one: the one joined by `=` alone, otherwise all
+    /// up to the next option or separator.
     pub several_shorts: Vec<char>,
-    /// Options with a name and several values, one at least.
+    /// Long options with several values, at least one, as for `several_shorts`.
     pub several_longs: Vec<String>,
 }
 
-/// What a line means, in order.
+/// An item of a line: an option with its values, or a positional.
 #[derive(Debug, PartialEq, Eq, Drop)]
 pub enum Item {
-    /// An option of one character, with its value if it has one.
+    /// A short option, with its value if it has one.
     Short(char, Option<OsString>),
-    /// An option with a name, here without its dashes, with its value if it has one.
+    /// A long option, without its dashes, with its value if it has one.
     Long(String, Option<OsString>),
-    /// An option of one character that has several values, with all of them: one at least.
+    /// A short option of several values, with all of them: at least one.
     ShortMany(char, Vec<OsString>),
-    /// An option with a name that has several values, with all of them: one at least.
+    /// A long option of several values, without its dashes, with all of them: at least one.
     LongMany(String, Vec<OsString>),
-    /// A word that is not an option, or that comes after the separator.
+    /// A positional: a word that is neither an option nor a value, or that comes after the
+    /// separator.
     Positional(OsString),
 }
 
@@ -117,14 +119,28 @@ fn write_value<W: fmt::Write>(value: &Option<OsString>, f: &mut fmt::Formatter<W
 }
 
 impl Table {
-    /// The table of no options. It never allocates.
+    /// Creates a table of no options. It never allocates.
+    ///
+    /// # Examples
+    ///
+    /// ```rust
+    /// let mut table = Table::new(alloc);
+    /// table.shorts.push('n')?;
+    /// ```
     pub fn new(alloc: Global) -> Table
         ensures { table_view result ≡ one_value [] [] }
     {
         Table::one_value(alloc, Vec::new(alloc), Vec::new(alloc))
     }
 
-    /// The table of these options, each of one value. It never allocates.
+    /// Creates a table of these options, each of one value. It never allocates.
+    ///
+    /// # Examples
+    ///
+    /// ```rust
+    /// let names = vec![in alloc; String::from_str(alloc, "number")?]?;
+    /// let table = Table::one_value(alloc, vec![in alloc; 'n']?, names);
+    /// ```
     pub fn one_value(alloc: Global, shorts: Vec<char>, longs: Vec<String>) -> Table
         ensures { table_view result ≡ one_value shorts.items (map string_bytes longs.items) }
     {
@@ -139,13 +155,13 @@ impl Table {
     }
 }
 
-// For how many items of a longer line there is room before its list grows.
+// The most items for which the list has room at first. A longer list grows.
 const FIRST_ROOM: usize = 16;
 
-// Adds an item to a list, after which its line goes on.
+// Appends an item to the list, and returns true: the line goes on.
 #[inline(always)]
 fn add(items: &mut Vec<Item>, item: Item) -> Result<bool, Refusal>
-    ensures ok { IfOk result (λ goes_on. (goes_on ≡ true)
+    ensures ok { IfOk result (λ continues. (continues ≡ true)
         × (map item_view items.new.items ≡ map item_view items.old.items ++ item_view item ∷ [])) }
     ensures err { IfErr result (λ refusal. refusal ≡ Refusal.OutOfMemory) }
 {
@@ -155,8 +171,8 @@ fn add(items: &mut Vec<Item>, item: Item) -> Result<bool, Refusal>
     Ok(true)
 }
 
-// Reads the next item of a line into a list, and returns whether the line goes on. Each arm adds
-// its own item: if one `push` came after all arms, a positional would cost 14 instructions more.
+// Reads the next item of a line into a list, and returns whether there was one. Each arm appends
+// its own item: with one `push` after all arms, a positional would take 14 more instructions.
 #[inline(always)]
 fn read_item(
     alloc: Global,
@@ -164,8 +180,8 @@ fn read_item(
     table: &Table,
     items: &mut Vec<Item>,
 ) -> Result<bool, Refusal>
-    ensures ok { IfOk result (λ goes_on.
-        ReadsInto (table_view table.now) parser.old (map item_view items.old.items) goes_on
+    ensures ok { IfOk result (λ continues.
+        ReadsInto (table_view table.now) parser.old (map item_view items.old.items) continues
         parser.new (map item_view items.new.items)) }
     ensures err { IfErr result (λ refusal. EndsBy (table_view table.now) parser.old refusal) }
 {
@@ -175,8 +191,8 @@ fn read_item(
             add(items, values.of_short(option))
         }
         Found::Long => {
-            // The name is copied first: a kind that is looked up just before its values are read
-            // costs fewer instructions.
+            // The name is copied before its kind is looked up: a look-up just before the values are
+            // read takes fewer instructions.
             let name = String::from_str(alloc, parser.long_name())?;
             let kind = kind_of_long(table, &name);
             let values = read_values(alloc, parser, kind)?;
@@ -187,8 +203,8 @@ fn read_item(
     }
 }
 
-// The items that are left of a line, up to what ends its reading, in a list with room for `room` of
-// them from the start.
+// Reads the items that are left of a line, up to its end or the first error. The list has room for
+// `room` items at first.
 fn read_items_left(
     alloc: Global,
     parser: &mut Parser,
@@ -206,7 +222,7 @@ fn read_items_left(
     Ok(items)
 }
 
-// The items that are left of a line, in a list with room for `room` of them from the start.
+// Reads the items that are left of a line, as `read_items_left` does, and returns an `Error`.
 fn items_of(
     alloc: Global,
     parser: &mut Parser,
@@ -223,7 +239,7 @@ fn items_of(
     }
 }
 
-// No items, for what ended their reading.
+// Returns the error for a refusal. It is marked cold, since most lines have no error.
 #[cold]
 fn error_of(refusal: Refusal) -> Result<Vec<Item>, Error>
     ensures { IsErrAnd result (IsErrorOf refusal) }
@@ -231,42 +247,59 @@ fn error_of(refusal: Refusal) -> Result<Vec<Item>, Error>
     Err(Error::from(refusal))
 }
 
-/// Reads a whole line by a table: after each option of the table its values are read, and any other
-/// option has none.
+/// Reads a whole line by a table, and returns its items in order.
 ///
-/// Under a table with `o` and `out` of one value, `color` of a value that may be left out, and `d`
-/// of several, the words `-vo=x --out y --color=z -d 1 2 -- file` give `Short('v', None)`,
+/// After each option of the table its values are read; any other option is a flag. A flag is an
+/// item even if the program does not know it. `short_equals` is whether `=` separates a short
+/// option from its value, as in [`Parser::set_short_equals`]. Each damaged piece of an option's
+/// name is read, and looked up in the table, as one U+FFFD.
+///
+/// The words do not include the binary name, and are spent. This allocates the list of items, the
+/// names of long options, and lists of values; values and positionals are moved.
+///
+/// The rules are those of lexopt's `next`, `value`, `optional_value` and `values`.
+///
+/// # Errors
+///
+/// Each of these ends the reading, and the items read before are gone.
+///
+/// - `MissingValue` if an option of one value has none in its word and no word is left, or if an
+///   option of several values has none.
+/// - `UnexpectedValue` if a flag has a value joined by `=`.
+/// - `OutOfMemory` if memory runs out.
+///
+/// # Examples
+///
+/// ```rust
+/// // In the table `o` and `out` have one value, `color` has one or none, and `d` has several.
+/// let items = read_items(alloc, words, true, &table)?;
+/// ```
+///
+/// The words `-vo=x --out y --color=z -d 1 2 -- file` give `Short('v', None)`,
 /// `Short('o', Some(x))`, `Long("out", Some(y))`, `Long("color", Some(z))`,
-/// `ShortMany('d', [1, 2])` and `Positional(file)`. `short_equals` tells whether `=` in a cluster
-/// separates an option from its value. The forms are those that lexopt documents;
-/// `docs/behaviour.md` has them all. A damaged piece of an option's name is read, and looked up, as
-/// U+FFFD.
-///
-/// Errors, each of which ends the reading: `MissingValue` if an option of one value has none and no
-/// word is left, or one of several values has none; `UnexpectedValue` if an option that the table
-/// does not have has a value joined to it by `=`; `OutOfMemory`. The words are spent.
+/// `ShortMany('d', [1, 2])` and `Positional(file)`.
 pub fn read_items(
     alloc: Global,
     words: Vec<OsString>,
     short_equals: bool,
     table: &Table,
 ) -> Result<Vec<Item>, Error>
-    // A reading of the line gives the items, or ends with the error.
+    // A reading of the line gives the items, or ends in the error.
     ensures reading { IfOk result (λ items.
         LineReads table.now short_equals words.items items.items) }
     ensures refused { IfErr result (λ e. LineFails table.now short_equals words.items e) }
 
-    // The words show what is returned, and spell it if no option has U+FFFD in its name.
+    // The words show the items, and spell them if no option has U+FFFD in its name.
     ensures shown { IfOk result (λ items.
         LineShows table.now short_equals words.items items.items) }
     ensures spelled { IfOk result (λ items. NamesAreWhole items.items
         → LineSpells table.now short_equals words.items items.items) }
 
-    // Some words legally spell what is returned, even if these words do not.
+    // Some words legally spell the items, even if these words do not.
     ensures spellable { IfOk result (λ items. IsSpellable table.now short_equals items.items) }
 
-    // Words show at most one list. What they show, and so what they spell, is returned, or memory
-    // runs out.
+    // Words show at most one list. If they show one, or spell one, that list is returned, unless
+    // memory runs out.
     ensures one_list { (l m : List spec.Item) → ShowsList table.now short_equals words.items l
         → ShowsList table.now short_equals words.items m → l ≡ m }
     ensures answered { (l : List spec.Item) → ShowsList table.now short_equals words.items l
@@ -275,7 +308,7 @@ pub fn read_items(
         → SpellsList table.now short_equals words.items l
         → IsAnswered l result }
 
-    // Another error comes only if the words show no list.
+    // Any error other than `OutOfMemory` means that the words show no list.
     ensures no_list { IfErr result (λ e. (e ≡ Error.OutOfMemory)
         ⊎ ShowsNothing table.now short_equals words.items) }
 {

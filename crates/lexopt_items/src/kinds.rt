@@ -1,4 +1,6 @@
-//! How many values an option has, by a table of options. The crate `lexopt` does not re-export it.
+//! The kind of an option: how many values it has by a table. The crate `lexopt` does not re-export
+//! this. `Kind` of `lexopt_line_spec` is the same for contracts, `Kind` of `lexopt_declaration`
+//! also has the program's keys, and `WordKind` of `lexopt_words` is the kind of a word.
 ghost use Rattle.std.specs.Prelude.{◌≡◌, ◌==◌, [], map, string_bytes};
 ghost use Rattle.std.specs.Cmp.Lexicographic.{pointwise};
 ghost use Rattle.std.specs.List.{list_any};
@@ -8,20 +10,20 @@ ghost use Rattle.lexopt_items.specs.Items.{kind_view, table_view};
 
 use crate::items::Table;
 
-/// How many values an option has.
+/// The kind of an option: how many values it has.
 #[derive(Clone, Copy)]
 pub enum Kind {
-    /// None.
+    /// No value.
     Flag,
-    /// One, always.
+    /// One value, always.
     One,
-    /// One, or none.
+    /// One value or none.
     Optional,
-    /// One at least.
+    /// Several values, at least one.
     Several,
 }
 
-/// How many values a short option has.
+/// Returns the kind of a short option by the table.
 #[inline(always)]
 pub fn kind_of_short(table: &Table, option: char) -> Kind
     ensures { kind_view result ≡ kind (table_view table.now) (spec.short option) }
@@ -37,7 +39,7 @@ pub fn kind_of_short(table: &Table, option: char) -> Kind
     }
 }
 
-/// How many values a long option has. Its name is without its dashes.
+/// Returns the kind of a long option by the table. The name is without its dashes.
 #[inline(always)]
 pub fn kind_of_long(table: &Table, name: &str) -> Kind
     ensures { kind_view result ≡ kind (table_view table.now) (spec.long name.now) }
@@ -53,7 +55,8 @@ pub fn kind_of_long(table: &Table, name: &str) -> Kind
     }
 }
 
-// Whether this name is among these.
+// Returns whether a list has this name. It differs from `any_is` only for the prover's sake: its
+// clause is in the words of the grammar.
 #[inline(always)]
 fn holds(names: &Vec<String>, name: &str) -> bool
     ensures { result ≡ holds_in [] (map string_bytes names.now.items) (spec.long name.now) }
@@ -61,7 +64,8 @@ fn holds(names: &Vec<String>, name: &str) -> bool
     any_is(names, name)
 }
 
-// Whether one of these is this name.
+// Returns whether one of these names is this one. It is a function of its own for the prover's
+// sake.
 #[inline(always)]
 fn any_is(names: &[String], name: &str) -> bool
     ensures { result ≡ list_any (λ own. pointwise ◌==◌ (string_bytes own) name.now) names.now }
@@ -69,7 +73,7 @@ fn any_is(names: &[String], name: &str) -> bool
     names.iter().any(|own| is_name(own, name))
 }
 
-// Whether this is that name.
+// Returns whether two names are equal. It is a function of its own for the prover's sake.
 #[inline(always)]
 fn is_name(own: &String, name: &str) -> bool
     ensures { result ≡ pointwise ◌==◌ (string_bytes own.now) name.now }

@@ -1,4 +1,7 @@
-//! Whole lines, read by a table of options. The crate `lexopt` re-exports its public items.
+//! Reads whole lines by a table of options. The crate `lexopt` re-exports `Item`, `Table` and
+//! `read_items`.
+//!
+//! In the examples `alloc` is `rt.alloc()`, where `rt` is the runtime that `main` gets.
 #![tactic(auto)]
 
 pub mod items;

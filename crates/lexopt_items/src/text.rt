@@ -1,4 +1,4 @@
-//! How items are written. The crate `lexopt` does not re-export this.
+//! Writes items as text. The crate `lexopt` does not re-export this.
 ghost use Rattle.std.specs.Prelude.{codes, string_bytes};
 ghost use Rattle.std.specs.Fmt.{WritesOnOk};
 ghost use Rattle.std.specs.List.{join_by};
@@ -9,7 +9,7 @@ ghost use Rattle.lexopt_line_spec.specs.ItemText.{bracketed, item_text, name_tex
 use lexopt_words::os_string::{OsString, Quoted};
 use std::fmt;
 
-/// Writes an option of one character.
+/// Writes a short option: `Short "o"`.
 pub fn write_short<W: fmt::Write>(option: char, f: &mut fmt::Formatter<W>) -> fmt::Result
     ensures { WritesOnOk W.write_str_gives f.old result (name_text (short option)) f.new }
 {
@@ -18,7 +18,7 @@ pub fn write_short<W: fmt::Write>(option: char, f: &mut fmt::Formatter<W>) -> fm
     write!(f, "Short {option}")
 }
 
-/// Writes an option with a name.
+/// Writes a long option: `Long "out"`.
 pub fn write_long<W: fmt::Write>(name: &String, f: &mut fmt::Formatter<W>) -> fmt::Result
     ensures { WritesOnOk W.write_str_gives f.old result (name_text (long (string_bytes name.now)))
         f.new }
@@ -27,7 +27,7 @@ pub fn write_long<W: fmt::Write>(name: &String, f: &mut fmt::Formatter<W>) -> fm
     write!(f, "Long {name}")
 }
 
-/// Writes a positional argument.
+/// Writes a positional: `Value "file"`.
 pub fn write_positional<W: fmt::Write>(word: &OsString, f: &mut fmt::Formatter<W>) -> fmt::Result
     ensures { WritesOnOk W.write_str_gives f.old result (item_text (positional word.now)) f.new }
 {
@@ -35,7 +35,7 @@ pub fn write_positional<W: fmt::Write>(word: &OsString, f: &mut fmt::Formatter<W
     write!(f, "Value {word}")
 }
 
-/// Writes these words in brackets.
+/// Writes words in brackets: `["a", "b"]`.
 pub fn write_list<W: fmt::Write>(words: &[OsString], f: &mut fmt::Formatter<W>) -> fmt::Result
     ensures { WritesOnOk W.write_str_gives f.old result (bracketed quoted words.now) f.new }
 {

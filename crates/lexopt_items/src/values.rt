@@ -1,4 +1,5 @@
-//! The values of an option that was just read. The crate `lexopt` does not re-export this.
+//! Reads the values of the option just read, by its kind. The crate `lexopt` does not re-export
+//! this. `values.rt` of `lexopt_base` has the view that takes several values one after another.
 ghost use Rattle.std.specs.Prelude.{◌≡◌, IfErr, IfOk, string_bytes};
 ghost use Rattle.lexopt_line_spec.specs.Table as spec;
 ghost use Rattle.lexopt_items.specs.Items.{ReadsValues, ValuesEndBy, item_view, item_with};
@@ -11,17 +12,17 @@ use lexopt_base::values::take_values;
 use lexopt_words::os_string::OsString;
 use std::alloc::Global;
 
-/// The values of an option.
+/// The values of one option.
 #[derive(Drop)]
 pub enum Values {
-    /// That of an option of one value, or of one that may be left out; none of a flag.
+    /// The value of an option of one value or of one or none. A flag has `None`.
     AtMostOne(Option<OsString>),
-    /// Those of an option of several.
+    /// The values of an option of several.
     All(Vec<OsString>),
 }
 
 impl Values {
-    /// An option of one character with these values.
+    /// Returns the item of a short option with these values.
     pub fn of_short(self, option: char) -> Item
         ensures { item_view result ≡ item_with (spec.short option) self }
     {
@@ -31,7 +32,7 @@ impl Values {
         }
     }
 
-    /// An option with a name and these values.
+    /// Returns the item of a long option with these values.
     pub fn of_long(self, name: String) -> Item
         ensures { item_view result ≡ item_with (spec.long (string_bytes name)) self }
     {
@@ -42,8 +43,8 @@ impl Values {
     }
 }
 
-// All values of the last option, which has several. It is a function of its own, so that what is
-// inlined for other options stays short.
+// Takes all values of the last option, which has several. It is a function of its own, and not
+// inlined, so that the code for other options stays short.
 #[inline(never)]
 fn read_several(alloc: Global, parser: &mut Parser) -> Result<Vec<OsString>, Refusal>
     ensures ok { IfOk result (λ values.
@@ -54,7 +55,12 @@ fn read_several(alloc: Global, parser: &mut Parser) -> Result<Vec<OsString>, Ref
     Ok(take_values(alloc, &mut view, usize::MAX)?)
 }
 
-/// The values of the last option, which is of this kind.
+/// Takes the values of the last option, which is of this kind.
+///
+/// # Errors
+///
+/// - `MissingValue` if an option of one value or of several has none.
+/// - `OutOfMemory` if memory runs out. Some of several values may have been taken.
 #[inline(always)]
 pub fn read_values(alloc: Global, parser: &mut Parser, kind: Kind) -> Result<Values, Refusal>
     ensures ok { IfOk result (λ values. ReadsValues kind parser.old values parser.new) }

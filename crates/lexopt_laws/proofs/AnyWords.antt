@@ -8,7 +8,7 @@ use Rattle.lexopt_options_spec.specs.Places.{AreTaken, refused_word, takes_at}
 use Rattle.lexopt_options_spec.proofs.Shares.{some_places}
 use Rattle.lexopt_options_spec.proofs.Taken.{AreFilled, filled}
 
--- there is a list
+-- this is a list
 abbrev pub is_listed : Words → Bool
 is_listed files = false
 is_listed directories = false
@@ -47,7 +47,7 @@ any_filled {ps = ps} {words = words} any good within =
     filled ps words good
     (record { count = length words; longer = omega arith; within = within; places = some.0; are_places = some.1; none = none_refused ps some.0 words any })
 
--- where there are no words, none is refused
+-- if there are no words, none is refused
 none_at_all : (ps : List Positional) (places : List ℕ) → refused_word ps places [] ≡ None
 none_at_all ps [] = refl
 none_at_all ps (i ∷ places) = refl

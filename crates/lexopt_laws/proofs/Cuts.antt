@@ -1,4 +1,4 @@
--- What is asked of a call bounds the items that come and the words that go.
+-- What is asked of a call bounds the items that come and the words that are taken.
 use Rattle.std.proofs.Common.{◌≡◌, ℕ, zero, suc, ◌≤◌, ◌+◌, Bool, List, [], ◌∷◌, length, take, Option, Some, None, ap, inl, inr, arith, length-drop}
 use Rattle.std.proofs.lemmas.List.{length-take}
 use Rattle.lexopt_spec.specs.UnreadLine.{UnreadLine, fresh, pending, spelling}
@@ -29,7 +29,7 @@ try_raw_at_most n u v came (inr refused) = absurd (let e : items came ≡ no_mem
 
 -- ---- words
 
--- at most n of the words are gone
+-- at most n words are taken
 abbrev LosesUpTo : ℕ → UnreadLine → UnreadLine → Type 0
 LosesUpTo n u v = length u.words ≤ length v.words + n
 
@@ -57,7 +57,7 @@ try_raw_loses n u r v (inr refused) = rw refused.after_is (omega arith)
 same_left : (u v : UnreadLine) → u ≡ v → length u.words ≡ length v.words
 same_left u v is = ap (λ (l : UnreadLine). length l.words) is
 
--- where each part of a call takes at most one word, no part of it takes both of two
+-- if each part of a call takes at most one word, no part takes two
 pub leaves_one : (call : Call) (a b : List ℕ)
     → ((m : ℕ) (r : Reply) (v : UnreadLine) → Step (up_to m call) (fresh (a ∷ b ∷ [])) r v → LosesUpTo 1 (fresh (a ∷ b ∷ [])) v)
     → ((r : Reply) (v : UnreadLine) → Step call (fresh (a ∷ b ∷ [])) r v → LosesUpTo 1 (fresh (a ∷ b ∷ [])) v)

@@ -23,7 +23,7 @@ pub mod WorkedAsking
 pub mod SomeAnswer
 pub mod WorkedStops
 pub mod WorkedValues
-pub mod WorkedSays
+pub mod WorkedMeans
 pub mod WorkedDistances
 pub mod WorkedNames
 pub mod WorkedOpen

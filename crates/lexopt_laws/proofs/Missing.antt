@@ -1,18 +1,18 @@
--- The first option that is required and does not occur.
+-- The first required option that does not occur.
 use Rattle.std.proofs.Common.{◌≡◌, ◌<◌, ◌⊎◌, ◌&&◌, ℕ, zero, suc, Bool, true, false, not, List, [], ◌∷◌, Option, Some, None, if◌then◌else◌, refl, sym, ap, subst, ◌∙◌, inl, inr, arith}
 use Rattle.std.proofs.lemmas.Bool.{false≢true}
 use Rattle.std.specs.Option.{option_map}
 use Rattle.lexopt_options_spec.specs.Declaration.{Declared}
-use Rattle.lexopt_options_spec.specs.Legal.{Said, is_required, occurs}
+use Rattle.lexopt_options_spec.specs.Legal.{Parsed, is_required, occurs}
 use Rattle.lexopt_options_spec.specs.Stops.{IsFirstMissing}
 
--- the index of the first option that is required and is not there, where `there` says which are
+-- the index of the first required option that is missing; `there` tells which occur
 abbrev pub missing : List Declared → (ℕ → Bool) → Option ℕ
 missing [] there = None
 missing (o ∷ os) there = if o.required && not (there 0) then Some 0 else option_map (λ n. suc n) (missing os (λ i. there (suc i)))
 
--- of the options that are read
-abbrev pub missing_from : List Declared → List Said → Option ℕ
+-- the same, for the options that are read
+abbrev pub missing_from : List Declared → List Parsed → Option ℕ
 missing_from options l = missing options (λ i. occurs i l)
 
 -- ---- none is missing
@@ -33,8 +33,8 @@ none_missing [] there none i is = absurd (false≢true is)
 none_missing (o ∷ os) there none zero is = head_there o.required (there 0) _ none is
 none_missing (o ∷ os) there none (suc i) is = none_missing os (λ i. there (suc i)) (tail_none o.required (there 0) (missing os (λ i. there (suc i))) none) i is
 
--- each option that is required is there
-pub are_complete : (options : List Declared) (l : List Said) → missing_from options l ≡ None → (i : ℕ) → is_required options i ≡ true → occurs i l ≡ true
+-- each required option occurs
+pub are_complete : (options : List Declared) (l : List Parsed) → missing_from options l ≡ None → (i : ℕ) → is_required options i ≡ true → occurs i l ≡ true
 are_complete options l none = none_missing options (λ i. occurs i l) none
 
 -- ---- one is missing
@@ -72,21 +72,21 @@ first_missing (o ∷ os) there index is = go index (missed o.required (there 0) 
         before n head tail zero below is = head is
         before n head tail (suc i) below is = tail i (omega arith) is
 
-pub is_first_missing : (options : List Declared) (l : List Said) (index : ℕ) → missing_from options l ≡ Some index → IsFirstMissing options l index
+pub is_first_missing : (options : List Declared) (l : List Parsed) (index : ℕ) → missing_from options l ≡ Some index → IsFirstMissing options l index
 is_first_missing options l index is =
     let first = first_missing options (λ i. occurs i l) index is in
     record { here = first.here; absent = first.absent; first = first.first }
 
--- each option that is required occurs, or there is a first one that does not
-pub complete_or_missing : (options : List Declared) (l : List Said) → ((i : ℕ) → is_required options i ≡ true → occurs i l ≡ true) ⊎ ((index : ℕ) × IsFirstMissing options l index)
+-- each required option occurs, or there is a first that does not
+pub complete_or_missing : (options : List Declared) (l : List Parsed) → ((i : ℕ) → is_required options i ≡ true → occurs i l ≡ true) ⊎ ((index : ℕ) × IsFirstMissing options l index)
 complete_or_missing options l = go (missing_from options l) refl
   where
     go : (found : Option ℕ) → missing_from options l ≡ found → ((i : ℕ) → is_required options i ≡ true → occurs i l ≡ true) ⊎ ((index : ℕ) × IsFirstMissing options l index)
     go None is = inl (are_complete options l is)
     go (Some index) is = inr (index, is_first_missing options l index is)
 
--- and one alone is the first
-pub one_first_missing : (options : List Declared) (l : List Said) (i j : ℕ) → IsFirstMissing options l i → IsFirstMissing options l j → i ≡ j
+-- only one option is the first
+pub one_first_missing : (options : List Declared) (l : List Parsed) (i j : ℕ) → IsFirstMissing options l i → IsFirstMissing options l j → i ≡ j
 one_first_missing options l i j one other =
     let not_below : ¬ (i < j) = λ below. false≢true (sym one.absent ∙ other.first i below one.here) in
     let not_above : ¬ (j < i) = λ below. false≢true (sym other.absent ∙ one.first j below other.here) in

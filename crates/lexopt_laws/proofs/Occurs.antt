@@ -11,10 +11,10 @@ use Rattle.lexopt_line_spec.proofs.Names.{encoded}
 use Rattle.lexopt_line_spec.proofs.SpellerTests.{dash_first}
 use Rattle.lexopt_options_spec.specs.Completion.{AreText, IsOpen, IsOption, IsText, spelling}
 use Rattle.lexopt_options_spec.specs.Declaration.{Declaration, Declared, accepts, are_listable, has_name, index_of, is_sound}
-use Rattle.lexopt_options_spec.specs.Legal.{Said, option, several, positional, Says, is_option, most, occurs}
+use Rattle.lexopt_options_spec.specs.Legal.{Parsed, option, several, positional, Means, is_option, most, occurs}
 use Rattle.lexopt_options_spec.proofs.Listed.{list_good, value_fits, value_for}
 use Rattle.lexopt_options_spec.proofs.Sound.{IsGoodName, found, good}
-use Rattle.lexopt_options_spec.proofs.Stands.{AreNamed, can_stand}
+use Rattle.lexopt_options_spec.proofs.Occurs.{AreNamed, can_occur}
 use Rattle.lexopt_laws.proofs.AnyWords.{none_filled}
 use Rattle.lexopt_laws.proofs.SomeAnswer.{zero_within}
 use Rattle.lexopt_laws.proofs.WorkedOpen.{open_of}
@@ -36,12 +36,12 @@ named [] names = tt
 named (o ∷ options) names =
     (names o (0, omega arith, refl), named options (λ p has. names p (suc has.0, (let below = has.1 in omega arith), has.2)))
 
-is_one : (i : ℕ) (s : Said) → IsOption i s → is_option i s ≡ true
+is_one : (i : ℕ) (s : Parsed) → IsOption i s → is_option i s ≡ true
 is_one i (option j value) is = eq-eqb j i is
 is_one i (several j values) is = eq-eqb j i is
 is_one i (positional word) is = absurd is
 
-among : (i : ℕ) (before : List Said) (s : Said) (later : List Said) → is_option i s ≡ true → occurs i (before ++ s ∷ later) ≡ true
+among : (i : ℕ) (before : List Parsed) (s : Parsed) (later : List Parsed) → is_option i s ≡ true → occurs i (before ++ s ∷ later) ≡ true
 among i [] s later is = or_left (is_option i s) (occurs i later) is
 among i (b ∷ before) s later is = or_right (is_option i b) (occurs i (before ++ s ∷ later)) (among i before s later is)
 
@@ -79,11 +79,11 @@ one_spelling (long name) (long n) text also good fine is = ap long (tail_same da
 -- ---- a line with an option
 
 pub in_a_line : (d : Declaration) (name : Name) (i : ℕ) → is_sound d.options ≡ true → are_listable d.positionals ≡ true → AreText d.options → ((o : Declared) → Contains d.options o → (n : Name) × (has_name n o ≡ true))
-    → index_of d.options name ≡ Some i → (words : List (List ℕ)) × (l : List Said) × Says d words l × (occurs i l ≡ true)
+    → index_of d.options name ≡ Some i → (words : List (List ℕ)) × (l : List Parsed) × Means d words l × (occurs i l ≡ true)
 in_a_line d name i sound good_lists text names declared =
-    let stands = can_stand d [] [] name i sound text (named d.options names) (open_first d) refl (none_filled d.positionals good_lists) declared (text name (found (has_name name) d.options i declared)) in
-    let other = text stands.name (found (has_name stands.name) d.options stands.index stands.declared) in
-    let same = one_spelling name stands.name (text name (found (has_name name) d.options i declared)) other (good d.options name i sound declared)
-    (good d.options stands.name stands.index sound stands.declared) stands.spelled in
-    let index = some_same stands.index i (sym stands.declared ∙ ap (index_of d.options) (sym same) ∙ declared) in
-    (spelling name ∷ stands.rest, stands.before ++ stands.said ∷ stands.later, stands.line_says, among i stands.before stands.said stands.later (is_one i stands.said (subst (λ j. IsOption j stands.said) index stands.is)))
+    let possible = can_occur d [] [] name i sound text (named d.options names) (open_first d) refl (none_filled d.positionals good_lists) declared (text name (found (has_name name) d.options i declared)) in
+    let other = text possible.name (found (has_name possible.name) d.options possible.index possible.declared) in
+    let same = one_spelling name possible.name (text name (found (has_name name) d.options i declared)) other (good d.options name i sound declared)
+    (good d.options possible.name possible.index sound possible.declared) possible.spelled in
+    let index = some_same possible.index i (sym possible.declared ∙ ap (index_of d.options) (sym same) ∙ declared) in
+    (spelling name ∷ possible.rest, possible.before ++ possible.parsed ∷ possible.later, possible.line_means, among i possible.before possible.parsed possible.later (is_one i possible.parsed (subst (λ j. IsOption j possible.parsed) index possible.is)))

@@ -36,7 +36,7 @@ word_there u (w ∷ ws) is = (Some w, record u { words = ws }, (is, refl))
 pub some_word : (u : UnreadLine) → (item : Option (List ℕ)) × (v : UnreadLine) × WordItem u item v
 some_word u = word_there u u.words refl
 
--- ---- no other
+-- ---- no other result
 
 ended_and_not : {A : Type 0} (stage : Stage) → stage ≡ going_on → stage ≡ at_end → A
 ended_and_not stage a b = absurd (let e : going_on ≡ at_end = sym a ∙ b in cc)

@@ -8,7 +8,7 @@ use Rattle.lexopt_spec.specs.Steps.{Reply, Next}
 use Rattle.lexopt_spec.specs.Runs.{next}
 use Rattle.lexopt_line_spec.specs.Table as spec
 use Rattle.lexopt_line_spec.specs.Table.{Item, Name, short, long, kind}
-use Rattle.lexopt_line_spec.specs.Readings.{IsReading, ReadsItems, item_after, items_said, option_reply, start}
+use Rattle.lexopt_line_spec.specs.Readings.{IsReading, ReadsItems, item_after, items_of_replies, option_reply, start}
 use Rattle.lexopt_line_spec.specs.Speller.{IsOf}
 use Rattle.lexopt_line_spec.proofs.Calls.{call_same}
 use Rattle.lexopt_line_spec.proofs.ItemsRead.{one_line_left, option_given, says_items}
@@ -17,7 +17,7 @@ use Rattle.lexopt_line_spec.proofs.ReadingSteps.{says_positional, reads_last, re
 use Rattle.lexopt_line_spec.proofs.RunAccounts.{step_line}
 use Rattle.lexopt_options_spec.specs.Declaration.{Declaration, Declared, index_of, table}
 use Rattle.lexopt_options_spec.specs.Legal as legal
-use Rattle.lexopt_options_spec.specs.Legal.{Said, said_item, positional, positional_count, positional_words, most, IsWithin, are_accepted, is_option, refused_value}
+use Rattle.lexopt_options_spec.specs.Legal.{Parsed, parsed_item, positional, positional_count, positional_words, most, IsWithin, are_accepted, is_option, refused_value}
 use Rattle.lexopt_options_spec.specs.Places.{AreTaken, IsNotTaken, least}
 use Rattle.lexopt_options_spec.specs.Stops.{Mistake, unknown_option, unexpected_value, missing_value, invalid_value, unexpected_argument, invalid_argument, missing_argument, missing_option, IsFirstMissing, Stops, not_declared, value_of_flag, no_value, not_accepted, one_too_many, too_few, not_taken, not_complete, StopsAt}
 use Rattle.lexopt_options_spec.proofs.Lists.{first_same, split, first_none, first_is, same_somes, count_append}
@@ -25,47 +25,47 @@ use Rattle.lexopt_options_spec.proofs.Taken.{not_both, one_refused}
 use Rattle.lexopt_options_spec.proofs.Fronts.{item_of, not_refused, undeclared}
 use Rattle.lexopt_laws.proofs.Missing.{one_first_missing}
 
--- ---- what is left where a reading stops
+-- ---- the unread line where a reading stops
 
--- where this was read to the end, a positional or an option is missing, or a word is not accepted
-pub data IsMissing (d : Declaration) (l : List Said) (m : Mistake) : Type 0 where
+-- this was read to the end, and a positional or an option is missing, or a word is not accepted
+pub data IsMissing (d : Declaration) (l : List Parsed) (m : Mistake) : Type 0 where
   lacks_argument : m ≡ missing_argument (positional_count l) → positional_count l < least d.positionals → IsMissing d l m
   refuses_word : (index : ℕ) (word : List ℕ) → m ≡ invalid_argument index word → least d.positionals ≤ positional_count l → IsNotTaken d.positionals (positional_words l) index word → IsMissing d l m
   lacks_option : (index : ℕ) → m ≡ missing_option index → least d.positionals ≤ positional_count l → AreTaken d.positionals (positional_words l) → IsFirstMissing d.options l index → IsMissing d l m
 
--- after this was read, the line that is left is read to this reply, and gives these items, so that
--- this is the mistake
-pub data Left (d : Declaration) (l : List Said) (m : Mistake) (final : Reply) (items : List Item) : Type 0 where
+-- after this was read, the unread line gives these items and then this reply, so this is the
+-- mistake
+pub data Left (d : Declaration) (l : List Parsed) (m : Mistake) (final : Reply) (items : List Item) : Type 0 where
   undeclared_first : (name : Name) (tail : Tail) (item : Item) (rest : List Item) → m ≡ unknown_option name tail → items ≡ item ∷ rest → IsOf name item → index_of d.options name ≡ None → Left d l m final items
   flag_value : (option value : List ℕ) → m ≡ unexpected_value option value → final ≡ steps.unexpected option value → items ≡ [] → Left d l m final items
   valueless : (name : Name) (index : ℕ) (option : List ℕ) → m ≡ missing_value index option → final ≡ steps.missing (Some option) → items ≡ spec.option name None ∷ []
       → index_of d.options name ≡ Some index → Left d l m final items
-  refused_first : (item : Item) (s : Said) (index : ℕ) (value : List ℕ) (rest : List Item) → m ≡ invalid_value index value → items ≡ item ∷ rest → said_item d.options item ≡ Some s
+  refused_first : (item : Item) (s : Parsed) (index : ℕ) (value : List ℕ) (rest : List Item) → m ≡ invalid_value index value → items ≡ item ∷ rest → parsed_item d.options item ≡ Some s
       → is_option index s ≡ true → refused_value d.options s ≡ Some value → Left d l m final items
   no_room : (word : List ℕ) (rest : List Item) → m ≡ unexpected_argument word → items ≡ spec.positional word ∷ rest → most d.positionals ≡ Some (positional_count l) → Left d l m final items
   at_end : IsMissing d l m → final ≡ steps.end → items ≡ [] → Left d l m final items
 
-pub record IsLeft (d : Declaration) (l : List Said) (u : UnreadLine) (m : Mistake) : Type 0 where
+pub record IsLeft (d : Declaration) (l : List Parsed) (u : UnreadLine) (m : Mistake) : Type 0 where
   pub final : Reply
   pub items : List Item
   pub reading : IsReading (table d.options) u final items
   pub left : Left d l m final items
 
--- what means one thing is one item
-pub one_item : (options : List Declared) (items : List Item) (s : Said) → map (said_item options) items ≡ map (λ s. Some s) (s ∷ []) → (item : Item) × (items ≡ item ∷ []) × (said_item options item ≡ Some s)
+-- one thing that is read is one item
+pub one_item : (options : List Declared) (items : List Item) (s : Parsed) → map (parsed_item options) items ≡ map (λ s. Some s) (s ∷ []) → (item : Item) × (items ≡ item ∷ []) × (parsed_item options item ≡ Some s)
 one_item options [] s is = absurd (let e : [] ≡ Some s ∷ [] = is in cc)
-one_item options (x ∷ []) s is = (x, refl, (first_same (said_item options x) (Some s) [] [] is).0)
+one_item options (x ∷ []) s is = (x, refl, (first_same (parsed_item options x) (Some s) [] [] is).0)
 one_item options (x ∷ y ∷ items) s is =
-    let rest = (first_same (said_item options x) (Some s) (said_item options y ∷ map (said_item options) items) [] is).1 in
-    absurd (let e : said_item options y ∷ map (said_item options) items ≡ [] = rest in cc)
+    let rest = (first_same (parsed_item options x) (Some s) (parsed_item options y ∷ map (parsed_item options) items) [] is).1 in
+    absurd (let e : parsed_item options y ∷ map (parsed_item options) items ≡ [] = rest in cc)
 
-pub left_of : (d : Declaration) (l : List Said) (u : UnreadLine) (m : Mistake) → IsLine u → Stops d l u m → IsLeft d l u m
+pub left_of : (d : Declaration) (l : List Parsed) (u : UnreadLine) (m : Mistake) → IsLine u → Stops d l u m → IsLeft d l u m
 left_of d l u m line (not_declared name v step none) =
     let r = option_reading (table d.options) u v name (step_line next u (option_reply name) v line step) step in record {
       final = r.0;
-      items = item_after name r.1 ∷ items_said r.1;
+      items = item_after name r.1 ∷ items_of_replies r.1;
       reading = r.2;
-      left = undeclared_first name v.tail (item_after name r.1) (items_said r.1) refl refl (item_of name r.1) none;
+      left = undeclared_first name v.tail (item_after name r.1) (items_of_replies r.1) refl refl (item_of name r.1) none;
     }
 left_of d l u m line (value_of_flag option value v step) = record {
   final = steps.unexpected option value;
@@ -87,7 +87,7 @@ left_of d l u m line (no_value (long n) index option call v w step found due tak
 }
 left_of d l u m line (not_accepted s index value v read option refused) =
     let r = some_reading (table d.options) v read.line in
-    let one = one_item d.options read.items s read.said in record {
+    let one = one_item d.options read.items s read.parsed in record {
       final = r.0;
       items = read.items ++ r.1;
       reading = says_items (table d.options) u v read.items read.read r.0 r.1 r.2;
@@ -119,7 +119,7 @@ left_of d l u m line (not_complete index v step enough taken first) = record {
   left = at_end (lacks_option index refl enough taken first) refl refl;
 }
 
--- ---- two lists in two parts
+-- ---- two lists, each in two parts
 
 pub data Compared (xs ys ms ns : List Item) : Type 0 where
   same : xs ≡ ys → ms ≡ ns → Compared xs ys ms ns
@@ -147,12 +147,12 @@ nothing_more : (xs ys : List Item) → xs ++ ys ≡ [] → ys ≡ []
 nothing_more [] ys is = is
 nothing_more (x ∷ xs) ys is = absurd (let e : x ∷ (xs ++ ys) ≡ [] = is in cc)
 
--- what is left and gives nothing was not stopped by a missing value
-no_missing : (d : Declaration) (l : List Said) (m : Mistake) (final : Reply) (items : List Item) (option : List ℕ) → final ≡ steps.missing (Some option) → items ≡ [] → Left d l m final items → ⊥
+-- a missing value does not stop a reading that gives nothing
+no_missing : (d : Declaration) (l : List Parsed) (m : Mistake) (final : Reply) (items : List Item) (option : List ℕ) → final ≡ steps.missing (Some option) → items ≡ [] → Left d l m final items → ⊥
 no_missing d l m final items option is none (undeclared_first name tail item rest m_is are of undeclared) = let e : [] ≡ item ∷ rest = sym none ∙ are in cc
 no_missing d l m final items option is none (flag_value o value m_is final_is are) = let e : steps.missing (Some option) ≡ steps.unexpected o value = sym is ∙ final_is in cc
 no_missing d l m final items option is none (valueless name index o m_is final_is are found) = let e : [] ≡ spec.option name None ∷ [] = sym none ∙ are in cc
-no_missing d l m final items option is none (refused_first item s index value rest m_is are said of refused) = let e : [] ≡ item ∷ rest = sym none ∙ are in cc
+no_missing d l m final items option is none (refused_first item s index value rest m_is are parsed of refused) = let e : [] ≡ item ∷ rest = sym none ∙ are in cc
 no_missing d l m final items option is none (no_room word rest m_is are limit) = let e : [] ≡ spec.positional word ∷ rest = sym none ∙ are in cc
 no_missing d l m final items option is none (at_end lacks final_is are) = let e : steps.missing (Some option) ≡ steps.end = sym is ∙ final_is in cc
 
@@ -160,31 +160,31 @@ above : (n k : ℕ) (limit : Option ℕ) → limit ≡ Some n → IsWithin (n + 
 above n k None is within = let e : None ≡ Some n = is in cc
 above n k (Some m) is within = let e : m ≡ n = (let f : Some m ≡ Some n = is in cc) in omega arith
 
--- nothing is read past a mistake
-pub not_shorter : (d : Declaration) (l k : List Said) (m : Mistake) (final : Reply) (xs ms ns : List Item) (x : Item) (rest : List Item)
-    → map (said_item d.options) xs ≡ map (λ s. Some s) l → map (said_item d.options) (xs ++ x ∷ rest) ≡ map (λ s. Some s) k → IsWithin (positional_count k) (most d.positionals)
+-- nothing is read after a mistake
+pub not_shorter : (d : Declaration) (l k : List Parsed) (m : Mistake) (final : Reply) (xs ms ns : List Item) (x : Item) (rest : List Item)
+    → map (parsed_item d.options) xs ≡ map (λ s. Some s) l → map (parsed_item d.options) (xs ++ x ∷ rest) ≡ map (λ s. Some s) k → IsWithin (positional_count k) (most d.positionals)
     → are_accepted d.options k ≡ true → ms ≡ x ∷ rest ++ ns → Left d l m final ms → ((option : List ℕ) → final ≡ steps.missing (Some option) → ns ≡ [] → ⊥) → ⊥
-not_shorter d l k m final xs ms ns x rest said more within accepted is (undeclared_first name tail item others m_is are of none) other =
-    let later = split (said_item d.options) xs (x ∷ rest) l k said more in
+not_shorter d l k m final xs ms ns x rest parsed more within accepted is (undeclared_first name tail item others m_is are of none) other =
+    let later = split (parsed_item d.options) xs (x ∷ rest) l k parsed more in
     let first = head_same x item (rest ++ ns) others (sym is ∙ are) in
-    first_none (said_item d.options) x rest later.later (ap (said_item d.options) first.0 ∙ undeclared d.options name item of none) later.are
-not_shorter d l k m final xs ms ns x rest said more within accepted is (flag_value option value m_is final_is are) other = let e : x ∷ (rest ++ ns) ≡ [] = sym is ∙ are in cc
-not_shorter d l k m final xs ms ns x rest said more within accepted is (valueless name index option m_is final_is are found) other =
+    first_none (parsed_item d.options) x rest later.later (ap (parsed_item d.options) first.0 ∙ undeclared d.options name item of none) later.are
+not_shorter d l k m final xs ms ns x rest parsed more within accepted is (flag_value option value m_is final_is are) other = let e : x ∷ (rest ++ ns) ≡ [] = sym is ∙ are in cc
+not_shorter d l k m final xs ms ns x rest parsed more within accepted is (valueless name index option m_is final_is are found) other =
     let first = head_same x (spec.option name None) (rest ++ ns) [] (sym is ∙ are) in
     other option final_is (nothing_more rest ns first.1)
-not_shorter d l k m final xs ms ns x rest said more within accepted is (refused_first item s index value others m_is are says of refused) other =
-    let later = split (said_item d.options) xs (x ∷ rest) l k said more in
+not_shorter d l k m final xs ms ns x rest parsed more within accepted is (refused_first item s index value others m_is are means of refused) other =
+    let later = split (parsed_item d.options) xs (x ∷ rest) l k parsed more in
     let first = head_same x item (rest ++ ns) others (sym is ∙ are) in
-    let one = first_is (said_item d.options) x s rest later.later (ap (said_item d.options) first.0 ∙ says) later.are in
+    let one = first_is (parsed_item d.options) x s rest later.later (ap (parsed_item d.options) first.0 ∙ means) later.are in
     not_refused d.options l s one.0 value (subst (λ z. are_accepted d.options z ≡ true) (later.all_are ∙ ap (λ z. l ++ z) one.1) accepted) refused
-not_shorter d l k m final xs ms ns x rest said more within accepted is (no_room word others m_is are limit) other =
-    let later = split (said_item d.options) xs (x ∷ rest) l k said more in
+not_shorter d l k m final xs ms ns x rest parsed more within accepted is (no_room word others m_is are limit) other =
+    let later = split (parsed_item d.options) xs (x ∷ rest) l k parsed more in
     let first = head_same x (spec.positional word) (rest ++ ns) others (sym is ∙ are) in
-    let one = first_is (said_item d.options) x (positional word) rest later.later (ap (said_item d.options) first.0) later.are in
+    let one = first_is (parsed_item d.options) x (positional word) rest later.later (ap (parsed_item d.options) first.0) later.are in
     let count : positional_count k ≡ positional_count l + suc (positional_count one.0) =
     ap positional_count later.all_are ∙ count_append l later.later ∙ ap (λ s. positional_count l + positional_count s) one.1 ∙ ap (λ i. positional_count l + i) (omega arith) in
     above (positional_count l) (positional_count one.0) (most d.positionals) limit (subst (λ i. IsWithin i (most d.positionals)) count within)
-not_shorter d l k m final xs ms ns x rest said more within accepted is (at_end lacks final_is are) other = let e : x ∷ (rest ++ ns) ≡ [] = sym is ∙ are in cc
+not_shorter d l k m final xs ms ns x rest parsed more within accepted is (at_end lacks final_is are) other = let e : x ∷ (rest ++ ns) ≡ [] = sym is ∙ are in cc
 
 one_name : (name other : Name) (item : Item) → IsOf name item → IsOf other item → name ≡ other
 one_name name other (spec.option n value) is too = sym is ∙ too
@@ -198,25 +198,25 @@ some_same : {X : Type 0} (x y : X) → Some x ≡ Some y → x ≡ y
 some_same x y is = cc
 
 -- a positional is not an option
-no_option : (word : List ℕ) (index : ℕ) (s : Said) → Some (positional word) ≡ Some s → is_option index s ≡ true → ⊥
+no_option : (word : List ℕ) (index : ℕ) (s : Parsed) → Some (positional word) ≡ Some s → is_option index s ≡ true → ⊥
 no_option word index s is of = false≢true (ap (is_option index) (some_same (positional word) s is) ∙ of)
 
--- what has no value has none that is refused
-none_refused : (options : List Declared) (name : Name) (s : Said) (value : List ℕ) → said_item options (spec.option name None) ≡ Some s → refused_value options s ≡ Some value → ⊥
-none_refused options name s value said refused = go (index_of options name) said
+-- an option without a value has no refused value
+none_refused : (options : List Declared) (name : Name) (s : Parsed) (value : List ℕ) → parsed_item options (spec.option name None) ≡ Some s → refused_value options s ≡ Some value → ⊥
+none_refused options name s value parsed refused = go (index_of options name) parsed
   where
     go : (index : Option ℕ) → option_map (λ i. legal.option i None) index ≡ Some s → ⊥
     go None is = let e : None ≡ Some s = is in cc
     go (Some i) is = let e : None ≡ Some value = ap (refused_value options) (some_same (legal.option i None) s is) ∙ refused in cc
 
 -- an option has one index
-one_option : (i j : ℕ) (s : Said) → is_option i s ≡ true → is_option j s ≡ true → i ≡ j
+one_option : (i j : ℕ) (s : Parsed) → is_option i s ≡ true → is_option j s ≡ true → i ≡ j
 one_option i j (legal.option k value) is too = sym (eqb-true k i is) ∙ eqb-true k j too
 one_option i j (legal.several k values) is too = sym (eqb-true k i is) ∙ eqb-true k j too
 one_option i j (positional word) is too = absurd (false≢true is)
 
--- where the line was read to its end there is one mistake
-same_missing : (d : Declaration) (l : List Said) (m n : Mistake) → IsMissing d l m → IsMissing d l n → m ≡ n
+-- a line that was read to its end has only one mistake
+same_missing : (d : Declaration) (l : List Parsed) (m n : Mistake) → IsMissing d l m → IsMissing d l n → m ≡ n
 same_missing d l m n (lacks_argument m_is few) (lacks_argument n_is few2) = m_is ∙ sym n_is
 same_missing d l m n (lacks_argument m_is few) (refuses_word index2 word2 n_is enough2 unfit2) = absurd (omega arith)
 same_missing d l m n (lacks_argument m_is few) (lacks_option index2 n_is enough2 taken2 first2) = absurd (omega arith)
@@ -231,14 +231,14 @@ same_missing d l m n (lacks_option index m_is enough taken first) (refuses_word 
     absurd (not_both d.positionals (positional_words l) index2 word2 unfit2 taken)
 same_missing d l m n (lacks_option index m_is enough taken first) (lacks_option index2 n_is enough2 taken2 first2) = m_is ∙ ap missing_option (one_first_missing d.options l index index2 first first2) ∙ sym n_is
 
--- of an option that is not declared one thing is left
+-- the rest of the word of an undeclared option is the same
 abbrev SameTails : Mistake → Mistake → Type 0
 SameTails m n = (name : Name) (tail other : Tail) → m ≡ unknown_option name tail → n ≡ unknown_option name other → tail ≡ other
 
 named_tail : (name other : Name) (tail left : Tail) → unknown_option name tail ≡ unknown_option other left → (name ≡ other) × (tail ≡ left)
 named_tail name other tail left is = (cc, cc)
 
-tail_left : (d : Declaration) (l : List Said) (u : UnreadLine) (m : Mistake) (name : Name) (tail : Tail) → Stops d l u m → m ≡ unknown_option name tail
+tail_left : (d : Declaration) (l : List Parsed) (u : UnreadLine) (m : Mistake) (name : Name) (tail : Tail) → Stops d l u m → m ≡ unknown_option name tail
     → (v : UnreadLine) × Next u (option_reply name) v × (v.tail ≡ tail)
 tail_left d l u m name tail (not_declared other v step none) is =
     let same = named_tail other name v.tail tail is in (v, subst (λ x. Next u (option_reply x) v) same.0 step, same.1)
@@ -250,15 +250,15 @@ tail_left d l u m name tail (too_few v step few) is = let e : missing_argument (
 tail_left d l u m name tail (not_taken index word v step enough unfit) is = let e : invalid_argument index word ≡ unknown_option name tail = is in absurd (cc)
 tail_left d l u m name tail (not_complete index v step enough taken first) is = let e : missing_option index ≡ unknown_option name tail = is in absurd (cc)
 
-same_tails : (d : Declaration) (l k : List Said) (u : UnreadLine) (m n : Mistake) → Stops d l u m → Stops d k u n → SameTails m n
+same_tails : (d : Declaration) (l k : List Parsed) (u : UnreadLine) (m n : Mistake) → Stops d l u m → Stops d k u n → SameTails m n
 same_tails d l k u m n stops again = λ name tail other is too.
     let one = tail_left d l u m name tail stops is in
     let two = tail_left d k u n name other again too in
     let lines = (call_same next u (option_reply name) (option_reply name) one.0 two.0 (option_given u one.0 name one.1) (option_given u two.0 name two.1)).1 in
     sym one.2 ∙ ap (λ (v : UnreadLine). v.tail) lines ∙ two.2
 
--- at one place there is one mistake
-same_left : (d : Declaration) (l : List Said) (m n : Mistake) (final : Reply) (ms ns : List Item) → SameTails m n → ms ≡ ns → Left d l m final ms → Left d l n final ns → m ≡ n
+-- at one place there is only one mistake
+same_left : (d : Declaration) (l : List Parsed) (m n : Mistake) (final : Reply) (ms ns : List Item) → SameTails m n → ms ≡ ns → Left d l m final ms → Left d l n final ns → m ≡ n
 same_left d l m n final ms ns tails is (undeclared_first name tail item rest m_is are of none) (undeclared_first name2 tail2 item2 rest2 n_is are2 of2 none2) =
     let first = head_same item item2 rest rest2 (sym are ∙ is ∙ are2) in
     let names = one_name name name2 item2 (subst (IsOf name) first.0 of) of2 in
@@ -270,7 +270,7 @@ same_left d l m n final ms ns tails is (undeclared_first name tail item rest m_i
     absurd (let e : None ≡ Some index2 = sym none ∙ ap (index_of d.options) same_name ∙ found2 in cc)
 same_left d l m n final ms ns tails is (undeclared_first name tail item rest m_is are of none) (refused_first item2 s2 index2 value2 rest2 n_is are2 said2 of2 refused2) =
     let first = head_same item item2 rest rest2 (sym are ∙ is ∙ are2) in
-    absurd (let e : None ≡ Some s2 = sym (undeclared d.options name item of none) ∙ ap (said_item d.options) first.0 ∙ said2 in cc)
+    absurd (let e : None ≡ Some s2 = sym (undeclared d.options name item of none) ∙ ap (parsed_item d.options) first.0 ∙ said2 in cc)
 same_left d l m n final ms ns tails is (undeclared_first name tail item rest m_is are of none) (no_room word2 rest2 n_is are2 limit2) =
     let first = head_same item (spec.positional word2) rest rest2 (sym are ∙ is ∙ are2) in absurd (no_name name word2 item first.0 of)
 same_left d l m n final ms ns tails is (undeclared_first name tail item rest m_is are of none) (at_end lacks2 final_is2 are2) = let e : item ∷ rest ≡ [] = sym are ∙ is ∙ are2 in cc
@@ -296,27 +296,27 @@ same_left d l m n final ms ns tails is (valueless name index option m_is final_i
     m_is ∙ ap (λ i. missing_value i option) same_index ∙ ap (missing_value index2) same_option ∙ sym n_is
 same_left d l m n final ms ns tails is (valueless name index option m_is final_is are found) (refused_first item2 s2 index2 value2 rest2 n_is are2 said2 of2 refused2) =
     let first = head_same (spec.option name None) item2 [] rest2 (sym are ∙ is ∙ are2) in
-    absurd (none_refused d.options name s2 value2 (ap (said_item d.options) first.0 ∙ said2) refused2)
+    absurd (none_refused d.options name s2 value2 (ap (parsed_item d.options) first.0 ∙ said2) refused2)
 same_left d l m n final ms ns tails is (valueless name index option m_is final_is are found) (no_room word2 rest2 n_is are2 limit2) =
     let first = head_same (spec.option name None) (spec.positional word2) [] rest2 (sym are ∙ is ∙ are2) in absurd (let e : spec.option name None ≡ spec.positional word2 = first.0 in cc)
 same_left d l m n final ms ns tails is (valueless name index option m_is final_is are found) (at_end lacks2 final_is2 are2) = let e : spec.option name None ∷ [] ≡ [] = sym are ∙ is ∙ are2 in cc
-same_left d l m n final ms ns tails is (refused_first item s index value rest m_is are said of refused) (undeclared_first name2 tail2 item2 rest2 n_is are2 of2 none2) =
+same_left d l m n final ms ns tails is (refused_first item s index value rest m_is are parsed of refused) (undeclared_first name2 tail2 item2 rest2 n_is are2 of2 none2) =
     let first = head_same item item2 rest rest2 (sym are ∙ is ∙ are2) in
-    absurd (let e : None ≡ Some s = sym (undeclared d.options name2 item2 of2 none2) ∙ ap (said_item d.options) (sym first.0) ∙ said in cc)
-same_left d l m n final ms ns tails is (refused_first item s index value rest m_is are said of refused) (flag_value option2 value2 n_is final_is2 are2) = let e : item ∷ rest ≡ [] = sym are ∙ is ∙ are2 in cc
-same_left d l m n final ms ns tails is (refused_first item s index value rest m_is are said of refused) (valueless name2 index2 option2 n_is final_is2 are2 found2) =
+    absurd (let e : None ≡ Some s = sym (undeclared d.options name2 item2 of2 none2) ∙ ap (parsed_item d.options) (sym first.0) ∙ parsed in cc)
+same_left d l m n final ms ns tails is (refused_first item s index value rest m_is are parsed of refused) (flag_value option2 value2 n_is final_is2 are2) = let e : item ∷ rest ≡ [] = sym are ∙ is ∙ are2 in cc
+same_left d l m n final ms ns tails is (refused_first item s index value rest m_is are parsed of refused) (valueless name2 index2 option2 n_is final_is2 are2 found2) =
     let first = head_same item (spec.option name2 None) rest [] (sym are ∙ is ∙ are2) in
-    absurd (none_refused d.options name2 s value (ap (said_item d.options) (sym first.0) ∙ said) refused)
-same_left d l m n final ms ns tails is (refused_first item s index value rest m_is are said of refused) (refused_first item2 s2 index2 value2 rest2 n_is are2 said2 of2 refused2) =
+    absurd (none_refused d.options name2 s value (ap (parsed_item d.options) (sym first.0) ∙ parsed) refused)
+same_left d l m n final ms ns tails is (refused_first item s index value rest m_is are parsed of refused) (refused_first item2 s2 index2 value2 rest2 n_is are2 said2 of2 refused2) =
     let first = head_same item item2 rest rest2 (sym are ∙ is ∙ are2) in
-    let same_said = some_same s s2 (sym said ∙ ap (said_item d.options) first.0 ∙ said2) in
-    let same_index = one_option index index2 s2 (subst (λ z. is_option index z ≡ true) same_said of) of2 in
-    let same_value = some_same value value2 (sym refused ∙ ap (refused_value d.options) same_said ∙ refused2) in
+    let same_parsed = some_same s s2 (sym parsed ∙ ap (parsed_item d.options) first.0 ∙ said2) in
+    let same_index = one_option index index2 s2 (subst (λ z. is_option index z ≡ true) same_parsed of) of2 in
+    let same_value = some_same value value2 (sym refused ∙ ap (refused_value d.options) same_parsed ∙ refused2) in
     m_is ∙ ap (λ i. invalid_value i value) same_index ∙ ap (invalid_value index2) same_value ∙ sym n_is
-same_left d l m n final ms ns tails is (refused_first item s index value rest m_is are said of refused) (no_room word2 rest2 n_is are2 limit2) =
+same_left d l m n final ms ns tails is (refused_first item s index value rest m_is are parsed of refused) (no_room word2 rest2 n_is are2 limit2) =
     let first = head_same item (spec.positional word2) rest rest2 (sym are ∙ is ∙ are2) in
-    absurd (no_option word2 index s (ap (said_item d.options) (sym first.0) ∙ said) of)
-same_left d l m n final ms ns tails is (refused_first item s index value rest m_is are said of refused) (at_end lacks2 final_is2 are2) = let e : item ∷ rest ≡ [] = sym are ∙ is ∙ are2 in cc
+    absurd (no_option word2 index s (ap (parsed_item d.options) (sym first.0) ∙ parsed) of)
+same_left d l m n final ms ns tails is (refused_first item s index value rest m_is are parsed of refused) (at_end lacks2 final_is2 are2) = let e : item ∷ rest ≡ [] = sym are ∙ is ∙ are2 in cc
 same_left d l m n final ms ns tails is (no_room word rest m_is are limit) (undeclared_first name2 tail2 item2 rest2 n_is are2 of2 none2) =
     let first = head_same (spec.positional word) item2 rest rest2 (sym are ∙ is ∙ are2) in absurd (no_name name2 word item2 (sym first.0) of2)
 same_left d l m n final ms ns tails is (no_room word rest m_is are limit) (flag_value option2 value2 n_is final_is2 are2) = let e : spec.positional word ∷ rest ≡ [] = sym are ∙ is ∙ are2 in cc
@@ -324,7 +324,7 @@ same_left d l m n final ms ns tails is (no_room word rest m_is are limit) (value
     let first = head_same (spec.positional word) (spec.option name2 None) rest [] (sym are ∙ is ∙ are2) in absurd (let e : spec.positional word ≡ spec.option name2 None = first.0 in cc)
 same_left d l m n final ms ns tails is (no_room word rest m_is are limit) (refused_first item2 s2 index2 value2 rest2 n_is are2 said2 of2 refused2) =
     let first = head_same (spec.positional word) item2 rest rest2 (sym are ∙ is ∙ are2) in
-    absurd (no_option word index2 s2 (ap (said_item d.options) first.0 ∙ said2) of2)
+    absurd (no_option word index2 s2 (ap (parsed_item d.options) first.0 ∙ said2) of2)
 same_left d l m n final ms ns tails is (no_room word rest m_is are limit) (no_room word2 rest2 n_is are2 limit2) =
     let first = head_same (spec.positional word) (spec.positional word2) rest rest2 (sym are ∙ is ∙ are2) in
     let same_word : word ≡ word2 = (let e = first.0 in cc) in
@@ -337,21 +337,21 @@ same_left d l m n final ms ns tails is (at_end lacks final_is are) (refused_firs
 same_left d l m n final ms ns tails is (at_end lacks final_is are) (no_room word2 rest2 n_is are2 limit2) = let e : [] ≡ spec.positional word2 ∷ rest2 = sym are ∙ is ∙ are2 in cc
 same_left d l m n final ms ns tails is (at_end lacks final_is are) (at_end lacks2 final_is2 are2) = same_missing d l m n lacks lacks2
 
--- what was read before a mistake, and what is left
-stops_compared : (d : Declaration) (l k : List Said) (m n : Mistake) (final : Reply) (xs ys ms ns : List Item) → map (said_item d.options) xs ≡ map (λ s. Some s) l
-    → map (said_item d.options) ys ≡ map (λ s. Some s) k → IsWithin (positional_count l) (most d.positionals) → IsWithin (positional_count k) (most d.positionals)
+-- what was read before a mistake, and what is unread
+stops_compared : (d : Declaration) (l k : List Parsed) (m n : Mistake) (final : Reply) (xs ys ms ns : List Item) → map (parsed_item d.options) xs ≡ map (λ s. Some s) l
+    → map (parsed_item d.options) ys ≡ map (λ s. Some s) k → IsWithin (positional_count l) (most d.positionals) → IsWithin (positional_count k) (most d.positionals)
     → are_accepted d.options l ≡ true → are_accepted d.options k ≡ true → (xs ≡ ys → SameTails m n) → Left d l m final ms → Left d k n final ns → Compared xs ys ms ns → (l ≡ k) × (m ≡ n)
-stops_compared d l k m n final xs ys ms ns said too within room accepted taken tails left other (same front back) =
-    let lists : l ≡ k = same_somes l k (sym said ∙ ap (map (said_item d.options)) front ∙ too) in
+stops_compared d l k m n final xs ys ms ns parsed too within room accepted taken tails left other (same front back) =
+    let lists : l ≡ k = same_somes l k (sym parsed ∙ ap (map (parsed_item d.options)) front ∙ too) in
     (lists, same_left d k m n final ms ns (tails front) back (subst (λ i. Left d i m final ms) lists left) other)
-stops_compared d l k m n final xs ys ms ns said too within room accepted taken tails left other (shorter x rest front back) =
-    absurd (not_shorter d l k m final xs ms ns x rest said (subst (λ s. map (said_item d.options) s ≡ map (λ s. Some s) k) front too) room taken back left
+stops_compared d l k m n final xs ys ms ns parsed too within room accepted taken tails left other (shorter x rest front back) =
+    absurd (not_shorter d l k m final xs ms ns x rest parsed (subst (λ s. map (parsed_item d.options) s ≡ map (λ s. Some s) k) front too) room taken back left
     (λ option is none. no_missing d k n final ns option is none other))
-stops_compared d l k m n final xs ys ms ns said too within room accepted taken tails left other (longer x rest front back) =
-    absurd (not_shorter d k l n final ys ns ms x rest too (subst (λ s. map (said_item d.options) s ≡ map (λ s. Some s) l) front said) within accepted back other
+stops_compared d l k m n final xs ys ms ns parsed too within room accepted taken tails left other (longer x rest front back) =
+    absurd (not_shorter d k l n final ys ns ms x rest too (subst (λ s. map (parsed_item d.options) s ≡ map (λ s. Some s) l) front parsed) within accepted back other
     (λ option is none. no_missing d l m final ms option is none left))
 
-pub one_stop : (d : Declaration) (words : List (List ℕ)) (l k : List Said) (m n : Mistake) → StopsAt d words l m → StopsAt d words k n → (l ≡ k) × (m ≡ n)
+pub one_stop : (d : Declaration) (words : List (List ℕ)) (l k : List Parsed) (m n : Mistake) → StopsAt d words l m → StopsAt d words k n → (l ≡ k) × (m ≡ n)
 one_stop d words l k m n stops again =
     let t = table d.options in
     let u = start d.short_equals words in
@@ -360,7 +360,7 @@ one_stop d words l k m n stops again =
     let both = no_other_reading t u left.final other.final (stops.read.items ++ left.items) (again.read.items ++ other.items)
     (says_items t u stops.there stops.read.items stops.read.read left.final left.items left.reading)
     (says_items t u again.there again.read.items again.read.read other.final other.items other.reading) in
-    stops_compared d l k m n left.final stops.read.items again.read.items left.items other.items stops.read.said again.read.said stops.read.within again.read.within stops.accepted again.accepted tails left.left
+    stops_compared d l k m n left.final stops.read.items again.read.items left.items other.items stops.read.parsed again.read.parsed stops.read.within again.read.within stops.accepted again.accepted tails left.left
     (subst (λ f. Left d k n f other.items) (sym both.0) other.left) (compared stops.read.items again.read.items left.items other.items both.1)
   where
     tails : stops.read.items ≡ again.read.items → SameTails m n

@@ -1,5 +1,5 @@
--- Under a table with no options of optional or several values, words spell what they spell by the
--- rules for such tables.
+-- Under a table without options of optional or several values, words spell the same by the rules
+-- for such tables.
 use Rattle.std.proofs.Common.{◌≡◌, ℕ, Bool, true, false, List, [], refl, sym, ap, subst, ◌∙◌, cond}
 use Rattle.lexopt_line_spec.specs.Table.{Name, short, long, Item, Kind, flag, one, optional, several, kind, one_value, holds_in}
 use Rattle.lexopt_line_spec.specs.Spelling as large
@@ -15,7 +15,7 @@ none_held : (name : Name) → holds_in [] [] name ≡ false
 none_held (short c) = refl
 none_held (long n) = refl
 
--- the kinds that such a table has
+-- the kinds in such a table
 pub one_value_kind : (shorts : List ℕ) (longs : List (List ℕ)) (name : Name) → kind (one_value shorts longs) name ≡ cond (holds_in shorts longs name) one flag
 unfolding kind
 one_value_kind shorts longs name = go (holds_in shorts longs name) (holds_in [] [] name) (none_held name)

@@ -1,4 +1,4 @@
--- To which positionals a word can belong.
+-- The positionals that a word can belong to.
 use Rattle.std.proofs.Common.{◌≡◌, ◌<◌, ◌⊎◌, ℕ, zero, suc, List, [], ◌∷◌, take, slice_get, Option, Some, None, refl, sym, ap, subst, ◌∙◌, inl, inr, ⊎_elim, lit≤, lit<, arith}
 use Rattle.std.specs.List.{AllZip, Contains}
 use Rattle.std.proofs.lemmas.List.Elements.{Contains-append_right}
@@ -9,7 +9,7 @@ use Rattle.lexopt_options_spec.proofs.Offered.{cons_cases}
 use Rattle.lexopt_options_spec.proofs.Shares.{greedy_are_shares}
 use Rattle.lexopt_laws.specs.Sample.{mode, new, old, target}
 
--- ---- one list of them
+-- ---- there is one list of them
 
 none : (i : ℕ) → Contains [] i → ⊥
 none i has = let low = has.1 in omega (arith, low)
@@ -29,7 +29,7 @@ rest_up : (x : ℕ) (l : List ℕ) → IsAscending (x ∷ l) → IsAscending l
 rest_up x [] up = tt
 rest_up x (y ∷ l) up = up.1
 
--- the least of the one is in the other
+-- the least of one list is in the other
 first_same : (x y : ℕ) (xs ys : List ℕ) → IsAscending (x ∷ xs) → IsAscending (y ∷ ys) → Contains (y ∷ ys) x → Contains (x ∷ xs) y → x ≡ y
 first_same x y xs ys up vp has own =
     ⊎_elim (λ same. sym same) (λ later. ⊎_elim (λ same. same) (λ after. let a = above y ys vp x later in let b = above x xs up y after in omega (arith, a, b)) (cons_cases x xs y own)) (cons_cases y ys x has)

@@ -1,4 +1,4 @@
--- Calls that are never out of memory.
+-- Calls that never run out of memory.
 use Rattle.std.proofs.Common.{◌≡◌, ◌≢◌, ◌⊎◌, ℕ, Bool, true, List, [], Some, None, refl, sym, subst, inl, inr}
 use Rattle.lexopt_spec.specs.UnreadLine.{UnreadLine, pending}
 use Rattle.lexopt_spec.specs.Steps.{Reply, long, missing, unexpected, no_memory, TakesMemory, Answers, ReadsPositional, no_word_left, word_left, ReadsWord, no_word, reads_separator, reads_long, reads_cluster, reads_positional, NextStep, joined_value, equals_value, next_in_cluster, after_separator, next_word, ValueStep, pending_value, takes_word, nothing_to_take, OptionalStep, optional_pending, optional_none, SetsShortEquals}
@@ -6,7 +6,7 @@ use Rattle.lexopt_spec.specs.Views.{available, ValuesStep, no_values, some_value
 use Rattle.lexopt_spec.specs.Runs.{Call, next, value, optional, values, raw, try_raw, raw_if, set_short_equals, StepWithMemory, Step}
 use Rattle.lexopt_line_spec.proofs.Calls.{both_pending}
 
--- the reply takes no memory, and is not `no_memory`
+-- the reply needs no memory, and is not `no_memory`
 abbrev NeedsNoMemory : Reply → Type 0
 NeedsNoMemory no_memory = ⊥
 NeedsNoMemory r = TakesMemory r → ⊥
@@ -64,7 +64,7 @@ raw_if_never word u v none step =
 pub values_never : (n : ℕ) (u v : UnreadLine) → available u ≢ [] → Step (values n) u no_memory v → ⊥
 values_never n u v some step = never (ValuesStep n) u (λ r w s. values_needs_none n u r w some s) v step
 
--- ---- with memory enough, no call reports that there is none
+-- ---- while there is memory, no call runs out of it
 
 -- the reply is not `no_memory`
 abbrev IsOtherReply : Reply → Type 0

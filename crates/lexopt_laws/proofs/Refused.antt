@@ -1,4 +1,4 @@
--- An option refuses the first value that its list does not have.
+-- An option refuses the first value that is not in its list.
 use Rattle.std.proofs.Common.{◌≡◌, ◌≢◌, ◌==◌, ◌||◌, ℕ, zero, suc, Bool, true, false, not, cond, nat_lt, List, [], ◌∷◌, ◌++◌, length, position, slice_get, unwrap_or, option_and_then, Some, None, refl, sym, ap, subst, ◌∙◌, arith, ⊎_elim}
 use Rattle.std.specs.Cmp.Lexicographic.{pointwise}
 use Rattle.std.specs.List.{All, Contains, find, list_any, position_or_len}
@@ -8,11 +8,11 @@ use Rattle.std.proofs.lemmas.List.Elements.{All-cons, All-head, All-nil, All-tai
 use Rattle.std.proofs.lemmas.List.Folds.{find_at}
 use Rattle.std.proofs.lemmas.Option.{slice_get_cases}
 use Rattle.lexopt_options_spec.specs.Declaration.{Declared, Words, accepts, files, directories, text, listed}
-use Rattle.lexopt_options_spec.specs.Legal.{Said, option, several, positional, accepts_at, is_option, refused_value}
+use Rattle.lexopt_options_spec.specs.Legal.{Parsed, option, several, positional, accepts_at, is_option, refused_value}
 use Rattle.lexopt_options_spec.proofs.Tables.{pointwise_refl}
 use Rattle.lexopt_laws.specs.ListedValues.{IsFirstOutside, values_of}
 
--- ---- the first that passes
+-- ---- the first element that passes a test
 
 first_found : {X : Type 0} (p : X → Bool) (xs : List X) → option_and_then (λ n. slice_get xs n) (position p xs) ≡ find p xs
 first_found {X = X} p xs = go (nat_lt place (length xs)) refl
@@ -35,7 +35,7 @@ one_found : (b : Bool) (value : List ℕ) → cond b None (Some value) ≡ cond 
 one_found true value = refl
 one_found false value = refl
 
-refused_is : (options : List Declared) (i : ℕ) (s : Said) → is_option i s ≡ true → refused_value options s ≡ find (fails options i) (values_of s)
+refused_is : (options : List Declared) (i : ℕ) (s : Parsed) → is_option i s ≡ true → refused_value options s ≡ find (fails options i) (values_of s)
 refused_is options i (option j None) of = refl
 refused_is options i (option j (Some value)) of = one_found (accepts_at options j value) value ∙ ap (λ k. find (fails options k) (value ∷ [])) (eqb-true j i of)
 refused_is options i (several j values) of = first_found (fails options j) values ∙ ap (λ k. find (fails options k) values) (eqb-true j i of)
@@ -43,7 +43,7 @@ refused_is options i (positional word) of = absurd (false≢true of)
 
 -- ---- what is in a list
 
--- the test that an option with this list makes
+-- the test of an option with this list
 abbrev pub is_in : List (List ℕ) → List ℕ → Bool
 is_in list value = list_any (λ w. pointwise ◌==◌ w value) list
 
@@ -72,9 +72,9 @@ found_in (w ∷ list) value (zero, below, same) =
     or_left (pointwise ◌==◌ w value) (is_in list value) (subst (λ x. pointwise ◌==◌ w x ≡ true) same (pointwise_refl w))
 found_in (w ∷ list) value (suc n, below, same) = or_right (pointwise ◌==◌ w value) (is_in list value) (found_in list value (n, omega arith, same))
 
--- ---- the first that is not in a list
+-- ---- the first value that is not in a list
 
--- the test fails of what is in the list, and of nothing else
+-- exactly the values in the list fail the test
 abbrev Tests : List (List ℕ) → (List ℕ → Bool) → Type 0
 Tests list p = (value : List ℕ) → p value ≡ not (is_in list value)
 
@@ -142,35 +142,35 @@ tests_of : (options : List Declared) (o : Declared) (i : ℕ) (list : List (List
 tests_of options o i list here words value =
     ap (λ x. not (unwrap_or (option_map (λ p. accepts p.words value) x) true)) here ∙ ap (λ w. not (accepts w value)) words
 
-pub refused_first : (options : List Declared) (o : Declared) (i : ℕ) (list : List (List ℕ)) (s : Said) (value : List ℕ) → slice_get options i ≡ Some o → o.words ≡ listed list → is_option i s ≡ true
+pub refused_first : (options : List Declared) (o : Declared) (i : ℕ) (list : List (List ℕ)) (s : Parsed) (value : List ℕ) → slice_get options i ≡ Some o → o.words ≡ listed list → is_option i s ≡ true
     → refused_value options s ≡ Some value → IsFirstOutside list (values_of s) value
 refused_first options o i list s value here words of refused =
     found_outside list (fails options i) (tests_of options o i list here words) (values_of s) value (sym (refused_is options i s of) ∙ refused)
 
-pub first_refused : (options : List Declared) (o : Declared) (i : ℕ) (list : List (List ℕ)) (s : Said) (value : List ℕ) → slice_get options i ≡ Some o → o.words ≡ listed list → is_option i s ≡ true
+pub first_refused : (options : List Declared) (o : Declared) (i : ℕ) (list : List (List ℕ)) (s : Parsed) (value : List ℕ) → slice_get options i ≡ Some o → o.words ≡ listed list → is_option i s ≡ true
     → IsFirstOutside list (values_of s) value → refused_value options s ≡ Some value
 first_refused options o i list s value here words of first =
     refused_is options i s of ∙ ap (find (fails options i)) first.values_are
     ∙ outside_found list (fails options i) (tests_of options o i list here words) first.before first.after value first.listed_before first.outside
 
-pub none_refused : (options : List Declared) (o : Declared) (i : ℕ) (list : List (List ℕ)) (s : Said) → slice_get options i ≡ Some o → o.words ≡ listed list → is_option i s ≡ true
+pub none_refused : (options : List Declared) (o : Declared) (i : ℕ) (list : List (List ℕ)) (s : Parsed) → slice_get options i ≡ Some o → o.words ≡ listed list → is_option i s ≡ true
     → refused_value options s ≡ None → All (Contains list) (values_of s)
 none_refused options o i list s here words of none =
     none_outside list (fails options i) (tests_of options o i list here words) (values_of s) (sym (refused_is options i s of) ∙ none)
 
-pub all_listed : (options : List Declared) (o : Declared) (i : ℕ) (list : List (List ℕ)) (s : Said) → slice_get options i ≡ Some o → o.words ≡ listed list → is_option i s ≡ true
+pub all_listed : (options : List Declared) (o : Declared) (i : ℕ) (list : List (List ℕ)) (s : Parsed) → slice_get options i ≡ Some o → o.words ≡ listed list → is_option i s ≡ true
     → All (Contains list) (values_of s) → refused_value options s ≡ None
 all_listed options o i list s here words of all = refused_is options i s of ∙ all_in list (fails options i) (tests_of options o i list here words) (values_of s) all
 
--- ---- an option without one
+-- ---- an option without a list
 
 none_found : (options : List Declared) (i : ℕ) (values : List (List ℕ)) → ((value : List ℕ) → accepts_at options i value ≡ true) → find (fails options i) values ≡ None
 none_found options i [] takes = refl
 none_found options i (value ∷ values) takes =
     ap (λ (b : Bool). cond (not b) (Some value) (find (fails options i) values)) (takes value) ∙ none_found options i values takes
 
--- where an option accepts any value, it refuses none
-pub takes_any : (options : List Declared) (i : ℕ) (s : Said) → is_option i s ≡ true → ((value : List ℕ) → accepts_at options i value ≡ true) → refused_value options s ≡ None
+-- if an option accepts any value, it refuses none
+pub takes_any : (options : List Declared) (i : ℕ) (s : Parsed) → is_option i s ≡ true → ((value : List ℕ) → accepts_at options i value ≡ true) → refused_value options s ≡ None
 takes_any options i s of takes = refused_is options i s of ∙ none_found options i (values_of s) takes
 
 any_word : (words : Words) → ((list : List (List ℕ)) → words ≢ listed list) → (value : List ℕ) → accepts words value ≡ true
@@ -179,7 +179,7 @@ any_word directories other value = refl
 any_word text other value = refl
 any_word (listed list) other value = absurd (other list refl)
 
-pub no_list : (options : List Declared) (o : Declared) (i : ℕ) (s : Said) → slice_get options i ≡ Some o → ((list : List (List ℕ)) → o.words ≢ listed list) → is_option i s ≡ true
+pub no_list : (options : List Declared) (o : Declared) (i : ℕ) (s : Parsed) → slice_get options i ≡ Some o → ((list : List (List ℕ)) → o.words ≢ listed list) → is_option i s ≡ true
     → refused_value options s ≡ None
 no_list options o i s here other of =
     takes_any options i s of (λ value. ap (λ x. unwrap_or (option_map (λ p. accepts p.words value) x) true) here ∙ any_word o.words other value)

@@ -7,7 +7,7 @@ use Rattle.lexopt_spec.specs.UnreadLine.{UnreadLine}
 use Rattle.lexopt_line_spec.specs.Table.{Item}
 use Rattle.lexopt_line_spec.specs.Readings.{ReadsFirst, ReadsItems, start}
 use Rattle.lexopt_options_spec.specs.Declaration.{Declaration, Positional, Words, accepts, files, directories, text, listed, is_sound, table}
-use Rattle.lexopt_options_spec.specs.Legal.{Said, Says, SaysFront, option, several, positional, are_accepted, counts, is_option, most, positional_count, positional_words}
+use Rattle.lexopt_options_spec.specs.Legal.{Parsed, Means, MeansFront, option, several, positional, are_accepted, counts, is_option, most, positional_count, positional_words}
 use Rattle.lexopt_options_spec.specs.Places.{ArePlaces, AreTaken, IsNotTaken, least, refused_word, takes_at}
 use Rattle.lexopt_options_spec.specs.Stops.{Mistake, ReadsUpTo, Stops, StopsAt, invalid_argument, invalid_value, missing_argument, missing_option, missing_value, unexpected_argument, unexpected_value, unknown_option, not_declared, value_of_flag, no_value, not_accepted, one_too_many, too_few, not_taken, not_complete}
 use Rattle.lexopt_options_spec.proofs.Fronts.{ComesTo, comes_to, front_later, no_front, not_refused, one_front}
@@ -71,7 +71,7 @@ refused_at ps (j ∷ places) (w ∷ words) i word (suc at) here belongs fails be
 pub refused_first : (ps : List Positional) (places : List ℕ) (words : List (List ℕ)) (i : ℕ) (word : List ℕ) → IsFirstRefused ps places words i word → refused_word ps places words ≡ Some (i, word)
 refused_first ps places words i word first = refused_at ps places words i word first.at first.here first.belongs first.refused first.before
 
--- ---- where none is refused
+-- ---- if none is refused
 
 none_first : (b : Bool) (o : Option (ℕ × List ℕ)) (p : ℕ × List ℕ) → cond b o (Some p) ≡ None → (b ≡ true) × (o ≡ None)
 none_first true o p is = (refl, is)
@@ -94,7 +94,7 @@ all_taken ps (j ∷ places) [] each = refl
 all_taken ps (j ∷ places) (w ∷ words) each =
     ap (λ (b : Bool). cond b (refused_word ps places words) (Some (j, w))) (each 0 j w refl refl) ∙ all_taken ps places words (λ n i word here belongs. each (suc n) i word here belongs)
 
--- ---- what is in a list
+-- ---- words in a list
 
 pub record IsOutside (ps : List Positional) (i : ℕ) (word : List ℕ) : Type 0 where
   pub owner : Positional
@@ -127,52 +127,52 @@ is_outside ps words i word unfit = let first = first_refused ps unfit.places wor
 
 -- ---- legal lines
 
-pub words_in_lists : (d : Declaration) (words : List (List ℕ)) (l : List Said) (places : List ℕ) (n i : ℕ) (word : List ℕ) (p : Positional) (list : List (List ℕ)) → Says d words l
+pub words_in_lists : (d : Declaration) (words : List (List ℕ)) (l : List Parsed) (places : List ℕ) (n i : ℕ) (word : List ℕ) (p : Positional) (list : List (List ℕ)) → Means d words l
     → ArePlaces d.positionals (positional_count l) places → slice_get (positional_words l) n ≡ Some word → slice_get places n ≡ Some i → slice_get d.positionals i ≡ Some p → p.words ≡ listed list
     → Contains list word
-words_in_lists d words l places n i word p list says are here belongs owner is =
-    let same = one_places d.positionals (positional_count l) says.taken.places places
-    (subst (λ m. ArePlaces d.positionals m says.taken.places) (words_count l) says.taken.are_places) are in
+words_in_lists d words l places n i word p list means are here belongs owner is =
+    let same = one_places d.positionals (positional_count l) means.taken.places places
+    (subst (λ m. ArePlaces d.positionals m means.taken.places) (words_count l) means.taken.are_places) are in
     let takes = each_taken d.positionals places (positional_words l) n i word
-    (subst (λ q. refused_word d.positionals q (positional_words l) ≡ None) same says.taken.none) here belongs in
+    (subst (λ q. refused_word d.positionals q (positional_words l) ≡ None) same means.taken.none) here belongs in
     in_list list word
     (sym (ap (λ ws. accepts ws word) is) ∙ sym (ap (λ x. unwrap_or (option_map (λ q. accepts q.words word) x) true) owner) ∙ takes)
 
-pub none_refused : (d : Declaration) (words : List (List ℕ)) (l : List Said) (i : ℕ) (word : List ℕ) → Says d words l → IsNotTaken d.positionals (positional_words l) i word → ⊥
-none_refused d words l i word says unfit = not_both d.positionals (positional_words l) i word unfit says.taken
+pub none_refused : (d : Declaration) (words : List (List ℕ)) (l : List Parsed) (i : ℕ) (word : List ℕ) → Means d words l → IsNotTaken d.positionals (positional_words l) i word → ⊥
+none_refused d words l i word means unfit = not_both d.positionals (positional_words l) i word unfit means.taken
 
--- ---- where a line stops at a word
+-- ---- a line whose reading stops at a word
 
-joined_at : (k : List Said) (s : Said) (later : List Said) → (k ++ s ∷ []) ++ later ≡ k ++ s ∷ later
+joined_at : (k : List Parsed) (s : Parsed) (later : List Parsed) → (k ++ s ∷ []) ++ later ≡ k ++ s ∷ later
 joined_at [] s later = refl
 joined_at (x ∷ k) s later = ap (λ m. x ∷ m) (joined_at k s later)
 
-no_count : (index : ℕ) (s : Said) → is_option index s ≡ true → counts s ≡ 0
+no_count : (index : ℕ) (s : Parsed) → is_option index s ≡ true → counts s ≡ 0
 no_count index (option i value) of = refl
 no_count index (several i values) of = refl
 no_count index (positional word) of = absurd (false≢true of)
 
--- what was read of the line up to its end, with nothing wrong before it
-record IsRead (d : Declaration) (words : List (List ℕ)) (l : List Said) (i : ℕ) (word : List ℕ) : Type 0 where
+-- what was read of the line up to its end, without a mistake before it
+record IsRead (d : Declaration) (words : List (List ℕ)) (l : List Parsed) (i : ℕ) (word : List ℕ) : Type 0 where
   sound : is_sound d.options ≡ true
-  front : SaysFront d words l
+  front : MeansFront d words l
   accepted : are_accepted d.options l ≡ true
   enough : least d.positionals ≤ positional_count l
   unfit : IsNotTaken d.positionals (positional_words l) i word
 
--- one value that is not accepted is among what was read
-value_read : (d : Declaration) (words : List (List ℕ)) (l k : List Said) (there v : UnreadLine) (s : Said) (index : ℕ) (value : List ℕ) → SaysFront d words l → are_accepted d.options l ≡ true
+-- a value that is not accepted was read
+value_read : (d : Declaration) (words : List (List ℕ)) (l k : List Parsed) (there v : UnreadLine) (s : Parsed) (index : ℕ) (value : List ℕ) → MeansFront d words l → are_accepted d.options l ≡ true
     → ReadsUpTo d (start d.short_equals words) k there → ReadsUpTo d there (s ∷ []) v → is_option index s ≡ true
-    → ((rest : List Said) → are_accepted d.options (k ++ s ∷ rest) ≡ true → ⊥) → ⊥
+    → ((rest : List Parsed) → are_accepted d.options (k ++ s ∷ rest) ≡ true → ⊥) → ⊥
 value_read d words l k there v s index value front accepted read one of refused =
-    let item = one_item d.options one.items s one.said in
+    let item = one_item d.options one.items s one.parsed in
     let reads : ReadsItems (table d.options) there (item.0 ∷ []) v = subst (λ (items : List Item). ReadsItems (table d.options) there items v) item.1 one.read in
     let first : ReadsFirst (table d.options) there item.0 v = subst (λ (x : UnreadLine). ReadsFirst (table d.options) there item.0 x) (sym reads.2) reads.1 in
     let more = one_more d (start d.short_equals words) there v k item.0 s read first one.line item.2 (same_within (positional_count k) (counts s) (most d.positionals) (no_count index s of) read.within) in
     let rest = front_later d words (k ++ s ∷ []) v more l front in
     refused rest.0 (subst (λ m. are_accepted d.options m ≡ true) (rest.1 ∙ joined_at k s rest.0) accepted)
 
-the_stop : (d : Declaration) (words : List (List ℕ)) (l : List Said) (i : ℕ) (word : List ℕ) → IsRead d words l i word → (k : List Said) (mistake other : Mistake) (there : ComesTo d words k mistake) → mistake ≡ other
+the_stop : (d : Declaration) (words : List (List ℕ)) (l : List Parsed) (i : ℕ) (word : List ℕ) → IsRead d words l i word → (k : List Parsed) (mistake other : Mistake) (there : ComesTo d words k mistake) → mistake ≡ other
     → Stops d k there.there other → (k ≡ l) × (other ≡ invalid_argument i word)
 the_stop d words l i word is k mistake other there m_is (not_declared name v step none) =
     absurd (no_front d words k mistake there
@@ -213,13 +213,13 @@ the_stop d words l i word is k mistake other there m_is (not_taken index w v ste
     let one = one_refused d.positionals (positional_words l) index i w word (subst (λ m. IsNotTaken d.positionals (positional_words m) index w) same unfit) is.unfit in
     (same, ap (λ j. invalid_argument j w) one.0 ∙ ap (invalid_argument i) one.1)
 
-pub stops_at_word : (d : Declaration) (words : List (List ℕ)) (l : List Said) (i : ℕ) (word : List ℕ) → is_sound d.options ≡ true → SaysFront d words l → are_accepted d.options l ≡ true
+pub stops_at_word : (d : Declaration) (words : List (List ℕ)) (l : List Parsed) (i : ℕ) (word : List ℕ) → is_sound d.options ≡ true → MeansFront d words l → are_accepted d.options l ≡ true
     → least d.positionals ≤ positional_count l → IsNotTaken d.positionals (positional_words l) i word → StopsAt d words l (invalid_argument i word)
 stops_at_word d words l i word sound front accepted enough unfit = ⊎_elim
-    (λ (said : (k : List Said) × Says d words k).
+    (λ (parsed : (k : List Parsed) × Means d words k).
     absurd (not_both d.positionals (positional_words l) i word unfit
-    (subst (λ m. AreTaken d.positionals (positional_words m)) (one_front d words said.0 l said.1.front front) said.1.taken)))
-    (λ (stopped : (k : List Said) × (m : Mistake) × StopsAt d words k m).
+    (subst (λ m. AreTaken d.positionals (positional_words m)) (one_front d words parsed.0 l parsed.1.front front) parsed.1.taken)))
+    (λ (stopped : (k : List Parsed) × (m : Mistake) × StopsAt d words k m).
     let there = comes_to stopped.2 in
     let is : IsRead d words l i word = record { sound = sound; front = front; accepted = accepted; enough = enough; unfit = unfit } in
     let same = the_stop d words l i word is stopped.0 stopped.1 stopped.1 there refl there.stops in

@@ -1,4 +1,4 @@
--- Lists of calls have one result, as long as memory is enough.
+-- Lists of calls have one result while there is memory.
 use Rattle.std.proofs.Common.{◌≡◌, ◌≢◌, zero, suc, List, [], ◌∷◌, refl, sym, ap, subst, ◌∙◌, inl, inr, arith}
 use Rattle.std.specs.List.{IsAmong}
 use Rattle.lexopt_spec.specs.UnreadLine.{UnreadLine, IsLine}
@@ -35,7 +35,7 @@ step_same call u r s v w (inl a) (inl b) fits also = call_same call u r s v w a 
 step_same call u r s v w (inl a) (inr b) fits also = absurd (also b.reply_is)
 step_same call u r s v w (inr a) b fits also = absurd (fits a.reply_is)
 
--- and, as long as memory is enough, no other
+-- and no other while there is memory
 pub run_same : (calls : List Call) (u v w : UnreadLine) (replies others : List Reply) → Run u calls replies v → Run u calls others w
     → (IsAmong replies no_memory → ⊥) → (IsAmong others no_memory → ⊥) → (replies ≡ others) × (v ≡ w)
 run_same [] u v w [] [] one other fits also = (refl, one ∙ sym other)

@@ -1,4 +1,4 @@
--- The segments of a step hang on the line alone: two derivations name the same ones.
+-- The segments of a step depend only on the line: two derivations give the same.
 use Rattle.std.proofs.Common.{◌≡◌, ℕ, true, List, [], ◌∷◌, ◌++◌, map, refl, sym, ap, subst, ◌∙◌, true≢false}
 use Rattle.lexopt_spec.specs.Pieces.{first_piece, pieces}
 use Rattle.lexopt_spec.specs.UnreadLine.{dash, equals, no_tail, joined, rest, UnreadLine, BeginsWith}

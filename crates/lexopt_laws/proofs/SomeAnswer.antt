@@ -1,4 +1,4 @@
--- A line under a declaration is read to its end, or stops at a mistake.
+-- A line is read to its end under a declaration, or its reading stops at a mistake.
 use Rattle.std.proofs.Common.{◌≡◌, ◌≢◌, ◌<◌, ◌≤◌, ◌⊎◌, ℕ, zero, suc, ◌+◌, ◌==◌, Bool, true, false, List, [], ◌∷◌, ◌++◌, Option, Some, None, is_none, refl, sym, ap, subst, ◌∙◌, inl, inr, ⊎_elim, arith}
 use Rattle.std.proofs.lemmas.Bool.{and_from, false≢true, eqb-true, eq-eqb}
 use Rattle.std.specs.Option.{option_map}
@@ -23,18 +23,18 @@ use Rattle.lexopt_line_spec.proofs.ReplyKinds.{IsNextReply, next_reply, IsValueR
 use Rattle.lexopt_line_spec.proofs.RunAccounts.{step_line}
 use Rattle.lexopt_line_spec.proofs.Total.{next_answer}
 use Rattle.lexopt_options_spec.specs.Declaration.{Declaration, index_of, is_sound, table}
-use Rattle.lexopt_options_spec.specs.Legal.{Said, option, several, positional, said_item, counts, positional_count, positional_words, most, IsWithin, is_required, occurs, Says, SaysFront, are_accepted, is_option, refused_value}
+use Rattle.lexopt_options_spec.specs.Legal.{Parsed, option, several, positional, parsed_item, counts, positional_count, positional_words, most, IsWithin, is_required, occurs, Means, MeansFront, are_accepted, is_option, refused_value}
 use Rattle.lexopt_options_spec.specs.Places.{AreTaken, IsNotTaken, least}
 use Rattle.lexopt_options_spec.specs.Stops.{Mistake, unknown_option, unexpected_value, missing_value, invalid_value, unexpected_argument, invalid_argument, missing_argument, missing_option, IsFirstMissing, Stops, not_declared, value_of_flag, no_value, not_accepted, one_too_many, too_few, not_taken, not_complete, ReadsUpTo, StopsAt}
-use Rattle.lexopt_options_spec.proofs.Fronts.{front_said}
+use Rattle.lexopt_options_spec.proofs.Fronts.{front_parsed}
 use Rattle.lexopt_options_spec.proofs.Listed.{accepted_append}
 use Rattle.lexopt_options_spec.proofs.Lists.{count_append, joined}
 use Rattle.lexopt_options_spec.proofs.Taken.{taken_or_not, words_count}
 use Rattle.lexopt_laws.proofs.Missing.{complete_or_missing}
 
--- ---- what is read as one item
+-- ---- what is read for one item
 
--- what the call after an option of this kind returns
+-- the reply of the call after an option of this kind
 abbrev IsKindReply : Kind → Reply → Type 0
 IsKindReply flag r = IsNextReply r
 IsKindReply one (steps.taken word) = Unit {0}
@@ -63,7 +63,7 @@ kind_reply one call v w r due some step = one_reply v w r (with_memory value v w
 kind_reply optional call v w r due some step = maybe_reply v w r (with_memory calls.optional v w r some (subst (λ c. Step c v r w) due step))
 kind_reply several call v w r due some step = several_reply due.0 v w r (with_memory (calls.values due.0) v w r some (subst (λ c. Step c v r w) due.1 step))
 
--- an option, and what the call for its values returns
+-- an option, and the reply of the call for its values
 first_taken : (t : Table) (u v w : UnreadLine) (name : Name) (k : Kind) (call : Call) (word : List ℕ) → kind t name ≡ k → IsDue k call → Next u (option_reply name) v
     → Step call v (steps.taken word) w → ReadsFirst t u (spec.option name (Some word)) w
 first_taken t u v w name one call word is due step takes = first_one name word v w is step (subst (λ c. Step c v (steps.taken word) w) due takes)
@@ -86,7 +86,7 @@ first_items t u v w name flag call words is due full step takes = absurd (kind_r
 first_items t u v w name one call words is due full step takes = absurd (kind_reply one call v w (steps.items words) due (λ same. cc) takes)
 first_items t u v w name optional call words is due full step takes = absurd (kind_reply optional call v w (steps.items words) due (λ same. cc) takes)
 
--- ---- what was read, and one item more
+-- ---- what was read, and one more item
 
 pub zero_within : (limit : Option ℕ) → IsWithin 0 limit
 zero_within None = tt
@@ -97,17 +97,17 @@ nothing_read d u line = record {
   items = [];
   read = refl;
   line = line;
-  said = refl;
+  parsed = refl;
   within = zero_within (most d.positionals);
 }
 
-pub one_more : (d : Declaration) (u v w : UnreadLine) (l : List Said) (item : Item) (s : Said) → ReadsUpTo d u l v → ReadsFirst (table d.options) v item w → IsLine w
-    → said_item d.options item ≡ Some s → IsWithin (positional_count l + counts s) (most d.positionals) → ReadsUpTo d u (l ++ s ∷ []) w
-one_more d u v w l item s read first line said within = record {
+pub one_more : (d : Declaration) (u v w : UnreadLine) (l : List Parsed) (item : Item) (s : Parsed) → ReadsUpTo d u l v → ReadsFirst (table d.options) v item w → IsLine w
+    → parsed_item d.options item ≡ Some s → IsWithin (positional_count l + counts s) (most d.positionals) → ReadsUpTo d u (l ++ s ∷ []) w
+one_more d u v w l item s read first line parsed within = record {
   items = read.items ++ item ∷ [];
   read = one_more_item (table d.options) u v w read.items item read.read first;
   line = line;
-  said = joined (said_item d.options) read.items l item s read.said said;
+  parsed = joined (parsed_item d.options) read.items l item s read.parsed parsed;
   within = subst (λ n. IsWithin n (most d.positionals)) (sym (count_append l (s ∷ []) ∙ ap (λ n. positional_count l + n) (omega arith))) within;
 }
 
@@ -115,36 +115,36 @@ pub same_within : (n k : ℕ) (limit : Option ℕ) → k ≡ 0 → IsWithin n li
 same_within n k None none within = tt
 same_within n k (Some m) none within = omega arith
 
--- one item alone
-pub one_read : (d : Declaration) (u v : UnreadLine) (item : Item) (s : Said) → IsLine u → ReadsFirst (table d.options) u item v → IsLine v
-    → said_item d.options item ≡ Some s → IsWithin (0 + counts s) (most d.positionals) → ReadsUpTo d u (s ∷ []) v
-one_read d u v item s line first after said within = one_more d u u v [] item s (nothing_read d u line) first after said within
+-- a single item
+pub one_read : (d : Declaration) (u v : UnreadLine) (item : Item) (s : Parsed) → IsLine u → ReadsFirst (table d.options) u item v → IsLine v
+    → parsed_item d.options item ≡ Some s → IsWithin (0 + counts s) (most d.positionals) → ReadsUpTo d u (s ∷ []) v
+one_read d u v item s line first after parsed within = one_more d u u v [] item s (nothing_read d u line) first after parsed within
 
--- ---- one result
+-- ---- there is a result
 
--- what the line is found to do: to mean something to its end, or to stop
+-- the line is read to its end, or its reading stops
 data Found (d : Declaration) (u : UnreadLine) : Type 0 where
-  to_the_end : (l : List Said) (v w : UnreadLine) → ReadsUpTo d u l v → Next v steps.end w → least d.positionals ≤ positional_count l → AreTaken d.positionals (positional_words l)
+  to_the_end : (l : List Parsed) (v w : UnreadLine) → ReadsUpTo d u l v → Next v steps.end w → least d.positionals ≤ positional_count l → AreTaken d.positionals (positional_words l)
       → ((i : ℕ) → is_required d.options i ≡ true → occurs i l ≡ true) → are_accepted d.options l ≡ true → Found d u
-  stopped : (l : List Said) (m : Mistake) (v : UnreadLine) → ReadsUpTo d u l v → Stops d l v m → are_accepted d.options l ≡ true → Found d u
+  stopped : (l : List Parsed) (m : Mistake) (v : UnreadLine) → ReadsUpTo d u l v → Stops d l v m → are_accepted d.options l ≡ true → Found d u
 
--- the rest of a line of no greater bound is read
+-- what is found once the line was read up to one with a smaller bound
 abbrev Later : Declaration → UnreadLine → ℕ → Type 0
-Later d u n = (l : List Said) (v : UnreadLine) → ReadsUpTo d u l v → are_accepted d.options l ≡ true → bound v < n → Found d u
+Later d u n = (l : List Parsed) (v : UnreadLine) → ReadsUpTo d u l v → are_accepted d.options l ≡ true → bound v < n → Found d u
 
--- an option that was read: the line is read on, unless the option does not accept a value that it has
-item_found : (d : Declaration) (u v x : UnreadLine) (l : List Said) (n : ℕ) (item : Item) (s : Said) (index : ℕ) → ReadsUpTo d u l v → are_accepted d.options l ≡ true
-    → ReadsFirst (table d.options) v item x → IsLine x → said_item d.options item ≡ Some s → is_option index s ≡ true → counts s ≡ 0 → bound x < n → Later d u n → Found d u
-item_found d u v x l n item s index read accepted first line said of none less later = go (refused_value d.options s) refl
+-- an option that was read: the line is read on, unless the option does not accept its value
+item_found : (d : Declaration) (u v x : UnreadLine) (l : List Parsed) (n : ℕ) (item : Item) (s : Parsed) (index : ℕ) → ReadsUpTo d u l v → are_accepted d.options l ≡ true
+    → ReadsFirst (table d.options) v item x → IsLine x → parsed_item d.options item ≡ Some s → is_option index s ≡ true → counts s ≡ 0 → bound x < n → Later d u n → Found d u
+item_found d u v x l n item s index read accepted first line parsed of none less later = go (refused_value d.options s) refl
   where
     go : (refused : Option (List ℕ)) → refused_value d.options s ≡ refused → Found d u
-    go None is = later (l ++ s ∷ []) x (one_more d u v x l item s read first line said (same_within (positional_count l) (counts s) (most d.positionals) none read.within))
+    go None is = later (l ++ s ∷ []) x (one_more d u v x l item s read first line parsed (same_within (positional_count l) (counts s) (most d.positionals) none read.within))
         (accepted_append d.options l (s ∷ []) accepted (and_from _ _ (ap is_none is) refl)) less
     go (Some word) is = stopped l (invalid_value index word) v read
-        (not_accepted s index word x (one_read d v x item s read.line first line said (same_within 0 (counts s) (most d.positionals) none (zero_within (most d.positionals)))) of is) accepted
+        (not_accepted s index word x (one_read d v x item s read.line first line parsed (same_within 0 (counts s) (most d.positionals) none (zero_within (most d.positionals)))) of is) accepted
 
--- an option that is declared, and what the call for its values returns
-due_found : (d : Declaration) (u v w x : UnreadLine) (l : List Said) (n : ℕ) (name : Name) (index : ℕ) (k : Kind) (call : Call) (r : Reply) → ReadsUpTo d u l v → are_accepted d.options l ≡ true
+-- a declared option, and the reply of the call for its values
+due_found : (d : Declaration) (u v w x : UnreadLine) (l : List Parsed) (n : ℕ) (name : Name) (index : ℕ) (k : Kind) (call : Call) (r : Reply) → ReadsUpTo d u l v → are_accepted d.options l ≡ true
     → Next v (option_reply name) w → index_of d.options name ≡ Some index → kind (table d.options) name ≡ k → IsDue k call → IsFull call r → IsValueReply r → Step call w r x → bound x < n → Later d u n → Found d u
 due_found d u v w x l n name index k call (steps.taken word) read accepted step found k_is due full is takes less later =
     item_found d u v x l n (spec.option name (Some word)) (option index (Some word)) index read accepted
@@ -167,7 +167,7 @@ due_found d u v w x l n name index k call (steps.missing o) read accepted step f
     (no_value name index named.0 call w x step found (subst (λ z. IsDue z call) (sym k_is) due) (subst (λ z. Step call w (steps.missing z) x) named.1 takes)) accepted
 due_found d u v w x l n name index k call r read accepted step found k_is due full is takes less later = absurd is
 
-declared_found : (d : Declaration) (u v w : UnreadLine) (l : List Said) (n : ℕ) (name : Name) (index : ℕ) (k : Kind) → ReadsUpTo d u l v → are_accepted d.options l ≡ true
+declared_found : (d : Declaration) (u v w : UnreadLine) (l : List Parsed) (n : ℕ) (name : Name) (index : ℕ) (k : Kind) → ReadsUpTo d u l v → are_accepted d.options l ≡ true
     → Next v (option_reply name) w → index_of d.options name ≡ Some index → kind (table d.options) name ≡ k → bound w < n → Later d u n → Found d u
 declared_found d u v w l n name index flag read accepted step found k_is less later =
     item_found d u v w l n (spec.option name None) (option index None) index read accepted (first_flag name w k_is step)
@@ -186,17 +186,17 @@ declared_found d u v w l n name index several read accepted step found k_is less
     due_found d u v w a.after l n name index several (calls.values a.asked) a.reply read accepted step found k_is (a.asked, refl) a.full
     (values_reply w a.after a.reply (full_step a.asked w a.after a.reply a.full a.step)) (inl a.step) (omega arith) later
 
-option_found : (d : Declaration) (u v w : UnreadLine) (l : List Said) (n : ℕ) (name : Name) (index : Option ℕ) → ReadsUpTo d u l v → are_accepted d.options l ≡ true → Next v (option_reply name) w
+option_found : (d : Declaration) (u v w : UnreadLine) (l : List Parsed) (n : ℕ) (name : Name) (index : Option ℕ) → ReadsUpTo d u l v → are_accepted d.options l ≡ true → Next v (option_reply name) w
     → index_of d.options name ≡ index → bound w < n → Later d u n → Found d u
 option_found d u v w l n name None read accepted step found less later = stopped l (unknown_option name w.tail) v read (not_declared name w step found) accepted
 option_found d u v w l n name (Some index) read accepted step found less later = declared_found d u v w l n name index (kind (table d.options) name) read accepted step found refl less later
 
--- a positional, where one more is allowed or not
+-- one more positional is allowed or not
 room : (n m : ℕ) (same : Bool) → (m == n) ≡ same → n ≤ m → (m ≡ n) ⊎ (n + 1 ≤ m)
 room n m true is le = inl (eqb-true m n is)
 room n m false is le = inr (let other : m ≢ n = λ e. false≢true (sym is ∙ eq-eqb m n e) in omega arith)
 
-positional_found : (d : Declaration) (u v w : UnreadLine) (l : List Said) (n : ℕ) (word : List ℕ) (limit : Option ℕ) → most d.positionals ≡ limit → IsWithin (positional_count l) limit
+positional_found : (d : Declaration) (u v w : UnreadLine) (l : List Parsed) (n : ℕ) (word : List ℕ) (limit : Option ℕ) → most d.positionals ≡ limit → IsWithin (positional_count l) limit
     → ReadsUpTo d u l v → are_accepted d.options l ≡ true → Next v (steps.positional word) w → bound w < n → Later d u n → Found d u
 positional_found d u v w l n word None limit_is within read accepted step less later =
     later (l ++ positional word ∷ []) w
@@ -211,13 +211,13 @@ positional_found d u v w l n word (Some most_of) limit_is within read accepted s
     (accepted_append d.options l (positional word ∷ []) accepted refl) less)
     (room (positional_count l) most_of (most_of == positional_count l) refl within)
 
--- the end
+-- the end of the line
 few_or_enough : (n m : ℕ) → (n < m) ⊎ (m ≤ n)
 few_or_enough n zero = inr (omega arith)
 few_or_enough zero (suc m) = inl (omega arith)
 few_or_enough (suc n) (suc m) = ⊎_elim (λ (less : n < m). inl (omega arith)) (λ (more : m ≤ n). inr (omega arith)) (few_or_enough n m)
 
-end_found : (d : Declaration) (u v w : UnreadLine) (l : List Said) → ReadsUpTo d u l v → are_accepted d.options l ≡ true → Next v steps.end w → Found d u
+end_found : (d : Declaration) (u v w : UnreadLine) (l : List Parsed) → ReadsUpTo d u l v → are_accepted d.options l ≡ true → Next v steps.end w → Found d u
 end_found d u v w l read accepted step = ⊎_elim
     (λ (less : positional_count l < least d.positionals). stopped l (missing_argument (positional_count l)) v read (too_few w step less) accepted)
     (λ (enough : least d.positionals ≤ positional_count l). ⊎_elim
@@ -230,7 +230,7 @@ end_found d u v w l read accepted step = ⊎_elim
     (taken_or_not d.positionals (positional_words l) (subst (λ n. IsWithin n (most d.positionals)) (sym (words_count l)) read.within)))
     (few_or_enough (positional_count l) (least d.positionals))
 
-reply_found : (d : Declaration) (u v w : UnreadLine) (l : List Said) (n : ℕ) (r : Reply) → ReadsUpTo d u l v → are_accepted d.options l ≡ true → NextStep v r w → IsNextReply r → bound v < suc n → Later d u n → Found d u
+reply_found : (d : Declaration) (u v w : UnreadLine) (l : List Parsed) (n : ℕ) (r : Reply) → ReadsUpTo d u l v → are_accepted d.options l ≡ true → NextStep v r w → IsNextReply r → bound v < suc n → Later d u n → Found d u
 reply_found d u v w l n (steps.short c) read accepted step is less later =
     let falls = given_falls v w (steps.short c) (λ same. let e : steps.short c ≡ steps.end = same in cc) (λ same. let e : steps.short c ≡ steps.no_memory = same in cc) (inl step) in
     option_found d u v w l n (short c) (index_of d.options (short c)) read accepted (inl step) refl (omega arith) later
@@ -254,15 +254,15 @@ append_nil : (l : List Item) → l ++ [] ≡ l
 append_nil [] = refl
 append_nil (x ∷ l) = ap (λ m. x ∷ m) (append_nil l)
 
--- what is read to its end is what the words mean
-pub whole_front : (d : Declaration) (words : List (List ℕ)) (l : List Said) (v w : UnreadLine) → is_sound d.options ≡ true → ReadsUpTo d (start d.short_equals words) l v → Next v steps.end w → SaysFront d words l
-whole_front d words l v w sound read ends = front_said d sound words read.items l
+-- words that are read to the end mean what was read
+pub whole_front : (d : Declaration) (words : List (List ℕ)) (l : List Parsed) (v w : UnreadLine) → is_sound d.options ≡ true → ReadsUpTo d (start d.short_equals words) l v → Next v steps.end w → MeansFront d words l
+whole_front d words l v w sound read ends = front_parsed d sound words read.items l
     (subst (IsReading (table d.options) (start d.short_equals words) steps.end) (append_nil read.items)
     (says_items (table d.options) (start d.short_equals words) v read.items read.read steps.end [] (reads_last (table d.options) v w steps.end tt ends)))
-    read.said read.within
+    read.parsed read.within
 
 answer_of : (d : Declaration) (words : List (List ℕ)) → is_sound d.options ≡ true → Found d (start d.short_equals words)
-    → ((l : List Said) × Says d words l) ⊎ ((l : List Said) × (m : Mistake) × StopsAt d words l m)
+    → ((l : List Parsed) × Means d words l) ⊎ ((l : List Parsed) × (m : Mistake) × StopsAt d words l m)
 answer_of d words sound (to_the_end l v w read ends enough taken complete accepted) =
     inl (
       l,
@@ -277,7 +277,7 @@ answer_of d words sound (to_the_end l v w read ends enough taken complete accept
 answer_of d words sound (stopped l m v read stops accepted) = inr (l, m, record { there = v; read = read; stops = stops; accepted = accepted })
 
 -- words mean something, or their reading stops
-pub some_answer : (d : Declaration) (words : List (List ℕ)) → is_sound d.options ≡ true → ((l : List Said) × Says d words l) ⊎ ((l : List Said) × (m : Mistake) × StopsAt d words l m)
+pub some_answer : (d : Declaration) (words : List (List ℕ)) → is_sound d.options ≡ true → ((l : List Parsed) × Means d words l) ⊎ ((l : List Parsed) × (m : Mistake) × StopsAt d words l m)
 some_answer d words sound =
     let first = start d.short_equals words in
     answer_of d words sound (found_within d first (suc (bound first)) [] first (nothing_read d first tt) refl (omega arith))

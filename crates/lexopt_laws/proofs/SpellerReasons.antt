@@ -1,5 +1,4 @@
--- What a reason means for an item at fault: it is about the item, which is spelled nowhere, or
--- about its place.
+-- The reason of an item at fault is about the item, which no words spell, or about its place.
 use Rattle.std.proofs.Common.{◌≡◌, ◌≢◌, ℕ, suc, ◌==◌, ◌&&◌, not, Bool, true, false, List, [], ◌∷◌, ◌++◌, take, drop, Option, Some, None, refl, sym, ap, subst, ◌∙◌, true≢false}
 use Rattle.std.proofs.lemmas.Bool.{ne_eqb}
 use Rattle.std.specs.Prelude.{Result, Ok, Err, if◌then◌else◌}
@@ -23,7 +22,7 @@ use Rattle.lexopt_line_spec.proofs.SpellerFaults.{Failing, no_both, same_added, 
 abbrev Unformed : Result Form Reason → Reason → Type 0
 Unformed answer r = answer ≡ Err r
 
--- where there is no form, the reason is about the item
+-- if there is no form, the reason is about the item
 abbrev OfItem : Result Form Reason → Type 0
 OfItem form = (r : Reason) → form ≡ Err r → is_of_the_place r ≡ false
 
@@ -102,19 +101,21 @@ refusing s r is = cc
 reason_of : {b : Bool} (s r : Reason) → is_of_the_place s ≡ b → Refusing (Err s) r → is_of_the_place r ≡ b
 reason_of s r of is = sym (ap is_of_the_place (refusing s r is)) ∙ of
 
--- what an item adds, by whether one of several values is to be joined, whether the separator is due, and the place
+-- what an item adds, by whether its only value is to be joined, whether the separator is due, and
+-- the place
 abbrev Answer : Type 0
 Answer = Bool → Bool → Place → Result Added Reason
 
 abbrev InCluster : Answer → Type 0
 InCluster answer = (joins due : Bool) → (b : Added) × (answer joins due in_cluster ≡ Ok b)
 
--- why it is not added at this place: it is so at every place; or right after a flag of one character it is added
+-- why an item is not added at this place: it is added nowhere; or it is added right after a flag of
+-- one character
 data Why (answer : Answer) (place : Place) (r : Reason) : Type 0 where
   of_item : is_of_the_place r ≡ false → ((joins due : Bool) (other : Place) (a : Added) → answer joins due other ≡ Ok a → ⊥) → Why answer place r
   of_place : is_of_the_place r ≡ true → (r ≡ past_separator → place ≡ ended) → InCluster answer → Why answer place r
 
--- with one form there is another, where one of several values is joined or not
+-- if there is one form there is another, whether or not an only value is joined
 abbrev Either : (Bool → Result Form Reason) → Type 0
 Either form = (x y : Bool) (f : Form) → form x ≡ Ok f → (g : Form) × (form y ≡ Ok g)
 
@@ -203,7 +204,7 @@ later_reason t short_equals place item items f a g added_is rest_is is =
     sym (ap (λ o. with_rests o (spelled_from t short_equals items)) added_is ∙ ap (with_rest a) rest_is) ∙ is in
     let e : record { index = suc g.index; reason = g.reason } ≡ f = cc in ap (λ (x : Fault). x.reason) e
 
--- the item is not added somewhere, for this reason
+-- the item is not added at some place, for this reason
 record Refused (t : Table) (short_equals : Bool) (it : Item) (r : Reason) : Type 0 where
   joins : Bool
   due : Bool
@@ -235,9 +236,9 @@ spelled_refused : (t : Table) (short_equals : Bool) (l : List Item) (f : Fault) 
 spelled_refused t short_equals l f it others is dropped =
     refused t short_equals l open_line f it others (from_words (spelled_from t short_equals l open_line) f is) dropped
 
--- ---- a reason of the item
+-- ---- a reason about the item
 
--- an item of a line is added somewhere
+-- an item that is spelled is added at some place
 added_somewhere : (t : Table) (short_equals : Bool) (it : Item) (after before : List Item) (place : Place) → Can t short_equals (before ++ it ∷ after) place
     → (joins : Bool) × (due : Bool) × (other : Place) × (a : Added) × (adds t short_equals joins due other it ≡ Ok a)
 added_somewhere t short_equals it after [] place can = let s = can_split t short_equals place it after can in (_, _, place, s.0, s.1)
@@ -247,7 +248,7 @@ added_somewhere t short_equals it after (item ∷ before) place can =
 never : (t : Table) (short_equals : Bool) (it : Item) (place : Place) (r : Reason) → is_of_the_place r ≡ false → Why (λ y e other. adds t short_equals y e other it) place r
     → (joins due : Bool) (other : Place) (a : Added) → adds t short_equals joins due other it ≡ Ok a → ⊥
 never t short_equals it place r of (of_item is none) joins due other a ok = none joins due other a ok
-never t short_equals it place r of (of_place is separator goes_on) joins due other a ok = true≢false (sym is ∙ of)
+never t short_equals it place r of (of_place is separator continues) joins due other a ok = true≢false (sym is ∙ of)
 
 pub item_nowhere : (t : Table) (short_equals : Bool) (l : List Item) (f : Fault) (it : Item) (others : List Item) → spelled t short_equals l ≡ Err f → is_of_the_place f.reason ≡ false
     → drop f.index l ≡ it ∷ others → (words : List (List ℕ)) (before after : List Item) → Spells t short_equals words (before ++ it ∷ after) → ⊥
@@ -256,12 +257,12 @@ item_nowhere t short_equals l f it others is of dropped words before after spell
     let some = added_somewhere t short_equals it after before open_line (spells_can t short_equals words (before ++ it ∷ after) spells) in
     never t short_equals it no.place f.reason of (why t short_equals no.joins no.due no.place it f.reason no.is) some.0 some.1 some.2 some.3 some.4
 
--- ---- a reason of the place
+-- ---- a reason about the place
 
-goes_on : (t : Table) (short_equals : Bool) (it : Item) (place : Place) (r : Reason) → is_of_the_place r ≡ true → Why (λ y e other. adds t short_equals y e other it) place r
+continues : (t : Table) (short_equals : Bool) (it : Item) (place : Place) (r : Reason) → is_of_the_place r ≡ true → Why (λ y e other. adds t short_equals y e other it) place r
     → InCluster (λ y e other. adds t short_equals y e other it)
-goes_on t short_equals it place r of (of_item is none) = absurd (true≢false (sym of ∙ is))
-goes_on t short_equals it place r of (of_place is separator in_cluster_is) = in_cluster_is
+continues t short_equals it place r of (of_item is none) = absurd (true≢false (sym of ∙ is))
+continues t short_equals it place r of (of_place is separator in_cluster_is) = in_cluster_is
 
 -- a flag of one character, which is not a dash, begins a cluster
 flag_added : (short_equals : Bool) (c : ℕ) (s d : Bool) (k : Kind) → s ≡ true → d ≡ false → k ≡ flag
@@ -278,7 +279,7 @@ pub after_flag : (t : Table) (short_equals : Bool) (l : List Item) (f : Fault) (
     → (words : List (List ℕ)) × Spells t short_equals words (option (short c) None ∷ it ∷ [])
 after_flag t short_equals l f it others is of dropped c scalar_is other flag_is =
     let no = spelled_refused t short_equals l f it others is dropped in
-    let b = goes_on t short_equals it no.place f.reason of (why t short_equals no.joins no.due no.place it f.reason no.is)
+    let b = continues t short_equals it no.place f.reason of (why t short_equals no.joins no.due no.place it f.reason no.is)
     (separator_comes_too_early []) (separator_is_due []) in
     let a = flag_added short_equals c (scalar c) (c == dash) (kind t (short c)) scalar_is (ne_eqb c dash other) flag_is in
     let last = cons_can t short_equals in_cluster it [] b.0 b.1 (nil_can t short_equals b.0.place) in
@@ -290,7 +291,7 @@ after_flag t short_equals l f it others is of dropped c scalar_is other flag_is 
 
 separator_stands : (t : Table) (short_equals : Bool) (it : Item) (place : Place) (r : Reason) → r ≡ past_separator → Why (λ y e other. adds t short_equals y e other it) place r → place ≡ ended
 separator_stands t short_equals it place r is (of_item of none) = absurd (true≢false (sym (ap is_of_the_place is) ∙ of))
-separator_stands t short_equals it place r is (of_place of separator goes_on) = separator is
+separator_stands t short_equals it place r is (of_place of separator continues) = separator is
 
 -- items of which one is at fault are not all positionals
 some_option : (t : Table) (short_equals : Bool) (items : List Item) (place : Place) (f : Fault) → spelled_from t short_equals items place ≡ Err f → list_all is_positional items ≡ false
@@ -306,7 +307,8 @@ option_last (option name value ∷ front) it other = refl
 option_last (many name values ∷ front) it other = refl
 option_last (positional w ∷ front) it other = option_last front it other
 
--- with an option in the place of the item at fault, and nothing after it, the separator is due as before
+-- if the item at fault is replaced by an option, and nothing comes after it, the separator is due
+-- as before
 due_same : (t : Table) (short_equals : Bool) (items : List Item) (place : Place) (f : Fault) (it : Item) → is_positional it ≡ false → spelled_from t short_equals items place ≡ Err f
     → separator_is_due (take f.index items ++ it ∷ []) ≡ separator_is_due items
 due_same t short_equals items place f it other is =
@@ -332,7 +334,7 @@ early_by t short_equals place (positional w) items f it other (later a g added_i
     ap (λ n. separator_comes_too_early (take n (positional w ∷ items) ++ it ∷ [])) index
     ∙ ap not (option_last (take g.index items) it other) ∙ sym (ap not (some_option t short_equals items a.place g rest_is))
 
--- and it comes too early, or not, as before
+-- and it comes too early if and only if it did before
 early_same : (t : Table) (short_equals : Bool) (items : List Item) (place : Place) (f : Fault) (it : Item) → is_positional it ≡ false → spelled_from t short_equals items place ≡ Err f
     → separator_comes_too_early (take f.index items ++ it ∷ []) ≡ separator_comes_too_early items
 early_same t short_equals [] place f it other is = no_both t short_equals [] place f is (nil_can t short_equals place)

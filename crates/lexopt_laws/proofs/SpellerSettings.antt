@@ -1,4 +1,5 @@
--- Items that the same words spell under either setting of the short_equals have one form under both.
+-- Items that the same words spell under both settings of `short_equals` have the same form under
+-- both.
 use Rattle.std.proofs.Common.{◌≡◌, ◌≢◌, ℕ, ◌==◌, ◌||◌, not, Bool, true, false, List, [], ◌∷◌, ◌++◌, length, map, Option, Some, None, refl, sym, ap, subst, ◌∙◌, arith, true≢false}
 use Rattle.std.proofs.lemmas.Bool.{ne_eqb}
 use Rattle.std.proofs.lemmas.List.{append_cancel_left}
@@ -22,11 +23,11 @@ use Rattle.lexopt_line_spec.proofs.SpellerSound.{not_plain}
 
 -- ---- items whose values have one form
 
--- the value of a short option has one form under both settings
+-- the value of a short option has the same form under both settings
 abbrev SameForm : Kind → Option (List ℕ) → Type 0
 SameForm k value = short_form true k value ≡ short_form false k value
 
--- so has that of this item, if it is such an option
+-- the same for this item, if it is such an option
 abbrev SameItem : Table → Item → Type 0
 SameItem t (option (short c) value) = SameForm (kind t (short c)) value
 SameItem t (option (long name) value) = Unit {0}
@@ -37,9 +38,9 @@ abbrev SameItems : Table → List Item → Type 0
 SameItems t [] = Unit {0}
 SameItems t (item ∷ items) = SameItem t item × SameItems t items
 
--- ---- such items are spelled alike
+-- ---- such items are spelled in the same way
 
--- where an item leads, if it is spelled
+-- the place after an item, if it is added
 abbrev place_of : Result Added Reason → Place
 place_of (Err reason) = open_line
 place_of (Ok a) = a.place
@@ -54,7 +55,7 @@ none_early t short_equals (positional w ∷ items) early can =
     let all = ended_positional t short_equals items (subst (Can t short_equals items) (sym (ap place_of s.1)) s.2) in
     absurd (true≢false (sym early ∙ ap not all))
 
--- so several values have one form, where the items after them are spelled with the short_equals off
+-- so several values have one form, if the items after them are spelled with `short_equals` false
 many_form_same : (t : Table) (c : ℕ) (place : Place) (values : List (List ℕ)) (items : List Item) (a : Added) (k : Kind) (early : Bool)
     → separator_comes_too_early items ≡ early → short_added (scalar c) (c == dash) place c (short_many_form false k values) ≡ Ok a → Can t false items a.place
     → short_many_form early k values ≡ short_many_form false k values
@@ -101,7 +102,7 @@ is_bare nothing = true
 is_bare (attached v) = false
 is_bare (joined v) = false
 
--- the words that an option takes after its own, where it is bare or not, for this item
+-- the words that an option takes after its own, for this item, by whether it is bare
 abbrev taken : Kind → Bool → Item → List (List ℕ)
 taken one true (option name (Some v)) = v ∷ []
 taken several true (many name values) = values
@@ -162,7 +163,7 @@ bare_last short_equals bytes after (marked_value v on is b) = ap is_bare b ∙ s
 not_longer : (b : ℕ) (bs : List ℕ) → bs ≢ b ∷ bs
 not_longer b bs is = let e : length bs ≡ length (b ∷ bs) = ap length is in omega arith
 
--- with the short_equals on, bytes that are all of a value do not begin with a mark
+-- with `short_equals` true, the bytes of a value do not begin with a `=` that is a mark
 unmarked : (name : Name) (bytes : List ℕ) (after : After) (words left : List (List ℕ)) (item : Item) → bytes ≢ [] → item ≡ option name (Some bytes)
     → IsAfterLast true bytes after → OptionalValue name after words item left → ¬ BeginsWith equals bytes
 unmarked name bytes after words left item some is (nothing_more none b) h = absurd (some none)
@@ -180,7 +181,7 @@ value_same : (bytes : List ℕ) → bytes ≢ [] → ¬ BeginsWith equals bytes 
 value_same [] some other = absurd (some refl)
 value_same (b ∷ bs) some other = let e = ne_eqb b equals other in rw e refl
 
--- the same value, read in the same bytes under both settings, has one form
+-- the same value, read from the same bytes under both settings, has the same form
 optional_same : (name : Name) (bytes : List ℕ) (after other : After) (words left rest : List (List ℕ)) (item : Item) → IsAfterLast true bytes after → IsAfterLast false bytes other
     → OptionalValue name after words item left → OptionalValue name other words item rest → (value : Option (List ℕ)) × (item ≡ option name value) × SameForm optional value
 optional_same name bytes after other words left rest item last last_off first (no_optional b i l) = (None, i, refl)
@@ -212,14 +213,14 @@ last_same t c several bytes after other words left rest item k last last_off fir
 
 -- ---- clusters
 
--- a cluster has bytes
+-- a cluster has at least one byte
 cluster_some : (t : Table) (short_equals : Bool) (words left : List (List ℕ)) (bytes : List ℕ) (items : List Item) → Cluster exact t short_equals words left bytes items → bytes ≢ []
 cluster_some t short_equals words left bytes items (flag_first c character others more letter k mark spelled) =
     subst (λ (l : List ℕ). l ++ others ≢ []) (sym letter.1) (some_bytes c others letter.0)
 cluster_some t short_equals words left bytes items (last_option c character others after item letter last completes) =
     subst (λ (l : List ℕ). l ++ others ≢ []) (sym letter.1) (some_bytes c others letter.0)
 
--- the last option of a cluster, after which more bytes come, is not a flag
+-- the last option of a cluster, if more bytes come after it, is not a flag
 flag_alone : (t : Table) (short_equals : Bool) (c : ℕ) (bytes : List ℕ) (after : After) (words left : List (List ℕ)) (item : Item) → kind t (short c) ≡ flag → bytes ≢ []
     → IsAfterLast short_equals bytes after → ¬ Completes (kind t (short c)) (short c) after words item left
 flag_alone t short_equals c bytes after words left item k some last completes =
@@ -233,7 +234,8 @@ letters_same : (c d : ℕ) (character other after others : List ℕ) → exact.c
 letters_same c d character other after others first second is =
     encode_same c d after others (ap (λ l. l ++ after) (sym first.1) ∙ is ∙ ap (λ l. l ++ others) second.1)
 
--- clusters of the same bytes, with the same words after them, where the items are the same in all: each value has one form, if those after the clusters do
+-- clusters of the same bytes, with the same words after them, where all items are the same: each
+-- value has the same form, if those after the cluster have
 cluster_same : (t : Table) (words left rest : List (List ℕ)) (bytes bytes_off : List ℕ) (front front_off items items_off : List Item)
     → Cluster exact t true words left bytes front → Cluster exact t false words rest bytes_off front_off → bytes ≡ bytes_off → front ++ items ≡ front_off ++ items_off
     → (left ≡ rest → items ≡ items_off → SameItems t items) → SameItems t (front ++ items)
@@ -270,7 +272,7 @@ cluster_same t words left rest bytes bytes_off front front_off items items_off
 
 -- ---- long options
 
--- nothing comes after a long option where the text has no `=`
+-- nothing comes after a long option if the text has no `=`
 bare_long : (text bytes : List ℕ) (after : After) → ¬ Contains bytes equals → IsLong text bytes after → is_bare after ≡ not (has_equals text)
 bare_long text bytes after none (name_alone some is b) = ap is_bare b ∙ sym (ap (λ l. not (has_equals l)) is ∙ ap not (none_passes bytes none))
 bare_long text bytes after none (name_and_value v is b) =
@@ -301,7 +303,7 @@ long_same t words left rest text bytes bytes_off name name_off after after_off i
 
 -- ---- whole lines
 
--- groups of the same words, where the items are the same in all: so too
+-- the same for groups of the same words
 group_same : (t : Table) (words words_off left rest : List (List ℕ)) (front front_off items items_off : List Item)
     → Group exact t true words front left → Group exact t false words_off front_off rest → words ≡ words_off → front ++ items ≡ front_off ++ items_off
     → (left ≡ rest → items ≡ items_off → SameItems t items) → SameItems t (front ++ items)
@@ -339,7 +341,7 @@ group_same t words words_off left rest front front_off items items_off
     (subst (λ (x : Item). Completes (kind t (long name_off)) (long name_off) after_off others_off x rest) (sym item_is) completes_off))
     (λ left_is. later left_is items_is))
 
--- no plain word begins a group
+-- no group begins with a plain word
 group_word : (t : Table) (short_equals : Bool) (all words left : List (List ℕ)) (w : List ℕ) (front : List Item) → Group exact t short_equals all front left → all ≡ w ∷ words → ¬ IsPlain false w
 group_word t short_equals all words left w front (cluster bytes others are other spelled) is plain =
     let e : w ∷ words ≡ (dash ∷ bytes) ∷ others = sym is ∙ are in
@@ -354,7 +356,7 @@ positionals_same : (t : Table) (words : List (List ℕ)) → SameItems t (map po
 positionals_same t [] = tt
 positionals_same t (w ∷ ws) = (tt, positionals_same t ws)
 
--- and lines of the same words and items
+-- the same for lines of the same words and items
 line_same : (t : Table) (words words_off : List (List ℕ)) (items items_off : List Item) → Line exact t true words items → Line exact t false words_off items_off → words ≡ words_off
     → items ≡ items_off → SameItems t items
 line_same t words words_off items items_off no_words line_off words_are items_are = tt

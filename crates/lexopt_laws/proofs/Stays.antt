@@ -1,4 +1,4 @@
--- What no rule names stays.
+-- What no rule names stays as it was.
 use Rattle.std.proofs.Common.{◌≡◌, ◌≢◌, ℕ, Bool, true, List, refl, sym, ap, subst, ◌∙◌, inl, inr}
 use Rattle.lexopt_spec.specs.UnreadLine.{no_tail, UnreadLine}
 use Rattle.lexopt_spec.specs.Steps.{Reply, short, long, TakesMemory, ReadsShort, ReadsPositional, no_word_left, word_left, ReadsWord, no_word, reads_separator, reads_long, reads_cluster, reads_positional, NextStep, joined_value, equals_value, next_in_cluster, after_separator, next_word}
@@ -14,12 +14,12 @@ pub record Stays (on : Bool) (u : UnreadLine) (r : Reply) (v : UnreadLine) : Typ
   pub last : ¬ NamesOption r → v.last ≡ u.last
   pub ended : u.ended ≡ true → v.ended ≡ true
 
--- the line after is this one
+-- the line after the step is this one
 stays_at : (on : Bool) (u w v : UnreadLine) (r : Reply) → v ≡ w → w.bin_name ≡ u.bin_name → w.short_equals ≡ on → (¬ NamesOption r → w.last ≡ u.last) → (u.ended ≡ true → w.ended ≡ true)
     → Stays on u r v
 stays_at on u w v r is b s l e = subst (Stays on u r) (sym is) (record { bin_name = b; short_equals = s; last = l; ended = e })
 
--- no part but the tail and the words is another one
+-- only the tail and the words differ
 same_parts : (u w v : UnreadLine) (r : Reply) → v ≡ w → w.bin_name ≡ u.bin_name → w.short_equals ≡ u.short_equals → w.last ≡ u.last → w.ended ≡ u.ended → Stays u.short_equals u r v
 same_parts u w v r is b s l e = stays_at u.short_equals u w v r is b s (λ none. l) (λ ended. e ∙ ended)
 
@@ -80,7 +80,7 @@ stays (try_raw n) u r v step = hands_stay u r v (try_raw_hands n u r v step)
 stays (raw_if word) u r v step = hands_stay u r v (raw_hands (TakesWordIf word) u r v (λ p t. word_if_hands word u r v p t) step)
 stays (set_short_equals on) u r v step = stays_at on u (record u { short_equals = on }) v r step.after_is refl refl (λ none. refl) (λ e. e)
 
--- a call that runs out of memory changes nothing, and the one that sets `short_equals` never does
+-- a call that runs out of memory changes nothing, and the call that sets `short_equals` never does
 nothing_set : (on : Bool) (u : UnreadLine) (wanted : Reply) (v : UnreadLine) → StepWithMemory (set_short_equals on) u wanted v → TakesMemory wanted → ⊥
 nothing_set on u wanted v step takes = subst TakesMemory step.reply_is takes
 

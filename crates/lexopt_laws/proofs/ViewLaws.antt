@@ -1,4 +1,4 @@
--- What views and `optional_value` have to do with one another.
+-- How views and `optional_value` agree.
 use Rattle.std.proofs.Common.{◌≡◌, ◌≢◌, ◌⊎◌, ℕ, Bool, true, false, List, [], ◌∷◌, Option, Some, None, refl, sym, ap, subst, ◌∙◌, inl, inr, ⊎_elim, true≢false}
 use Rattle.lexopt_spec.specs.UnreadLine.{no_tail, UnreadLine, pending, IsPlain, is_plain, IsNormalIn}
 use Rattle.lexopt_spec.specs.Steps.{Reply, maybe, busy, unexpected, OptionalStep, optional_pending, optional_none}
@@ -26,7 +26,7 @@ abbrev is_refusal : Reply → Type 0
 is_refusal (unexpected option x) = Unit {0}
 is_refusal r = ⊥
 
--- after a refusal nothing is pending
+-- after a refused value none is pending
 pub refused_once : (n : ℕ) (u v : UnreadLine) (option x : List ℕ) → RawStep (TakesWords n) u (unexpected option x) v → pending v ≡ None
 refused_once n u v option x (refuses_pending y o by_equals p spelled is after) = rw after refl
 refused_once n u v option x (lends_words p took) = absurd (subst is_refusal took.reply_is tt)
@@ -40,12 +40,12 @@ pub try_raw_untouched : (u v : UnreadLine) (r : Reply) → TryRawStep 0 u r v �
 try_raw_untouched u v r (leaves_pending y by_equals p is after) = after
 try_raw_untouched u v r (try_lends_words p took) = took.after_is
 
--- where `values` succeeds, its view gives an item when first asked
+-- if there are values, the view of `values` gives an item when it is first asked
 pub first_comes : (u v : UnreadLine) (now : Stage) → available u ≢ [] → ValueItem going_on u None v now → ⊥
 first_comes u v now some item =
     some (item_is_first going_on u None v now item ∙ ap (λ s. values_left s v) (none_ends going_on u v now item).1)
 
--- ---- where `values` succeeds
+-- ---- when there are values
 
 some_words : (w : List ℕ) (ws : List (List ℕ)) → w ∷ ws ≢ []
 some_words w ws is = let e : w ∷ ws ≡ [] = is in cc

@@ -1,4 +1,4 @@
--- Damage in worked examples: what may stand for U+FFFD, and words that spell nothing.
+-- Damage in worked examples: what is shown as U+FFFD, and words that spell nothing.
 use Rattle.std.proofs.Common.{◌≡◌, ◌≢◌, ℕ, Bool, true, false, ◌&&◌, List, [], ◌∷◌, ◌++◌, Some, None, encode_utf8, encode_utf8_all, length, refl, sym, ap, subst, ◌∙◌, arith, inr, true≢false, cond}
 use Rattle.std.proofs.lemmas.Bool.{ne_eqb}
 use lib.Utf8.{scalar, scalars}
@@ -14,7 +14,7 @@ use Rattle.lexopt_line_spec.specs.Spelling.{exact, damaged, After, nothing, atta
 use Rattle.lexopt_spec.proofs.PlainFronts.{plain_passes}
 use Rattle.lexopt_spec.proofs.Fronts.{decoded_is_first}
 
--- a damaged piece, with these bytes after it, may stand for U+FFFD
+-- a damaged piece, with these bytes after it, is shown as U+FFFD
 pub damage_of : (b : ℕ) (bs after : List ℕ) → decoded (b ∷ bs ++ after) ≡ bad (length (b ∷ bs)) → damaged.character replacement (b ∷ bs) after
 damage_of b bs after is = inr (refl, decoded_is_first (b ∷ bs ++ after) (bad (length (b ∷ bs))) (omega arith) is)
 
@@ -48,7 +48,7 @@ ff_no_name text (b ∷ more) bs after is (name_and_value v same marked) utf8 =
     let f : b ≡ 0xFF = cc in
     ff_no_text more (subst (λ (x : ℕ). IsUtf8 (x ∷ more)) f utf8)
 
--- no word is spelled that begins with a dash and FF
+-- no item is spelled by a word that begins with a dash and FF
 ff_no_group : (t : Table) (short_equals : Bool) (words others left : List (List ℕ)) (items : List Item) (bs : List ℕ) → words ≡ (dash ∷ 0xFF ∷ bs) ∷ others → Group exact t short_equals words items left → ⊥
 ff_no_group t short_equals words others left items bs is (cluster bytes rest are other spelled) =
     let e : (dash ∷ bytes) ∷ rest ≡ (dash ∷ 0xFF ∷ bs) ∷ others = sym are ∙ is in
@@ -59,7 +59,7 @@ ff_no_group t short_equals words others left items bs is (spelling.long_option t
     let same : dash ≡ 0xFF = cc in
     absurd (omega arith)
 
--- nor one that begins with two dashes and FF
+-- nor by one that begins with two dashes and FF
 ff_no_long : (t : Table) (short_equals : Bool) (words others left : List (List ℕ)) (items : List Item) (bs : List ℕ) → words ≡ (dash ∷ dash ∷ 0xFF ∷ bs) ∷ others
     → Group exact t short_equals words items left → ⊥
 ff_no_long t short_equals words others left items bs is (cluster bytes rest are other spelled) =

@@ -1,17 +1,17 @@
--- Distances that are computed, for the worked examples.
+-- Distances, computed for the worked examples.
 use Rattle.std.proofs.Common.{ℕ, zero, suc, ◌+◌, ◌<◌, min, cond, eqb, List, [], ◌∷◌, length, ap, arith, ⊎_elim}
 use Rattle.std.proofs.lemmas.Bool.Decides.{eqb_tells}
 use Rattle.lexopt_options_spec.specs.Nearest.{IsDistance}
 use Rattle.lexopt_options_spec.proofs.Distance.{unswapped, from_nothing, to_nothing, one_more_unswapped, one_more_swapped}
 
--- n, or one more than the distance of what is left if the first two characters of each can be
--- swapped, where `rest` is the distance of two lists
+-- n; or, if the first two characters of both can be swapped, at most one more than the distance of
+-- the rest, which `rest` computes
 abbrev if_swapped : (List ℕ → List ℕ → ℕ) → ℕ → ℕ → List ℕ → List ℕ → ℕ → ℕ
 if_swapped rest x y [] b n = n
 if_swapped rest x y (y' ∷ a) [] n = n
 if_swapped rest x y (y' ∷ a) (x' ∷ b) n = cond (eqb y' y) (cond (eqb x' x) (min n (rest a b + 1)) n) n
 
--- the distance, where the two lists have fewer characters than `most`
+-- the distance, if both lists together have fewer characters than `most`
 abbrev computed : ℕ → List ℕ → List ℕ → ℕ
 computed zero a b = 0
 computed (suc most) [] b = length b
@@ -19,7 +19,7 @@ computed (suc most) (x ∷ a) [] = length (x ∷ a)
 computed (suc most) (x ∷ a) (y ∷ b) =
     if_swapped (computed most) x y a b (unswapped x y (computed most a b) (computed most (x ∷ a) b) (computed most a (y ∷ b)))
 
--- what is computed is the distance of lists that have fewer characters than `most`
+-- f computes the distance of lists that together have fewer characters than `most`
 record IsDistanceBelow (f : List ℕ → List ℕ → ℕ) (most : ℕ) : Type 0 where
   is : (a b : List ℕ) → length a + length b < most → IsDistance a b (f a b)
 

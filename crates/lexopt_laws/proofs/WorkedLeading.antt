@@ -1,4 +1,4 @@
--- How short lines are split.
+-- Short lines, split into leading options and a rest.
 use Rattle.std.proofs.Common.{◌≡◌, ℕ, List, [], ◌∷◌, ◌++◌, map, Some, None, codes, inl, lit≤, refl, subst, true}
 use Rattle.lexopt_spec.specs.UnreadLine.{UnreadLine, no_tail}
 use Rattle.lexopt_spec.specs.Runs.{next}
@@ -13,8 +13,8 @@ use Rattle.lexopt_line_spec.specs.Spelling.{Spells, nothing, no_value, several_w
 use Rattle.lexopt_line_spec.proofs.Computing.{computing}
 use Rattle.lexopt_line_spec.proofs.Worked.{last_of, cluster_line, plain_line, plain_front_is, reads_first, reads_plain, some}
 use Rattle.lexopt_options_spec.specs.Declaration.{Declaration, is_sound, table}
-use Rattle.lexopt_options_spec.specs.Leading.{IsSplit, LeadingStopsAt, SaysLeading, StopsOptions, at_option, ends, lacks_option, positional}
-use Rattle.lexopt_options_spec.specs.Legal.{IsWithin, Said, most, option, positional_count, said_item, several}
+use Rattle.lexopt_options_spec.specs.Leading.{IsSplit, LeadingStopsAt, MeansLeading, StopsOptions, at_option, ends, lacks_option, positional}
+use Rattle.lexopt_options_spec.specs.Legal.{IsWithin, Parsed, most, option, positional_count, parsed_item, several}
 use Rattle.lexopt_options_spec.specs.Stops.{Mistake, missing_option, not_declared, unknown_option}
 use Rattle.lexopt_laws.specs.Sample.{demanding_sample, sample}
 use Rattle.lexopt_laws.proofs.Missing.{are_complete, is_first_missing}
@@ -24,28 +24,28 @@ word_same : (w v : List ℕ) (ws vs : List (List ℕ)) → w ∷ ws ≡ v ∷ vs
 word_same w v ws vs is = cc
 
 -- a front, and a rest that begins with this word
-pub split_at : {d : Declaration} {words : List (List ℕ)} {l : List Said} (front : List (List ℕ)) (word : List ℕ) (more : List (List ℕ)) (items : List Item) → words ≡ front ++ word ∷ more
+pub split_at : {d : Declaration} {words : List (List ℕ)} {l : List Parsed} (front : List (List ℕ)) (word : List ℕ) (more : List (List ℕ)) (items : List Item) → words ≡ front ++ word ∷ more
     → Spells (table d.options) d.short_equals front items → Spells (table d.options) d.short_equals (front ++ word ∷ []) (items ++ spec.positional word ∷ [])
-    → map (said_item d.options) items ≡ map (λ s. Some s) l → positional_count l ≡ 0 → IsSplit d words l (word ∷ more)
-split_at {d = d} front word more items are spelled longer said alone = record {
+    → map (parsed_item d.options) items ≡ map (λ s. Some s) l → positional_count l ≡ 0 → IsSplit d words l (word ∷ more)
+split_at {d = d} front word more items are spelled longer parsed alone = record {
   front = front;
   words_are = are;
   items = items;
   spelled = spelled;
-  said = said;
+  parsed = parsed;
   alone = alone;
   begins = λ other words is. subst (λ w. Spells (table d.options) d.short_equals (front ++ w ∷ []) (items ++ spec.positional w ∷ [])) (word_same word other more words is) longer;
 }
 
--- all of the words, and no rest
-pub whole_split : {d : Declaration} {words : List (List ℕ)} {l : List Said} (items : List Item) → words ≡ words ++ [] → Spells (table d.options) d.short_equals words items
-    → map (said_item d.options) items ≡ map (λ s. Some s) l → positional_count l ≡ 0 → IsSplit d words l []
-whole_split {words = words} items are spelled said alone = record {
+-- all words, and an empty rest
+pub whole_split : {d : Declaration} {words : List (List ℕ)} {l : List Parsed} (items : List Item) → words ≡ words ++ [] → Spells (table d.options) d.short_equals words items
+    → map (parsed_item d.options) items ≡ map (λ s. Some s) l → positional_count l ≡ 0 → IsSplit d words l []
+whole_split {words = words} items are spelled parsed alone = record {
   front = words;
   words_are = are;
   items = items;
   spelled = spelled;
-  said = said;
+  parsed = parsed;
   alone = alone;
   begins = λ word more is. absurd (let e : [] ≡ word ∷ more = is in cc);
 }
@@ -86,14 +86,14 @@ values_then_word = split_at (codes "-x" ∷ codes "a" ∷ codes "-v" ∷ []) (co
     (last_of 0x78 [] nothing _ refl (nothing_more refl refl) (several_words (codes "a" ∷ []) refl (plain_front_is _ (codes "-v" ∷ codes "c" ∷ []) refl refl) (some _ _) refl))
     (cluster_line (codes "v") _ refl (last_of 0x76 [] nothing _ refl (nothing_more refl refl) (no_value refl refl refl)) (plain_line (codes "c") refl no_words))) refl refl
 
--- after a flag the options stop
-after_flag : {d : Declaration} {words : List (List ℕ)} {m : Mistake} (name : Name) (i : ℕ) (v : UnreadLine) → kind (table d.options) name ≡ flag → said_item d.options (spec.option name None) ≡ Some (option i None)
+-- after a flag, the reading of the leading options stops
+after_flag : {d : Declaration} {words : List (List ℕ)} {m : Mistake} (name : Name) (i : ℕ) (v : UnreadLine) → kind (table d.options) name ≡ flag → parsed_item d.options (spec.option name None) ≡ Some (option i None)
     → IsWithin 0 (most d.positionals) → Next (start d.short_equals words) (option_reply name) v → StopsOptions d (option i None ∷ []) v m → LeadingStopsAt d words (option i None ∷ []) m
-after_flag {d = d} {words = words} name i v k said within step stopped =
+after_flag {d = d} {words = words} name i v k parsed within step stopped =
     let u = start d.short_equals words in
     record {
       there = v;
-      read = one_more d u u v [] (spec.option name None) (option i None) (nothing_read d u tt) (first_flag name v k step) (step_line next u (option_reply name) v tt step) said within;
+      read = one_more d u u v [] (spec.option name None) (option i None) (nothing_read d u tt) (first_flag name v k step) (step_line next u (option_reply name) v tt step) parsed within;
       alone = refl;
       stops = stopped;
       accepted = refl;
@@ -124,11 +124,11 @@ user_then_word = split_at (codes "-u" ∷ codes "me" ∷ []) (codes "a") [] (spe
     (cluster_line (codes "u") _ refl (last_of 0x75 [] nothing _ refl (nothing_more refl refl) (lines.next_word (codes "me") refl refl refl)) no_words)
     (cluster_line (codes "u") _ refl (last_of 0x75 [] nothing _ refl (nothing_more refl refl) (lines.next_word (codes "me") refl refl refl)) (plain_line (codes "a") refl no_words)) refl refl
 
--- what needs no more than it has
-pub word_leads : SaysLeading (sample [] true) (codes "a" ∷ codes "--bogus" ∷ []) [] (codes "a" ∷ codes "--bogus" ∷ [])
+-- nothing more is required
+pub word_leads : MeansLeading (sample [] true) (codes "a" ∷ codes "--bogus" ∷ []) [] (codes "a" ∷ codes "--bogus" ∷ [])
 word_leads = record { split = word_alone; complete = are_complete (sample [] true).options [] refl; accepted = refl }
 
-pub user_leads : SaysLeading (demanding_sample [] true) (codes "-u" ∷ codes "me" ∷ codes "a" ∷ []) (option 4 (Some (codes "me")) ∷ []) (codes "a" ∷ [])
+pub user_leads : MeansLeading (demanding_sample [] true) (codes "-u" ∷ codes "me" ∷ codes "a" ∷ []) (option 4 (Some (codes "me")) ∷ []) (codes "a" ∷ [])
 user_leads = record { split = user_then_word; complete = are_complete (demanding_sample [] true).options (option 4 (Some (codes "me")) ∷ []) refl; accepted = refl }
 
 -- the options of the samples can be declared together

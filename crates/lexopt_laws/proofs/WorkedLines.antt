@@ -1,4 +1,4 @@
--- Words on lines, in the worked examples.
+-- Words on lines, for the worked examples.
 use Rattle.std.proofs.Common.{◌≡◌, ◌≤◌, ◌<◌, ℕ, length, inl, inr}
 use Rattle.lexopt_options_spec.specs.Help.{Line, line_columns, Fits}
 

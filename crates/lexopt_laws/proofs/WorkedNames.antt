@@ -1,4 +1,4 @@
--- Which name is nearest, computed for the worked examples.
+-- The nearest name, computed for the worked examples.
 use Rattle.std.proofs.Common.{◌≡◌, ℕ, zero, suc, ◌<◌, ◌≤◌, ◌*◌, Bool, true, false, ◌&&◌, not, ◌==◌, cond, List, [], ◌∷◌, length, map, Option, Some, None, refl, sym, ap, subst, ◌∙◌, arith, true≢false}
 use Rattle.std.proofs.Math.Dec.{leb}
 use Rattle.std.proofs.lemmas.Bool.{leb-true, le-leb, eq-eqb, and_parts}
@@ -12,7 +12,7 @@ use Rattle.lexopt_options_spec.proofs.Distance.{one_distance}
 use Rattle.lexopt_options_spec.proofs.Nearest.{one_nearest}
 use Rattle.lexopt_laws.proofs.WorkedDistances.{distance, distance_of}
 
--- how far the name is, if it is near
+-- the distance of the name, if it is near
 abbrev pub near_name : List ℕ → Option (List ℕ) → Option ℕ
 near_name typed None = None
 near_name typed (Some name) = cond (leb (3 * distance typed (chars name)) (length typed)) (Some (distance typed (chars name))) None
@@ -40,7 +40,7 @@ is_near o typed n (Some name) has is =
         }
     by false least some = absurd (let e : None ≡ Some n = some in cc)
 
--- the same of each option
+-- the same for each option
 abbrev pub near_names : List Declared → List ℕ → List (Option ℕ)
 near_names options typed = map (λ o. near_name typed o.long_name) options
 
@@ -106,7 +106,7 @@ nearest_is {options = options} name i n o at is least first = (
 pub nothing_near : {options : List Declared} (name : List ℕ) → none_near (near_names options (chars name)) ≡ true → IsNearest options name None
 nothing_near {options = options} name none i n near = none_holds (near_names options (chars name)) i n none (at_is options (chars name) i n near)
 
--- ---- and no other
+-- ---- no other is nearest
 
 pub not_this : {options : List Declared} (name : List ℕ) (i j : ℕ) → i == j ≡ false → IsNearest options name (Some j) → IsNearest options name (Some i) → ⊥
 not_this {options = options} name i j other is again =

@@ -15,18 +15,18 @@ use Rattle.lexopt_line_spec.specs.Spelling.{Spells, nothing, no_value, next_word
 use Rattle.lexopt_line_spec.proofs.Computing.{computing}
 use Rattle.lexopt_line_spec.proofs.Worked.{last_of, cluster_line, plain_front_is, some}
 use Rattle.lexopt_options_spec.specs.Declaration.{Declaration, Declared, has_name, is_short, is_long, table}
-use Rattle.lexopt_options_spec.specs.Legal.{Said, option, several, said_item, positional_count, most, IsWithin}
-use Rattle.lexopt_options_spec.specs.Completion.{AreText, CanStand, IsOpen, IsText, spellings}
-use Rattle.lexopt_options_spec.proofs.Offered.{stands_offered}
+use Rattle.lexopt_options_spec.specs.Legal.{Parsed, option, several, parsed_item, positional_count, most, IsWithin}
+use Rattle.lexopt_options_spec.specs.Completion.{AreText, CanOccur, IsOpen, IsText, spellings}
+use Rattle.lexopt_options_spec.proofs.Offered.{occurs_offered}
 use Rattle.lexopt_options_spec.proofs.Sound.{either}
-use Rattle.lexopt_options_spec.proofs.Stands.{AreNamed}
+use Rattle.lexopt_options_spec.proofs.Occurs.{AreNamed}
 use Rattle.lexopt_options_spec.proofs.Tables.{pointwise_refl}
 use Rattle.lexopt_laws.specs.Sample.{sample, sample_options, verbose, output, backup, exclude, mode}
-use Rattle.lexopt_laws.proofs.WorkedSays.{front_of}
+use Rattle.lexopt_laws.proofs.WorkedMeans.{front_of}
 
 -- ---- names that are text
 
--- the names of this option
+-- the names of this option are text
 pub record HasText (o : Declared) : Type 0 where
   short_text : (c : ℕ) → o.short_name ≡ Some c → IsScalar c
   long_text : (name : List ℕ) → o.long_name ≡ Some name → IsUtf8 name
@@ -43,7 +43,7 @@ one_text : (o : Declared) (name : Name) → HasText o → has_name name o ≡ tr
 one_text o (short c) text is = text.short_text c (short_is c o.short_name is)
 one_text o (long name) text is = text.long_text name (long_is name o.long_name is)
 
--- of all of them
+-- the names of all options are text
 abbrev pub AllText : List Declared → Type 0
 AllText [] = Unit {0}
 AllText (o ∷ os) = HasText o × AllText os
@@ -79,10 +79,10 @@ no_utf8 bs is text = true≢false (sym (is_utf8-from_IsUtf8 bs text) ∙ is)
 
 -- ---- open lines
 
-pub open_of : {d : Declaration} {words : List (List ℕ)} {l : List Said} (items : List Item) → Spells (table d.options) d.short_equals words items
-    → Spells (table d.options) d.short_equals (words ++ (dash ∷ dash ∷ []) ∷ []) items → map (said_item d.options) items ≡ map (λ s. Some s) l → IsWithin (positional_count l) (most d.positionals)
+pub open_of : {d : Declaration} {words : List (List ℕ)} {l : List Parsed} (items : List Item) → Spells (table d.options) d.short_equals words items
+    → Spells (table d.options) d.short_equals (words ++ (dash ∷ dash ∷ []) ∷ []) items → map (parsed_item d.options) items ≡ map (λ s. Some s) l → IsWithin (positional_count l) (most d.positionals)
     → IsOpen d words l
-open_of items spelled more said within = record { front = front_of items spelled said within; with_separator = front_of items more said within }
+open_of items spelled more parsed within = record { front = front_of items spelled parsed within; with_separator = front_of items more parsed within }
 
 pub at_the_start : IsOpen (sample [] true) [] []
 at_the_start = open_of [] no_words (separator []) refl (lit≤ tt)
@@ -130,5 +130,5 @@ not_listed s xs is (i, within, same) =
     true≢false (sym (list_any_at (λ w. pointwise ◌==◌ w s) xs i s within (subst P (sym same) (pointwise_refl s))) ∙ is)
 
 -- no other spelling can come next
-pub not_offered : (d : Declaration) (words : List (List ℕ)) (s : List ℕ) → list_any (λ w. pointwise ◌==◌ w s) (spellings d.options) ≡ false → CanStand d words s → ⊥
-not_offered d words s none stands = not_listed s (spellings d.options) none (stands_offered d words s stands)
+pub not_offered : (d : Declaration) (words : List (List ℕ)) (s : List ℕ) → list_any (λ w. pointwise ◌==◌ w s) (spellings d.options) ≡ false → CanOccur d words s → ⊥
+not_offered d words s none possible = not_listed s (spellings d.options) none (occurs_offered d words s possible)

@@ -7,15 +7,15 @@ use Rattle.lexopt_line_spec.specs.Spelling as lines
 use Rattle.lexopt_line_spec.specs.Spelling.{nothing, no_value, nothing_more, no_words, separator}
 use Rattle.lexopt_line_spec.proofs.Computing.{computing}
 use Rattle.lexopt_line_spec.proofs.Worked.{last_of, cluster_line, reads_first}
-use Rattle.lexopt_options_spec.specs.Legal.{Says, option}
+use Rattle.lexopt_options_spec.specs.Legal.{Means, option}
 use Rattle.lexopt_options_spec.specs.Stops.{StopsAt, missing_argument, missing_option, not_complete, too_few}
 use Rattle.lexopt_options_spec.specs.Completion.{AreText, IsOpen}
-use Rattle.lexopt_options_spec.proofs.Stands.{AreNamed}
+use Rattle.lexopt_options_spec.proofs.Occurs.{AreNamed}
 use Rattle.lexopt_laws.specs.Sample.{demanding_sample, mode, sample_options, user, verbose, output, backup, exclude}
 use Rattle.lexopt_laws.proofs.AnyWords.{any_taken}
 use Rattle.lexopt_laws.proofs.Missing.{is_first_missing}
 use Rattle.lexopt_laws.proofs.WorkedOpen.{all_text, open_of, text_of}
-use Rattle.lexopt_laws.proofs.WorkedSays.{whole_of}
+use Rattle.lexopt_laws.proofs.WorkedMeans.{whole_of}
 use Rattle.lexopt_laws.proofs.WorkedStops.{after_flag}
 
 -- `-v`
@@ -24,14 +24,14 @@ unfolding kind computing
 lacks_user = after_flag (short 0x76) 0 _ refl refl (lit≤ tt) (inl (reads_first _ 0x76 [] [] refl refl refl refl))
     (not_complete 4 _ (inl (next_word refl refl (no_word refl refl refl))) (lit≤ tt) (any_taken refl (lit≤ tt)) (is_first_missing _ _ 4 refl))
 
--- with a positional that is missing too
+-- where a positional is missing too
 pub lacks_both : StopsAt (demanding_sample (mode ∷ []) true) (codes "-v" ∷ []) (option 0 None ∷ []) (missing_argument 0)
 unfolding kind computing
 lacks_both = after_flag (short 0x76) 0 _ refl refl (lit≤ tt) (inl (reads_first _ 0x76 [] [] refl refl refl refl))
     (too_few _ (inl (next_word refl refl (no_word refl refl refl))) (lit< tt))
 
 -- `-u me`
-pub has_user : Says (demanding_sample [] true) (codes "-u" ∷ codes "me" ∷ []) (option 4 (Some (codes "me")) ∷ [])
+pub has_user : Means (demanding_sample [] true) (codes "-u" ∷ codes "me" ∷ []) (option 4 (Some (codes "me")) ∷ [])
 unfolding kind computing
 has_user = whole_of refl (spec.option (short 0x75) (Some (codes "me")) ∷ [])
     (cluster_line (codes "u") _ refl (last_of 0x75 [] nothing _ refl (nothing_more refl refl) (lines.next_word (codes "me") refl refl refl)) no_words)

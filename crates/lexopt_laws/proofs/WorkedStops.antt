@@ -1,4 +1,4 @@
--- Where short lines stop.
+-- Where the reading of short lines stops.
 use Rattle.std.proofs.Common.{◌≡◌, ℕ, true, List, [], ◌∷◌, Some, None, refl}
 use Rattle.lexopt_spec.specs.UnreadLine.{UnreadLine}
 use Rattle.lexopt_spec.specs.Steps as steps
@@ -9,7 +9,7 @@ use Rattle.lexopt_line_spec.specs.Table.{Item, Name, flag, one, kind}
 use Rattle.lexopt_line_spec.specs.Readings.{first_flag, first_one, first_positional, option_reply, start}
 use Rattle.lexopt_line_spec.proofs.RunAccounts.{step_line}
 use Rattle.lexopt_options_spec.specs.Declaration.{Declaration, table}
-use Rattle.lexopt_options_spec.specs.Legal.{option, positional, said_item, most, IsWithin, are_accepted}
+use Rattle.lexopt_options_spec.specs.Legal.{option, positional, parsed_item, most, IsWithin, are_accepted}
 use Rattle.lexopt_options_spec.specs.Stops.{Mistake, Stops, StopsAt}
 use Rattle.lexopt_laws.proofs.SomeAnswer.{nothing_read, one_more}
 
@@ -19,13 +19,13 @@ at_first {d = d} {words = words} stops = record { there = start d.short_equals w
 
 -- after a flag
 pub after_flag : {d : Declaration} {words : List (List ℕ)} {m : Mistake} (name : Name) (i : ℕ) (v : UnreadLine) → kind (table d.options) name ≡ flag
-    → said_item d.options (spec.option name None) ≡ Some (option i None) → IsWithin 0 (most d.positionals) → Next (start d.short_equals words) (option_reply name) v → Stops d (option i None ∷ []) v m
+    → parsed_item d.options (spec.option name None) ≡ Some (option i None) → IsWithin 0 (most d.positionals) → Next (start d.short_equals words) (option_reply name) v → Stops d (option i None ∷ []) v m
     → StopsAt d words (option i None ∷ []) m
-after_flag {d = d} {words = words} name i v k said within step stops =
+after_flag {d = d} {words = words} name i v k parsed within step stops =
     let u = start d.short_equals words in
     record {
       there = v;
-      read = one_more d u u v [] (spec.option name None) (option i None) (nothing_read d u tt) (first_flag name v k step) (step_line next u (option_reply name) v tt step) said within;
+      read = one_more d u u v [] (spec.option name None) (option i None) (nothing_read d u tt) (first_flag name v k step) (step_line next u (option_reply name) v tt step) parsed within;
       stops = stops;
       accepted = refl;
     }
@@ -44,15 +44,15 @@ after_positional {d = d} {words = words} word v within step stops =
 
 -- after an option and its value
 pub after_value : {d : Declaration} {words : List (List ℕ)} {m : Mistake} (name : Name) (i : ℕ) (word : List ℕ) (v w : UnreadLine) → kind (table d.options) name ≡ one
-    → said_item d.options (spec.option name (Some word)) ≡ Some (option i (Some word)) → IsWithin 0 (most d.positionals) → are_accepted d.options (option i (Some word) ∷ []) ≡ true → Next (start d.short_equals words) (option_reply name) v
+    → parsed_item d.options (spec.option name (Some word)) ≡ Some (option i (Some word)) → IsWithin 0 (most d.positionals) → are_accepted d.options (option i (Some word) ∷ []) ≡ true → Next (start d.short_equals words) (option_reply name) v
     → Value v (steps.taken word) w → Stops d (option i (Some word) ∷ []) w m → StopsAt d words (option i (Some word) ∷ []) m
-after_value {d = d} {words = words} name i word v w k said within accepted step takes stops =
+after_value {d = d} {words = words} name i word v w k parsed within accepted step takes stops =
     let u = start d.short_equals words in
     record {
       there = w;
       read = one_more d u u w [] (spec.option name (Some word)) (option i (Some word)) (nothing_read d u tt)
           (first_one name word v w k step takes)
-          (step_line value v (steps.taken word) w (step_line next u (option_reply name) v tt step) takes) said within;
+          (step_line value v (steps.taken word) w (step_line next u (option_reply name) v tt step) takes) parsed within;
       stops = stops;
       accepted = accepted;
     }

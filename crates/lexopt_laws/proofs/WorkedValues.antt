@@ -16,52 +16,52 @@ use Rattle.lexopt_line_spec.proofs.RunAccounts.{step_line}
 use Rattle.lexopt_line_spec.proofs.Worked.{cluster_line, gives_values, joined_line, last_of, plain_front_is, reads_first, reads_joined, reads_name, some, value_after}
 use Rattle.lexopt_options_spec.specs.Asking.{AskFor}
 use Rattle.lexopt_options_spec.specs.Declaration.{Declaration, for_help, table}
-use Rattle.lexopt_options_spec.specs.Legal.{Said, Says, SaysFront, option, several, said_item, most, IsWithin, refused_value}
+use Rattle.lexopt_options_spec.specs.Legal.{Parsed, Means, MeansFront, option, several, parsed_item, most, IsWithin, refused_value}
 use Rattle.lexopt_options_spec.specs.Stops.{ReadsUpTo, Stops, StopsAt, invalid_value, not_accepted}
 use Rattle.lexopt_laws.specs.Sample.{listed_mode, listed_sample, mode, sample, user}
 use Rattle.lexopt_laws.proofs.SomeAnswer.{one_read}
 use Rattle.lexopt_laws.proofs.WorkedAsking.{asks_then}
-use Rattle.lexopt_laws.proofs.WorkedSays.{front_of, whole_of}
+use Rattle.lexopt_laws.proofs.WorkedMeans.{front_of, whole_of}
 use Rattle.lexopt_laws.proofs.WorkedStops.{at_first}
 
 -- an option and its value
 pub reads_value : {d : Declaration} {u : UnreadLine} (name : Name) (i : ℕ) (word : List ℕ) (v w : UnreadLine) → IsLine u → kind (table d.options) name ≡ one
-    → said_item d.options (spec.option name (Some word)) ≡ Some (option i (Some word)) → IsWithin 0 (most d.positionals) → Next u (option_reply name) v → Value v (steps.taken word) w
+    → parsed_item d.options (spec.option name (Some word)) ≡ Some (option i (Some word)) → IsWithin 0 (most d.positionals) → Next u (option_reply name) v → Value v (steps.taken word) w
     → ReadsUpTo d u (option i (Some word) ∷ []) w
-reads_value {d = d} {u = u} name i word v w line k said within step takes =
+reads_value {d = d} {u = u} name i word v w line k parsed within step takes =
     one_read d u w (spec.option name (Some word)) (option i (Some word)) line
     (first_one name word v w k step takes)
-    (step_line value v (steps.taken word) w (step_line next u (option_reply name) v line step) takes) said within
+    (step_line value v (steps.taken word) w (step_line next u (option_reply name) v line step) takes) parsed within
 
 -- ---- a value that is not accepted
 
 -- of an option of one value
-pub refuses_one : {d : Declaration} {l : List Said} {u : UnreadLine} (name : Name) (i : ℕ) (word : List ℕ) (v w : UnreadLine) → IsLine u → kind (table d.options) name ≡ one
-    → said_item d.options (spec.option name (Some word)) ≡ Some (option i (Some word)) → IsWithin 0 (most d.positionals) → refused_value d.options (option i (Some word)) ≡ Some word
+pub refuses_one : {d : Declaration} {l : List Parsed} {u : UnreadLine} (name : Name) (i : ℕ) (word : List ℕ) (v w : UnreadLine) → IsLine u → kind (table d.options) name ≡ one
+    → parsed_item d.options (spec.option name (Some word)) ≡ Some (option i (Some word)) → IsWithin 0 (most d.positionals) → refused_value d.options (option i (Some word)) ≡ Some word
     → Next u (option_reply name) v → Value v (steps.taken word) w → Stops d l u (invalid_value i word)
-refuses_one name i word v w line k said within refused step takes =
-    not_accepted (option i (Some word)) i word w (reads_value name i word v w line k said within step takes) (eq-eqb i i refl) refused
+refuses_one name i word v w line k parsed within refused step takes =
+    not_accepted (option i (Some word)) i word w (reads_value name i word v w line k parsed within step takes) (eq-eqb i i refl) refused
 
 -- of one value or none
-pub refuses_optional : {d : Declaration} {l : List Said} {u : UnreadLine} (name : Name) (i : ℕ) (word : List ℕ) (v w : UnreadLine) → IsLine u → kind (table d.options) name ≡ spec.optional
-    → said_item d.options (spec.option name (Some word)) ≡ Some (option i (Some word)) → IsWithin 0 (most d.positionals) → refused_value d.options (option i (Some word)) ≡ Some word
+pub refuses_optional : {d : Declaration} {l : List Parsed} {u : UnreadLine} (name : Name) (i : ℕ) (word : List ℕ) (v w : UnreadLine) → IsLine u → kind (table d.options) name ≡ spec.optional
+    → parsed_item d.options (spec.option name (Some word)) ≡ Some (option i (Some word)) → IsWithin 0 (most d.positionals) → refused_value d.options (option i (Some word)) ≡ Some word
     → Next u (option_reply name) v → Step calls.optional v (steps.maybe (Some word)) w → Stops d l u (invalid_value i word)
-refuses_optional {d = d} {u = u} name i word v w line k said within refused step takes =
+refuses_optional {d = d} {u = u} name i word v w line k parsed within refused step takes =
     not_accepted (option i (Some word)) i word w
     (one_read d u w (spec.option name (Some word)) (option i (Some word)) line
     (first_optional name (Some word) v w k step takes)
-    (step_line calls.optional v (steps.maybe (Some word)) w (step_line next u (option_reply name) v line step) takes) said within)
+    (step_line calls.optional v (steps.maybe (Some word)) w (step_line next u (option_reply name) v line step) takes) parsed within)
     (eq-eqb i i refl) refused
 
 -- of several values
-pub refuses_several : {d : Declaration} {l : List Said} {u : UnreadLine} (name : Name) (i n : ℕ) (word : List ℕ) (came : List (List ℕ)) (v w : UnreadLine) → IsLine u
-    → kind (table d.options) name ≡ spec.several → said_item d.options (spec.many name came) ≡ Some (several i came) → IsWithin 0 (most d.positionals)
+pub refuses_several : {d : Declaration} {l : List Parsed} {u : UnreadLine} (name : Name) (i n : ℕ) (word : List ℕ) (came : List (List ℕ)) (v w : UnreadLine) → IsLine u
+    → kind (table d.options) name ≡ spec.several → parsed_item d.options (spec.many name came) ≡ Some (several i came) → IsWithin 0 (most d.positionals)
     → refused_value d.options (several i came) ≡ Some word → length came < n → Next u (option_reply name) v → Step (values n) v (steps.items came) w → Stops d l u (invalid_value i word)
-refuses_several {d = d} {u = u} name i n word came v w line k said within refused full step takes =
+refuses_several {d = d} {u = u} name i n word came v w line k parsed within refused full step takes =
     not_accepted (several i came) i word w
     (one_read d u w (spec.many name came) (several i came) line
     (first_several name n came v w k step full takes)
-    (step_line (values n) v (steps.items came) w (step_line next u (option_reply name) v line step) takes) said within)
+    (step_line (values n) v (steps.items came) w (step_line next u (option_reply name) v line step) takes) parsed within)
     (eq-eqb i i refl) refused
 
 -- ---- lines
@@ -72,7 +72,7 @@ unfolding kind computing
 attached_medium = at_first (refuses_one (short 0x6D) 1 (codes "medium") _ _ tt refl refl (lit≤ tt) refl (inl (reads_first _ 0x6D (codes "medium") [] refl refl refl refl))
     (inl (pending_value (codes "medium") _ refl refl refl)))
 
-pub front_medium : SaysFront (listed_sample [] true) (codes "-mmedium" ∷ []) (option 1 (Some (codes "medium")) ∷ [])
+pub front_medium : MeansFront (listed_sample [] true) (codes "-mmedium" ∷ []) (option 1 (Some (codes "medium")) ∷ [])
 unfolding kind computing
 front_medium = front_of (spec.option (short 0x6D) (Some (codes "medium")) ∷ [])
     (cluster_line (codes "mmedium") _ refl
@@ -112,9 +112,9 @@ argument_missing = at_first (refuses_one (long (codes "mode")) 1 (codes "medium"
     (inl (reads_joined _ (codes "mode") (codes "medium") [] refl refl refl refl)) (inl (pending_value (codes "medium") _ refl refl refl)))
 
 -- `--mode=fast`
-pub says_fast : Says (listed_sample [] true) (codes "--mode=fast" ∷ []) (option 1 (Some (codes "fast")) ∷ [])
+pub means_fast : Means (listed_sample [] true) (codes "--mode=fast" ∷ []) (option 1 (Some (codes "fast")) ∷ [])
 unfolding kind computing
-says_fast = whole_of refl (spec.option (long (codes "mode")) (Some (codes "fast")) ∷ [])
+means_fast = whole_of refl (spec.option (long (codes "mode")) (Some (codes "fast")) ∷ [])
     (joined_line (codes "mode") (codes "fast") _ refl (codes "mode", (refl, refl)) (lines.joined_value (codes "fast") refl refl refl) no_words)
     refl (lit≤ tt) (lit≤ tt) refl refl
 

@@ -11,23 +11,23 @@ use Rattle.lexopt_line_spec.specs.Spelling.{no_words, separator}
 use Rattle.lexopt_line_spec.proofs.RunAccounts.{step_line}
 use Rattle.lexopt_line_spec.proofs.Worked.{plain_line, reads_plain}
 use Rattle.lexopt_options_spec.specs.Declaration.{Declaration, Positional}
-use Rattle.lexopt_options_spec.specs.Legal.{IsWithin, Says, SaysFront, most, positional, positional_words}
+use Rattle.lexopt_options_spec.specs.Legal.{IsWithin, Means, MeansFront, most, positional, positional_words}
 use Rattle.lexopt_options_spec.specs.Places.{ArePlaces, AreShares, AreTaken, CanTake, IsNotTaken, least, owners, refused_word}
-use Rattle.lexopt_options_spec.specs.Completion.{CanStand, IsOpen}
+use Rattle.lexopt_options_spec.specs.Completion.{CanOccur, IsOpen}
 use Rattle.lexopt_options_spec.specs.Stops.{Mistake, ReadsUpTo, Stops, StopsAt, invalid_argument, missing_argument, not_taken, too_few}
 use Rattle.lexopt_options_spec.proofs.Fronts.{one_front}
 use Rattle.lexopt_options_spec.proofs.Shares.{greedy, greedy_are_shares}
-use Rattle.lexopt_options_spec.proofs.Stands.{stands_taken}
+use Rattle.lexopt_options_spec.proofs.Occurs.{occurs_taken}
 use Rattle.lexopt_options_spec.proofs.Taken.{AreFilled, CanBeTaken}
 use Rattle.lexopt_laws.specs.Sample.{demanding_sample, files, form_in_list, mode_in_list, new, sample, sources}
 use Rattle.lexopt_laws.proofs.SomeAnswer.{nothing_read, one_more}
 use Rattle.lexopt_laws.proofs.WorkedOpen.{open_of}
-use Rattle.lexopt_laws.proofs.WorkedSays.{front_of, whole_with}
+use Rattle.lexopt_laws.proofs.WorkedMeans.{front_of, whole_with}
 use Rattle.lexopt_laws.proofs.WorkedStops.{after_positional}
 
 -- ---- words and their positionals
 
--- to which positionals words belong, if there are this many more than have to be there
+-- the places of words, where this many are not required
 places_with : (ps : List Positional) (count spare : ℕ) → IsWithin (least ps + spare) (most ps) → max count (least ps) ≡ least ps + spare → ArePlaces ps count (take count (owners 0 (greedy ps spare)))
 places_with ps count spare within is =
     record { shares = greedy ps spare; are_shares = subst (λ n. AreShares ps n (greedy ps spare)) (sym is) (greedy_are_shares ps spare within); placed = refl }
@@ -60,8 +60,8 @@ after_two {d = d} {words = words} one two v w within room step again stops =
     }
 
 -- `fast a`
-pub says_mode : Says (sample (mode_in_list ∷ files ∷ []) true) (codes "fast" ∷ codes "a" ∷ []) (positional (codes "fast") ∷ positional (codes "a") ∷ [])
-says_mode = whole_with (taken_with 1 tt refl refl) (spec.positional (codes "fast") ∷ spec.positional (codes "a") ∷ [])
+pub means_mode : Means (sample (mode_in_list ∷ files ∷ []) true) (codes "fast" ∷ codes "a" ∷ []) (positional (codes "fast") ∷ positional (codes "a") ∷ [])
+means_mode = whole_with (taken_with 1 tt refl refl) (spec.positional (codes "fast") ∷ spec.positional (codes "a") ∷ [])
     (plain_line (codes "fast") refl (plain_line (codes "a") refl no_words)) refl tt (lit≤ tt) refl refl
 
 -- `fats a`
@@ -96,7 +96,7 @@ lacks_new = after_positional (codes "fats") _ (lit≤ tt) (inl (reads_plain _ (c
     (too_few _ (inl (next_word refl refl (no_word refl refl refl))) (lit< tt))
 
 -- `fats`
-pub front_fats : SaysFront (sample (mode_in_list ∷ files ∷ []) true) (codes "fats" ∷ []) (positional (codes "fats") ∷ [])
+pub front_fats : MeansFront (sample (mode_in_list ∷ files ∷ []) true) (codes "fats" ∷ []) (positional (codes "fats") ∷ [])
 front_fats = front_of (spec.positional (codes "fats") ∷ []) (plain_line (codes "fats") refl no_words) refl tt
 
 -- ---- what can come
@@ -127,9 +127,9 @@ not_first (suc n) (k ∷ shares) longer each none =
     let one : k ≡ 1 = each.0 in
     some_none (0, codes "fats") (subst (λ m. refused_word (mode_in_list ∷ files ∷ []) (take (suc n) (owners 0 (m ∷ shares))) (codes "fats" ∷ []) ≡ None) one none)
 
-pub nothing_after_fats : (s : List ℕ) → CanStand (sample (mode_in_list ∷ files ∷ []) true) (codes "fats" ∷ []) s → ⊥
-nothing_after_fats s stands =
-    let same = one_front _ _ stands.before (positional (codes "fats") ∷ []) stands.words_say front_fats in
-    let can : CanBeTaken (mode_in_list ∷ files ∷ []) (codes "fats" ∷ []) = subst (λ l. CanBeTaken (mode_in_list ∷ files ∷ []) (positional_words l)) same (stands_taken _ _ s stands) in
+pub nothing_after_fats : (s : List ℕ) → CanOccur (sample (mode_in_list ∷ files ∷ []) true) (codes "fats" ∷ []) s → ⊥
+nothing_after_fats s possible =
+    let same = one_front _ _ possible.before (positional (codes "fats") ∷ []) possible.words_say front_fats in
+    let can : CanBeTaken (mode_in_list ∷ files ∷ []) (codes "fats" ∷ []) = subst (λ l. CanBeTaken (mode_in_list ∷ files ∷ []) (positional_words l)) same (occurs_taken _ _ s possible) in
     not_first can.count can.are_places.shares can.longer can.are_places.are_shares.each
     (subst (λ places. refused_word (mode_in_list ∷ files ∷ []) places (codes "fats" ∷ []) ≡ None) can.are_places.placed can.none)

@@ -1,20 +1,20 @@
--- The values of an option in what is read from a line, and which of them a list does not have; and
--- which of the words of a line its positional does not accept.
+-- The values of an option that was read, and the first that is not in a list; and the first word of
+-- a line that its positional does not accept.
 use Rattle.std.specs.Prelude.{◌≡◌, ◌<◌, ◌++◌, ℕ, List, [], ◌∷◌, Some, None, Contains, false, true}
 use Rattle.std.specs.Prelude.{slice_get}
 use Rattle.std.specs.List.{All}
 use Rattle.lexopt_options_spec.specs.Declaration.{Positional}
-use Rattle.lexopt_options_spec.specs.Legal.{Said, option, several, positional}
+use Rattle.lexopt_options_spec.specs.Legal.{Parsed, option, several, positional}
 use Rattle.lexopt_options_spec.specs.Places.{takes_at}
 
--- the values that an option has here
-abbrev pub values_of : Said → List (List ℕ)
+-- the values that the option has here
+abbrev pub values_of : Parsed → List (List ℕ)
 values_of (option i None) = []
 values_of (option i (Some value)) = value ∷ []
 values_of (several i values) = values
 values_of (positional word) = []
 
--- this is the first of the values that the list does not have
+-- this is the first of the values that is not in the list
 pub record IsFirstOutside (list values : List (List ℕ)) (value : List ℕ) : Type 0 where
   pub before : List (List ℕ)
   pub after : List (List ℕ)
@@ -22,8 +22,8 @@ pub record IsFirstOutside (list values : List (List ℕ)) (value : List ℕ) : T
   pub listed_before : All (Contains list) before
   pub outside : ¬ Contains list value
 
--- where these words belong to the positionals of these indices, this is the first of them that its
--- positional, of this index, does not accept
+-- if these words belong to the positionals at these indices, this is the first that its positional
+-- does not accept, and that positional is at this index
 pub record IsFirstRefused (ps : List Positional) (places : List ℕ) (words : List (List ℕ))
     (index : ℕ) (word : List ℕ) : Type 0 where
   pub at : ℕ

@@ -1,6 +1,6 @@
--- How words spell what a line means where an option has no value or one: the rules of `Spelling`,
--- over smaller tables. A law states that they are the same rules where the lists of the other kinds
--- are empty. The source is `docs/behaviour.md`.
+-- How words spell items if each option has one value or none: the rules of `Spelling`, for smaller
+-- tables. A law states that they are the same rules if the lists of the other kinds are empty. The
+-- source is `docs/behaviour.md`.
 use Rattle.std.specs.Prelude.{◌≡◌, ℕ, Bool, false, List, [], ◌∷◌, ◌++◌, map, Contains, None}
 use Rattle.std.specs.Prelude.{if◌then◌else◌}
 use Rattle.lexopt_spec.specs.UnreadLine.{dash, equals, BeginsWith, IsPlain}
@@ -24,16 +24,16 @@ abbrev pub CompletesValue : ValueKind → Name → After → List (List ℕ) →
 CompletesValue bare = NoValue
 CompletesValue valued = OneValue
 
--- the same table among those with all kinds
+-- the same table, with all kinds
 abbrev pub widened : OneValueTable → Table
 widened t = one_value t.shorts t.longs
 
 -- ---- clusters
 
--- these bytes of a cluster, with the words after it, spell the items, and the words are left
+-- these bytes of a cluster, with the words after it, spell the items, and leave the last words
 pub data OneValueCluster (letters : Letters) (t : OneValueTable) (short_equals : Bool)
     (words left : List (List ℕ)) : List ℕ → List Item → Type 0 where
-  -- a flag, and more characters, the first of which is not an `=` that is a mark
+  -- a flag and more characters, the first of which is not a `=` that joins a value
   flag_first : (c : ℕ) (character others : List ℕ) (items : List Item)
       → letters.character c character others → value_kind t (short c) ≡ bare
       → ¬ BeginsWithMark short_equals others
@@ -48,7 +48,7 @@ pub data OneValueCluster (letters : Letters) (t : OneValueTable) (short_equals :
 
 -- ---- a whole line
 
--- the first of these words spell the items, and the words are left
+-- the first of these words spell the items, and leave the last words
 pub data OneValueGroup (letters : Letters) (t : OneValueTable) (short_equals : Bool)
     (words : List (List ℕ)) (items : List Item) (left : List (List ℕ)) : Type 0 where
   cluster : (bytes : List ℕ) (others : List (List ℕ)) → words ≡ (dash ∷ bytes) ∷ others
@@ -79,6 +79,6 @@ pub data OneValueLine (letters : Letters) (t : OneValueTable)
 abbrev pub OneValueSpells : OneValueTable → Bool → List (List ℕ) → List Item → Type 0
 OneValueSpells = OneValueLine exact
 
--- the same, with damage let in
+-- the words show the items: they spell them, where damage may be in names
 abbrev pub OneValueShows : OneValueTable → Bool → List (List ℕ) → List Item → Type 0
 OneValueShows = OneValueLine damaged

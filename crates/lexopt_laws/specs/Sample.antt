@@ -61,7 +61,7 @@ exclude = record {
 abbrev pub sample_options : List Declared
 sample_options = verbose ∷ output ∷ backup ∷ exclude ∷ []
 
--- positionals: one that has to be there, one that may be left out, and any number
+-- positionals: one that is required, one that may be left out, and any number
 abbrev pub mode : Positional
 mode = record { placeholder = codes "MODE"; count = once; help = []; words = spec.files }
 
@@ -76,7 +76,7 @@ target = record {
 abbrev pub files : Positional
 files = record { placeholder = codes "FILE"; count = any_number; help = []; words = spec.files }
 
--- one that has to be there and may be there more than once, and one after it
+-- one that is required and may occur more than once, and one after it
 abbrev pub sources : Positional
 sources = record {
   placeholder = codes "SOURCE";
@@ -99,7 +99,7 @@ new = record { placeholder = codes "NEW"; count = once; help = []; words = spec.
 abbrev pub described_files : Positional
 described_files = record files { help = codes "a file to read" }
 
--- positionals that accept the words in a list alone
+-- positionals that accept only the words in a list
 abbrev pub mode_in_list : Positional
 mode_in_list = record mode { words = spec.listed (codes "fast" ∷ codes "slow" ∷ []) }
 
@@ -122,7 +122,7 @@ sample positionals short_equals = record {
   short_equals = short_equals;
 }
 
--- a flag of this long name alone
+-- a flag with only this long name
 abbrev pub named : List ℕ → Declared
 named name = record verbose { short_name = None; long_name = Some name }
 
@@ -153,7 +153,7 @@ asking_sample positionals short_equals = record (sample positionals short_equals
   options = sample_options ++ asks_for_help ∷ asks_for_version ∷ [];
 }
 
--- an option that has to occur
+-- a required option
 abbrev pub user : Declared
 user = record {
   short_name = Some 0x75;
@@ -167,13 +167,13 @@ user = record {
   words = spec.files;
 }
 
--- the sample with it, at the index 4
+-- the sample with the required option at index 4
 abbrev pub demanding_sample : List Positional → Bool → Declaration
 demanding_sample positionals short_equals = record (sample positionals short_equals) {
   options = sample_options ++ user ∷ [];
 }
 
--- options that accept the values in a list alone
+-- options that accept only the values in a list
 abbrev pub listed_mode : Declared
 listed_mode = record {
   short_name = Some 0x6D;
@@ -193,7 +193,7 @@ listed_backup = record backup { words = spec.listed (codes "old" ∷ codes "bak"
 abbrev pub listed_exclude : Declared
 listed_exclude = record exclude { words = spec.listed (codes "a" ∷ codes "c" ∷ []) }
 
--- `-m` has the index 1; `-v`, `-b` and `-x` have those of the sample; `--help` has the index 4
+-- `-m` has index 1; `-v`, `-b` and `-x` have those of the sample; `--help` has index 4
 abbrev pub listed_options : List Declared
 listed_options = verbose ∷ listed_mode ∷ listed_backup ∷ listed_exclude ∷ asks_for_help ∷ []
 
@@ -202,7 +202,7 @@ listed_sample positionals short_equals = record (sample positionals short_equals
   options = listed_options;
 }
 
--- a flag, `-m`, which has to occur here, and `--help`
+-- a flag, `-m`, which is required here, and `--help`
 abbrev pub demanding_listed : List Positional → Bool → Declaration
 demanding_listed positionals short_equals = record (sample positionals short_equals) {
   options = verbose ∷ record listed_mode { required = true } ∷ asks_for_help ∷ [];

@@ -1,5 +1,5 @@
-//! Worked examples of calls: what they return, what becomes of each byte, and what is left where
-//! they are cut short.
+//! Worked examples of calls: what they return, what becomes of each byte, and what is left if they
+//! are cut short.
 ghost use Rattle.std.specs.Prelude.{◌≡◌, [], ◌∷◌, Bool, List, true, false, Some, None};
 ghost use Rattle.std.specs.Prelude.{codes};
 ghost use Rattle.lexopt_spec.specs.Account.{damage, given, mark};
@@ -84,7 +84,8 @@ fn views_have_these_replies()
         (items (codes "--" ∷ []) ∷ short 0x78 ∷ []) v }
 {}
 
-// After `next` on the words `-ab c -d` and `-a=b c`; the fourth line is one that no parser can be.
+// After `next` on the words `-ab c -d` and on the words `-a=b c`. The line of the fourth example is
+// one that no parser can be.
 fn items_come_one_by_one()
     ensures values { ValueItems 4 going_on (record (fresh (codes "c" ∷ codes "-d" ∷ [])) {
       tail = rest (codes "b");
@@ -102,14 +103,14 @@ fn items_come_one_by_one()
         (fresh []) }
 {}
 
-// On the words `a b`, and on none: the next word is taken exactly if the condition returns `true`
-// for it.
+// On the words `a b`, and on none: the next word is taken if and only if the condition returns
+// `true` for it.
 fn words_are_taken_on_a_condition()
     ensures taken { TakesIf (λ word answer. answer ≡ true) (fresh (codes "a" ∷ codes "b" ∷ []))
         (Some (codes "a")) (fresh (codes "b" ∷ [])) }
     ensures left { TakesIf (λ word answer. answer ≡ false) (fresh (codes "a" ∷ codes "b" ∷ [])) None
         (fresh (codes "a" ∷ codes "b" ∷ [])) }
-    ensures nothing_asked { (answer : Bool) → TakesIf (λ word said. said ≡ answer) (fresh []) None
+    ensures nothing_asked { (answer : Bool) → TakesIf (λ word parsed. parsed ≡ answer) (fresh []) None
         (fresh []) }
     ensures not_left { TakesIf (λ word answer. answer ≡ true) (fresh (codes "a" ∷ codes "b" ∷ []))
         None (fresh (codes "a" ∷ codes "b" ∷ [])) → ⊥ }
@@ -119,7 +120,7 @@ fn words_are_taken_on_a_condition()
         (fresh (codes "a" ∷ codes "b" ∷ [])) (Some (codes "b")) (fresh (codes "a" ∷ [])) → ⊥ }
 {}
 
-// A run with these replies has these segments.
+// The segments of runs with these replies.
 fn bytes_are_accounted_for()
     ensures words { (v : UnreadLine)
         × AccountedRun (fresh (codes "a" ∷ codes "--" ∷ codes "-b" ∷ []))
@@ -139,7 +140,7 @@ fn bytes_are_accounted_for()
         (mark (codes "-") ∷ damage (0xF0 ∷ 0x9D ∷ []) ∷ given (codes "a") ∷ []) v }
 {}
 
-// After `next` on the words `-ab c d e`.
+// What is left after `next` on the words `-ab c d e`, and a call that is cut short.
 fn calls_are_cut_short()
     ensures at_once { let u : UnreadLine =
         record (fresh (codes "c" ∷ codes "d" ∷ codes "e" ∷ [])) {
@@ -164,7 +165,7 @@ fn calls_are_cut_short()
         Part u (values 2 ∷ raw 9 ∷ []) (record u { tail = no_tail; words = codes "e" ∷ [] }) }
 {}
 
-// On the words `a b`: a call for one item may take the first, and never takes both.
+// On the words `a b`: a call for one item may take the first word, and never takes both.
 fn no_item_more_is_taken()
     ensures one_value { Part (fresh (codes "a" ∷ codes "b" ∷ [])) (values 1 ∷ [])
         (fresh (codes "b" ∷ [])) }
@@ -178,7 +179,7 @@ fn no_item_more_is_taken()
         → ⊥ }
 {}
 
-// A line's bound, and the replies of a run that comes to its end.
+// The bound of a line, and the replies of a run that reaches the end of the line.
 #[tactic(auto, unfolding(lexopt_line_spec::proofs::Computing::computing))]
 fn replies_are_counted()
     ensures cluster { bound (fresh (codes "-abc" ∷ [])) ≡ 3 }

@@ -1,4 +1,4 @@
-//! Worked examples, computed by the definitions themselves: each clause is one example.
+//! Worked examples, which the definitions compute. Each clause is one example.
 ghost use Rattle.std.specs.Prelude.{◌≡◌, ◌++◌, [], ◌∷◌, true, false, Some, None, codes};
 ghost use Rattle.lexopt_spec.specs.Pieces.{first_piece, lossy, lossy_characters};
 ghost use Rattle.lexopt_spec.specs.UnreadLine.{fresh, invoked, joined, long_option, no_option};

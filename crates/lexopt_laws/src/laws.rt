@@ -1,4 +1,5 @@
-//! Laws of the definitions.
+//! Laws of the definitions that all of lexopt shares. `option_laws.rt` has those of declared
+//! options.
 ghost use Rattle.std.specs.Prelude.{◌≡◌, ◌≢◌, ◌⊎◌, ◌<◌, ◌≤◌, ◌+◌, ◌∷◌, ◌++◌, [], ℕ, Bool, true};
 ghost use Rattle.std.specs.Prelude.{false, List, Option, None, Some, Ok, Err, drop, length, map};
 ghost use Rattle.std.specs.Prelude.{take};
@@ -32,8 +33,8 @@ ghost use Rattle.lexopt_spec.specs.Views.{Stage, TakesIf, ValueItem, ValueItems,
 ghost use Rattle.lexopt_spec.specs.Views.{WordItems, at_end, available, going_on, plain_front};
 ghost use Rattle.lexopt_spec.specs.Views.{values_left};
 
-/// The first piece that the definitions compute is the one that table 3-7 of the Unicode Standard,
-/// read over all fronts of the bytes, allows: that piece and no other.
+/// The first piece that the definitions compute is the one that table 3-7 of the Unicode Standard
+/// allows, read for all prefixes of the bytes; and no other piece is.
 pub fn first_piece_is_by_the_table(bytes: &[u8])
     ensures by_the_table { 0 < length bytes.now
         → IsFirstPiece bytes.now (length (first_piece bytes.now).bytes)
@@ -43,15 +44,15 @@ pub fn first_piece_is_by_the_table(bytes: &[u8])
         × (char ≡ (first_piece bytes.now).char) }
 {}
 
-/// The pieces of some bytes are the first piece, and then the pieces of what follows it.
+/// The pieces of some bytes are the first piece, and then the pieces of the bytes after it.
 pub fn pieces_are_in_a_row(bytes: &[u8])
     ensures none { bytes.now ≡ [] → pieces bytes.now ≡ [] }
     ensures more { 0 < length bytes.now
         → pieces bytes.now ≡ first_piece bytes.now ∷ pieces (after_first_piece bytes.now) }
 {}
 
-/// With enough memory, each call has exactly one result: some reply with a line after it, and no
-/// other. The rules forget no line and leave no choice.
+/// While there is memory, each call has exactly one result: a reply, and a line after it. That
+/// holds for each line that a parser can be, and for each list of calls.
 pub fn each_call_has_one_answer()
     ensures some_answer { (call : Call) (u : UnreadLine) → IsLine u → (r : Reply) × (v : UnreadLine)
         × StepWithMemory call u r v }
@@ -65,8 +66,8 @@ pub fn each_call_has_one_answer()
         → ¬ IsAmong replies no_memory → ¬ IsAmong others no_memory → (replies ≡ others) × (v ≡ w) }
 {}
 
-/// A call that runs out of memory leaves the line as it was, and does so only in place of a long
-/// option or of an error that names an option. So some calls never do.
+/// A call that runs out of memory leaves the line as it was. It runs out of memory only in place of
+/// a long option, or of an error that names an option, so some calls never do.
 pub fn some_calls_are_never_refused()
     ensures only { (call : Call) (u v : UnreadLine) → Step call u no_memory v → (v ≡ u)
         × ((r : Reply) × (w : UnreadLine) × StepWithMemory call u r w
@@ -83,9 +84,8 @@ pub fn some_calls_are_never_refused()
         → ⊥ }
 {}
 
-/// There is a tail only with a last option and never after the separator: so it is at the start,
-/// and so it stays, whatever is called, whatever is asked of a view, one item at a time, and even
-/// if memory runs out.
+/// A line has a tail only if it has a last option, and never after the separator. That holds at the
+/// start, and after each call and each item of a view, even if memory runs out.
 pub fn lines_stay_lines()
     ensures start { (words : List (List ℕ)) (on : Bool)
         → IsLine (record (fresh words) { short_equals = on }) }
@@ -100,12 +100,12 @@ pub fn lines_stay_lines()
     ensures word_item { (u v : UnreadLine) (item : Option (List ℕ)) → IsLine u → WordItem u item v
         → IsLine v }
     ensures next_if { (answer : Bool) (u v : UnreadLine) (item : Option (List ℕ)) → IsLine u
-        → TakesIf (λ word said. said ≡ answer) u item v → IsLine v }
+        → TakesIf (λ word parsed. parsed ≡ answer) u item v → IsLine v }
 {}
 
-/// What no rule names stays. The binary name always does; `short_equals`, unless the call sets it;
-/// the last option, unless the reply is an option, which is then the last one. The separator, once
-/// read, stays read, and only `next` reads it.
+/// What no rule names stays as it was: the binary name always; `short_equals`, unless the call sets
+/// it; the last option, unless the reply is an option, which is then the last option. Once the
+/// separator was read that stays so, and only `next` reads it.
 pub fn other_parts_stay()
     ensures bin_name { (call : Call) (u v : UnreadLine) (r : Reply) → Step call u r v
         → v.bin_name ≡ u.bin_name }
@@ -123,7 +123,7 @@ pub fn other_parts_stay()
         → call ≢ next → v.ended ≡ u.ended }
 {}
 
-/// The words that can be values are the longest prefix of plain words, and no other prefix is.
+/// The words that can be values are the longest prefix of plain words, and no other prefix.
 pub fn plain_words_are_the_longest_front()
     ensures test { (ended : Bool) (w : List ℕ) → (is_plain ended w ≡ true → IsPlain ended w)
         × (IsPlain ended w → is_plain ended w ≡ true) }
@@ -133,9 +133,9 @@ pub fn plain_words_are_the_longest_front()
         → IsPlainFront ended words front after → plain_front ended words ≡ front }
 {}
 
-/// A view that is asked for an item has exactly one result. Items that are asked one by one are
-/// what the call returns that asks for that many; if fewer came, all came; what comes is the first
-/// of what is left; and once none came, none comes and nothing changes.
+/// A view that is asked for an item has exactly one result. Items that are asked for one by one are
+/// those of the call that asks for as many. If fewer items came, all came. What comes is the first
+/// of what is left. Once no item came, none comes and nothing changes.
 pub fn items_make_the_call()
     ensures some_value { (stage : Stage) (u : UnreadLine) → (item : Option (List ℕ))
         × (v : UnreadLine) × (now : Stage) × ValueItem stage u item v now }
@@ -164,9 +164,10 @@ pub fn items_make_the_call()
         → WordItems n u came v → StepWithMemory (try_raw n) u (items came) v }
 {}
 
-/// `try_raw_args` gives no view exactly if `optional_value` gives a value; after its refusal
-/// `raw_args` succeeds; a view that was not asked changes nothing; `values` succeeds exactly if a
-/// value is pending or the next word is normal, and its view then gives an item when first asked.
+/// `try_raw_args` returns no view if and only if `optional_value` returns a value. After `raw_args`
+/// refused a value, none is pending. A view that is not asked changes nothing. There are values for
+/// `values` if and only if a value is pending or the next word is normal, and then its view gives
+/// an item when it is first asked.
 pub fn views_agree()
     ensures busy { (n : ℕ) (u v : UnreadLine) → StepWithMemory (try_raw n) u busy v
         → (value : List ℕ)
@@ -186,8 +187,8 @@ pub fn views_agree()
         → ValueItem going_on u None v now → ⊥ }
 {}
 
-/// Whatever is called, under either setting, and even if memory runs out: each byte is in one
-/// segment or still unread, in order; what the replies hand out is what the segments show; the
+/// Whatever is called, under either setting of `short_equals`, and even if memory runs out: each
+/// byte is in one segment or unread, in order; the replies hand out what the segments show; and the
 /// words left are a suffix.
 pub fn no_byte_is_lost()
     ensures bytes { (u v : UnreadLine) (calls : List Call) (replies : List Reply)
@@ -207,8 +208,9 @@ pub fn no_byte_is_lost()
         → (gone : List (List ℕ)) × (u.words ≡ gone ++ v.words) }
 {}
 
-/// Some prefix of a list of calls is a part of it, even with some items of the next call, but never
-/// with more items than it asks for; and the words that a part leaves are a suffix.
+/// A prefix of a list of calls is a part of the list, also with some items of the next call, but
+/// never with more items than that asks for. There are no other parts. The words that a part leaves
+/// are a suffix.
 pub fn calls_cut_short_are_a_part()
     ensures front { (u v : UnreadLine) (calls more : List Call) (replies : List Reply)
         → Run u calls replies v → Part u (calls ++ more) v }
@@ -230,9 +232,9 @@ pub fn calls_cut_short_are_a_part()
         × (u.words ≡ gone ++ v.words) }
 {}
 
-/// What a run returns is bounded by the words. So `next` comes to the end, whatever is called
-/// between: of more calls of it than the bound, not counting those that run out of memory, one
-/// returns the end.
+/// The words bound what a run returns. So `next` reaches the end, whatever is called between: if it
+/// is called more often than the bound, not counting calls that run out of memory, one call returns
+/// the end.
 pub fn replies_are_bounded()
     ensures bounded { (u v : UnreadLine) (calls : List Call) (replies : List Reply)
         → Run u calls replies v
@@ -242,8 +244,9 @@ pub fn replies_are_bounded()
         → IsAmong (next_replies calls replies) end }
 {}
 
-/// A cluster with no `=` between an option and its value, read to its end by one call of `next` for
-/// each of its pieces: each call returns its piece's lossy character, and memory never runs out.
+/// A cluster without a `=` after its first byte, or with `short_equals` false, is read by one call
+/// of `next` for each of its pieces: each returns the lossy character of its piece, and memory
+/// never runs out.
 pub fn clusters_are_read_by_pieces()
     ensures run { (u v : UnreadLine) (b : ℕ) (bs : List ℕ) (words : List (List ℕ))
         (replies : List Reply)
@@ -255,11 +258,11 @@ pub fn clusters_are_read_by_pieces()
     ensures as_many { (bytes : List ℕ) → length (lossy_characters bytes) ≡ length (pieces bytes) }
 {}
 
-/// A whole line read by a table. A reading that comes to the end gives what the words show. If
-/// words show something, there is a reading that gives it, and every reading comes to the end and
-/// gives it: so none ends in an error.
-pub fn readings_say_what_words_show()
-    ensures said { (t : Table) (short_equals : Bool) (words : List (List ℕ)) (l : List Item)
+/// A whole line read by a table: a reading that reaches the end gives what the words show. If words
+/// show something, a reading gives it, and every reading reaches the end and gives it; so no
+/// reading ends in an error.
+pub fn readings_mean_what_words_show()
+    ensures parsed { (t : Table) (short_equals : Bool) (words : List (List ℕ)) (l : List Item)
         → IsReading t (start short_equals words) end l → Shows t short_equals words l }
     ensures shown { (t : Table) (short_equals : Bool) (words : List (List ℕ)) (l m : List Item)
         (final : Reply)
@@ -269,8 +272,8 @@ pub fn readings_say_what_words_show()
         → Shows t short_equals words l → IsReading t (start short_equals words) end l }
 {}
 
-/// Under every table each line that a parser can be has a reading, to the end or to an error, and
-/// every other reading of it ends the same way and gives the same.
+/// Under every table, each line that a parser can be has a reading, to the end or to an error.
+/// Every other reading of the line ends in the same way and gives the same items.
 pub fn each_line_has_one_reading()
     ensures some_reading { (t : Table) (u : UnreadLine) → IsLine u
         → (final : Reply) × (l : List Item) × IsReading t u final l }
@@ -284,7 +287,7 @@ pub fn words_show_one_list()
         → Shows t short_equals words l → Shows t short_equals words m → l ≡ m }
 {}
 
-/// What words spell they show; and what they show they spell, if no option has U+FFFD in its name.
+/// Words show what they spell; and they spell what they show if no option has U+FFFD in its name.
 pub fn whole_names_are_spelled()
     ensures shows { (t : Table) (short_equals : Bool) (words : List (List ℕ)) (l : List Item)
         → Spells t short_equals words l → Shows t short_equals words l }
@@ -292,8 +295,8 @@ pub fn whole_names_are_spelled()
         → Shows t short_equals words l → HaveWholeNames l → Spells t short_equals words l }
 {}
 
-/// Under a table with no options of optional or several values, the rules for such tables alone
-/// mean the same.
+/// Under a table without options of optional or several values, the rules for such tables mean the
+/// same as the rules for all tables.
 pub fn one_value_tables_agree()
     ensures spelled { (t : OneValueTable) (short_equals : Bool) (words : List (List ℕ))
         (l : List Item)
@@ -305,7 +308,8 @@ pub fn one_value_tables_agree()
         × (Shows (widened t) short_equals words l → OneValueShows t short_equals words l) }
 {}
 
-/// Each list of items has exactly one result: words, or an item at fault and a reason.
+/// Each list of items has exactly one result: words, or an item that cannot be spelled and a
+/// reason.
 pub fn items_have_one_answer()
     ensures some { (t : Table) (short_equals : Bool) (l : List Item)
         → ((words : List (List ℕ)) × SpelledAs t short_equals l words)
@@ -318,7 +322,7 @@ pub fn items_have_one_answer()
         (f : Fault) → SpelledAs t short_equals l words → HasFault t short_equals l f → ⊥ }
 {}
 
-/// What the tables compute, as in the worked examples, is this result.
+/// What the definitions compute in the worked examples is that result.
 pub fn tables_compute_the_answer()
     ensures words { (t : Table) (short_equals : Bool) (l : List Item) (words : List (List ℕ))
         → (SpelledAs t short_equals l words → spelled t short_equals l ≡ Ok words)
@@ -328,9 +332,9 @@ pub fn tables_compute_the_answer()
         × (spelled t short_equals l ≡ Err f → HasFault t short_equals l f) }
 {}
 
-/// Items are spelled, if some words spell them; otherwise one item is at fault, and no other: those
-/// before it can be spelled, and with it they cannot. What some words show, damage let in, can be
-/// spelled.
+/// If some words spell the items, or show them, the items have a form (`SpelledAs`), which spells
+/// them. Otherwise exactly one item is at fault: those before it can be spelled, and with it they
+/// cannot.
 pub fn items_are_spelled_or_one_is_at_fault()
     ensures spells { (t : Table) (short_equals : Bool) (words : List (List ℕ)) (l : List Item)
         → SpelledAs t short_equals l words → Spells t short_equals words l }
@@ -346,17 +350,18 @@ pub fn items_are_spelled_or_one_is_at_fault()
         → IsAtFault t short_equals l i → Spells t short_equals words l → ⊥ }
 {}
 
-/// If the same words spell the items under either setting, the result is the same under either.
+/// If the same words spell the items under both settings of `short_equals`, the result is the same
+/// under both.
 pub fn both_settings_have_one_form()
     ensures { (t : Table) (words : List (List ℕ)) (l : List Item) → Spells t true words l
         → Spells t false words l
         → (others : List (List ℕ)) × SpelledAs t true l others × SpelledAs t false l others }
 {}
 
-/// What the reason means for an item at fault: it is about the item, and then no line has that
-/// item; or about its place, and then a line of two can be spelled, any flag of one character but
-/// `-` and right after it that item. If the reason is the separator, no option at all can be
-/// spelled in its place.
+/// The reason of an item at fault is about the item or about its place. If it is about the item, no
+/// words spell a list with that item. If it is about its place, some words spell the item right
+/// after any flag of one character but `-`. If it is the separator, no option can be spelled at
+/// that place.
 pub fn reasons_are_of_the_item_or_of_its_place()
     ensures item { (t : Table) (short_equals : Bool) (l : List Item) (f : Fault) (it : Item)
         (others : List Item) → HasFault t short_equals l f

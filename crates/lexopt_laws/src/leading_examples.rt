@@ -1,17 +1,17 @@
-//! Worked examples of the options before the first positional, and of the words that are left, under
-//! the options of `Sample`: v|verbose is a flag and x|exclude has several values. In some u|user,
+//! Worked examples of the leading options, before the first positional, and of the rest, under the
+//! options of `Sample`: v|verbose is a flag and x|exclude has several values. In some, u|user,
 //! which has one value, is required.
 ghost use Rattle.std.specs.Prelude.{◌∷◌, ℕ, [], List, None, Some, codes, true};
 ghost use Rattle.lexopt_spec.specs.UnreadLine.{no_tail};
 ghost use Rattle.lexopt_line_spec.specs.Table.{short};
-ghost use Rattle.lexopt_options_spec.specs.Leading.{IsSplit, LeadingStopsAt, SaysLeading};
-ghost use Rattle.lexopt_options_spec.specs.Legal.{Said, option, positional, several};
+ghost use Rattle.lexopt_options_spec.specs.Leading.{IsSplit, LeadingStopsAt, MeansLeading};
+ghost use Rattle.lexopt_options_spec.specs.Legal.{Parsed, option, positional, several};
 ghost use Rattle.lexopt_options_spec.specs.Stops.{Mistake, missing_option, unknown_option};
 ghost use Rattle.lexopt_laws.specs.Sample.{demanding_sample, sample};
 
 /// The rest begins with the first positional. The separator ends the options and is not part of the
 /// rest. An option of several values takes the words that it takes in a whole line. What comes
-/// after the first positional is not looked at.
+/// after the first positional is ignored.
 pub fn words_are_split_so()
     ensures before_a_word { IsSplit (sample [] true)
         (codes "-v" ∷ codes "a" ∷ codes "-x" ∷ []) (option 0 None ∷ [])
@@ -28,8 +28,8 @@ pub fn words_are_split_so()
         (codes "a" ∷ codes "--bogus" ∷ []) }
 {}
 
-/// The rest does not begin among the values of an option, nor with the separator, nor later than
-/// with the first positional.
+/// The rest does not begin among the values of an option, nor with the separator, nor after the
+/// first positional.
 pub fn words_are_not_split_so()
     ensures among_values { IsSplit (sample [] true) (codes "-x" ∷ codes "a" ∷ codes "b" ∷ [])
         (several 3 (codes "a" ∷ []) ∷ []) (codes "b" ∷ []) → ⊥ }
@@ -42,23 +42,23 @@ pub fn words_are_not_split_so()
         (codes "-v" ∷ codes "a" ∷ codes "-x" ∷ []) → ⊥ }
 {}
 
-/// A required option has to be among the options before the rest. Only they are looked at.
+/// Each required option has to be a leading option. What is in the rest does not count.
 pub fn leading_options_mean_so()
-    ensures without_requirements { SaysLeading (sample [] true)
+    ensures without_requirements { MeansLeading (sample [] true)
         (codes "a" ∷ codes "--bogus" ∷ []) [] (codes "a" ∷ codes "--bogus" ∷ []) }
-    ensures no_mistake { (before : List Said) (mistake : Mistake) → LeadingStopsAt (sample [] true)
+    ensures no_mistake { (before : List Parsed) (mistake : Mistake) → LeadingStopsAt (sample [] true)
         (codes "a" ∷ codes "--bogus" ∷ []) before mistake → ⊥ }
     ensures missing_at_the_end { LeadingStopsAt (demanding_sample [] true) (codes "-v" ∷ [])
         (option 0 None ∷ []) (missing_option 4) }
     ensures missing_before_a_word { LeadingStopsAt (demanding_sample [] true)
         (codes "-v" ∷ codes "a" ∷ codes "-u" ∷ codes "me" ∷ []) (option 0 None ∷ [])
         (missing_option 4) }
-    ensures not_missing { SaysLeading (demanding_sample [] true)
+    ensures not_missing { MeansLeading (demanding_sample [] true)
         (codes "-u" ∷ codes "me" ∷ codes "a" ∷ []) (option 4 (Some (codes "me")) ∷ [])
         (codes "a" ∷ []) }
     ensures mistake_before_a_word { LeadingStopsAt (sample [] true)
         (codes "-v" ∷ codes "-q" ∷ codes "a" ∷ []) (option 0 None ∷ [])
         (unknown_option (short 0x71) no_tail) }
-    ensures not_with_a_mistake { (l : List Said) (rest : List (List ℕ)) → SaysLeading (sample [] true)
+    ensures not_with_a_mistake { (l : List Parsed) (rest : List (List ℕ)) → MeansLeading (sample [] true)
         (codes "-v" ∷ codes "-q" ∷ codes "a" ∷ []) l rest → ⊥ }
 {}

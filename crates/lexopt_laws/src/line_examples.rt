@@ -1,5 +1,5 @@
 //! Worked examples of whole lines: what words spell under a table, what they show, and words that
-//! show no list.
+//! show nothing.
 ghost use Rattle.std.specs.Prelude.{◌≡◌, ◌++◌, [], ◌∷◌, ℕ, List, true, false, Some, None};
 ghost use Rattle.std.specs.Prelude.{codes};
 ghost use Rattle.lexopt_line_spec.specs.Table.{Item, Table, long, many, one_value, option};
@@ -49,7 +49,7 @@ fn options_of_one_value_are_spelled()
         (option (short 0x78) (Some (codes "o")) ∷ []) }
 {}
 
-// The option i and color may have a value, o has one.
+// The options i and color may have a value, and o has one.
 fn options_of_optional_values_are_spelled()
     ensures attached { Spells (record (one_value (codes "o") []) {
       optional_shorts = codes "i";
@@ -128,7 +128,7 @@ fn options_of_several_values_are_spelled()
     }) true (codes "-d" ∷ [] ∷ []) (many (short 0x64) ([] ∷ []) ∷ []) }
 {}
 
-// Where lists of two kinds hold an option.
+// An option that is in the lists of two kinds.
 fn the_first_kind_holds()
     ensures one_before_optional { Spells (record (one_value (codes "i") []) {
       optional_shorts = codes "i";
@@ -190,7 +190,7 @@ fn damage_is_shown_and_not_spelled()
         (option (long (0xEF ∷ 0xBF ∷ 0xBD ∷ [])) (Some (codes "v")) ∷ []) }
 {}
 
-// The same lines by the rules for tables of options of one value.
+// Some of these lines, by the rules for tables with options of one value only.
 fn one_value_rules_spell_the_same()
     ensures every_form { let t : OneValueTable =
         record { shorts = codes "o"; longs = codes "out" ∷ [] } in
@@ -205,7 +205,7 @@ fn one_value_rules_spell_the_same()
         OneValueShows t true ((0x2D ∷ 0xFF ∷ []) ∷ []) (option (short 0xFFFD) None ∷ []) }
 {}
 
-// Readings, with their last reply and the items that were read before it.
+// Readings, by their last reply and the items that were read before it.
 fn lines_are_read()
     ensures to_the_end { IsReading (one_value (codes "o") [])
         (start false (codes "-o=" ∷ codes "f" ∷ [])) end

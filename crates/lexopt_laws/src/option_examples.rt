@@ -1,17 +1,17 @@
 //! Worked examples of declared options: what the definitions mean for short lines and small
-//! declarations, and what they rule out. Most are about the options of `Sample`: v|verbose is a
-//! flag, o|output has one value, b|backup has one or none, and x|exclude has several. With lists,
-//! m|mode accepts fast and slow alone, b|backup old and bak, and x|exclude a and c. Of positionals
-//! with lists, MODE accepts fast and slow alone, and FORM tar.
+//! declarations, and what they exclude. Most have the options of `Sample`: v|verbose is a flag,
+//! o|output has one value, b|backup has one or none, and x|exclude has several. With lists, m|mode
+//! accepts fast and slow, b|backup old and bak, and x|exclude a and c. The positional MODE with a
+//! list accepts fast and slow, and FORM accepts tar.
 ghost use Rattle.std.specs.Prelude.{◌≡◌, ◌++◌, [], ◌∷◌, ℕ, List, Option, Some, None, true, false};
 ghost use Rattle.std.specs.Prelude.{codes};
 ghost use Rattle.lexopt_spec.specs.UnreadLine.{joined, no_tail, rest};
 ghost use Rattle.lexopt_line_spec.specs.Table as spec;
 ghost use Rattle.lexopt_line_spec.specs.Table.{flag, long, many, one, optional, short};
 ghost use Rattle.lexopt_options_spec.specs.Asking.{AskFor, all_but_last, asked_at, asked_by};
-ghost use Rattle.lexopt_options_spec.specs.Asking.{first_asked, said_before};
+ghost use Rattle.lexopt_options_spec.specs.Asking.{first_asked, parsed_before};
 ghost use Rattle.lexopt_options_spec.specs.Completion.{AreOwners, AreOwnersIn, CanOwn};
-ghost use Rattle.lexopt_options_spec.specs.Completion.{AreText, CanStand, Completes, IsOpen};
+ghost use Rattle.lexopt_options_spec.specs.Completion.{AreText, CanOccur, Completes, IsOpen};
 ghost use Rattle.lexopt_options_spec.specs.Completion.{IsOption, IsText, names_of, spelling};
 ghost use Rattle.lexopt_options_spec.specs.Completion.{HasRole, IsDashedRole, IsJoined};
 ghost use Rattle.lexopt_options_spec.specs.Completion.{IsPlainRole, Role, argument};
@@ -30,12 +30,12 @@ ghost use Rattle.lexopt_options_spec.specs.Declaration.{for_help, for_version};
 ghost use Rattle.lexopt_options_spec.specs.Declaration.{any_number, at_least_once, at_most_once};
 ghost use Rattle.lexopt_options_spec.specs.Declaration.{has_to_occur, may_repeat, once};
 ghost use Rattle.lexopt_options_spec.specs.Declaration.{same_name, table};
-ghost use Rattle.lexopt_options_spec.specs.Legal.{Said, Says, SaysFront, accepts_at};
+ghost use Rattle.lexopt_options_spec.specs.Legal.{Parsed, Means, MeansFront, accepts_at};
 ghost use Rattle.lexopt_options_spec.specs.Legal.{are_accepted, is_required, most};
 ghost use Rattle.lexopt_options_spec.specs.Places.{least};
 ghost use Rattle.lexopt_options_spec.specs.Legal.{refused_value};
 ghost use Rattle.lexopt_options_spec.specs.Legal.{occurs, option};
-ghost use Rattle.lexopt_options_spec.specs.Legal.{positional, positional_count, said_item, several};
+ghost use Rattle.lexopt_options_spec.specs.Legal.{positional, positional_count, parsed_item, several};
 ghost use Rattle.lexopt_options_spec.specs.Places.{ArePlaces, AreShares, CanTake, owners};
 ghost use Rattle.lexopt_options_spec.specs.Stops.{IsFirstMissing, Mistake, StopsAt};
 ghost use Rattle.lexopt_options_spec.specs.Stops.{invalid_argument, invalid_value};
@@ -58,7 +58,7 @@ ghost use Rattle.lexopt_laws.specs.Sample.{demanding_listed, listed_mode, listed
 ghost use Rattle.lexopt_laws.specs.Sample.{listed_sample};
 ghost use Rattle.lexopt_laws.specs.Sample.{named, sample_options, target, verbose};
 
-// The option of a name, by its index: the first one, if two have the name. A name is typed whole.
+// The index of the option with a name: the first, if two have the name. A name is typed whole.
 fn options_have_names()
     ensures by_character { index_of sample_options (short 0x6F) ≡ Some 1 }
     ensures by_long_name { index_of sample_options (long (codes "output")) ≡ Some 1 }
@@ -97,7 +97,7 @@ fn options_are_put_into_tables()
         } }
 {}
 
-// The first option that cannot be declared, and why.
+// The first option that cannot be declared, and the reason.
 #[tactic(auto, unfolding(lexopt_line_spec::proofs::Computing::computing))]
 fn options_are_refused()
     ensures dash { IsFirstFault (record verbose { short_name = Some 0x2D } ∷ []) 0 dash_name }
@@ -195,21 +195,21 @@ fn options_are_declared()
     ensures not_the_last { is_sound (verbose ∷ output ∷ verbose ∷ []) ≡ false }
 {}
 
-// Items with the index of their option.
-fn items_are_said_by_index()
-    ensures option { said_item sample_options (spec.option (short 0x6F) (Some (codes "f")))
+// Items, and what is read for them, by the index of their option.
+fn items_are_parsed_by_index()
+    ensures option { parsed_item sample_options (spec.option (short 0x6F) (Some (codes "f")))
         ≡ Some (option 1 (Some (codes "f"))) }
-    ensures several { said_item sample_options
+    ensures several { parsed_item sample_options
         (many (long (codes "exclude")) (codes "a" ∷ codes "b" ∷ []))
         ≡ Some (several 3 (codes "a" ∷ codes "b" ∷ [])) }
-    ensures positional { said_item sample_options (spec.positional (codes "f"))
+    ensures positional { parsed_item sample_options (spec.positional (codes "f"))
         ≡ Some (positional (codes "f")) }
-    ensures not_declared { said_item sample_options (spec.option (short 0x7A) None) ≡ None }
-    ensures several_not_declared { said_item sample_options
+    ensures not_declared { parsed_item sample_options (spec.option (short 0x7A) None) ≡ None }
+    ensures several_not_declared { parsed_item sample_options
         (many (short 0x7A) (codes "a" ∷ [])) ≡ None }
 {}
 
-// How many positionals are in a list, and how many may be.
+// How many positionals are in a list, and how many there may be.
 fn positionals_are_counted()
     ensures count { positional_count (option 0 None ∷ positional (codes "a")
         ∷ several 3 (codes "b" ∷ codes "c" ∷ []) ∷ positional [] ∷ []) ≡ 2 }
@@ -236,7 +236,7 @@ fn positionals_occur_by_their_counts()
     ensures not_two { CanTake at_most_once 2 → ⊥ }
 {}
 
-// Positionals that can be declared together.
+// Positionals that can be declared together, and some that cannot.
 fn positionals_are_declared()
     ensures none { are_clear [] ≡ true }
     ensures one { are_clear (mode ∷ files ∷ target ∷ []) ≡ true }
@@ -259,9 +259,9 @@ fn no_other_positionals_are_refused()
     ensures none_past_the_end { IsSecondRepeated (files ∷ []) 1 → ⊥ }
 {}
 
-// How many words belong to each positional of `[OLD] NEW`, `SOURCE... DEST`, `MODE [TARGET]
-// [FILE]...`, `[FILE]... [TARGET]`, `[OLD] SOURCE...`, and of two that may both occur any number of
-// times.
+// How many words belong to each positional of `[OLD] NEW`, `SOURCE... DEST`,
+// `MODE [TARGET] [FILE]...`, `[FILE]... [TARGET]`, `[OLD] SOURCE...`, and of two that may both
+// occur any number of times.
 fn words_belong_to_positionals()
     ensures last_first { AreShares (old ∷ new ∷ []) 1 (0 ∷ 1 ∷ []) }
     ensures both { AreShares (old ∷ new ∷ []) 2 (1 ∷ 1 ∷ []) }
@@ -274,7 +274,7 @@ fn words_belong_to_positionals()
     ensures nothing_declared { AreShares [] 0 [] }
 {}
 
-// How many do not.
+// Numbers of words that do not belong to them.
 fn words_do_not_belong_elsewhere()
     ensures too_few { (shares : List ℕ) → AreShares (sources ∷ dest ∷ []) 1 shares → ⊥ }
     ensures too_many { (shares : List ℕ) → AreShares (old ∷ new ∷ []) 3 shares → ⊥ }
@@ -285,7 +285,7 @@ fn words_do_not_belong_elsewhere()
     ensures one_to_each_of_two { AreShares (sources ∷ files ∷ []) 2 (1 ∷ 1 ∷ []) → ⊥ }
 {}
 
-// Which positional each word belongs to, by its index. If `DEST` is missing, the word belongs to
+// The index of the positional that each word belongs to. If `DEST` is missing, the word belongs to
 // what it would belong to with `DEST` after it.
 fn words_have_places()
     ensures last_first { ArePlaces (old ∷ new ∷ []) 1 (1 ∷ []) }
@@ -296,27 +296,27 @@ fn words_have_places()
     ensures every_one { ArePlaces (mode ∷ target ∷ files ∷ []) 4 (0 ∷ 1 ∷ 2 ∷ 2 ∷ []) }
 {}
 
-// Places that words do not have.
+// Indices of positionals that words do not belong to.
 fn words_have_no_other_places()
     ensures too_many { (places : List ℕ) → ArePlaces (old ∷ new ∷ []) 3 places → ⊥ }
     ensures not_the_first { ArePlaces (old ∷ new ∷ []) 1 (0 ∷ []) → ⊥ }
 {}
 
-// To which positionals words can belong: the first of `OLD NEW` is `OLD` where another word comes
-// after it, and `NEW` where none does.
+// The positionals that words can belong to: the first word of `[OLD] NEW` belongs to `OLD` if
+// another word comes after it, and to `NEW` if none does.
 fn words_can_belong_to_positionals()
     ensures first { CanOwn (old ∷ new ∷ []) 0 0 }
     ensures second { CanOwn (old ∷ new ∷ []) 0 1 }
     ensures later { CanOwn (mode ∷ target ∷ []) 1 1 }
 {}
 
-// To which they cannot.
+// Positionals that words cannot belong to.
 fn words_cannot_belong_elsewhere()
     ensures not_the_second { CanOwn (mode ∷ target ∷ []) 0 1 → ⊥ }
     ensures past_the_end { (i : ℕ) → CanOwn (mode ∷ []) 1 i → ⊥ }
 {}
 
-// All of those to which they can belong.
+// All positionals that a word can belong to.
 fn words_can_belong_to_these()
     ensures two { AreOwners (old ∷ new ∷ []) 0 (0 ∷ 1 ∷ []) }
     ensures one { AreOwners (mode ∷ target ∷ []) 0 (0 ∷ []) }
@@ -332,8 +332,8 @@ fn positionals_have_indices()
     ensures none { owners 3 [] ≡ [] }
 {}
 
-// The placeholder of the value of an option, and of a positional that cannot be left out.
-fn placeholders_stand_for_values()
+// The placeholder of an option, and of a required positional.
+fn placeholders_are_for_values()
     ensures option { placeholder_at sample_options 3 ≡ codes "PATTERN" }
     ensures no_option { placeholder_at sample_options 4 ≡ [] }
     ensures positional { required_placeholder (target ∷ mode ∷ files
@@ -344,23 +344,23 @@ fn placeholders_stand_for_values()
 {}
 
 // What lines mean.
-fn lines_say_these_lists()
-    ensures every_item { Says (sample (files ∷ []) true)
+fn lines_mean_these_lists()
+    ensures every_item { Means (sample (files ∷ []) true)
         (codes "-vo=x" ∷ codes "--output" ∷ codes "y" ∷ codes "--" ∷ codes "file" ∷ [])
         (option 0 None ∷ option 1 (Some (codes "x")) ∷ option 1 (Some (codes "y"))
         ∷ positional (codes "file") ∷ []) }
-    ensures several_values { Says (sample [] true) (codes "-x" ∷ codes "a" ∷ codes "b" ∷ [])
+    ensures several_values { Means (sample [] true) (codes "-x" ∷ codes "a" ∷ codes "b" ∷ [])
         (several 3 (codes "a" ∷ codes "b" ∷ []) ∷ []) }
-    ensures optional_value { Says (sample [] true) (codes "-b" ∷ codes "--backup=z" ∷ [])
+    ensures optional_value { Means (sample [] true) (codes "-b" ∷ codes "--backup=z" ∷ [])
         (option 2 None ∷ option 2 (Some (codes "z")) ∷ []) }
-    ensures under_its_setting { Says (sample [] false) (codes "-o=x" ∷ [])
+    ensures under_its_setting { Means (sample [] false) (codes "-o=x" ∷ [])
         (option 1 (Some (codes "=x")) ∷ []) }
-    ensures as_many_as_declared { Says (sample (mode ∷ target ∷ []) true)
+    ensures as_many_as_declared { Means (sample (mode ∷ target ∷ []) true)
         (codes "a" ∷ codes "b" ∷ []) (positional (codes "a") ∷ positional (codes "b") ∷ []) }
-    ensures left_out { Says (sample (target ∷ []) true) [] [] }
-    ensures any_number { Says (sample (files ∷ []) true) (codes "a" ∷ codes "b" ∷ [])
+    ensures left_out { Means (sample (target ∷ []) true) [] [] }
+    ensures any_number { Means (sample (files ∷ []) true) (codes "a" ∷ codes "b" ∷ [])
         (positional (codes "a") ∷ positional (codes "b") ∷ []) }
-    ensures front { SaysFront (sample (mode ∷ []) true) (codes "-v" ∷ []) (option 0 None ∷ []) }
+    ensures front { MeansFront (sample (mode ∷ []) true) (codes "-v" ∷ []) (option 0 None ∷ []) }
 {}
 
 // Which options are required, and which occur in a list.
@@ -381,21 +381,21 @@ fn options_are_required()
     ensures not_one_that_may_be_left_out { IsFirstMissing (verbose ∷ []) [] 0 → ⊥ }
 {}
 
-// What lines mean where an option or a positional is required.
+// What lines mean if an option or a positional is required.
 fn lines_say_what_is_required()
-    ensures character { Says (demanding_sample [] true) (codes "-u" ∷ codes "me" ∷ [])
+    ensures character { Means (demanding_sample [] true) (codes "-u" ∷ codes "me" ∷ [])
         (option 4 (Some (codes "me")) ∷ []) }
-    ensures among_others { Says (demanding_sample (mode ∷ []) true)
+    ensures among_others { Means (demanding_sample (mode ∷ []) true)
         (codes "-v" ∷ codes "--user=me" ∷ codes "a" ∷ [])
         (option 0 None ∷ option 4 (Some (codes "me")) ∷ positional (codes "a") ∷ []) }
-    ensures twice { Says (demanding_sample [] true) (codes "-ua" ∷ codes "-ub" ∷ [])
+    ensures twice { Means (demanding_sample [] true) (codes "-ua" ∷ codes "-ub" ∷ [])
         (option 4 (Some (codes "a")) ∷ option 4 (Some (codes "b")) ∷ []) }
-    ensures front { SaysFront (demanding_sample [] true) (codes "-v" ∷ []) (option 0 None ∷ []) }
-    ensures at_least_once { Says (sample (sources ∷ []) true) (codes "a" ∷ codes "b" ∷ [])
+    ensures front { MeansFront (demanding_sample [] true) (codes "-v" ∷ []) (option 0 None ∷ []) }
+    ensures at_least_once { Means (sample (sources ∷ []) true) (codes "a" ∷ codes "b" ∷ [])
         (positional (codes "a") ∷ positional (codes "b") ∷ []) }
 {}
 
-// Which values an option with a list accepts: those in the list, typed whole.
+// The values that an option with a list accepts: those in the list, typed whole.
 fn values_are_accepted()
     ensures in_the_list { accepts (listed (codes "fast" ∷ codes "slow" ∷ [])) (codes "slow")
         ≡ true }
@@ -436,57 +436,57 @@ fn values_are_refused()
     ensures nothing { are_accepted listed_options [] ≡ true }
 {}
 
-// What lines mean where options have lists. The front of a line may have any value.
+// What lines mean if options have lists. The front of a line may have any value.
 fn lines_say_values_in_lists()
-    ensures joined { Says (listed_sample [] true) (codes "--mode=fast" ∷ [])
+    ensures joined { Means (listed_sample [] true) (codes "--mode=fast" ∷ [])
         (option 1 (Some (codes "fast")) ∷ []) }
-    ensures attached { Says (listed_sample [] true) (codes "-mslow" ∷ [])
+    ensures attached { Means (listed_sample [] true) (codes "-mslow" ∷ [])
         (option 1 (Some (codes "slow")) ∷ []) }
-    ensures left_out { Says (listed_sample [] true) (codes "-b" ∷ codes "--backup=bak" ∷ [])
+    ensures left_out { Means (listed_sample [] true) (codes "-b" ∷ codes "--backup=bak" ∷ [])
         (option 2 None ∷ option 2 (Some (codes "bak")) ∷ []) }
-    ensures several_values { Says (listed_sample [] true) (codes "-x" ∷ codes "c" ∷ codes "a" ∷ [])
+    ensures several_values { Means (listed_sample [] true) (codes "-x" ∷ codes "c" ∷ codes "a" ∷ [])
         (several 3 (codes "c" ∷ codes "a" ∷ []) ∷ []) }
-    ensures positional { Says (listed_sample (files ∷ []) true) (codes "medium" ∷ [])
+    ensures positional { Means (listed_sample (files ∷ []) true) (codes "medium" ∷ [])
         (positional (codes "medium") ∷ []) }
-    ensures required { Says (demanding_listed [] true) (codes "--mode=fast" ∷ [])
+    ensures required { Means (demanding_listed [] true) (codes "--mode=fast" ∷ [])
         (option 1 (Some (codes "fast")) ∷ []) }
-    ensures front { SaysFront (listed_sample [] true) (codes "-mmedium" ∷ [])
+    ensures front { MeansFront (listed_sample [] true) (codes "-mmedium" ∷ [])
         (option 1 (Some (codes "medium")) ∷ []) }
 {}
 
-// What lines mean where positionals have lists. The front of a line may have any word.
-fn lines_say_words_in_lists()
-    ensures first { Says (sample (mode_in_list ∷ files ∷ []) true) (codes "fast" ∷ codes "a" ∷ [])
+// What lines mean if positionals have lists. The front of a line may have any word.
+fn lines_mean_words_in_lists()
+    ensures first { Means (sample (mode_in_list ∷ files ∷ []) true) (codes "fast" ∷ codes "a" ∷ [])
         (positional (codes "fast") ∷ positional (codes "a") ∷ []) }
-    ensures last { Says (sample (sources ∷ form_in_list ∷ []) true) (codes "a" ∷ codes "tar" ∷ [])
+    ensures last { Means (sample (sources ∷ form_in_list ∷ []) true) (codes "a" ∷ codes "tar" ∷ [])
         (positional (codes "a") ∷ positional (codes "tar") ∷ []) }
-    ensures of_another_positional { Says (sample (mode_in_list ∷ files ∷ []) true)
+    ensures of_another_positional { Means (sample (mode_in_list ∷ files ∷ []) true)
         (codes "slow" ∷ codes "fats" ∷ []) (positional (codes "slow") ∷ positional (codes "fats")
         ∷ []) }
-    ensures two_lists { Says (sample (mode_in_list ∷ form_in_list ∷ []) true)
+    ensures two_lists { Means (sample (mode_in_list ∷ form_in_list ∷ []) true)
         (codes "fast" ∷ codes "tar" ∷ []) (positional (codes "fast") ∷ positional (codes "tar")
         ∷ []) }
-    ensures left_out { Says
+    ensures left_out { Means
         (sample (record mode_in_list { count = at_most_once } ∷ form_in_list ∷ []) true)
         (codes "tar" ∷ []) (positional (codes "tar") ∷ []) }
-    ensures after_the_separator { Says (sample (mode_in_list ∷ files ∷ []) true)
+    ensures after_the_separator { Means (sample (mode_in_list ∷ files ∷ []) true)
         (codes "--" ∷ codes "fast" ∷ codes "-v" ∷ [])
         (positional (codes "fast") ∷ positional (codes "-v") ∷ []) }
-    ensures front { SaysFront (sample (mode_in_list ∷ files ∷ []) true) (codes "fats" ∷ [])
+    ensures front { MeansFront (sample (mode_in_list ∷ files ∷ []) true) (codes "fats" ∷ [])
         (positional (codes "fats") ∷ []) }
 {}
 
-// What they do not mean.
+// What lines do not mean.
 fn lines_do_not_say_these()
-    ensures not_declared { (l : List Said) → SaysFront (sample (files ∷ []) true)
+    ensures not_declared { (l : List Parsed) → MeansFront (sample (files ∷ []) true)
         (codes "-z" ∷ []) l → ⊥ }
-    ensures value_of_a_flag { (l : List Said) → SaysFront (sample (files ∷ []) true)
+    ensures value_of_a_flag { (l : List Parsed) → MeansFront (sample (files ∷ []) true)
         (codes "--verbose=1" ∷ []) l → ⊥ }
-    ensures one_too_many { (l : List Said) → SaysFront (sample (target ∷ []) true)
+    ensures one_too_many { (l : List Parsed) → MeansFront (sample (target ∷ []) true)
         (codes "a" ∷ codes "b" ∷ []) l → ⊥ }
-    ensures one_too_few { (l : List Said) → Says (sample (mode ∷ mode ∷ []) true)
+    ensures one_too_few { (l : List Parsed) → Means (sample (mode ∷ mode ∷ []) true)
         (codes "a" ∷ []) l → ⊥ }
-    ensures nothing_else { (l : List Said) → Says (sample (mode ∷ target ∷ []) true)
+    ensures nothing_else { (l : List Parsed) → Means (sample (mode ∷ target ∷ []) true)
         (codes "a" ∷ codes "b" ∷ []) l
         → l ≡ positional (codes "a") ∷ positional (codes "b") ∷ [] }
 {}
@@ -524,7 +524,7 @@ fn lines_stop_at_these_mistakes()
         (unknown_option (short 0x7A) no_tail) }
 {}
 
-// Where it stops if an option or a positional is required.
+// Where the reading of lines stops if an option or a positional is required.
 fn lines_stop_at_what_is_missing()
     ensures option { StopsAt (demanding_sample [] true) (codes "-v" ∷ []) (option 0 None ∷ [])
         (missing_option 4) }
@@ -554,8 +554,8 @@ fn lines_stop_at_what_is_missing()
         (positional (codes "a") ∷ []) (missing_argument 1) }
 {}
 
-// Where it stops at a value that an option does not accept. This mistake comes before what is
-// missing at the end of the line.
+// Where the reading of lines stops at a value that an option does not accept. This mistake comes
+// before what is missing at the end of the line.
 fn lines_stop_at_values()
     ensures attached { StopsAt (listed_sample [] true) (codes "-mmedium" ∷ []) []
         (invalid_value 1 (codes "medium")) }
@@ -587,9 +587,9 @@ fn lines_stop_at_values()
         (codes "--mode=medium" ∷ []) [] (invalid_value 1 (codes "medium")) }
 {}
 
-// Where it stops at a word that a positional does not accept. Each other mistake in the line comes
-// before this one, and so does a positional that is missing, since to which positional a word
-// belongs is known at the end of the line. A required option that is missing comes after it.
+// Where the reading of lines stops at a word that a positional does not accept. Every other mistake
+// in the line comes before this one, and so does a missing positional, since the end of the line
+// decides which positional a word belongs to. A missing required option comes after it.
 fn lines_stop_at_words()
     ensures first { StopsAt (sample (mode_in_list ∷ files ∷ []) true)
         (codes "fats" ∷ codes "a" ∷ []) (positional (codes "fats") ∷ positional (codes "a") ∷ [])
@@ -626,86 +626,86 @@ fn lines_stop_at_words()
         (unexpected_argument (codes "a")) }
 {}
 
-// Where it does not stop.
+// Where the reading of lines does not stop.
 fn lines_do_not_stop_elsewhere()
-    ensures nowhere { (l : List Said) (m : Mistake)
+    ensures nowhere { (l : List Parsed) (m : Mistake)
         → StopsAt (sample (mode ∷ target ∷ []) true) (codes "a" ∷ codes "b" ∷ []) l m → ⊥ }
-    ensures at_the_first_mistake { (l : List Said) (m : Mistake)
+    ensures at_the_first_mistake { (l : List Parsed) (m : Mistake)
         → StopsAt (sample (mode ∷ []) true) (codes "-z" ∷ codes "--verbose=1" ∷ []) l m
         → (l ≡ []) × (m ≡ unknown_option (short 0x7A) no_tail) }
-    ensures in_a_cluster { (l : List Said) (m : Mistake)
+    ensures in_a_cluster { (l : List Parsed) (m : Mistake)
         → StopsAt (sample (mode ∷ []) true) (codes "-zv" ∷ []) l m
         → (l ≡ []) × (m ≡ unknown_option (short 0x7A) (rest (codes "v"))) }
-    ensures what_is_missing { (l : List Said) (m : Mistake)
+    ensures what_is_missing { (l : List Parsed) (m : Mistake)
         → StopsAt (sample (mode ∷ mode ∷ []) true) (codes "a" ∷ []) l m
         → (l ≡ positional (codes "a") ∷ []) × (m ≡ missing_argument 1) }
 {}
 
-// A line with a value that an option does not accept means nothing, and its reading stops at that
-// alone.
+// A line with a value that an option does not accept means nothing, and its reading stops only
+// there.
 fn lines_need_values_in_lists()
-    ensures attached { (l : List Said) → Says (listed_sample [] true) (codes "-mmedium" ∷ []) l
+    ensures attached { (l : List Parsed) → Means (listed_sample [] true) (codes "-mmedium" ∷ []) l
         → ⊥ }
-    ensures front_of_one { (l : List Said) → Says (listed_sample [] true) (codes "--mode=fas" ∷ [])
+    ensures front_of_one { (l : List Parsed) → Means (listed_sample [] true) (codes "--mode=fas" ∷ [])
         l → ⊥ }
-    ensures one_of_several { (l : List Said) → Says (listed_sample [] true)
+    ensures one_of_several { (l : List Parsed) → Means (listed_sample [] true)
         (codes "-x" ∷ codes "a" ∷ codes "b" ∷ codes "d" ∷ []) l → ⊥ }
-    ensures not_the_last { (l : List Said) (m : Mistake) → StopsAt (listed_sample [] true)
+    ensures not_the_last { (l : List Parsed) (m : Mistake) → StopsAt (listed_sample [] true)
         (codes "-x" ∷ codes "a" ∷ codes "b" ∷ codes "d" ∷ []) l m
         → (l ≡ []) × (m ≡ invalid_value 3 (codes "b")) }
-    ensures not_what_is_missing { (l : List Said) (m : Mistake)
+    ensures not_what_is_missing { (l : List Parsed) (m : Mistake)
         → StopsAt (record (sample [] true) { options = listed_mode ∷ user ∷ [] })
         (codes "--mode=medium" ∷ []) l m → (l ≡ []) × (m ≡ invalid_value 0 (codes "medium")) }
-    ensures not_the_argument { (l : List Said) (m : Mistake)
+    ensures not_the_argument { (l : List Parsed) (m : Mistake)
         → StopsAt (listed_sample (mode ∷ []) true) (codes "--mode=medium" ∷ []) l m
         → (l ≡ []) × (m ≡ invalid_value 1 (codes "medium")) }
-    ensures nowhere { (l : List Said) (m : Mistake)
+    ensures nowhere { (l : List Parsed) (m : Mistake)
         → StopsAt (listed_sample [] true) (codes "--mode=fast" ∷ []) l m → ⊥ }
 {}
 
-// A line with a word that a positional does not accept means nothing, and its reading stops at that
-// alone.
+// A line with a word that a positional does not accept means nothing, and its reading stops only
+// there.
 fn lines_need_words_in_lists()
-    ensures first { (l : List Said) → Says (sample (mode_in_list ∷ files ∷ []) true)
+    ensures first { (l : List Parsed) → Means (sample (mode_in_list ∷ files ∷ []) true)
         (codes "fats" ∷ codes "a" ∷ []) l → ⊥ }
-    ensures last { (l : List Said) → Says (sample (sources ∷ form_in_list ∷ []) true)
+    ensures last { (l : List Parsed) → Means (sample (sources ∷ form_in_list ∷ []) true)
         (codes "tar" ∷ codes "a" ∷ []) l → ⊥ }
-    ensures not_the_second { (l : List Said) (m : Mistake)
+    ensures not_the_second { (l : List Parsed) (m : Mistake)
         → StopsAt (sample (mode_in_list ∷ form_in_list ∷ []) true)
         (codes "tar" ∷ codes "fast" ∷ []) l m
         → (l ≡ positional (codes "tar") ∷ positional (codes "fast") ∷ [])
         × (m ≡ invalid_argument 0 (codes "tar")) }
-    ensures not_the_option { (l : List Said) (m : Mistake)
+    ensures not_the_option { (l : List Parsed) (m : Mistake)
         → StopsAt (demanding_sample (mode_in_list ∷ files ∷ []) true)
         (codes "fats" ∷ codes "a" ∷ []) l m
         → (l ≡ positional (codes "fats") ∷ positional (codes "a") ∷ [])
         × (m ≡ invalid_argument 0 (codes "fats")) }
-    ensures not_before_the_end { (l : List Said) (m : Mistake)
+    ensures not_before_the_end { (l : List Parsed) (m : Mistake)
         → StopsAt (sample (mode_in_list ∷ new ∷ []) true) (codes "fats" ∷ []) l m
         → (l ≡ positional (codes "fats") ∷ []) × (m ≡ missing_argument 1) }
-    ensures nowhere { (l : List Said) (m : Mistake)
+    ensures nowhere { (l : List Parsed) (m : Mistake)
         → StopsAt (sample (mode_in_list ∷ files ∷ []) true) (codes "fast" ∷ codes "a" ∷ []) l m
         → ⊥ }
 {}
 
-// A line that lacks what is required means nothing, and its reading stops at that alone. If a line
-// has it, its reading does not stop.
+// A line that lacks what is required means nothing, and its reading stops only for that. If the
+// line has it, its reading does not stop.
 fn lines_need_what_is_required()
-    ensures without_it { (l : List Said) → Says (demanding_sample [] true) (codes "-v" ∷ []) l
+    ensures without_it { (l : List Parsed) → Means (demanding_sample [] true) (codes "-v" ∷ []) l
         → ⊥ }
-    ensures without_words { (l : List Said) → Says (demanding_sample [] true) [] l → ⊥ }
-    ensures with_it { (l : List Said) (m : Mistake)
+    ensures without_words { (l : List Parsed) → Means (demanding_sample [] true) [] l → ⊥ }
+    ensures with_it { (l : List Parsed) (m : Mistake)
         → StopsAt (demanding_sample [] true) (codes "-u" ∷ codes "me" ∷ []) l m → ⊥ }
-    ensures not_the_option { (l : List Said) (m : Mistake)
+    ensures not_the_option { (l : List Parsed) (m : Mistake)
         → StopsAt (demanding_sample (mode ∷ []) true) (codes "-v" ∷ []) l m
         → (l ≡ option 0 None ∷ []) × (m ≡ missing_argument 0) }
-    ensures not_another { (l : List Said) (m : Mistake)
+    ensures not_another { (l : List Parsed) (m : Mistake)
         → StopsAt (demanding_sample [] true) (codes "-v" ∷ []) l m
         → (l ≡ option 0 None ∷ []) × (m ≡ missing_option 4) }
-    ensures none_of_one { (l : List Said) → Says (sample (sources ∷ []) true) [] l → ⊥ }
+    ensures none_of_one { (l : List Parsed) → Means (sample (sources ∷ []) true) [] l → ⊥ }
 {}
 
-// What the option of an index asks for, and what the first asks for that asks for anything.
+// What the option at an index asks for, and what the first option that asks for anything asks for.
 fn options_ask()
     ensures help { asked_at (asks_for_version ∷ asks_for_help ∷ []) 1 ≡ Some for_help }
     ensures version { asked_at (asks_for_version ∷ asks_for_help ∷ []) 0
@@ -724,27 +724,28 @@ fn options_ask()
         (option 1 None ∷ positional (codes "a") ∷ option 0 None ∷ []) ≡ Some for_help }
 {}
 
-// What was read before a mistake. An option that was given a value and takes none is the mistake.
+// What was read before a mistake. An option with an unexpected value is the mistake, and not part
+// of it.
 fn options_are_read_before_mistakes()
     ensures all_but_none { all_but_last [] ≡ [] }
     ensures all_but_one { all_but_last (option 0 None ∷ []) ≡ [] }
     ensures all_but_the_last { all_but_last (option 0 None ∷ option 1 None ∷ option 2 None ∷ [])
         ≡ option 0 None ∷ option 1 None ∷ [] }
-    ensures given_a_value { said_before (unexpected_value (codes "-v") (codes "1"))
+    ensures given_a_value { parsed_before (unexpected_value (codes "-v") (codes "1"))
         (option 1 None ∷ option 0 None ∷ []) ≡ option 1 None ∷ [] }
-    ensures not_declared { said_before (unknown_option (short 0x7A) no_tail) (option 0 None ∷ [])
+    ensures not_declared { parsed_before (unknown_option (short 0x7A) no_tail) (option 0 None ∷ [])
         ≡ option 0 None ∷ [] }
-    ensures no_value { said_before (missing_value 1 (codes "-o")) (option 0 None ∷ [])
+    ensures no_value { parsed_before (missing_value 1 (codes "-o")) (option 0 None ∷ [])
         ≡ option 0 None ∷ [] }
-    ensures not_accepted { said_before (invalid_value 1 (codes "medium")) (option 0 None ∷ [])
+    ensures not_accepted { parsed_before (invalid_value 1 (codes "medium")) (option 0 None ∷ [])
         ≡ option 0 None ∷ [] }
-    ensures one_too_many { said_before (unexpected_argument (codes "a")) (option 0 None ∷ [])
+    ensures one_too_many { parsed_before (unexpected_argument (codes "a")) (option 0 None ∷ [])
         ≡ option 0 None ∷ [] }
-    ensures word_not_accepted { said_before (invalid_argument 0 (codes "fats"))
+    ensures word_not_accepted { parsed_before (invalid_argument 0 (codes "fats"))
         (option 0 None ∷ []) ≡ option 0 None ∷ [] }
-    ensures one_too_few { said_before (missing_argument 0) (option 0 None ∷ [])
+    ensures one_too_few { parsed_before (missing_argument 0) (option 0 None ∷ [])
         ≡ option 0 None ∷ [] }
-    ensures option_missing { said_before (missing_option 4) (option 0 None ∷ [])
+    ensures option_missing { parsed_before (missing_option 4) (option 0 None ∷ [])
         ≡ option 0 None ∷ [] }
 {}
 
@@ -791,8 +792,8 @@ fn lines_do_not_ask()
         (codes "--" ∷ codes "--help" ∷ []) a → ⊥ }
 {}
 
-// How far two lists of characters are from each other. A swap is one edit, and what was swapped is
-// not edited again.
+// The distance of two lists of characters. A swap is one edit, and what was swapped is not edited
+// again.
 fn texts_are_so_far_apart()
     ensures swapped { IsDistance (codes "verbsoe") (codes "verbose") 1 }
     ensures not_edited_again { IsDistance (codes "ca") (codes "abc") 3 }
@@ -804,8 +805,8 @@ fn texts_are_so_far_apart()
     ensures no_more { IsDistance (codes "verbsoe") (codes "verbose") 2 → ⊥ }
 {}
 
-// Which long name is nearest to one that was typed. It is near at a third of the characters that
-// were typed, and of two that are as near it is the first. C3 A9 is one character.
+// The long name nearest to one that was typed. It is near up to a third of the number of characters
+// typed, and of two at the same distance it is the first. C3 A9 is one character.
 fn names_are_near()
     ensures of_four { IsNearest sample_options (codes "verbsoe") (Some 0) }
     ensures tie { IsNearest (named (codes "bar") ∷ named (codes "baz") ∷ []) (codes "bax")
@@ -848,7 +849,7 @@ fn names_are_longer()
     ensures not_near { hinted_name sample_options (codes "back") None ≡ Some (codes "backup") }
 {}
 
-// The long name that is hinted at.
+// The long name that the hint has.
 fn names_are_hinted_at()
     ensures near { IsHint sample_options (long (codes "verbsoe")) no_tail
         (Some (codes "verbose")) }
@@ -883,7 +884,7 @@ fn names_are_hinted_at()
         ≡ None }
 {}
 
-// The spellings of options, and which option is meant.
+// The spellings of options, and the options that they spell.
 #[tactic(auto, unfolding(lexopt_line_spec::proofs::Computing::computing))]
 fn spellings_are_listed()
     ensures character { spelling (short 0x76) ≡ codes "-v" }
@@ -901,7 +902,7 @@ fn spellings_are_listed()
     ensures no_positional { IsOption 1 (positional (codes "a")) → ⊥ }
 {}
 
-// Names that are text. U+D800 is not a character, and FF is not UTF-8.
+// Names that are text, and some that are not: U+D800 is not a character, and FF is not UTF-8.
 fn names_are_text()
     ensures character { IsText (short 0xE9) }
     ensures no_character { IsText (short 0xD800) → ⊥ }
@@ -911,8 +912,8 @@ fn names_are_text()
     ensures not_the_second { AreText (verbose ∷ named (0xFF ∷ []) ∷ []) → ⊥ }
 {}
 
-// Which words are open to an option after them, and which options can come next.
-fn options_can_stand()
+// Words after which an option can come, and options that can come after them.
+fn options_can_occur()
     ensures at_the_start { IsOpen (sample [] true) [] [] }
     ensures after_a_flag { IsOpen (sample [] true) (codes "-v" ∷ []) (option 0 None ∷ []) }
     ensures after_an_optional_value { IsOpen (sample [] true) (codes "-b" ∷ [])
@@ -922,50 +923,50 @@ fn options_can_stand()
     ensures after_several_values { IsOpen (sample [] true) (codes "-x" ∷ codes "a" ∷ [])
         (several 3 (codes "a" ∷ []) ∷ []) }
     ensures before_a_positional { IsOpen (sample (mode ∷ []) true) [] [] }
-    ensures first { CanStand (sample (mode ∷ []) true) [] (codes "--output") }
-    ensures again { CanStand (sample [] true) (codes "-v" ∷ []) (codes "-v") }
-    ensures another { CanStand (sample [] true) (codes "-b" ∷ []) (codes "-x") }
-    ensures past_values { CanStand (sample [] true) (codes "-x" ∷ codes "a" ∷ [])
+    ensures first { CanOccur (sample (mode ∷ []) true) [] (codes "--output") }
+    ensures again { CanOccur (sample [] true) (codes "-v" ∷ []) (codes "-v") }
+    ensures another { CanOccur (sample [] true) (codes "-b" ∷ []) (codes "-x") }
+    ensures past_values { CanOccur (sample [] true) (codes "-x" ∷ codes "a" ∷ [])
         (codes "--verbose") }
     ensures without_a_required_option { IsOpen (demanding_sample [] true) (codes "-v" ∷ [])
         (option 0 None ∷ []) }
-    ensures before_a_required_option { CanStand (demanding_sample [] true) (codes "-v" ∷ [])
+    ensures before_a_required_option { CanOccur (demanding_sample [] true) (codes "-v" ∷ [])
         (codes "--output") }
-    ensures required { CanStand (demanding_sample [] true) (codes "-v" ∷ []) (codes "--user") }
-    ensures required_character { CanStand (demanding_sample [] true) (codes "-v" ∷ [])
+    ensures required { CanOccur (demanding_sample [] true) (codes "-v" ∷ []) (codes "--user") }
+    ensures required_character { CanOccur (demanding_sample [] true) (codes "-v" ∷ [])
         (codes "-u") }
-    ensures required_with_a_positional { CanStand (demanding_sample (mode ∷ []) true) []
+    ensures required_with_a_positional { CanOccur (demanding_sample (mode ∷ []) true) []
         (codes "--user") }
-    ensures after_a_word { CanStand (sample (mode_in_list ∷ files ∷ []) true) (codes "fast" ∷ [])
+    ensures after_a_word { CanOccur (sample (mode_in_list ∷ files ∷ []) true) (codes "fast" ∷ [])
         (codes "--verbose") }
-    ensures before_words { CanStand (sample (sources ∷ form_in_list ∷ []) true) (codes "a" ∷ [])
+    ensures before_words { CanOccur (sample (sources ∷ form_in_list ∷ []) true) (codes "a" ∷ [])
         (codes "--verbose") }
 {}
 
-// Which are not, and which options cannot come next.
-fn options_cannot_stand()
-    ensures not_declared { CanStand (sample [] true) [] (codes "-z") → ⊥ }
-    ensures cluster { CanStand (sample [] true) [] (codes "-vo") → ⊥ }
-    ensures joined_value { CanStand (sample [] true) [] (codes "--output=f") → ⊥ }
-    ensures separator { CanStand (sample [] true) [] (codes "--") → ⊥ }
-    ensures value_due { (s : List ℕ) → CanStand (sample [] true) (codes "-o" ∷ []) s → ⊥ }
-    ensures first_value_due { (s : List ℕ) → CanStand (sample [] true) (codes "-x" ∷ []) s → ⊥ }
+// Words after which no option can come, and options that cannot come.
+fn options_cannot_occur()
+    ensures not_declared { CanOccur (sample [] true) [] (codes "-z") → ⊥ }
+    ensures cluster { CanOccur (sample [] true) [] (codes "-vo") → ⊥ }
+    ensures joined_value { CanOccur (sample [] true) [] (codes "--output=f") → ⊥ }
+    ensures separator { CanOccur (sample [] true) [] (codes "--") → ⊥ }
+    ensures value_due { (s : List ℕ) → CanOccur (sample [] true) (codes "-o" ∷ []) s → ⊥ }
+    ensures first_value_due { (s : List ℕ) → CanOccur (sample [] true) (codes "-x" ∷ []) s → ⊥ }
     ensures after_the_separator { (s : List ℕ)
-        → CanStand (sample (files ∷ []) true) (codes "--" ∷ []) s → ⊥ }
+        → CanOccur (sample (files ∷ []) true) (codes "--" ∷ []) s → ⊥ }
     ensures past_the_separator { (s : List ℕ)
-        → CanStand (sample (files ∷ []) true) (codes "--" ∷ codes "a" ∷ []) s → ⊥ }
-    ensures after_a_mistake { (s : List ℕ) → CanStand (sample [] true) (codes "-z" ∷ []) s → ⊥ }
+        → CanOccur (sample (files ∷ []) true) (codes "--" ∷ codes "a" ∷ []) s → ⊥ }
+    ensures after_a_mistake { (s : List ℕ) → CanOccur (sample [] true) (codes "-z" ∷ []) s → ⊥ }
     ensures after_a_refused_value { (s : List ℕ)
-        → CanStand (listed_sample [] true) (codes "-mmedium" ∷ []) s → ⊥ }
+        → CanOccur (listed_sample [] true) (codes "-mmedium" ∷ []) s → ⊥ }
     ensures after_a_refused_word { (s : List ℕ)
-        → CanStand (sample (mode_in_list ∷ files ∷ []) true) (codes "fats" ∷ []) s → ⊥ }
-    ensures not_open { (l : List Said) → IsOpen (sample (files ∷ []) true) (codes "--" ∷ []) l
+        → CanOccur (sample (mode_in_list ∷ files ∷ []) true) (codes "fats" ∷ []) s → ⊥ }
+    ensures not_open { (l : List Parsed) → IsOpen (sample (files ∷ []) true) (codes "--" ∷ []) l
         → ⊥ }
-    ensures not_open_to_an_option { (l : List Said) → IsOpen (sample [] true) (codes "-o" ∷ []) l
+    ensures not_open_to_an_option { (l : List Parsed) → IsOpen (sample [] true) (codes "-o" ∷ []) l
         → ⊥ }
 {}
 
-// What was typed, and what it can become. C3 begins a character of two bytes.
+// What was typed, and what can come there. C3 begins a character of two bytes.
 fn what_is_typed_is_completed()
     ensures front { Completes (sample [] true) [] (codes "--out") (codes "--output") }
     ensures whole { Completes (sample [] true) [] (codes "-v") (codes "-v") }
@@ -978,8 +979,8 @@ fn what_is_typed_is_completed()
         → Completes d words (0x2D ∷ 0xC3 ∷ []) (0x2D ∷ 0xC3 ∷ 0xA9 ∷ []) → ⊥ }
 {}
 
-// What a word is by what is read from it, and which value an option has.
-fn roles_are_by_the_last_of_what_is_said()
+// What a word is, by what is read of it, and the value of an option.
+fn roles_are_by_the_last_parsed()
     ensures of_an_option { role_of [] (option 1 (Some (codes "x"))) ≡ value 1 }
     ensures of_several { role_of (option 0 None ∷ []) (several 3 (codes "a" ∷ [])) ≡ value 3 }
     ensures positional { role_of [] (positional (codes "a")) ≡ argument 0 }
@@ -1011,7 +1012,7 @@ fn values_are_joined()
     ensures no_value { IsJoined (sample [] true) [] (codes "-b") None }
 {}
 
-// What is not such a value, or is not of that option, or not after that.
+// What is not such a value, or not of that option, or not after that text.
 fn values_are_not_joined()
     ensures not_none { IsJoined (sample [] true) [] (codes "--output=fi") None → ⊥ }
     ensures not_another { IsJoined (sample [] true) [] (codes "--output=fi")
@@ -1025,7 +1026,7 @@ fn values_are_not_joined()
     ensures no_value { IsJoined (sample [] true) [] (codes "-b") (joined_after 2 (codes "-b")) → ⊥ }
 {}
 
-// What a word that is not an option would be.
+// What a word is that is not an option.
 fn plain_words_have_roles()
     ensures after_a_flag { IsPlainRole (sample (files ∷ []) true) (codes "-v" ∷ [])
         (Some (argument 0)) }
@@ -1043,7 +1044,7 @@ fn plain_words_have_roles()
     ensures after_a_mistake { IsPlainRole (sample (files ∷ []) true) (codes "-z" ∷ []) None }
 {}
 
-// What it would not be.
+// What such a word is not.
 fn plain_words_have_no_other_role()
     ensures after_a_flag { IsPlainRole (sample (files ∷ []) true) (codes "-v" ∷ []) None → ⊥ }
     ensures after_a_positional { IsPlainRole (sample (files ∷ []) true) (codes "a" ∷ [])
@@ -1063,7 +1064,7 @@ fn plain_words_have_no_other_role()
         → IsPlainRole (sample (files ∷ []) true) (codes "-z" ∷ []) (Some role) → ⊥ }
 {}
 
-// What a word that begins with a dash would be.
+// What a word is that begins with a dash and is not an option.
 fn dashed_words_have_roles()
     ensures after_a_flag { IsDashedRole (sample (files ∷ []) true) (codes "-v" ∷ []) None }
     ensures after_an_optional_value { IsDashedRole (sample (files ∷ []) true) (codes "-b" ∷ [])
@@ -1076,7 +1077,7 @@ fn dashed_words_have_roles()
     ensures after_a_mistake { IsDashedRole (sample (files ∷ []) true) (codes "-z" ∷ []) None }
 {}
 
-// What it would not be.
+// What such a word is not.
 fn dashed_words_have_no_other_role()
     ensures after_a_flag { (role : Role)
         → IsDashedRole (sample (files ∷ []) true) (codes "-v" ∷ []) (Some role) → ⊥ }
@@ -1095,7 +1096,7 @@ fn dashed_words_have_no_other_role()
         → IsDashedRole (sample (files ∷ []) true) (codes "-z" ∷ []) (Some role) → ⊥ }
 {}
 
-// What was typed first decides which of the two counts.
+// What was typed first decides which of the two roles a word has.
 fn words_have_roles()
     ensures plain { HasRole (sample (files ∷ []) true) (codes "-v" ∷ []) (codes "f")
         (Some (argument 0)) }
@@ -1133,7 +1134,8 @@ fn forms_are_shown()
     ensures no_text { HasTextNames (named (0xFF ∷ [])) → ⊥ }
 {}
 
-// Labels, and texts in columns. A label of 20 columns leaves room for two blanks before column 24.
+// Labels and help texts in columns. A label of 20 columns leaves room for two blanks before column
+// 24.
 fn texts_are_laid_out()
     ensures label_of_verbose { label verbose ≡ codes "-v, --verbose" }
     ensures label_of_output { label output ≡ codes "-o, --output=FILE" }
@@ -1154,7 +1156,7 @@ fn texts_are_laid_out()
     ensures label_alone { entry 6 (codes "-v") [] ≡ codes "  -v\n" }
 {}
 
-// How words are put on lines, and how they are not.
+// How words are wrapped, and how they are not.
 fn words_are_put_on_lines()
     ensures two_lines { Wraps 8 (codes "tell" ∷ codes "me" ∷ codes "more" ∷ [])
         ((codes "tell" ∷ codes "me" ∷ []) ∷ (codes "more" ∷ []) ∷ []) }
@@ -1179,8 +1181,8 @@ fn words_are_put_on_lines()
         ((codes "tell" ∷ codes "me" ∷ []) ∷ []) → ⊥ }
 {}
 
-// Entries at 80 columns, at 40, where the help begins at column 13, and at 36, where it begins at
-// column 12.
+// Entries at 80 columns; at 40, where the help text begins at column 13; and at 36, where it begins
+// at column 12.
 fn entries_are_written()
     ensures next_to_it { IsEntry 80 (label verbose) verbose.help
         (codes "  -v, --verbose         tell more\n") }
@@ -1192,7 +1194,7 @@ fn entries_are_written()
     ensures nothing_to_say { IsEntry 80 (label verbose) (codes "  ") (codes "  -v, --verbose\n") }
 {}
 
-// Usage lines: on one line, and on as many as a narrow width needs.
+// Usage lines: on one line, and on as many lines as a narrow width needs.
 fn usage_lines_are_written()
     ensures one_line { IsUsage 80 (sample (mode ∷ target ∷ files ∷ []) true)
         (codes "Usage: example_archive [OPTION]... MODE [TARGET] [FILE]...\n") }
@@ -1202,7 +1204,7 @@ fn usage_lines_are_written()
         (codes "Usage: example_archive\n       [OPTION]...\n") }
 {}
 
-// Paragraphs: on one line and on two, and nothing.
+// Paragraphs: on one line, on two, and without words.
 fn paragraphs_are_written()
     ensures one_line { IsParagraph 24 (codes "Prints what it has read.")
         (codes "Prints what it has read.\n") }

@@ -1,4 +1,4 @@
-//! Worked examples of words that spell items, computed by the definition.
+//! Worked examples of words that spell items, which the definition computes.
 ghost use Rattle.std.specs.Prelude.{◌≡◌, [], ◌∷◌, true, false, Ok, Err, Some, None, codes};
 ghost use Rattle.lexopt_line_spec.specs.Table.{long, many, one_value, option, positional, short};
 ghost use Rattle.lexopt_line_spec.specs.Speller.{past_separator, dash_without_flag, empty_name};

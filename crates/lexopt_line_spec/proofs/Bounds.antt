@@ -1,4 +1,4 @@
--- How many replies a line can give.
+-- The bound of a line limits the replies that it can give.
 use Rattle.std.proofs.Common.{◌≡◌, ◌≢◌, ◌⊎◌, ℕ, suc, ◌+◌, ◌<◌, ◌≤◌, Bool, true, List, [], ◌∷◌, ◌++◌, length, Some, None, refl, sym, ap, subst, ◌∙◌, inl, inr, ⊎_elim, arith, length-drop}
 use Rattle.std.proofs.lemmas.List.Sums.{sum_by-cons, sum_by-append}
 use Rattle.std.specs.List.{sum_by, IsAmong}
@@ -14,7 +14,7 @@ use Rattle.lexopt_spec.specs.Runs.{Call, next, value, optional, values, raw, try
 use Rattle.lexopt_line_spec.proofs.HandedItems.{HandedItems, hands_nothing, hands_words, hands_pending, value_hands, optional_hands, values_hands, raw_hands, words_hands, word_if_hands, try_raw_hands}
 use Rattle.lexopt_line_spec.proofs.NoOption.{NoOption, no_option_count, value_no_option, optional_no_option, values_no_option, words_no_option, word_if_no_option, raw_no_option, try_raw_no_option}
 
--- the reply and the line after it together keep within the line
+-- the count of the reply, and the bound of the line after it, are together at most the bound of `u`
 abbrev Within : UnreadLine → ℕ → UnreadLine → Type 0
 Within u count v = count + bound v ≤ bound u
 
@@ -130,9 +130,9 @@ run_bound u (c ∷ cs) (r ∷ rs) v run =
     let more = run_bound run.0 cs rs v run.2 in
     let cut = sum_by-cons reply_count r rs in omega arith
 
--- ---- `next` comes to the end
+-- ---- `next` reaches the end
 
--- the reply counts, or it is the end
+-- the reply has count 1, or is the end
 positional_counts : (u : UnreadLine) (r : Reply) (v : UnreadLine) → ReadsPositional u r v → (r ≡ end) ⊎ (reply_count r ≡ 1)
 positional_counts u r v (no_word_left is reply_is after_is) = inl reply_is
 positional_counts u r v (word_left w ws is reply_is after_is) = inr (ap reply_count reply_is)
@@ -157,16 +157,16 @@ among_more r s rs is = (suc is.0, (let below = is.1.0 in omega arith, is.1.1))
 among_first : (r s : Reply) (rs : List Reply) → r ≡ s → IsAmong (r ∷ rs) s
 among_first r s rs is = (0, (omega arith, sym is))
 
--- the replies to `next` hold the end, or are no more than the replies count
+-- one of the replies to `next` is the end, or there are at most as many as the count of all replies
 abbrev Ends : List Call → List Reply → Type 0
 Ends calls replies = IsAmong (next_replies calls replies) end ⊎ (length (next_replies calls replies) ≤ replies_count replies)
 
--- a reply that is not counted here
+-- a reply that is not one to `next`
 passed_over : (r : Reply) (rs ns : List Reply) → IsAmong ns end ⊎ (length ns ≤ replies_count rs) → IsAmong ns end ⊎ (length ns ≤ replies_count (r ∷ rs))
 passed_over r rs ns (inl found) = inl found
 passed_over r rs ns (inr few) = let cut = sum_by-cons reply_count r rs in inr (omega arith)
 
--- a reply of `next`
+-- a reply to `next`
 counted : (r : Reply) (rs ns : List Reply) → (r ≡ end) ⊎ (reply_count r ≡ 1) → IsAmong ns end ⊎ (length ns ≤ replies_count rs)
     → IsAmong (r ∷ ns) end ⊎ (length (r ∷ ns) ≤ replies_count (r ∷ rs))
 counted r rs ns (inl is) more = inl (among_first r end ns is)
@@ -199,7 +199,7 @@ run_ends u v calls replies run many = ⊎_elim
     (λ few. let most = run_bound u calls replies v run in absurd (omega arith))
     (run_counts u calls replies v run)
 
--- ---- a step that gives something takes from the bound
+-- ---- a step that gives an option, a positional or a value lowers the bound
 
 pub given_falls : (u v : UnreadLine) (r : Reply) → r ≢ end → r ≢ no_memory → Next u r v → bound v < bound u
 given_falls u v r some found (inl step) = ⊎_elim

@@ -1,14 +1,14 @@
--- Each call has one result, where memory is enough.
+-- Each call has one result, with enough memory.
 use Rattle.std.proofs.Common.{◌≡◌, ◌≢◌, ◌⊎◌, ℕ, Bool, List, [], ◌∷◌, Option, Some, None, refl, sym, ap, ◌∙◌, inl, inr, ⊎_elim}
 use Rattle.std.proofs.lemmas.Bool.{cases_eq}
-use Rattle.lexopt_spec.specs.UnreadLine.{Tail, no_tail, joined, rest, LastOption, UnreadLine, spelling, pending, pending_in, TailStands, IsLine}
+use Rattle.lexopt_spec.specs.UnreadLine.{Tail, no_tail, joined, rest, LastOption, UnreadLine, spelling, pending, pending_in, TailFits, IsLine}
 use Rattle.lexopt_spec.specs.Steps.{Reply, maybe, unexpected, OptionalStep, optional_pending, optional_none}
 use Rattle.lexopt_spec.specs.Views.{available, ValuesStep, no_values, some_values, TakesWords, TakesWordIf, is_next, is_not_next, RawStep, refuses_pending, lends_words, TryRawStep, leaves_pending, try_lends_words}
 use Rattle.lexopt_spec.specs.Runs.{Call, next, value, optional, values, raw, try_raw, raw_if, set_short_equals, StepWithMemory}
 use Rattle.lexopt_line_spec.proofs.Exact.{Same, next_same, value_same}
 use Rattle.lexopt_line_spec.proofs.Total.{Answer, next_answer, value_answer, spelled}
 
--- ---- no other result
+-- ---- at most one result
 
 found_bytes : Option (List ℕ × Bool) → List ℕ
 found_bytes None = []
@@ -63,7 +63,7 @@ try_raw_same n u r s v w (leaves_pending x i a p q) (try_lends_words b f) = absu
 try_raw_same n u r s v w (try_lends_words a p) (leaves_pending y j b f g) = absurd (both_pending u (y, j) b a)
 try_raw_same n u r s v w (try_lends_words a p) (try_lends_words b f) = words_same n u r s v w p f
 
--- where memory is enough, a call has one result at most
+-- with enough memory, a call has at most one result
 pub call_same : (call : Call) (u : UnreadLine) (r s : Reply) (v w : UnreadLine) → StepWithMemory call u r v → StepWithMemory call u s w → Same r v s w
 call_same next u r s v w a b = next_same u r s v w a b
 call_same value u r s v w a b = value_same u r s v w a b
@@ -74,9 +74,9 @@ call_same (try_raw n) u r s v w a b = try_raw_same n u r s v w a b
 call_same (raw_if word) u r s v w a b = raw_same (TakesWordIf word) u r s v w (λ x y. word_if_same word u r s v w x y) a b
 call_same (set_short_equals on) u r s v w a b = (a.reply_is ∙ sym b.reply_is, a.after_is ∙ sym b.after_is)
 
--- ---- some result
+-- ---- at least one result
 
-pending_spelled : (tail : Tail) (last : LastOption) (ended short_equals : Bool) (x : List ℕ × Bool) → TailStands tail last ended → pending_in short_equals tail ≡ Some x
+pending_spelled : (tail : Tail) (last : LastOption) (ended short_equals : Bool) (x : List ℕ × Bool) → TailFits tail last ended → pending_in short_equals tail ≡ Some x
     → (option : List ℕ) × (spelling last ≡ Some option)
 pending_spelled no_tail last ended on x stands is = absurd (let e : None ≡ Some x = is in cc)
 pending_spelled (joined v) last ended on x stands is = spelled last stands.0
@@ -130,7 +130,7 @@ word_if_at word u (w ∷ ws) is = ⊎_elim
     (λ (differs : w ≢ word). (_, _, is_not_next (λ xs other. differs (let e : w ∷ ws ≡ word ∷ xs = sym is ∙ other in cc)) refl refl))
     (same_words w word)
 
--- a line has a result for each call
+-- each line has a result for each call
 pub call_answer : (call : Call) (u : UnreadLine) → IsLine u → Answer (StepWithMemory call) u
 call_answer next u is = next_answer u is
 call_answer value u is = value_answer u

@@ -1,4 +1,4 @@
--- The first character of a cluster, and what the rest shows.
+-- The first character of a cluster, and the items that the rest shows.
 use Rattle.std.proofs.Common.{◌≡◌, ◌≢◌, ℕ, Bool, true, false, List, [], ◌∷◌, ◌++◌, Some, Option, None, refl, sym, ap, subst, ◌∙◌, arith, ⊎_elim}
 use Rattle.std.proofs.lemmas.Bool.{cases_eq, eq-eqb, ne_eqb}
 use Rattle.lexopt_spec.specs.Pieces.{first_piece, after_first_piece, shown}
@@ -11,7 +11,7 @@ use Rattle.lexopt_line_spec.specs.Spelling.{damaged, After, nothing, attached, C
 use Rattle.lexopt_line_spec.proofs.Letters.{IsRead, letter_read, read_letter}
 use Rattle.lexopt_line_spec.proofs.Unread.{ClusterShows, PartsShow, after_of, GoesOnShowing, NextShows}
 
--- ---- what comes after the last character
+-- ---- the bytes after the last option
 
 whole : (short_equals : Bool) (b : ℕ) (bs : List ℕ) → ¬ BeginsWithMark short_equals (b ∷ bs) → pending_in short_equals (rest (b ∷ bs)) ≡ Some (b ∷ bs, false)
 whole false b bs no_mark = refl
@@ -36,7 +36,7 @@ rest_is true (b ∷ bs) = ⊎_elim
     (ap after_of (whole true b bs (λ mark. other mark.1))))
     (cases_eq b equals)
 
--- where nothing is pending, nothing is left of the word
+-- if nothing is pending, nothing is left of the word
 pub nothing_left : (short_equals : Bool) (bytes : List ℕ) → nothing ≡ after_of (pending_in short_equals (rest_of bytes)) → rest_of bytes ≡ no_tail
 nothing_left short_equals [] is = refl
 nothing_left false (b ∷ bs) is = absurd (let e : nothing ≡ attached (b ∷ bs) = is in cc)
@@ -50,7 +50,7 @@ nothing_left true (b ∷ bs) is = ⊎_elim
 abbrev pub line_with : Tail → List (List ℕ) → Bool → LastOption → Bool → Option (List ℕ) → UnreadLine
 line_with tail words ended last short_equals bin = record { tail = tail; words = words; ended = ended; last = last; short_equals = short_equals; bin_name = bin }
 
--- an option that completes, where this tail is left of its word
+-- an option completes its item, if this tail is left of its word
 pub completed : (t : Table) (name : Name) (k : Kind) (tail : Tail) (words left : List (List ℕ)) (last : LastOption) (bin : Option (List ℕ)) (short_equals : Bool) (after : After) (item : Item)
     (others : List Item) → kind t name ≡ k → after ≡ after_of (pending_in short_equals tail) → (nothing ≡ after_of (pending_in short_equals tail) → tail ≡ no_tail)
     → Completes k name after words item left → Shows t short_equals left others → GoesOnShowing t k name (line_with tail words false last short_equals bin) (item ∷ others)

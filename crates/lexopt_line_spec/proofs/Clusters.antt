@@ -1,4 +1,4 @@
--- A cluster read to its end: one call of `next` for each piece.
+-- Clusters that are read to their end, by one call of `next` for each piece.
 use Rattle.std.proofs.Common.{◌≡◌, ◌≢◌, ◌⊎◌, ℕ, zero, suc, ◌<◌, ◌≤◌, Bool, true, false, List, [], ◌∷◌, length, map, drop, refl, sym, ap, subst, ◌∙◌, arith, inl, inr, true≢false, length-drop}
 use Rattle.std.specs.List.{Contains}
 use Rattle.bstr.specs.Utf8.{decoded}
@@ -37,7 +37,7 @@ free_first : (short_equals : Bool) (b : ℕ) (bs : List ℕ) → IsFree short_eq
 free_first short_equals b bs (inl off) h = true≢false (sym h.0 ∙ off)
 free_first short_equals b bs (inr none) h = none (subst (λ (x : ℕ). Contains (x ∷ bs) equals) (sym h.1) (contains_first bs))
 
--- where the result takes no memory, there is no other
+-- if the result cannot run out of memory, there is no other
 next_answers : (u : UnreadLine) (r s : Reply) (v w : UnreadLine) → NextStep u s w → (TakesMemory s → ⊥) → Step next u r v → (r ≡ s) × (v ≡ w)
 next_answers u r s v w known small (inl step) = next_same u r s v w step known
 next_answers u r s v w known small (inr refused) =
@@ -50,7 +50,7 @@ one_each ps = map (λ p. next) ps
 abbrev pub shorts : List Piece → List Reply
 shorts ps = map (λ p. short (shown p.char)) ps
 
--- all pieces of the rest were read
+-- all pieces of the rest have been read
 record IsRead (u : UnreadLine) (ps : List Piece) (replies : List Reply) (v : UnreadLine) : Type 0 where
   replies_are : replies ≡ shorts ps
   no_tail_is : v.tail ≡ no_tail
@@ -113,7 +113,7 @@ shorts_are : (ps : List Piece) → shorts ps ≡ map short (map (λ p. shown p.c
 shorts_are [] = refl
 shorts_are (p ∷ ps) = ap (λ l. short (shown p.char) ∷ l) (shorts_are ps)
 
--- a cluster of these bytes, read from its word on
+-- a cluster of these bytes, read from the start of its word
 pub cluster_read : (u v : UnreadLine) (b : ℕ) (bs : List ℕ) (ws : List (List ℕ)) (replies : List Reply)
     → u.tail ≡ no_tail → u.ended ≡ false → u.words ≡ (dash ∷ b ∷ bs) ∷ ws → b ≢ dash → IsFree u.short_equals bs
     → Run u (map (λ p. next) (pieces (b ∷ bs))) replies v

@@ -1,4 +1,4 @@
--- `unfolding computing` opens what worked examples compute with.
+-- `unfolding computing` unfolds the definitions that worked examples compute with.
 use Rattle.std.specs.Fmt.{digits}
 use Rattle.std.specs.Str.{chars, is_utf8}
 use lib.Utf8.{encode}

@@ -1,4 +1,4 @@
--- A line that shows something has a reading, and shows nothing else.
+-- A line that shows a list of items has a reading, and shows no other list.
 use Rattle.std.proofs.Common.{false, ◌≡◌, List, [], ◌∷◌, None, refl, sym, ap, subst, ◌∙◌, inl}
 use Rattle.lexopt_spec.specs.UnreadLine.{UnreadLine, IsLine}
 use Rattle.lexopt_spec.specs.Steps as steps
@@ -20,7 +20,7 @@ use Rattle.lexopt_line_spec.proofs.NextLaw.{next_law}
 use Rattle.lexopt_line_spec.proofs.Readings.{complete}
 use Rattle.lexopt_line_spec.proofs.ReplyKinds.{next_open}
 
--- after an option of this kind the line is read to its end
+-- after an option of this kind, a reading of the line reaches its end
 pub record IsRead (t : Table) (k : Kind) (u : UnreadLine) : Type 0 where
   pub calls : List Call
   pub replies : List Reply
@@ -28,11 +28,11 @@ pub record IsRead (t : Table) (k : Kind) (u : UnreadLine) : Type 0 where
   pub run : Run u calls replies after
   pub asked : AskedAfter t steps.end k calls replies
 
--- what shows these items is read to its end
+-- a reading of each line that shows these items reaches its end
 abbrev Reads : Table → List Item → Type 0
 Reads t l = (u : UnreadLine) → IsLine u → ShowsFrom t u l → IsRead t flag u
 
--- and so for the items after the first
+-- the same for the items after the first
 abbrev Later : Table → List Item → Type 0
 Later t l = (x : Item) (xs : List Item) → l ≡ x ∷ xs → Reads t xs
 
@@ -48,7 +48,7 @@ due_read t l v w k call r item later line due full goes step leads =
       asked = more k flag call r rest.calls rest.replies due full goes rest.asked;
     }
 
--- the reading of a value, of whatever kind
+-- the reading of a value, for each kind
 value_read : (t : Table) (name : Name) (l : List Item) (v w : UnreadLine) (k : Kind) (call : Call) (r : Reply) → Later t l → IsLine w → IsDue k call → IsFull call r
     → Step call v r w → ValueShows t name r w l → IsRead t k v
 value_read t name l v w k call (steps.taken word) later line due full step leads = due_read t l v w k call (steps.taken word) _ later line due full refl step leads

@@ -1,4 +1,5 @@
--- `values` asked for more items than it has gives all of them: what is pending, and the longest front of plain words.
+-- `values`, asked for more items than there are, gives all of them: the pending value, and the
+-- longest front of plain words.
 use Rattle.std.proofs.Common.{◌≡◌, ◌≢◌, ℕ, suc, ◌<◌, Bool, true, false, List, [], ◌∷◌, length, take, Option, Some, None, refl, sym, ap, subst, ◌∙◌, arith}
 use Rattle.std.proofs.lemmas.List.{take_all, length-take}
 use Rattle.lexopt_spec.specs.UnreadLine.{no_tail, UnreadLine, pending, spelling, IsNormalIn, IsPlainFront}
@@ -8,7 +9,7 @@ use Rattle.lexopt_spec.specs.Runs.{values}
 use Rattle.lexopt_line_spec.specs.Readings.{IsFull}
 use Rattle.lexopt_spec.proofs.PlainFronts.{front_cut, left_after_front}
 
--- `values` with enough items asked of it returns this
+-- `values`, asked for enough items, gives this reply
 pub data FullStep (u : UnreadLine) (reply : Reply) (after : UnreadLine) : Type 0 where
   joined_one : (value : List ℕ) → pending u ≡ Some (value, true) → reply ≡ items (value ∷ []) → after ≡ record u { tail = no_tail } → FullStep u reply after
   attached_first : (value : List ℕ) (front left : List (List ℕ)) → pending u ≡ Some (value, false) → IsPlainFront u.ended u.words front left
@@ -17,7 +18,7 @@ pub data FullStep (u : UnreadLine) (reply : Reply) (after : UnreadLine) : Type 0
       → reply ≡ items front → after ≡ record u { words = left } → FullStep u reply after
   nothing_given : pending u ≡ None → ¬ IsNormalIn u.ended u.words → reply ≡ missing (spelling u.last) → after ≡ u → FullStep u reply after
 
--- where fewer came than were asked for, all came
+-- if there were fewer than were asked for, these are all
 all_came : (n : ℕ) (l : List (List ℕ)) → length (take n l) < n → take n l ≡ l
 all_came n l few = let count = length-take n l in take_all n l (omega arith)
 
@@ -30,7 +31,7 @@ full_values n u v came few (no_values none is after) = absurd (let e : items cam
 full_values n u v came few (some_values some is after) =
     let same : came ≡ take n (available u) = ap items_of is in same ∙ all_came n (available u) (subst (λ l. length l < n) same few)
 
--- with these values, found so, and the line after them
+-- the step, if there are values
 some_given : (u v : UnreadLine) (r : Reply) (p : Option (List ℕ × Bool)) (front left : List (List ℕ)) → pending u ≡ p → IsPlainFront u.ended u.words front left
     → available_with p front ≢ [] → r ≡ items (available_with p front) → v ≡ without p (length (available_with p front)) u → FullStep u r v
 some_given u v r (Some (value, true)) front left p is some r_is v_is = joined_one value p r_is v_is
@@ -57,7 +58,7 @@ full_step n u v r full (some_values some r_is v_is) =
     let all = all_came n (available u) (subst (IsFull (values n)) r_is full) in
     some_given u v r (pending u) (plain_front u.ended u.words) cut.0 refl cut.1 some (r_is ∙ ap items all) (v_is ∙ ap (λ l. without (pending u) (length l) u) all)
 
--- a call that asks for enough, and what it returns
+-- a call that asks for enough items, and its result
 pub record FullAnswer (u : UnreadLine) : Type 0 where
   pub asked : ℕ
   pub reply : Reply

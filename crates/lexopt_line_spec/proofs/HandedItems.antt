@@ -1,4 +1,5 @@
--- Every call but `next` and `set_short_equals` hands out items: what is pending, words, or nothing.
+-- Every call except `next` and `set_short_equals` takes items from the line: the pending value,
+-- words, or nothing.
 use Rattle.std.proofs.Common.{◌≡◌, ◌≢◌, ℕ, zero, suc, ◌==◌, Bool, true, false, List, [], ◌∷◌, ◌++◌, length, take, drop, map, Option, Some, None, refl, sym, ap, subst, ◌∙◌, ⊎_elim, append_assoc, cond}
 use Rattle.std.proofs.lemmas.Bool.{cases_eq, eq-eqb, ne_eqb}
 use Rattle.std.proofs.lemmas.Grind.{flat_map-append}
@@ -11,7 +12,7 @@ use Rattle.lexopt_spec.specs.Steps.{Reply, ValueStep, pending_value, takes_word,
 use Rattle.lexopt_spec.specs.Views.{plain_front, available_with, without, ValuesStep, no_values, some_values, TakesWords, TakesWordIf, is_next, is_not_next, RawStep, refuses_pending, lends_words, TryRawStep, leaves_pending, try_lends_words}
 use Rattle.lexopt_spec.specs.Account.{given, mark, segment_bytes, bytes_of, tail_bytes, flat, dropped_in, handing, handed_items, segment_shown, shown_of}
 
--- these items, in order, are what lies between the two lines
+-- these items, in order, are taken from the first line, and leave the second
 pub data HandedItems (u : UnreadLine) (handed : List (List ℕ)) (v : UnreadLine) : Type 0 where
   hands_nothing : handed ≡ [] → v ≡ u → HandedItems u handed v
   hands_words : (left : List (List ℕ)) → pending u ≡ None → u.words ≡ handed ++ left → v ≡ record u { words = left } → HandedItems u handed v
@@ -76,7 +77,7 @@ pub try_raw_hands : (n : ℕ) (u : UnreadLine) (r : Reply) (v : UnreadLine) → 
 try_raw_hands n u r v (leaves_pending x by_equals p is after) = hands_nothing (ap handed_items is) after
 try_raw_hands n u r v (try_lends_words p taken) = words_hands n u r v p taken
 
--- ---- what is pending, as bytes
+-- ---- the bytes of a pending value
 
 value_in : Option (List ℕ × Bool) → List ℕ
 value_in None = []
@@ -116,7 +117,7 @@ pub is_some_rest : (short_equals : Bool) (b : ℕ) (bs : List ℕ) → pending_i
 is_some_rest false b bs is = some_none (b ∷ bs, false) is
 is_some_rest true b bs is = picks_some (b == equals) (bs, true) (b ∷ bs, false) is
 
--- where nothing is pending, no byte of the tail is left
+-- if nothing is pending, the tail has no bytes
 pub pending_none : (short_equals : Bool) (tail : Tail) → pending_in short_equals tail ≡ None → (tail_bytes tail ≡ []) × (dropped_in short_equals tail ≡ [])
 pending_none short_equals no_tail is = (refl, refl)
 pending_none short_equals (joined w) is = absurd (some_none (w, true) is)
@@ -140,7 +141,7 @@ dropped_shown short_equals (rest []) = refl
 dropped_shown false (rest (b ∷ bs)) = refl
 dropped_shown true (rest (b ∷ bs)) = elim (b == equals) as (λ t. shown_of (cond t (mark (equals ∷ []) ∷ []) []) ≡ []) [ true ↦ refl | false ↦ refl ]
 
--- what is shown of the segments are the items
+-- the bytes that replies have of the segments are the items
 pub handing_shown : (u : UnreadLine) (l : List (List ℕ)) → shown_of (handing u l) ≡ concat l
 handing_shown u [] = refl
 handing_shown u (x ∷ xs) =
@@ -183,7 +184,7 @@ hands_suffix u l v (hands_nothing none after) = ([], ap (λ (k : UnreadLine). k.
 hands_suffix u l v (hands_words left p words after) = (l, words ∙ ap (λ (k : UnreadLine). l ++ k.words) (sym after))
 hands_suffix u l v (hands_pending x by_equals front left p is words after) = (front, words ∙ ap (λ (k : UnreadLine). front ++ k.words) (sym after))
 
--- a line stays one
+-- the line after is a line that a parser can have
 pub hands_line : (u : UnreadLine) (l : List (List ℕ)) (v : UnreadLine) → IsLine u → HandedItems u l v → IsLine v
 hands_line u l v is (hands_nothing none after) = subst IsLine (sym after) is
 hands_line u l v is (hands_words left p words after) = subst IsLine (sym after) is

@@ -1,5 +1,5 @@
--- What is read from a line, item by item: the readings of what is left go on from it, and one line
--- is left.
+-- Items read from a line, one by one: a reading of the line that is left goes on from them, and
+-- only one line is left.
 use Rattle.std.proofs.Common.{◌≡◌, ◌≢◌, List, [], ◌∷◌, ◌++◌, refl, sym, ap, subst, ◌∙◌}
 use Rattle.lexopt_spec.specs.UnreadLine.{UnreadLine}
 use Rattle.lexopt_spec.specs.Steps as steps
@@ -7,34 +7,34 @@ use Rattle.lexopt_spec.specs.Steps.{Reply, Next, NextStep}
 use Rattle.lexopt_spec.specs.Runs as calls
 use Rattle.lexopt_spec.specs.Runs.{Call, StepWithMemory, next, value}
 use Rattle.lexopt_line_spec.specs.Table.{Name, short, long, Item, Kind, flag, one, optional, several, kind, Table}
-use Rattle.lexopt_line_spec.specs.Readings.{IsDue, IsFull, IsReading, ReadsFirst, first_positional, first_flag, first_one, first_optional, first_several, ReadsItems, SaysUpTo, option_reply}
+use Rattle.lexopt_line_spec.specs.Readings.{IsDue, IsFull, IsReading, ReadsFirst, first_positional, first_flag, first_one, first_optional, first_several, ReadsItems, MeansUpTo, option_reply}
 use Rattle.lexopt_line_spec.proofs.Calls.{call_same}
 use Rattle.lexopt_line_spec.proofs.OneReading.{due_same, with_memory}
 use Rattle.lexopt_line_spec.proofs.ReadingSteps.{says_positional, says_flag, says_value, says_optional, says_several}
 
 -- ---- readings
 
-says_first : (t : Table) (u w : UnreadLine) (item : Item) → ReadsFirst t u item w → SaysUpTo t u (item ∷ []) w
+says_first : (t : Table) (u w : UnreadLine) (item : Item) → ReadsFirst t u item w → MeansUpTo t u (item ∷ []) w
 says_first t u w item (first_positional word after step) = says_positional t u after word step
 says_first t u w item (first_flag name after k step) = says_flag t u after name k step
 says_first t u w item (first_one name word v after k step takes) = says_value t u v after name word k step takes
 says_first t u w item (first_optional name word v after k step takes) = says_optional t u v after name word k step takes
 says_first t u w item (first_several name n words v after k step few takes) = says_several t u v after name n words k few step takes
 
--- what is read and then a reading of what is left are a reading
-pub says_items : (t : Table) (u w : UnreadLine) (items : List Item) → ReadsItems t u items w → SaysUpTo t u items w
+-- the items read, and then a reading of the line that is left, are a reading
+pub says_items : (t : Table) (u w : UnreadLine) (items : List Item) → ReadsItems t u items w → MeansUpTo t u items w
 says_items t u w [] is = λ final m reading. subst (λ x. IsReading t x final m) is reading
 says_items t u w (item ∷ items) reads = λ final m reading.
     says_first t u reads.0 item reads.1 final (items ++ m) (says_items t reads.0 w items reads.2 final m reading)
 
--- one item more
+-- one more item
 pub one_more_item : (t : Table) (u v w : UnreadLine) (items : List Item) (item : Item) → ReadsItems t u items v → ReadsFirst t v item w → ReadsItems t u (items ++ item ∷ []) w
 one_more_item t u v w [] item is first = (w, subst (λ x. ReadsFirst t x item w) is first, refl)
 one_more_item t u v w (x ∷ items) item reads first = (reads.0, reads.1, one_more_item t reads.0 v w items item reads.2 first)
 
 -- ---- one line is left
 
--- the first item, where memory is enough
+-- the first item, with enough memory
 data First (t : Table) (u w : UnreadLine) : Type 0 where
   word_alone : (word : List _) → NextStep u (steps.positional word) w → First t u w
   flag_alone : (name : Name) → kind t name ≡ flag → NextStep u (option_reply name) w → First t u w
@@ -85,7 +85,7 @@ first_same t u v w (with_values name k call reply v1 is other step due full take
     let kinds : k ≡ k2 = sym is ∙ ap (kind t) (same_option name name2 both.0) ∙ is2 in
     (due_same k2 call call2 v2 v w reply reply2 (subst (λ x. IsDue x call) kinds due) due2 full full2 (subst (λ x. StepWithMemory call x reply v) both.1 takes) takes2).1
 
--- the same items leave one line
+-- the same items leave the same line
 pub one_line_left : (t : Table) (u v w : UnreadLine) (items : List Item) → ReadsItems t u items v → ReadsItems t u items w → v ≡ w
 one_line_left t u v w [] is too = is ∙ sym too
 one_line_left t u v w (item ∷ items) reads again =

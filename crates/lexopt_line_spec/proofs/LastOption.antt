@@ -1,4 +1,4 @@
--- The option that was read last, and the one that an error names.
+-- The option read last, and the option that an error names.
 use Rattle.std.proofs.Common.{◌≡◌, ℕ, true, List, Option, Some, None, refl, sym, ap, subst, ◌∙◌, inl, inr}
 use Rattle.lexopt_spec.specs.UnreadLine.{short_option, long_option, spelling, LastOption, UnreadLine}
 use Rattle.lexopt_spec.specs.Steps as steps
@@ -10,7 +10,7 @@ use Rattle.lexopt_line_spec.specs.Table.{Name, Kind, flag, one, optional, severa
 use Rattle.lexopt_line_spec.specs.Readings.{IsDue, option_reply}
 use Rattle.lexopt_line_spec.proofs.ReplyKinds.{next_reply}
 
--- the option that a reply names, or the one before it
+-- the last option after a reply: the one that the reply names, otherwise the one before
 abbrev pub last_after : LastOption → Reply → LastOption
 last_after last (short c) = short_option c
 last_after last (long name) = long_option name
@@ -59,7 +59,7 @@ due_missing one call u v o due step = value_missing u v (missing o) o refl (subs
 due_missing optional call u v o due step = optional_missing u v (missing o) o refl (subst (λ c. StepWithMemory c u (missing o) v) due step)
 due_missing several call u v o due step = values_missing due.0 u v (missing o) o refl (subst (λ c. StepWithMemory c u (missing o) v) due.1 step)
 
--- where a value is missing after an option, the error names that option
+-- if a value is missing after an option, the error names that option
 pub missing_names : (k : Kind) (call : Call) (u v w : UnreadLine) (name : Name) (o : Option (List ℕ)) → Next u (option_reply name) v → IsDue k call → Step call v (missing o) w
     → (option : List ℕ) × (o ≡ Some option)
 missing_names k call u v w name o read due (inr refused) = absurd (let e : missing o ≡ steps.no_memory = refused.reply_is in cc)

@@ -1,4 +1,4 @@
--- What stands for a character is the first piece of the bytes.
+-- The bytes that represent a character are the first piece.
 use Rattle.std.proofs.Common.{◌≡◌, ◌≢◌, ℕ, ◌<◌, ◌≤◌, List, [], ◌++◌, length, take, drop, Option, Some, None, encode_utf8, refl, sym, ap, subst, ◌∙◌, arith, inl, inr}
 use Rattle.std.proofs.lemmas.List.{take-append-drop, length-take-le}
 use Rattle.std.proofs.Math.Seq.{drop-append_seam}
@@ -10,7 +10,7 @@ use Rattle.lexopt_spec.specs.Pieces.{IsDamage, IsFirstPiece, first_piece, after_
 use Rattle.lexopt_line_spec.specs.Spelling.{damaged}
 use Rattle.lexopt_spec.proofs.Fronts.{decoded_is_first, first_is_decoded, damage_some}
 
--- these bytes, with those after them, are read as the character c
+-- these bytes, with those after them, are read as the character `c`
 pub record IsRead (c : ℕ) (bytes following : List ℕ) : Type 0 where
   pub some : bytes ++ following ≢ []
   pub is : shown (first_piece (bytes ++ following)).char ≡ c
@@ -45,7 +45,7 @@ pub letter_read : (c : ℕ) (bytes following : List ℕ) → damaged.character c
 letter_read c bytes following (inl exact) = exact_read c bytes following exact.0 exact.1
 letter_read c bytes following (inr damage) = subst (λ (x : ℕ). IsRead x bytes following) (sym damage.0) (damage_read bytes following damage.1)
 
--- the first piece of some bytes stands for what is read
+-- the first piece of some bytes represents the character that is read
 pub record IsLetter (bs : List ℕ) : Type 0 where
   pub whole : (first_piece bs).bytes ++ after_first_piece bs ≡ bs
   pub letter : damaged.character (shown (first_piece bs).char) (first_piece bs).bytes (after_first_piece bs)

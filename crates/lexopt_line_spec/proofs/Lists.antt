@@ -1,4 +1,4 @@
--- Tests over lists.
+-- Boolean tests of lists.
 use Rattle.std.proofs.Common.{◌≡◌, ◌||◌, Bool, List, [], ◌∷◌, map, refl, ap}
 use Rattle.std.specs.List.{list_any}
 

@@ -1,4 +1,4 @@
--- Legal spelling, and spelling with damage let in.
+-- The words that spell items, and the words that show them.
 use Rattle.std.proofs.Common.{◌≡◌, ◌≢◌, ℕ, zero, suc, ◌<◌, ◌≤◌, Bool, true, false, ◌&&◌, List, [], ◌∷◌, ◌++◌, length, map, Option, Some, None, encode_utf8, encode_utf8_all, refl, sym, ap, subst, ◌∙◌, arith, inl, inr, ⊎_elim, length-drop}
 use Rattle.std.specs.Str.{IsUtf8}
 use Rattle.std.specs.List.{Contains}
@@ -12,7 +12,7 @@ use Rattle.lexopt_line_spec.specs.Spelling.{Letters, exact, damaged, After, Comp
 use Rattle.lexopt_spec.proofs.PieceSteps.{pieces-nil, pieces-step}
 use Rattle.lexopt_line_spec.proofs.Letters.{exact_read, read_letter}
 
--- ---- text and its characters
+-- ---- UTF-8 and its characters
 
 pub step : (bs : List ℕ) → 0 < length bs → lossy_characters bs ≡ shown (first_piece bs).char ∷ lossy_characters (after_first_piece bs)
 step bs some = ap (map (λ p. shown p.char)) (pieces-step bs some)
@@ -46,7 +46,7 @@ pub letter_scalar : (c : ℕ) (bytes after : List ℕ) → damaged.character c b
 letter_scalar c bytes after (inl is) = is.0
 letter_scalar c bytes after (inr is) = subst (λ (x : ℕ). scalar x ≡ true) (sym is.0) refl
 
--- lossy text is text
+-- lossy text has only characters
 pub characters : (n : ℕ) (bs : List ℕ) → length bs ≤ n → scalars (lossy_characters bs) ≡ true
 characters n [] le = ap (λ ps. scalars (map (λ p. shown p.char) ps)) pieces-nil
 characters zero (b ∷ bs) le = absurd (omega arith)
@@ -94,7 +94,7 @@ name_damaged : (name bytes : List ℕ) → IsUtf8 name → bytes ≡ name → lo
 name_damaged name bytes utf8 is =
     ap lossy (is ∙ sym utf8.1.1) ∙ ap encode_utf8_all (encoded utf8.0 utf8.1.0) ∙ utf8.1.1
 
--- ---- from one way of spelling to another
+-- ---- from one set of letters to another
 
 pub record Carries (A B : Letters) (P : Name → Type 0) : Type 0 where
   pub characters : (c : ℕ) (bytes after : List ℕ) → P (short c) → A.character c bytes after → B.character c bytes after
@@ -149,7 +149,7 @@ line_carried A B P carries t short_equals words items (group ws left front other
     group ws left front others (group_carried A B P carries t short_equals ws front left first names.0) (line_carried A B P carries t short_equals left others line names.1)
 line_carried A B P carries t short_equals words items (separator ws) have = separator ws
 
--- ---- what is shown, under whole names, is spelled; and what is spelled is shown
+-- ---- words spell what they show, if names are whole; and they show what they spell
 
 pub shown_spells : (t : Table) (short_equals : Bool) (words : List (List ℕ)) (items : List Item) → Shows t short_equals words items → HaveWholeNames items → Spells t short_equals words items
 shown_spells t short_equals words items shows whole = line_carried damaged exact IsWholeName

@@ -1,9 +1,9 @@
--- What a line shows, and what it shows once `next` has returned.
+-- The items that a line shows, and those that it shows after `next`.
 use Rattle.std.proofs.Common.{◌≡◌, ◌≢◌, ◌↔◌, ℕ, Bool, true, false, List, [], ◌∷◌, ◌++◌, map, Option, None, refl, sym, ap, subst, ◌∙◌, arith, inr, ⊎_elim}
 use Rattle.std.proofs.lemmas.Bool.{cases_eq}
 use Rattle.std.specs.List.{Contains}
 use Rattle.lexopt_spec.specs.Pieces.{lossy}
-use Rattle.lexopt_spec.specs.UnreadLine.{dash, equals, Tail, no_tail, joined, rest, LastOption, UnreadLine, spelling, IsPlain, IsLine, TailStands}
+use Rattle.lexopt_spec.specs.UnreadLine.{dash, equals, Tail, no_tail, joined, rest, LastOption, UnreadLine, spelling, IsPlain, IsLine, TailFits}
 use Rattle.lexopt_spec.specs.UnreadLine as unread
 use Rattle.lexopt_spec.specs.Steps as steps
 use Rattle.lexopt_spec.specs.Steps.{Reply, IsLongOption, alone, with_value, ReadsPositional, no_word_left, word_left, ReadsWord, no_word, reads_separator, reads_long, reads_cluster, reads_positional, NextStep, equals_value, next_in_cluster, after_separator}
@@ -21,7 +21,7 @@ use Rattle.lexopt_line_spec.proofs.ClusterLaw.{line_with, completed, cluster_rea
 abbrev Read : (UnreadLine → Reply → UnreadLine → Type 0) → Table → UnreadLine → List Item → Type 0
 Read Step t u items = (r : Reply) × (v : UnreadLine) × Step u r v × NextShows t r v items
 
--- after the separator
+-- a line after the separator
 ended_reads : (t : Table) (words : List (List ℕ)) (last : LastOption) (bin : Option (List ℕ)) (short_equals : Bool) (items : List Item) → items ≡ map positional words
     → Read ReadsPositional t (line_with no_tail words true last short_equals bin) items
 ended_reads t [] last bin short_equals items is = (_, _, no_word_left refl refl refl, is)
@@ -70,7 +70,7 @@ words_read t words last bin short_equals items (separator ws) =
     let a = ended_reads t ws last bin short_equals (map positional ws) refl in (a.0, a.1, reads_separator ws refl a.2, a.3)
 
 parts_read : (t : Table) (tail : Tail) (words : List (List ℕ)) (ended : Bool) (last : LastOption) (bin : Option (List ℕ)) (short_equals : Bool) (items : List Item)
-    → TailStands tail last ended → PartsShow t short_equals tail ended words items → Read NextStep t (line_with tail words ended last short_equals bin) items
+    → TailFits tail last ended → PartsShow t short_equals tail ended words items → Read NextStep t (line_with tail words ended last short_equals bin) items
 parts_read t no_tail words false last bin short_equals items stands shows =
     let a = words_read t words last bin short_equals items shows in (a.0, a.1, steps.next_word refl refl a.2, a.3)
 parts_read t no_tail words true last bin short_equals items stands shows =
@@ -93,7 +93,7 @@ ended_built t [] last bin short_equals = (_, _, no_word_left refl refl refl, λ 
 ended_built t (w ∷ ws) last bin short_equals =
     (_, _, word_left w ws refl refl refl, λ items leads. leads.items_are ∙ ap (λ l. positional w ∷ l) leads.shows)
 
--- a group, and what the words after it show
+-- a group, and the items that the words after it show
 grouped : (t : Table) (short_equals : Bool) (words left : List (List ℕ)) (front others items : List Item) → Group damaged t short_equals words front left
     → Shows t short_equals left others → items ≡ front ++ others → Shows t short_equals words items
 grouped t short_equals words left front others items first line is = subst (Shows t short_equals words) (sym is) (group words left front others first line)
@@ -173,7 +173,7 @@ goes_on_built t b bs words last bin short_equals no_mark =
     let a = cluster_built t short_equals b bs words (rest (b ∷ bs)) last bin in
     (a.0, a.1, next_in_cluster (b ∷ bs) refl no_mark a.2, λ items shows. (no_mark, a.3 items shows))
 
-parts_built : (t : Table) (tail : Tail) (words : List (List ℕ)) (ended : Bool) (last : LastOption) (bin : Option (List ℕ)) (short_equals : Bool) → TailStands tail last ended
+parts_built : (t : Table) (tail : Tail) (words : List (List ℕ)) (ended : Bool) (last : LastOption) (bin : Option (List ℕ)) (short_equals : Bool) → TailFits tail last ended
     → NextBuilt t (line_with tail words ended last short_equals bin)
 parts_built t no_tail words false last bin short_equals stands = let a = word_built t short_equals last bin words in (a.0, a.1, steps.next_word refl refl a.2, a.3)
 parts_built t no_tail words true last bin short_equals stands = let a = ended_built t words last bin short_equals in (a.0, a.1, after_separator refl refl a.2, a.3)
@@ -192,7 +192,7 @@ parts_built t (rest (b ∷ bs)) words false last bin true stands = ⊎_elim
 
 -- ---- each result
 
--- what a line shows is what it shows by the reply of `next`
+-- a line shows some items if and only if it does so by the reply of `next`
 pub next_law : (t : Table) (u v : UnreadLine) (r : Reply) (items : List Item) → IsLine u → NextStep u r v → ShowsFrom t u items ↔ NextShows t r v items
 next_law t u v r items line step = (
   λ shows.

@@ -1,4 +1,4 @@
--- The replies that name no option: all but those of `next`.
+-- The replies that name no option, as those of all calls except `next`.
 use Rattle.std.proofs.Common.{◌≡◌, ℕ, List, length, refl, sym, subst}
 use Rattle.std.specs.List.{concat}
 use Rattle.lexopt_spec.specs.UnreadLine.{UnreadLine}

@@ -1,4 +1,5 @@
--- Each line that a parser can be has a reading, and every other reading of it gives the same.
+-- Each line that a parser can have has a reading, and every other reading of it gives the same
+-- items.
 use Rattle.std.proofs.Common.{◌≡◌, ◌≢◌, ◌<◌, ◌≤◌, ℕ, zero, suc, List, [], ◌∷◌, length, take, refl, sym, ap, subst, ◌∙◌, arith, inl, inr}
 use Rattle.std.proofs.lemmas.List.{take_all, length-take}
 use Rattle.lexopt_spec.specs.UnreadLine.{UnreadLine, IsLine, pending}
@@ -9,7 +10,7 @@ use Rattle.lexopt_spec.specs.Runs as calls
 use Rattle.lexopt_spec.specs.Runs.{Call, next, value, Step, StepWithMemory, Run}
 use Rattle.lexopt_line_spec.specs.Bound.{bound}
 use Rattle.lexopt_line_spec.specs.Table.{Name, short, long, Item, Kind, flag, one, optional, several, kind, Table}
-use Rattle.lexopt_line_spec.specs.Readings.{IsDue, IsLast, IsFull, GoesOn, AskedAfter, last, more, item_after, items_said, option_reply, IsReading}
+use Rattle.lexopt_line_spec.specs.Readings.{IsDue, IsLast, IsFull, GoesOn, AskedAfter, last, more, item_after, items_of_replies, option_reply, IsReading}
 use Rattle.lexopt_line_spec.proofs.Bounds.{step_bound, given_falls}
 use Rattle.lexopt_line_spec.proofs.Calls.{call_answer, call_same}
 use Rattle.lexopt_line_spec.proofs.FullValues.{full_answer}
@@ -21,7 +22,7 @@ use Rattle.lexopt_line_spec.proofs.Total.{next_answer}
 
 -- ---- a reading
 
--- after an option of this kind the line is read to a last reply
+-- after an option of this kind, a reading of the line reaches a last reply
 record IsRead (t : Table) (k : Kind) (u : UnreadLine) : Type 0 where
   pub final : Reply
   pub calls : List Call
@@ -30,12 +31,12 @@ record IsRead (t : Table) (k : Kind) (u : UnreadLine) : Type 0 where
   pub run : Run u calls replies after
   pub asked : AskedAfter t final k calls replies
 
--- each line with no greater bound is read
+-- each line whose bound is no greater has a reading
 abbrev Later : Table → UnreadLine → Type 0
 Later t v = (w : UnreadLine) → IsLine w → bound w ≤ bound v → IsRead t flag w
 
-goes_on : (t : Table) (k : Kind) (v w : UnreadLine) (call : Call) (r : Reply) → IsDue k call → IsFull call r → GoesOn t r flag → IsLine v → StepWithMemory call v r w → Later t v → IsRead t k v
-goes_on t k v w call r due full goes line step later =
+continues : (t : Table) (k : Kind) (v w : UnreadLine) (call : Call) (r : Reply) → IsDue k call → IsFull call r → GoesOn t r flag → IsLine v → StepWithMemory call v r w → Later t v → IsRead t k v
+continues t k v w call r due full goes line step later =
     let falls = step_bound call v r w (inl step) in
     let rest = later w (step_line call v r w line (inl step)) (omega arith) in
     record {
@@ -57,11 +58,11 @@ ends t k v w call r due is step = record {
   asked = last k call due is;
 }
 
--- the call for values
+-- the reading of an option's values
 due_read : (t : Table) (k : Kind) (v w : UnreadLine) (call : Call) (r : Reply) → IsDue k call → IsFull call r → IsValueReply r → IsLine v → StepWithMemory call v r w → Later t v → IsRead t k v
-due_read t k v w call (steps.taken word) due full is line step later = goes_on t k v w call _ due full refl line step later
-due_read t k v w call (steps.maybe given) due full is line step later = goes_on t k v w call _ due full refl line step later
-due_read t k v w call (steps.items given) due full is line step later = goes_on t k v w call _ due full refl line step later
+due_read t k v w call (steps.taken word) due full is line step later = continues t k v w call _ due full refl line step later
+due_read t k v w call (steps.maybe given) due full is line step later = continues t k v w call _ due full refl line step later
+due_read t k v w call (steps.items given) due full is line step later = continues t k v w call _ due full refl line step later
 due_read t k v w call (steps.missing o) due full is line step later = ends t k v w call _ due tt step
 due_read t k v w call r due full is line step later = absurd is
 
@@ -125,11 +126,11 @@ read_within (suc n) t u line small =
 pub some_reading : (t : Table) (u : UnreadLine) → IsLine u → (final : Reply) × (l : List Item) × IsReading t u final l
 some_reading t u line =
     let a = read_within (suc (bound u)) t u line (omega arith) in
-    (a.final, items_said a.replies, record { calls = a.calls; replies = a.replies; after = a.after; run = a.run; asked = a.asked; items_are = refl })
+    (a.final, items_of_replies a.replies, record { calls = a.calls; replies = a.replies; after = a.after; run = a.run; asked = a.asked; items_are = refl })
 
--- the same after an option: its values are read, and then the line after them
+-- the same after an option: a reading of its values, and then of the line after them
 pub option_reading : (t : Table) (u v : UnreadLine) (name : Name) → IsLine v → Next u (option_reply name) v
-    → (final : Reply) × (replies : List Reply) × IsReading t u final (item_after name replies ∷ items_said replies)
+    → (final : Reply) × (replies : List Reply) × IsReading t u final (item_after name replies ∷ items_of_replies replies)
 option_reading t u v (short c) line step =
     let rest = option_read t (kind t (short c)) v line (λ w at no_more. read_within (suc (bound w)) t w at (omega arith)) in (
       rest.final,
@@ -157,14 +158,14 @@ option_reading t u v (long n) line step =
       },
     )
 
--- ---- no other
+-- ---- no other reading
 
 last_full : (call : Call) (r : Reply) → IsLast r → IsFull call r
 last_full (calls.values n) (steps.items words) is = absurd is
 last_full (calls.values n) r is = tt
 last_full call r is = tt
 
--- where fewer came than were asked for, all came
+-- if there were fewer than were asked for, these are all
 all_came : (n : ℕ) (l : List (List ℕ)) → length (take n l) < n → take n l ≡ l
 all_came n l few = let count = length-take n l in take_all n l (omega arith)
 
@@ -208,7 +209,7 @@ kind_same t (steps.maybe word) k l x y = x ∙ sym y
 kind_same t (steps.items words) k l x y = x ∙ sym y
 kind_same t r k l x y = absurd x
 
--- two readings of the same line
+-- two readings of the same line have the same replies
 pub same_replies : (t : Table) (final other : Reply) (k l : Kind) (u v w : UnreadLine) (calls again : List Call) (replies others : List Reply) → k ≡ l
     → AskedAfter t final k calls replies → AskedAfter t other l again others → Run u calls replies v → Run u again others w → (final ≡ other) × (replies ≡ others)
 same_replies t final other k l u v w calls again replies others same (last k1 call due is) (last k2 call2 due2 is2) run run2 =
@@ -233,4 +234,4 @@ same_replies t final other k l u v w calls again replies others same (more k1 m 
 pub no_other_reading : (t : Table) (u : UnreadLine) (final other : Reply) (l m : List Item) → IsReading t u final l → IsReading t u other m → (final ≡ other) × (l ≡ m)
 no_other_reading t u final other l m read again =
     let same = same_replies t final other flag flag u read.after again.after read.calls again.calls read.replies again.replies refl read.asked again.asked read.run again.run in
-    (same.0, read.items_are ∙ ap items_said same.1 ∙ sym again.items_are)
+    (same.0, read.items_are ∙ ap items_of_replies same.1 ∙ sym again.items_are)

@@ -1,7 +1,7 @@
--- What a line shows after an option that may have a value, and what it shows once `optional_value`
--- has returned.
+-- The items that a line shows after an option of one value or none, and those that it shows after
+-- `optional_value`.
 use Rattle.std.proofs.Common.{◌≡◌, ◌↔◌, ℕ, Bool, true, false, List, [], ◌∷◌, Option, Some, None, refl, sym, ap, subst, ◌∙◌}
-use Rattle.lexopt_spec.specs.UnreadLine.{Tail, no_tail, joined, rest, LastOption, UnreadLine, pending, pending_in, IsLine, TailStands}
+use Rattle.lexopt_spec.specs.UnreadLine.{Tail, no_tail, joined, rest, LastOption, UnreadLine, pending, pending_in, IsLine, TailFits}
 use Rattle.lexopt_spec.specs.Steps.{Reply, OptionalStep, optional_pending, optional_none}
 use Rattle.lexopt_line_spec.specs.Table.{Name, Item, option, Kind, optional, kind, Table}
 use Rattle.lexopt_line_spec.specs.Spelling as spelling
@@ -9,8 +9,8 @@ use Rattle.lexopt_line_spec.specs.Spelling.{After, nothing, attached, Completes,
 use Rattle.lexopt_line_spec.proofs.HandedItems.{is_some_rest}
 use Rattle.lexopt_line_spec.proofs.Unread.{PartsShow, after_of, ShowsAfter, Leads, ValueShows}
 
--- where nothing is pending, nothing is left of a word
-pub none_tail : (short_equals : Bool) (tail : Tail) (last : LastOption) (ended : Bool) → TailStands tail last ended → pending_in short_equals tail ≡ None → tail ≡ no_tail
+-- if nothing is pending, nothing is left of a word
+pub none_tail : (short_equals : Bool) (tail : Tail) (last : LastOption) (ended : Bool) → TailFits tail last ended → pending_in short_equals tail ≡ None → tail ≡ no_tail
 none_tail short_equals no_tail last ended stands is = refl
 none_tail short_equals (joined v) last ended stands is = absurd (let e : Some (v, true) ≡ None = is in cc)
 none_tail short_equals (rest []) last ended stands is = absurd (stands.2 refl)

@@ -1,6 +1,6 @@
--- Which replies a call has.
+-- The replies that each call can give.
 use Rattle.std.proofs.Common.{◌≡◌, true, false, sym, ap, subst, ◌∙◌}
-use Rattle.lexopt_spec.specs.UnreadLine.{Tail, UnreadLine, IsLine, TailStands}
+use Rattle.lexopt_spec.specs.UnreadLine.{Tail, UnreadLine, IsLine, TailFits}
 use Rattle.lexopt_spec.specs.Steps as steps
 use Rattle.lexopt_spec.specs.Steps.{Reply, ReadsPositional, no_word_left, word_left, ReadsWord, no_word, reads_separator, reads_long, reads_cluster, reads_positional, NextStep, equals_value, next_in_cluster, after_separator, ValueStep, pending_value, takes_word, nothing_to_take, OptionalStep, optional_pending, optional_none}
 use Rattle.lexopt_line_spec.proofs.FullValues.{FullStep, joined_one, attached_first, words_alone, nothing_given}
@@ -53,7 +53,7 @@ values_reply u v r (attached_first x f l a g is b) = subst IsValueReply (sym is)
 values_reply u v r (words_alone f l a g some is b) = subst IsValueReply (sym is) tt
 values_reply u v r (nothing_given a none is b) = subst IsValueReply (sym is) tt
 
--- after an option no separator was read
+-- after an option, the separator has not been read
 abbrev IsOptionReply : Reply → Type 0
 IsOptionReply (steps.short c) = Unit {0}
 IsOptionReply (steps.long name) = Unit {0}
@@ -74,6 +74,6 @@ pub next_open : (u v : UnreadLine) (r : Reply) → IsLine u → NextStep u r v �
 next_open u v r line (steps.joined_value x o a b is c) h = absurd (subst IsOptionReply is h)
 next_open u v r line (equals_value x o a on b is c) h = absurd (subst IsOptionReply is h)
 next_open u v r line (next_in_cluster bytes a other reads) h =
-    ap (λ (l : UnreadLine). l.ended) reads.after_is ∙ (subst (λ (t : Tail). TailStands t u.last u.ended) a line).1
+    ap (λ (l : UnreadLine). l.ended) reads.after_is ∙ (subst (λ (t : Tail). TailFits t u.last u.ended) a line).1
 next_open u v r line (after_separator a e reads) h = absurd (positional_none u v r reads h)
 next_open u v r line (steps.next_word a e reads) h = word_open u v r e reads h

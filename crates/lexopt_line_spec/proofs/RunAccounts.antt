@@ -42,9 +42,9 @@ run_keeps u (c ∷ cs) (r ∷ rs) v run =
     ∙ sym (append_assoc (bytes_of first) (bytes_of others) (flat v))
     ∙ ap (λ l. l ++ flat v) (sym (flat_map-append segment_bytes first others))
 
--- ---- what the replies hand out
+-- ---- the bytes of the replies
 
--- what is shown of items
+-- the bytes that replies have of items
 items_shown : (u : UnreadLine) (r : Reply) → NoOption r → bytes_handed_out r ≡ shown_of (handing u (handed_items r))
 items_shown u r other = no_option_handed r other ∙ sym (handing_shown u (handed_items r))
 
@@ -99,7 +99,7 @@ run_suffix u (c ∷ cs) (r ∷ rs) v run =
     let more = run_suffix run.0 cs rs v run.2 in
     (first.0 ++ more.0, first.1 ∙ ap (λ l. first.0 ++ l) more.1 ∙ sym (append_assoc first.0 more.0 v.words))
 
--- ---- a line stays one
+-- ---- the line after is one that a parser can have
 
 line_with_memory : (call : Call) (u : UnreadLine) (r : Reply) (v : UnreadLine) → IsLine u → StepWithMemory call u r v → IsLine v
 line_with_memory next u r v is step = next_line u v r is step
@@ -115,7 +115,7 @@ pub step_line : (call : Call) (u : UnreadLine) (r : Reply) (v : UnreadLine) → 
 step_line call u r v is (inl step) = line_with_memory call u r v is step
 step_line call u r v is (inr refused) = subst IsLine (sym refused.after_is) is
 
--- and after one item, or one word on a condition
+-- the same after one item of a view, or one word of `next_if`
 pub value_item_line : (stage now : Stage) (u v : UnreadLine) (item : Option (List ℕ)) → IsLine u → ValueItem stage u item v now → IsLine v
 value_item_line stage now u v item is (gives_pending x by_equals a p b after c) = subst IsLine (sym after) tt
 value_item_line stage now u v item is (gives_word w ws a p b plain c after d) = subst IsLine (sym after) is
@@ -126,9 +126,9 @@ pub word_item_line : (u v : UnreadLine) (item : Option (List ℕ)) → IsLine u 
 word_item_line u v None is h = subst IsLine (sym h.1) is
 word_item_line u v (Some word) is h = subst IsLine (sym h.1) is
 
-pub word_if_line : (Says : List ℕ → Bool → Type 0) (u v : UnreadLine) (item : Option (List ℕ)) → IsLine u → TakesIf Says u item v → IsLine v
-word_if_line Says u v None is h = subst IsLine (sym h.0) is
-word_if_line Says u v (Some word) is h = word_item_line u v (Some word) is h.0
+pub word_if_line : (Means : List ℕ → Bool → Type 0) (u v : UnreadLine) (item : Option (List ℕ)) → IsLine u → TakesIf Means u item v → IsLine v
+word_if_line Means u v None is h = subst IsLine (sym h.0) is
+word_if_line Means u v (Some word) is h = word_item_line u v (Some word) is h.0
 
 pub run_line : (u : UnreadLine) (calls : List Call) (replies : List Reply) (v : UnreadLine) → IsLine u → Run u calls replies v → IsLine v
 run_line u [] [] v is run = subst IsLine (sym run) is

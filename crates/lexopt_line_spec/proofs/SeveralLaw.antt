@@ -1,4 +1,5 @@
--- What a line shows after an option that has several values, and what it shows once `values` gave all of them.
+-- The items that a line shows after an option of several values, and those that it shows after
+-- `values` gave all of them.
 use Rattle.std.proofs.Common.{◌≡◌, ◌↔◌, ℕ, Bool, false, List, [], ◌∷◌, ◌++◌, refl, sym, ap, subst, ◌∙◌, arith}
 use Rattle.lexopt_spec.specs.UnreadLine.{Tail, no_tail, UnreadLine, pending, IsLine, IsPlain, IsNormalIn, IsPlainFront}
 use Rattle.lexopt_spec.specs.Steps.{Reply}

@@ -1,5 +1,5 @@
--- What the tables of the speller give is what the relations describe, and nothing else is: so each
--- list of items has one result.
+-- The tables of the speller give the results that the relations describe, and the relations
+-- describe no others. So each list of items has one result.
 use Rattle.std.proofs.Common.{◌≡◌, ◌≢◌, ◌⊎◌, ℕ, suc, ◌==◌, ◌||◌, ◌&&◌, not, Bool, true, false, List, [], ◌∷◌, ◌++◌, encode_utf8, refl, sym, ap, subst, ◌∙◌, arith, inl, inr, true≢false}
 use Rattle.std.proofs.lemmas.Bool.{eqb-true, eq-eqb, ne_eqb}
 use Rattle.std.proofs.lemmas.List.Folds.{list_any_at}
@@ -16,7 +16,7 @@ use Rattle.lexopt_line_spec.specs.Table.{Name, short, long, Item, option, many, 
 use Rattle.lexopt_line_spec.specs.Spelling.{After, nothing, attached, joined, Spells, Shows}
 use Rattle.lexopt_line_spec.specs.Speller as rows
 use Rattle.lexopt_line_spec.specs.Speller.{Reason, no_name, equals_in_name, empty_name, past_separator, dash_without_flag, Place, open_line, in_cluster, after_values, after_positional, ended, BeginsRow, is_positional, NeedSeparator, HasForm, HasNoForm, after_bytes, Adds, GoesOn, IsOf, CannotBeSpelled, SpelledFrom, SpelledAs, FaultFrom, Fault, HasFault, IsAtFault}
-use Rattle.lexopt_line_spec.specs.SpellerTables.{Form, short_form, long_form, short_many_form, long_many_form, Added, with_form, short_added, is_named, long_placed, long_added, stands, positional_added, adds, separator_comes_too_early, separator_is_due, is_plain_item, Rest, with_rest, with_rests, spelled_from, words_or_fault, spelled}
+use Rattle.lexopt_line_spec.specs.SpellerTables.{Form, short_form, long_form, short_many_form, long_many_form, Added, with_form, short_added, is_named, long_placed, long_added, needs_no_separator, positional_added, adds, separator_comes_too_early, separator_is_due, is_plain_item, Rest, with_rest, with_rests, spelled_from, words_or_fault, spelled}
 use Rattle.lexopt_line_spec.proofs.Exact.{contains_first, contains_more}
 use Rattle.lexopt_line_spec.proofs.SpellerAnswers.{none_is}
 use Rattle.lexopt_line_spec.proofs.SpellerTests.{has_equals, no_equals, none_passes}
@@ -26,13 +26,13 @@ use Rattle.lexopt_line_spec.proofs.SpellerRows.{plain_off, off_plain, test_fails
 
 -- ---- one item, from the tables
 
--- what a table gives for an item at a place
+-- the result of a table for an item at a place
 abbrev IsAdded : Table → Bool → List Item → Place → Item → Bool → List ℕ → List (List ℕ) → Place → Type 0
 IsAdded t short_equals later place item false word words next = Adds t short_equals later place item word words next
 IsAdded t short_equals later place item true word words next = GoesOn t short_equals later place item word words next
 
 abbrev IsAnswer : Table → Bool → List Item → Place → Item → Result Added Reason → Type 0
-IsAnswer t short_equals later place item (Ok a) = IsAdded t short_equals later place item a.goes_on a.word a.words a.place
+IsAnswer t short_equals later place item (Ok a) = IsAdded t short_equals later place item a.continues a.word a.words a.place
 IsAnswer t short_equals later place item (Err r) = CannotBeSpelled t short_equals later place item r
 
 dash_bytes : (after : After) → dash ∷ after_bytes after ≡ encode_utf8 dash ++ after_bytes after
@@ -106,7 +106,7 @@ long_after short_equals later k name item after words next (rows.long_words n v 
 abbrev no_name_bytes : List ℕ
 no_name_bytes = []
 
--- a long option by whether it is named
+-- a long option, by whether it is named
 placed_answer : (t : Table) (short_equals : Bool) (later : List Item) (place : Place) (name : List ℕ) (item : Item) (after : After) (words : List (List ℕ)) (next : Place)
     → IsUtf8 name → ¬ Contains name equals → HasForm short_equals later (kind t (long name)) (long name) item after words next → IsLongAfter (long name) after
     → IsAnswer t short_equals later place item (long_placed (is_named name after) place name (record { after = after; words = words; place = next }))
@@ -175,7 +175,7 @@ row_calm w later plain_is due_is need =
     let same : separator_is_due (positional w ∷ later) ≡ separator_is_due later = ap (λ p. list_all is_positional later && not (p && list_all is_plain_item later)) plain_is in
     true≢false (sym due ∙ same ∙ due_is)
 
--- a positional of a row that begins here
+-- the first of successive positionals
 row_answer : (t : Table) (short_equals : Bool) (later : List Item) (place : Place) (w : List ℕ) (plain due : Bool) → BeginsRow place
     → is_plain false w ≡ plain → separator_is_due later ≡ due
     → IsAnswer t short_equals later place (positional w) (Ok (positional_added (plain && not due) place w))
@@ -199,7 +199,7 @@ next_answer t short_equals later w false plain_is =
     rows.separator_before_word w after_positional (λ e. let h : after_positional ≡ ended = e in cc) (off_plain w plain_is)
 
 positional_answer : (t : Table) (short_equals : Bool) (later : List Item) (place : Place) (w : List ℕ)
-    → IsAnswer t short_equals later place (positional w) (Ok (positional_added (stands (is_plain false w) (separator_is_due later) place) place w))
+    → IsAnswer t short_equals later place (positional w) (Ok (positional_added (needs_no_separator (is_plain false w) (separator_is_due later) place) place w))
 positional_answer t short_equals later open_line w = row_answer t short_equals later open_line w (is_plain false w) (separator_is_due later) rows.row_at_open refl refl
 positional_answer t short_equals later in_cluster w = row_answer t short_equals later in_cluster w (is_plain false w) (separator_is_due later) rows.row_at_cluster refl refl
 positional_answer t short_equals later after_values w = values (is_plain false w)
@@ -231,9 +231,9 @@ adds_answer t short_equals later place (many (long name) values) =
     (long_many_row short_equals later name (kind t (long name)) values)
 adds_answer t short_equals later place (positional w) = positional_answer t short_equals later place w
 
--- ---- and nothing else
+-- ---- no other result
 
--- the item of an option that has a form, or none
+-- an item that has a form, or has none, is of its option
 form_is_of : (short_equals : Bool) (later : List Item) (k : Kind) (name : Name) (item : Item) (after : After) (words : List (List ℕ)) (next : Place)
     → HasForm short_equals later k name item after words next → IsOf name item
 form_is_of short_equals later k name item after words next (rows.short_flag c) = refl
@@ -262,7 +262,7 @@ no_form_is_of short_equals k name item reason (rows.empty_off c off) = refl
 no_form_is_of short_equals k name item reason (rows.short_among c v vs among) = refl
 no_form_is_of short_equals k name item reason (rows.long_among n v w vs among) = refl
 
--- what is added by the name of an option and its form
+-- the words that an option adds, by its name and its form
 abbrev added_by : Table → Bool → Bool → Place → Name → Item → Result Added Reason
 added_by t short_equals joins place (short c) item = short_added (scalar c) (c == dash) place c (form_of short_equals joins (kind t (short c)) item)
 added_by t short_equals joins place (long name) item =
@@ -283,7 +283,7 @@ by_name t short_equals joins due place name (positional w) of = absurd of
 not_dash : (c : ℕ) → c ≢ dash → (c == dash) ≡ false
 not_dash c other = ne_eqb c dash other
 
--- the result of a table where the item has this form, or none
+-- the result of a table if the item has this form, or has none
 short_by : (t : Table) (short_equals : Bool) (later : List Item) (place : Place) (c : ℕ) (item : Item) (form : Result Form Reason) → IsScalar c → IsOf (short c) item
     → form_of short_equals (separator_comes_too_early later) (kind t (short c)) item ≡ form
     → adds t short_equals (separator_comes_too_early later) (separator_is_due later) place item ≡ short_added true (c == dash) place c form
@@ -329,18 +329,18 @@ long_at after_values name f other = refl
 long_at after_positional name f other = refl
 long_at ended name f other = absurd (other refl)
 
--- a positional that is not plain, at each place but after the separator
+-- a positional that is not plain, at each place except after the separator
 off_added : (place : Place) (w : List ℕ) (due : Bool) → place ≢ ended
-    → positional_added (stands false due place) place w ≡ record { goes_on = false; word = dash ∷ dash ∷ []; words = w ∷ []; place = ended }
+    → positional_added (needs_no_separator false due place) place w ≡ record { continues = false; word = dash ∷ dash ∷ []; words = w ∷ []; place = ended }
 off_added open_line w due other = refl
 off_added in_cluster w due other = refl
 off_added after_values w due other = refl
 off_added after_positional w due other = refl
 off_added ended w due other = absurd (other refl)
 
--- one that begins a row, where the separator is due after it, or it is not plain
+-- the first of successive positionals, if the separator is due or it is not plain
 due_added : (place : Place) (w : List ℕ) (plain due : Bool) → BeginsRow place → (plain && not due) ≡ false
-    → positional_added (stands plain due place) place w ≡ record { goes_on = false; word = dash ∷ dash ∷ []; words = w ∷ []; place = ended }
+    → positional_added (needs_no_separator plain due place) place w ≡ record { continues = false; word = dash ∷ dash ∷ []; words = w ∷ []; place = ended }
 due_added place w plain due rows.row_at_open off = ap (λ x. positional_added x open_line w) off
 due_added place w plain due rows.row_at_cluster off = ap (λ x. positional_added x in_cluster w) off
 
@@ -360,21 +360,21 @@ row_on w later plain calm = by (separator_is_due later) refl
     by false due_is = ap (λ x. x && true) (plain_passes false w plain)
 
 alone_added : (place : Place) (w : List ℕ) (plain due : Bool) → BeginsRow place → (plain && not due) ≡ true
-    → positional_added (stands plain due place) place w ≡ record { goes_on = false; word = w; words = []; place = after_positional }
+    → positional_added (needs_no_separator plain due place) place w ≡ record { continues = false; word = w; words = []; place = after_positional }
 alone_added place w plain due rows.row_at_open on = ap (λ x. positional_added x open_line w) on
 alone_added place w plain due rows.row_at_cluster on = ap (λ x. positional_added x in_cluster w) on
 
-last_added : (w : List ℕ) (alone : Bool) → positional_added alone ended w ≡ record { goes_on = false; word = w; words = []; place = ended }
+last_added : (w : List ℕ) (alone : Bool) → positional_added alone ended w ≡ record { continues = false; word = w; words = []; place = ended }
 last_added w true = refl
 last_added w false = refl
 
-values_added : (w : List ℕ) (alone : Bool) → positional_added alone after_values w ≡ record { goes_on = false; word = dash ∷ dash ∷ []; words = w ∷ []; place = ended }
+values_added : (w : List ℕ) (alone : Bool) → positional_added alone after_values w ≡ record { continues = false; word = dash ∷ dash ∷ []; words = w ∷ []; place = ended }
 values_added w true = refl
 values_added w false = refl
 
 added_is : (t : Table) (short_equals : Bool) (later : List Item) (place : Place) (item : Item) (word : List ℕ) (words : List (List ℕ)) (next : Place)
     → Adds t short_equals later place item word words next
-    → adds t short_equals (separator_comes_too_early later) (separator_is_due later) place item ≡ Ok (record { goes_on = false; word = word; words = words; place = next })
+    → adds t short_equals (separator_comes_too_early later) (separator_is_due later) place item ≡ Ok (record { continues = false; word = word; words = words; place = next })
 added_is t short_equals later place item word words next (rows.short_option c p q i after ws is_scalar other open_is form) =
     short_by t short_equals later place c item _ is_scalar (form_is_of short_equals later (kind t (short c)) (short c) item after words next form)
     (has_form short_equals later (kind t (short c)) (short c) item after words next form)
@@ -386,13 +386,13 @@ added_is t short_equals later place item word words next (rows.long_option name 
     ∙ ap (λ n. long_placed n place name (record { after = after; words = words; place = next }))
     (is_named_so name after some (long_after short_equals later (kind t (long name)) (long name) item after words next form))
     ∙ long_at place name (record { after = after; words = words; place = next }) open_is
-added_is t short_equals later place item word words next (rows.after_separator w) = ap (λ a. Ok a) (last_added w (stands (is_plain false w) (separator_is_due later) ended))
+added_is t short_equals later place item word words next (rows.after_separator w) = ap (λ a. Ok a) (last_added w (needs_no_separator (is_plain false w) (separator_is_due later) ended))
 added_is t short_equals later place item word words next (rows.separator_after_values w) =
-    ap (λ a. Ok a) (values_added w (stands (is_plain false w) (separator_is_due later) after_values))
+    ap (λ a. Ok a) (values_added w (needs_no_separator (is_plain false w) (separator_is_due later) after_values))
 added_is t short_equals later place item word words next (rows.separator_before_row w p begins need) =
     ap (λ a. Ok a) (due_added place w (is_plain false w) (separator_is_due later) begins (row_off w later need))
 added_is t short_equals later place item word words next (rows.separator_before_word w p open_is off) =
-    ap (λ plain. Ok (positional_added (stands plain (separator_is_due later) place) place w)) (plain_off w off)
+    ap (λ plain. Ok (positional_added (needs_no_separator plain (separator_is_due later) place) place w)) (plain_off w off)
     ∙ ap (λ a. Ok a) (off_added place w (separator_is_due later) open_is)
 added_is t short_equals later place item word words next (rows.first_of_row w p begins plain calm) =
     ap (λ a. Ok a) (alone_added place w (is_plain false w) (separator_is_due later) begins (row_on w later plain calm))
@@ -401,11 +401,11 @@ added_is t short_equals later place item word words next (rows.next_of_row w pla
 
 joined_is : (t : Table) (short_equals : Bool) (later : List Item) (place : Place) (item : Item) (word : List ℕ) (words : List (List ℕ)) (next : Place)
     → GoesOn t short_equals later place item word words next
-    → adds t short_equals (separator_comes_too_early later) (separator_is_due later) place item ≡ Ok (record { goes_on = true; word = word; words = words; place = next })
+    → adds t short_equals (separator_comes_too_early later) (separator_is_due later) place item ≡ Ok (record { continues = true; word = word; words = words; place = next })
 joined_is t short_equals later place item word words next (rows.dash_option q i after ws form) =
     short_by t short_equals later in_cluster dash item _ refl (form_is_of short_equals later (kind t (short dash)) (short dash) item after words next form)
     (has_form short_equals later (kind t (short dash)) (short dash) item after words next form)
-    ∙ ap (λ l. Ok (record { goes_on = true; word = l; words = words; place = next })) (sym (dash_bytes after))
+    ∙ ap (λ l. Ok (record { continues = true; word = l; words = words; place = next })) (sym (dash_bytes after))
 
 refused_is : (t : Table) (short_equals : Bool) (later : List Item) (place : Place) (item : Item) (reason : Reason)
     → CannotBeSpelled t short_equals later place item reason
@@ -449,9 +449,9 @@ abbrev IsRest : Table → Bool → List Item → Place → Result Rest Fault →
 IsRest t short_equals items place (Ok r) = SpelledFrom t short_equals place items r.first r.words
 IsRest t short_equals items place (Err f) = FaultFrom t short_equals place items f.index f.reason
 
-after_added : (t : Table) (short_equals : Bool) (place next : Place) (item : Item) (later : List Item) (goes_on : Bool) (word : List ℕ) (words : List (List ℕ))
-    (rest : Result Rest Fault) → IsAdded t short_equals later place item goes_on word words next → IsRest t short_equals later next rest
-    → IsRest t short_equals (item ∷ later) place (with_rest (record { goes_on = goes_on; word = word; words = words; place = next }) rest)
+after_added : (t : Table) (short_equals : Bool) (place next : Place) (item : Item) (later : List Item) (continues : Bool) (word : List ℕ) (words : List (List ℕ))
+    (rest : Result Rest Fault) → IsAdded t short_equals later place item continues word words next → IsRest t short_equals later next rest
+    → IsRest t short_equals (item ∷ later) place (with_rest (record { continues = continues; word = word; words = words; place = next }) rest)
 after_added t short_equals place next item later false word words (Ok r) added is = rows.new_word place next item later word r.first words r.words added is
 after_added t short_equals place next item later true word words (Ok r) added is = rows.same_word place next item later word r.first words r.words added is
 after_added t short_equals place next item later false word words (Err f) added is =
@@ -464,7 +464,7 @@ after_answer : (t : Table) (short_equals : Bool) (place : Place) (item : Item) (
     → IsRest t short_equals (item ∷ later) place (with_rests o (spelled_from t short_equals later))
 after_answer t short_equals place item later (Err r) is more = rows.here place item later r is
 after_answer t short_equals place item later (Ok a) is more =
-    after_added t short_equals place a.place item later a.goes_on a.word a.words (spelled_from t short_equals later a.place) is (more a.place)
+    after_added t short_equals place a.place item later a.continues a.word a.words (spelled_from t short_equals later a.place) is (more a.place)
 
 from_tables : (t : Table) (short_equals : Bool) (items : List Item) (place : Place) → IsRest t short_equals items place (spelled_from t short_equals items place)
 unfolding spelled_from
@@ -479,10 +479,10 @@ unfolding spelled_from
 from_words t short_equals place items bytes words (rows.no_items p) = refl
 from_words t short_equals place items bytes words (rows.new_word p next item later word others more ws added spelled_too) =
     ap (λ o. with_rests o (spelled_from t short_equals later)) (added_is t short_equals later place item word more next added)
-    ∙ ap (with_rest (record { goes_on = false; word = word; words = more; place = next })) (from_words t short_equals next later others ws spelled_too)
+    ∙ ap (with_rest (record { continues = false; word = word; words = more; place = next })) (from_words t short_equals next later others ws spelled_too)
 from_words t short_equals place items bytes words (rows.same_word p next item later word others more ws added spelled_too) =
     ap (λ o. with_rests o (spelled_from t short_equals later)) (joined_is t short_equals later place item word more next added)
-    ∙ ap (with_rest (record { goes_on = true; word = word; words = more; place = next })) (from_words t short_equals next later others ws spelled_too)
+    ∙ ap (with_rest (record { continues = true; word = word; words = more; place = next })) (from_words t short_equals next later others ws spelled_too)
 
 from_fault : (t : Table) (short_equals : Bool) (place : Place) (items : List Item) (index : ℕ) (reason : Reason) → FaultFrom t short_equals place items index reason
     → spelled_from t short_equals items place ≡ Err (record { index = index; reason = reason })
@@ -491,17 +491,17 @@ from_fault t short_equals place items index reason (rows.here p item later r ref
     ap (λ o. with_rests o (spelled_from t short_equals later)) (refused_is t short_equals later place item reason refused)
 from_fault t short_equals place items index reason (rows.after_new_word p next item later word more i r added fault) =
     ap (λ o. with_rests o (spelled_from t short_equals later)) (added_is t short_equals later place item word more next added)
-    ∙ ap (with_rest (record { goes_on = false; word = word; words = more; place = next })) (from_fault t short_equals next later i reason fault)
+    ∙ ap (with_rest (record { continues = false; word = word; words = more; place = next })) (from_fault t short_equals next later i reason fault)
 from_fault t short_equals place items index reason (rows.after_same_word p next item later word more i r added fault) =
     ap (λ o. with_rests o (spelled_from t short_equals later)) (joined_is t short_equals later place item word more next added)
-    ∙ ap (with_rest (record { goes_on = true; word = word; words = more; place = next })) (from_fault t short_equals next later i reason fault)
+    ∙ ap (with_rest (record { continues = true; word = word; words = more; place = next })) (from_fault t short_equals next later i reason fault)
 
 -- ---- the words and the fault of a list
 
 abbrev FaultIs : Result (List (List ℕ)) Fault → Fault → Type 0
 FaultIs answer f = answer ≡ Err f
 
--- only after a flag do bytes go on
+-- only after a flag do bytes continue a word
 none_first : (t : Table) (short_equals : Bool) (place : Place) (items : List Item) (bytes : List ℕ) (words : List (List ℕ)) → place ≢ in_cluster
     → SpelledFrom t short_equals place items bytes words → bytes ≡ []
 none_first t short_equals place items bytes words other (rows.no_items p) = refl
@@ -557,7 +557,7 @@ pub not_both : {X : Type 0} (t : Table) (short_equals : Bool) (items : List Item
     → HasFault t short_equals items f → X
 not_both t short_equals items words f one other = none_is f words (sym (fault_is t short_equals items f other) ∙ words_are t short_equals items words one)
 
--- ---- what the words spell, and what the fault is
+-- ---- the items that the words spell, and the fault
 
 pub words_spell : (t : Table) (short_equals : Bool) (items : List Item) (words : List (List ℕ)) → SpelledAs t short_equals items words → Spells t short_equals words items
 words_spell t short_equals items words is = spelled_spells t short_equals items words (words_are t short_equals items words is)

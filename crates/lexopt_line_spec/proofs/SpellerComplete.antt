@@ -1,4 +1,4 @@
--- What some words show, the speller spells.
+-- The speller spells each list of items that some words show.
 use Rattle.std.proofs.Common.{◌≡◌, ◌≢◌, ◌⊎◌, ℕ, suc, ◌==◌, ◌&&◌, Bool, true, false, List, [], ◌∷◌, ◌++◌, Option, Some, None, refl, sym, ap, subst, ◌∙◌, arith, inl, inr, ⊎_elim, true≢false}
 use Rattle.std.proofs.lemmas.Bool.{ne_eqb, and_right}
 use Rattle.std.proofs.lemmas.Str.{is_utf8-from_IsUtf8}
@@ -12,13 +12,13 @@ use Rattle.lexopt_line_spec.specs.Table.{Name, short, long, Item, option, many, 
 use Rattle.lexopt_line_spec.specs.Spelling as spelling
 use Rattle.lexopt_line_spec.specs.Spelling.{damaged, After, nothing, attached, joined, no_value, attached_value, joined_value, next_word, no_optional, attached_optional, joined_optional, joined_several, attached_several, several_words, Completes, IsAfterLast, nothing_more, a_value, marked_value, Cluster, flag_first, last_option, IsLong, name_alone, name_and_value, Group, cluster, Line, no_words, plain_word, group, separator, Shows}
 use Rattle.lexopt_line_spec.specs.Speller.{Place, open_line, in_cluster, after_values, after_positional, ended}
-use Rattle.lexopt_line_spec.specs.SpellerTables.{Form, name_only, in_word, attached_form, short_form, long_form, words_form, short_words_form, short_many_form, long_many_form, Added, short_added, is_named, long_placed, long_added, stands, positional_added, adds}
+use Rattle.lexopt_line_spec.specs.SpellerTables.{Form, name_only, in_word, attached_form, short_form, long_form, words_form, short_words_form, short_many_form, long_many_form, Added, short_added, is_named, long_placed, long_added, needs_no_separator, positional_added, adds}
 use Rattle.lexopt_line_spec.proofs.Names.{letter_scalar}
 use Rattle.lexopt_spec.proofs.PlainFronts.{plain_passes}
 use Rattle.lexopt_line_spec.proofs.SpellerTests.{all_pass, has_equals, letter_dash, lossy_text, lossy_free, lossy_some}
 use Rattle.lexopt_line_spec.proofs.SpellerPlaces.{Can, nil_can, can_cons, positionals_can, words_ok}
 
--- after these places the items may follow words that are left
+-- at this place, these words may come next
 abbrev Follows : Place → List (List ℕ) → Type 0
 Follows place left = (place ≡ open_line) ⊎ ((place ≡ in_cluster) ⊎ ((place ≡ after_values) × ¬ IsNormalIn false left))
 
@@ -35,7 +35,7 @@ followed t short_equals place left items (inr (inr is)) ready = subst (Can t sho
 
 -- ---- the form of an option's values
 
--- after a character. One of several values is joined, where that is what is shown
+-- the form of a short option; an only value is joined if the words show it so
 data ShortForm (short_equals : Bool) (k : Kind) (name : Name) (item : Item) (left : List (List ℕ)) : Type 0 where
   of_option : (value : Option (List ℕ)) (f : Form) → item ≡ option name value → short_form short_equals k value ≡ Ok f → Follows f.place left → ShortForm short_equals k name item left
   of_many : (joins : Bool) (values : List (List ℕ)) (f : Form) → item ≡ many name values → short_many_form (short_equals && joins) k values ≡ Ok f → Follows f.place left
@@ -55,7 +55,7 @@ optional_short : (short_equals : Bool) (name : Name) (item : Item) (left : List 
     → ShortForm short_equals optional name item left
 optional_short short_equals name item left v is fits = let f = attached_ok short_equals v fits in of_option (Some v) f.0 is f.1 (inl f.2)
 
--- values in words
+-- several values in words of their own
 words_short : (short_equals : Bool) (name : Name) (item : Item) (left : List (List ℕ)) (v : List ℕ) (vs : List (List ℕ)) → item ≡ many name (v ∷ vs) → All (IsPlain false) vs
     → ¬ IsNormalIn false left → ShortForm short_equals several name item left
 words_short short_equals name item left v [] is plain calm =
@@ -67,7 +67,7 @@ words_short short_equals name item left v (w ∷ ws) is plain calm =
     (ap (λ x. short_many_form x several (v ∷ w ∷ ws)) (and_right short_equals false refl) ∙ ap (λ x. short_words_form (is_plain false v) x v (w ∷ ws)) (all_pass (w ∷ ws) plain) ∙ f.1)
     (inr (inr (f.2, calm)))
 
--- what may come after a character
+-- the texts that may come after a character
 abbrev Fits : Bool → After → Type 0
 Fits short_equals nothing = Unit {0}
 Fits short_equals (attached v) = v ≢ []
@@ -93,7 +93,7 @@ short_of short_equals several name after words item left fits (attached_several 
 short_of short_equals several name after words item left fits (several_words [] b g some i) = absurd (some refl)
 short_of short_equals several name after words item left fits (several_words (v ∷ vs) b g some i) = words_short short_equals name item left v vs i (tail_all v vs g.plain) g.longest
 
--- after a name
+-- the form of a long option
 record LongFits (bytes : List ℕ) (f : Form) (left : List (List ℕ)) : Type 0 where
   named : is_named bytes f.after ≡ true
   follows : Follows f.place left
@@ -124,7 +124,7 @@ many_long bytes item left v [] is some plain calm = of_many_long (v ∷ []) _ is
 many_long bytes item left v (w ∷ ws) is some plain calm =
     of_many_long (v ∷ w ∷ ws) _ is (ap (λ x. words_form x (v ∷ w ∷ ws)) (all_pass (v ∷ w ∷ ws) plain)) (record { named = name_some bytes some; follows = inr (inr (refl, calm)) })
 
--- after a name comes nothing, where the name has bytes, or a joined value
+-- nothing comes after a name that is not empty, or a joined value comes after a name
 abbrev FitsLong : List ℕ → After → Type 0
 FitsLong bytes nothing = bytes ≢ []
 FitsLong bytes (attached v) = ⊥
@@ -146,7 +146,7 @@ long_of several bytes after words item left fits (several_words [] b g some i) =
 long_of several bytes after words item left fits (several_words (v ∷ vs) b g some i) =
     many_long bytes item left v vs i (subst (FitsLong bytes) b fits) g.plain g.longest
 
--- ---- what an item adds
+-- ---- the words that an item adds
 
 abbrev AddsAt : Table → Bool → Place → Item → List (List ℕ) → Type 0
 AddsAt t short_equals place item left = (joins : Bool) × (a : Added) × (adds t short_equals joins false place item ≡ Ok a) × Follows a.place left
@@ -252,13 +252,13 @@ group_can t short_equals words front left items place (spelling.long_option text
 
 -- ---- a whole line
 
--- a plain word may be by itself after these
+-- the places at which a plain word needs no separator, unless one is due
 data IsRow : Place → Type 0 where
   at_open : IsRow open_line
   at_cluster : IsRow in_cluster
   at_positional : IsRow after_positional
 
-row_leads : (w : List ℕ) (place : Place) → IsRow place → (positional_added (stands true false place) place w).place ≡ after_positional
+row_leads : (w : List ℕ) (place : Place) → IsRow place → (positional_added (needs_no_separator true false place) place w).place ≡ after_positional
 row_leads w open_line at_open = refl
 row_leads w in_cluster at_cluster = refl
 row_leads w after_positional at_positional = refl
@@ -268,8 +268,8 @@ row_leads w ended at = elim at [ ]
 plain_can : (t : Table) (short_equals : Bool) (w : List ℕ) (items : List Item) (place : Place) → is_plain false w ≡ true → IsRow place
     → Can t short_equals items after_positional → Can t short_equals (positional w ∷ items) place
 plain_can t short_equals w items place plain at can =
-    can_cons t short_equals false false place (positional w) items (positional_added (stands (is_plain false w) false place) place w) refl
-    (subst (Can t short_equals items) (sym (ap (λ p. (positional_added (stands p false place) place w).place) plain ∙ row_leads w place at)) can)
+    can_cons t short_equals false false place (positional w) items (positional_added (needs_no_separator (is_plain false w) false place) place w) refl
+    (subst (Can t short_equals items) (sym (ap (λ p. (positional_added (needs_no_separator p false place) place w).place) plain ∙ row_leads w place at)) can)
 
 line_ready : (t : Table) (short_equals : Bool) (words : List (List ℕ)) (items : List Item) → Line damaged t short_equals words items → Ready t short_equals words items
 line_ready t short_equals words items no_words = record {

@@ -1,4 +1,4 @@
--- Items that no words spell have one that is at fault, and the speller names it.
+-- Of items that no words spell, one is at fault, and the speller names it.
 use Rattle.std.proofs.Common.{◌≡◌, ℕ, zero, suc, ◌<◌, ◌≤◌, ◌&&◌, not, Bool, true, false, List, [], ◌∷◌, length, take, refl, sym, ap, subst, ◌∙◌, arith, ⊎_elim, true≢false}
 use Rattle.std.proofs.lemmas.Bool.{cases_lt, and_parts, and_from}
 use Rattle.std.proofs.Math.Seq.{take-length}
@@ -17,7 +17,7 @@ use Rattle.lexopt_line_spec.proofs.SpellerSound.{spelled_spells}
 use Rattle.lexopt_line_spec.proofs.SpellerPlaces.{Can, nil_can, can_cons, can_split, adds_too, changed_can, due_positional, not_joined}
 use Rattle.lexopt_line_spec.proofs.SpellerComplete.{shown_can}
 
--- ---- what is spelled, and what is not
+-- ---- items that are spelled, and items that are not
 
 abbrev pub Failing : Result Rest Fault → Fault → Type 0
 Failing answer f = answer ≡ Err f
@@ -73,7 +73,7 @@ early_take (suc n) (item ∷ items) is =
     let parts = and_parts (is_positional item) (not (list_all is_positional (take n items))) is in
     and_from (is_positional item) (not (list_all is_positional items)) parts.0 (not_all n items parts.1)
 
--- a front of some items can be spelled where all can
+-- if all items can be spelled, so can each front of them
 front_can : (t : Table) (short_equals : Bool) (items : List Item) (m n : ℕ) (place : Place) → m ≤ n → Can t short_equals (take n items) place → Can t short_equals (take m items) place
 front_can t short_equals items zero n place le can = nil_can t short_equals place
 front_can t short_equals items (suc m) zero place le can = absurd (omega arith)
@@ -114,7 +114,7 @@ pub fails : (t : Table) (short_equals : Bool) (place : Place) (item : Item) (ite
 unfolding spelled_from
 fails t short_equals place item items f is = fails_by t short_equals place item items f (adds t short_equals (separator_comes_too_early items) (separator_is_due items) place item) refl is
 
--- with fewer items after it, the item leads to a place from which no more can be spelled
+-- with fewer items after it, the item leads to a place from which no more items can be spelled
 cannot : (t : Table) (short_equals : Bool) (place : Place) (item : Item) (items : List Item) (n : ℕ) (a : Added) → adds t short_equals (separator_comes_too_early items) (separator_is_due items) place item ≡ Ok a
     → ¬ Can t short_equals (take n items) a.place → ¬ Can t short_equals (item ∷ take n items) place
 cannot t short_equals place item items n a is none can =
@@ -166,7 +166,7 @@ named_at_fault t short_equals items f is =
       none = λ words spells. fault.none (spells_can t short_equals words (take (suc f.index) items) spells);
     }
 
--- ---- one is at fault, and then no words spell the items
+-- ---- if one item is at fault, no words spell the items
 
 front_spells : (t : Table) (short_equals : Bool) (items : List Item) (m n : ℕ) (words : List (List ℕ)) → m ≤ n → Spells t short_equals words (take n items)
     → (others : List (List ℕ)) × Spells t short_equals others (take m items)
@@ -193,7 +193,7 @@ same_fault t short_equals items i j first other = ⊎_elim
     (cases_lt j i))
     (cases_lt i j)
 
--- ---- what is spelled is read
+-- ---- the words that are spelled are read back
 
 pub words_read : (t : Table) (short_equals : Bool) (words : List (List ℕ)) (items : List Item) → Spells t short_equals words items → IsReading t (start short_equals words) end items
 words_read t short_equals words items spells = shown_read t short_equals words items (spelled_shows t short_equals words items spells)

@@ -1,4 +1,4 @@
--- The forms of an option's values complete it.
+-- The form of an option completes its item.
 use Rattle.std.proofs.Common.{◌≡◌, ◌≢◌, ◌⊎◌, ℕ, ◌==◌, Bool, true, false, List, [], ◌∷◌, ◌++◌, Option, Some, None, refl, sym, ◌∙◌, arith, inl, inr, true≢false, cond}
 use Rattle.std.proofs.lemmas.Bool.{eq-eqb, and_from}
 use Rattle.std.proofs.lemmas.Result.{IfOk-at_ok}
@@ -12,12 +12,12 @@ use Rattle.lexopt_line_spec.specs.SpellerTables.{Form, name_only, in_word, attac
 use Rattle.lexopt_line_spec.proofs.SpellerAnswers.{Formed, none_is}
 use Rattle.lexopt_line_spec.proofs.SpellerTests.{all_plain, dashed}
 
--- the form completes the item, and leads to this place: after a flag, to that one
+-- the form completes the item, and leads to an open line, to values, or after a flag to `flagged`
 pub record Holds (flagged : Place) (k : Kind) (name : Name) (item : Item) (f : Form) : Type 0 where
   pub completes : (left : List (List ℕ)) → (f.place ≡ after_values → ¬ IsNormalIn false left) → Completes k name f.after (f.words ++ left) item left
   pub place : (f.place ≡ open_line) ⊎ ((f.place ≡ after_values) ⊎ ((k ≡ flag) × (item ≡ option name None) × (f ≡ name_only flagged)))
 
--- after a character
+-- the same for a short option
 pub record HoldsShort (short_equals : Bool) (k : Kind) (name : Name) (item : Item) (f : Form) : Type 0 where
   pub holds : Holds in_cluster k name item f
   pub after : IsAfterLast short_equals (after_bytes f.after) f.after
@@ -27,7 +27,7 @@ NotAttached nothing = Unit {0}
 NotAttached (attached v) = ⊥
 NotAttached (joined v) = Unit {0}
 
--- after a name
+-- the same for a long option
 pub record HoldsLong (k : Kind) (name : Name) (item : Item) (f : Form) : Type 0 where
   pub holds : Holds open_line k name item f
   pub unattached : NotAttached f.after
@@ -38,7 +38,7 @@ nil_some b bs is = let e : b ∷ bs ≡ [] = is in cc
 off_mark : (bytes : List ℕ) → ¬ BeginsWithMark false bytes
 off_mark bytes mark = true≢false (sym mark.0)
 
--- a word that is not plain does not begin with `=`, and has bytes
+-- a word that is not plain does not begin with `=`, and is not empty
 dashed_after : (short_equals : Bool) (v : List ℕ) → BeginsWith dash v → IsAfterLast short_equals v (attached v)
 dashed_after short_equals [] begins = absurd begins
 dashed_after short_equals (b ∷ bs) begins = a_value (nil_some b bs) (λ mark. let e : equals ≡ dash = sym mark.1 ∙ begins in absurd (omega arith)) refl

@@ -1,4 +1,5 @@
--- What is spelled from one place, and from another: one of several values, joined or not, leads to the same.
+-- Items that can be spelled from one place can be spelled from another: an only value leads to the
+-- same items, joined or not.
 use Rattle.std.proofs.Common.{◌≡◌, ℕ, ◌==◌, ◌&&◌, not, Bool, true, false, List, [], ◌∷◌, map, refl, sym, ap, subst, ◌∙◌, true≢false}
 use Rattle.std.proofs.lemmas.Bool.{and_parts, not-false}
 use Rattle.std.proofs.lemmas.Result.{IfOk-at_ok}
@@ -9,11 +10,11 @@ use lib.Utf8.{scalar}
 use Rattle.lexopt_spec.specs.UnreadLine.{dash, is_plain}
 use Rattle.lexopt_line_spec.specs.Table.{short, long, Item, option, many, positional, Kind, flag, one, optional, several, kind, Table}
 use Rattle.lexopt_line_spec.specs.Speller.{Reason, Place, open_line, in_cluster, after_values, after_positional, ended, is_positional, Fault}
-use Rattle.lexopt_line_spec.specs.SpellerTables.{Form, short_form, long_form, short_words_form, short_many_form, long_many_form, Added, short_added, is_named, long_placed, long_added, stands, positional_added, adds, separator_comes_too_early, is_plain_item, separator_is_due, Rest, with_rest, with_rests, spelled_from}
+use Rattle.lexopt_line_spec.specs.SpellerTables.{Form, short_form, long_form, short_words_form, short_many_form, long_many_form, Added, short_added, is_named, long_placed, long_added, needs_no_separator, positional_added, adds, separator_comes_too_early, is_plain_item, separator_is_due, Rest, with_rest, with_rests, spelled_from}
 use Rattle.lexopt_line_spec.proofs.SpellerAnswers.{Formed, Adding, Going, none_is}
 use Rattle.lexopt_line_spec.proofs.SpellerTests.{has_equals}
 
--- some words are spelled from this place on
+-- the items can be spelled from this place on
 abbrev pub Can : Table → Bool → List Item → Place → Type 0
 Can t short_equals items place = (r : Rest) × (spelled_from t short_equals items place ≡ Ok r)
 
@@ -52,7 +53,7 @@ can_split t short_equals place item items can =
 pub positionals_can : (t : Table) (short_equals : Bool) (words : List (List ℕ)) (place : Place) → Can t short_equals (map positional words) place
 positionals_can t short_equals [] place = nil_can t short_equals place
 positionals_can t short_equals (w ∷ ws) place =
-    let alone = stands (is_plain false w) (separator_is_due (map positional ws)) place in
+    let alone = needs_no_separator (is_plain false w) (separator_is_due (map positional ws)) place in
     cons_can t short_equals place (positional w) (map positional ws) (positional_added alone place w) refl
     (positionals_can t short_equals ws (positional_added alone place w).place)
 
@@ -68,7 +69,7 @@ all_positional (positional w ∷ items) are = let more = all_positional items ar
 pub all_can : (t : Table) (short_equals : Bool) (items : List Item) (place : Place) → AllPositional items → Can t short_equals items place
 all_can t short_equals items place all = subst (λ (l : List Item). Can t short_equals l place) (sym all.1) (positionals_can t short_equals all.0 place)
 
--- after the separator there are no options
+-- after the separator no option is added
 short_ended : {X : Type 0} (s d : Bool) (c : ℕ) (form : Result Form Reason) (a : Added) → Adding (short_added s d ended c form) a → X
 short_ended false d c form a is = none_is _ a is
 short_ended true d c (Err reason) a is = none_is _ a is
@@ -103,7 +104,7 @@ ended_positional t short_equals (positional w ∷ items) can =
     let s = can_split t short_equals ended (positional w) items can in
     ended_positional t short_equals items (IfOk-at_ok (λ (a : Added). Can t short_equals items a.place → Can t short_equals items ended) s.1 (λ h. h) s.2)
 
--- ---- after values, and after nothing
+-- ---- the places after values and after nothing
 
 short_same : (s d : Bool) (c : ℕ) (form : Result Form Reason) → short_added s d open_line c form ≡ short_added s d after_values c form
 short_same false d c form = refl
@@ -133,7 +134,8 @@ options_same : (t : Table) (short_equals : Bool) (item : Item) (items : List Ite
 unfolding spelled_from
 options_same t short_equals item items other = ap (λ o. with_rests o (spelled_from t short_equals items)) (option_same t short_equals (separator_comes_too_early items) (separator_is_due items) item other)
 
--- from after nothing to after values, unless the separator would come too early
+-- items that can be spelled after nothing can be spelled after values, unless the separator would
+-- come too early
 pub closed : (t : Table) (short_equals : Bool) (items : List Item) → separator_comes_too_early items ≡ false → Can t short_equals items open_line → Can t short_equals items after_values
 closed t short_equals [] early can = nil_can t short_equals after_values
 closed t short_equals (option name value ∷ items) early can = (can.0, sym (options_same t short_equals (option name value) items refl) ∙ can.1)
@@ -141,7 +143,7 @@ closed t short_equals (many name values ∷ items) early can = (can.0, sym (opti
 closed t short_equals (positional w ∷ items) early can =
     all_can t short_equals (positional w ∷ items) after_values (all_positional (positional w ∷ items) (not-false (list_all is_positional items) early))
 
--- and back
+-- the other way round
 pub opened : (t : Table) (short_equals : Bool) (items : List Item) → Can t short_equals items after_values → Can t short_equals items open_line
 opened t short_equals [] can = nil_can t short_equals open_line
 opened t short_equals (option name value ∷ items) can = (can.0, options_same t short_equals (option name value) items refl ∙ can.1)
@@ -151,15 +153,15 @@ opened t short_equals (positional w ∷ items) can =
     all_can t short_equals (positional w ∷ items) open_line
     (all_positional (positional w ∷ items) (ended_positional t short_equals items (IfOk-at_ok (λ (a : Added). Can t short_equals items a.place → Can t short_equals items ended) s.1 (λ h. h) s.2)))
 
--- ---- one of several values, joined or not
+-- ---- an only value, joined or not
 
--- from what the item leads to where this is joined or not, to what it leads to where that is
+-- the item leads to `before` if `x` is whether its only value is joined, and to `after` if `y` is
 pub data Moved (x y : Bool) (before after : Place) : Type 0 where
   stays : after ≡ before → Moved x y before after
   opens : before ≡ after_values → after ≡ open_line → Moved x y before after
   closes : before ≡ open_line → after ≡ after_values → x ≡ true → y ≡ false → Moved x y before after
 
--- and where the separator is due, or not
+-- a positional leads to `before` and to `after`, by whether the separator is due
 pub data Ended (due : Bool) (before after : Place) : Type 0 where
   as_before : after ≡ before → Ended due before after
   ends : before ≡ after_positional → after ≡ ended → due ≡ true → Ended due before after
@@ -195,7 +197,7 @@ form_joined true false several (v ∷ w ∷ vs) f is = (f, is, stays refl)
 form_joined false true several (v ∷ w ∷ vs) f is = (f, is, stays refl)
 form_joined false false several (v ∷ w ∷ vs) f is = (f, is, stays refl)
 
--- a short option is added by its form, and so with any other
+-- a short option is added with this form, and so it is with any other
 pub record Through (s d : Bool) (place : Place) (c : ℕ) (form : Result Form Reason) (a : Added) : Type 0 where
   pub formed : Form
   pub is : form ≡ Ok formed
@@ -241,7 +243,7 @@ many_too t short_equals x y d e place c values a is =
     )
 
 positional_ends : (plain d e : Bool) (w : List ℕ) (place : Place)
-    → Ended e (positional_added (stands plain d place) place w).place (positional_added (stands plain e place) place w).place
+    → Ended e (positional_added (needs_no_separator plain d place) place w).place (positional_added (needs_no_separator plain e place) place w).place
 positional_ends true true true w open_line = as_before refl
 positional_ends true true false w open_line = ends_later refl refl
 positional_ends true false true w open_line = ends refl refl refl
@@ -256,7 +258,8 @@ positional_ends plain d e w after_values = as_before refl
 positional_ends plain d e w after_positional = as_before refl
 positional_ends plain d e w ended = as_before refl
 
--- whether one of several values is joined or not, and the separator is due or not, the item is added, or it is not
+-- an item is added or not, whether its only value is joined or not, and whether the separator is
+-- due or not
 pub adds_too : (t : Table) (short_equals x y d e : Bool) (place : Place) (item : Item) (a : Added) → adds t short_equals x d place item ≡ Ok a → AddsToo t short_equals x y e place item a
 adds_too t short_equals x y d e place (option (short c) value) a is = (a, is, moved (stays refl))
 adds_too t short_equals x y d e place (option (long name) value) a is = (a, is, moved (stays refl))
@@ -265,7 +268,7 @@ adds_too t short_equals x y d e place (many (long name) values) a is = (a, is, m
 adds_too t short_equals x y d e place (positional w) a is = (
   _,
   refl,
-  IfOk-at_ok (λ (b : Added). Changed (short_equals && x) (short_equals && y) e b.place (positional_added (stands (is_plain false w) e place) place w).place) is
+  IfOk-at_ok (λ (b : Added). Changed (short_equals && x) (short_equals && y) e b.place (positional_added (needs_no_separator (is_plain false w) e place) place w).place) is
       (ended_too (positional_ends (is_plain false w) d e w place)),
 )
 
@@ -273,7 +276,7 @@ pub not_joined : (short_equals x y : Bool) → (short_equals && x) ≡ true → 
 not_joined true x y on off = off
 not_joined false x y on off = absurd (true≢false (sym on))
 
--- where the separator is due, all items are positionals
+-- if the separator is due, all items are positionals
 pub due_positional : (items : List Item) → separator_is_due items ≡ true → list_all is_positional items ≡ true
 due_positional items due = (and_parts (list_all is_positional items) (not (list_all is_plain_item items)) due).0
 
@@ -290,7 +293,7 @@ changed_can t short_equals x e items y before after early due (ended_too (ends w
 changed_can t short_equals x e items y before after early due (ended_too (ends_later was is_now)) can =
     all_can t short_equals items after (all_positional items (ended_positional t short_equals items (subst (Can t short_equals items) was can)))
 
--- what can be spelled after an item, can be with it
+-- items that can be spelled after an item can be spelled with it
 pub can_cons : (t : Table) (short_equals joins due : Bool) (place : Place) (item : Item) (items : List Item) (a : Added) → adds t short_equals joins due place item ≡ Ok a
     → Can t short_equals items a.place → Can t short_equals (item ∷ items) place
 can_cons t short_equals joins due place item items a is can =

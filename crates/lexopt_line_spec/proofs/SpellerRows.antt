@@ -1,5 +1,5 @@
--- What the tables of the speller give for an option's values, and for the items after it, is what
--- the relations describe.
+-- The tables of the speller agree with the relations about the forms of options, and about the
+-- items that come after an item.
 use Rattle.std.proofs.Common.{◌≡◌, ◌≢◌, ℕ, ◌==◌, ◌&&◌, not, Bool, true, false, map, List, [], ◌∷◌, length, Option, Some, None, refl, sym, ap, ◌∙◌, arith, true≢false, cond}
 use Rattle.std.proofs.lemmas.Bool.{eq-eqb, eqb-true, ne_eqb, and_parts, and_from}
 use Rattle.std.specs.Prelude.{Result, Ok, Err}
@@ -14,7 +14,7 @@ use Rattle.lexopt_spec.proofs.PlainFronts.{plain_holds, plain_passes}
 use Rattle.lexopt_line_spec.proofs.SpellerTests.{all_plain, all_pass}
 use Rattle.lexopt_line_spec.proofs.SpellerPlaces.{all_positional}
 
--- ---- tests, and what they mean
+-- ---- booleans, and the propositions that they decide
 
 pub test_fails : {P : Type 0} (b : Bool) → (b ≡ true → P) → ¬ P → b ≡ false
 test_fails true holds none = absurd (none (holds refl))
@@ -75,7 +75,7 @@ due_passes items need =
 
 -- ---- the form of an option's values
 
--- what a table gives for a form
+-- the result of a table for a form
 abbrev pub IsForm : Bool → List Item → Kind → Name → Item → Result Form Reason → Type 0
 IsForm short_equals later k name item (Ok f) = HasForm short_equals later k name item f.after f.words f.place
 IsForm short_equals later k name item (Err r) = HasNoForm short_equals k name item r
@@ -172,9 +172,9 @@ long_many_row short_equals later name several (v ∷ []) = rows.long_lone name v
 long_many_row short_equals later name several (v ∷ w ∷ vs) =
     long_words_row short_equals later name v w vs (list_all (is_plain false) (v ∷ w ∷ vs)) refl
 
--- ---- and nothing else has a form, or none
+-- ---- no other item has a form, or has none
 
--- what the tables give for an option, as this item
+-- the result of the tables for an option given as this item
 abbrev pub form_of : Bool → Bool → Kind → Item → Result Form Reason
 form_of short_equals joins k (option (short c) value) = short_form short_equals k value
 form_of short_equals joins k (many (short c) values) = short_many_form (short_equals && joins) k values
@@ -197,7 +197,7 @@ plain_form short_equals [] some other = absurd (some refl)
 plain_form true (b ∷ bs) some other = let e = ne_eqb b equals other in rw e refl
 plain_form false (b ∷ bs) some other = refl
 
--- whether a lone value is joined is asked only of a lone value
+-- whether an only value is joined matters only for an only value
 words_joined : (short_equals : Bool) (later : List Item) (v : List ℕ) (vs : List (List ℕ)) → ¬ IsLoneAndJoined short_equals later (v ∷ vs)
     → short_many_form (short_equals && separator_comes_too_early later) several (v ∷ vs) ≡ short_words_form (is_plain false v) (list_all (is_plain false) vs) v vs
 words_joined short_equals later v [] calm = by short_equals (separator_comes_too_early later) refl refl

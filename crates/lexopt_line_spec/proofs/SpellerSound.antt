@@ -1,4 +1,4 @@
--- What the speller returns spells the items.
+-- The words that the speller returns spell the items.
 use Rattle.std.proofs.Common.{◌≡◌, ◌≢◌, ◌⊎◌, ℕ, ◌==◌, ◌&&◌, not, Bool, true, false, List, [], ◌∷◌, ◌++◌, map, None, encode_utf8, refl, sym, ap, subst, ◌∙◌, arith, inl, inr, ⊎_elim, true≢false, append-nil, append_assoc}
 use Rattle.std.proofs.lemmas.Bool.{eq-eqb, eqb-true, and_parts}
 use Rattle.std.proofs.lemmas.Result.{IfOk-at_ok}
@@ -13,13 +13,13 @@ use Rattle.lexopt_line_spec.specs.Table.{Name, short, long, Item, option, many, 
 use Rattle.lexopt_line_spec.specs.Spelling as spelling
 use Rattle.lexopt_line_spec.specs.Spelling.{exact, After, nothing, attached, joined, Completes, BeginsWithMark, IsAfterLast, Cluster, flag_first, last_option, nothing_more, IsLong, name_alone, name_and_value, Group, cluster, Line, no_words, plain_word, group, separator, Spells}
 use Rattle.lexopt_line_spec.specs.Speller.{Reason, Place, open_line, in_cluster, after_values, after_positional, ended, after_bytes, Fault}
-use Rattle.lexopt_line_spec.specs.SpellerTables.{Form, name_only, short_form, long_form, short_many_form, long_many_form, Added, with_form, short_added, is_named, long_placed, long_added, stands, positional_added, adds, separator_comes_too_early, separator_is_due, Rest, put_in_front, with_rest, with_rests, spelled_from, words_or_fault, spelled}
+use Rattle.lexopt_line_spec.specs.SpellerTables.{Form, name_only, short_form, long_form, short_many_form, long_many_form, Added, with_form, short_added, is_named, long_placed, long_added, needs_no_separator, positional_added, adds, separator_comes_too_early, separator_is_due, Rest, put_in_front, with_rest, with_rests, spelled_from, words_or_fault, spelled}
 use Rattle.lexopt_spec.proofs.PlainFronts.{plain_holds}
 use Rattle.lexopt_line_spec.proofs.SpellerAnswers.{Adding, Going, none_is}
 use Rattle.lexopt_line_spec.proofs.SpellerTests.{has_equals, no_equals, dash_first, dash_begins, some_bytes}
 use Rattle.lexopt_line_spec.proofs.SpellerForms.{HoldsShort, HoldsLong, short_holds, long_holds, short_many_holds, long_many_holds, NotAttached}
 
--- ---- what holds of the words, by the place that they follow
+-- ---- facts about the words, by their place
 
 -- the bytes, with the words after them, end a cluster and the line
 pub record Clustered (t : Table) (short_equals : Bool) (bytes : List ℕ) (words : List (List ℕ)) (items : List Item) : Type 0 where
@@ -30,7 +30,7 @@ pub record Clustered (t : Table) (short_equals : Bool) (bytes : List ℕ) (words
   pub line : Line exact t short_equals left others
   pub items_are : items ≡ front ++ others
 
--- no bytes go on, and the words spell the items
+-- no bytes continue a word, and the words spell the items
 pub record Closed (t : Table) (short_equals : Bool) (r : Rest) (items : List Item) : Type 0 where
   pub none : r.first ≡ []
   pub line : Line exact t short_equals r.words items
@@ -50,9 +50,9 @@ not_plain bytes some (inr (inl e)) = some (let same : bytes ≡ [] = cc in same)
 not_plain bytes some (inr (inr other)) = other refl
 
 abbrev glue : Added → Rest → Rest
-glue a r = put_in_front a.goes_on (a.word ++ r.first) (a.words ++ r.words)
+glue a r = put_in_front a.continues (a.word ++ r.first) (a.words ++ r.words)
 
--- what follows an option that is not a flag of a cluster
+-- the words after an option that is not a short flag
 closed_after : (t : Table) (short_equals : Bool) (place : Place) (r : Rest) (items : List Item) → (place ≡ open_line) ⊎ (place ≡ after_values) → Right t short_equals place r items
     → Closed t short_equals r items × (place ≡ after_values → ¬ IsNormalIn false r.words)
 closed_after t short_equals place r items (inl is) right =
@@ -67,7 +67,7 @@ no_mark short_equals (b ∷ bs) begins mark = let e : equals ≡ dash = sym mark
 tail_nil : (name after first : List ℕ) → first ≡ [] → (name ++ after) ++ first ≡ name ++ after
 tail_nil name after first none = ap (λ l. (name ++ after) ++ l) none ∙ append-nil (name ++ after)
 
--- an option of a cluster, with what follows
+-- an option of a cluster, with the words after it
 clustered : (t : Table) (short_equals : Bool) (c : ℕ) (item : Item) (f : Form) (r : Rest) (items : List Item) → IsScalar c
     → HoldsShort short_equals (kind t (short c)) (short c) item f → Right t short_equals f.place r items
     → Clustered t short_equals ((encode_utf8 c ++ after_bytes f.after) ++ r.first) (f.words ++ r.words) (item ∷ items)
@@ -204,7 +204,7 @@ long_word t short_equals name item f r items text none some holds right =
       not_plain (dash ∷ ((name ++ after) ++ r.first)) (λ nil. let e : dash ∷ ((name ++ after) ++ r.first) ≡ [] = nil in cc),
     )
 
--- the word, wherever it is before the separator
+-- the same word at each place before the separator
 abbrev Anywhere : Table → Bool → Item → Added → Type 0
 Anywhere t short_equals item a = (r : Rest) (items : List Item) → Right t short_equals a.place r items → Closed t short_equals (glue a r) (item ∷ items) × ¬ IsNormalIn false ((glue a r).words)
 
@@ -272,7 +272,7 @@ positional_right t short_equals true open_line w plain r items right = record { 
 positional_right t short_equals true in_cluster w plain r items right = inl (record { none = refl; line = plain_line t short_equals w r items (plain refl) right })
 positional_right t short_equals true after_positional w plain r items right = record { none = refl; line = plain_line t short_equals w r items (plain refl) right }
 
-stands_plain : (p d : Bool) (place : Place) → stands p d place ≡ true → p ≡ true
+stands_plain : (p d : Bool) (place : Place) → needs_no_separator p d place ≡ true → p ≡ true
 stands_plain p d open_line is = (and_parts p (not d) is).0
 stands_plain p d in_cluster is = (and_parts p (not d) is).0
 stands_plain p d after_values is = is
@@ -296,7 +296,7 @@ adds_right t short_equals joins due place (many (long name) values) a is =
     (λ f found. long_many_holds (kind t (long name)) (long name) values f found) is
 adds_right t short_equals joins due place (positional w) a is =
     IfOk-at_ok (Leads t short_equals place (positional w)) is
-    (positional_right t short_equals (stands (is_plain false w) due place) place w (stands_plain (is_plain false w) due place))
+    (positional_right t short_equals (needs_no_separator (is_plain false w) due place) place w (stands_plain (is_plain false w) due place))
 
 nil_right : (t : Table) (short_equals : Bool) (place : Place) → Right t short_equals place (record { first = []; words = [] }) []
 nil_right t short_equals open_line = record { none = refl; line = no_words }

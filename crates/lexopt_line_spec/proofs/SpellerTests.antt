@@ -1,4 +1,4 @@
--- The tests of the speller test what they are named after.
+-- The booleans of the speller decide the propositions that they are named after.
 use Rattle.std.proofs.Common.{◌≡◌, ◌≢◌, ℕ, zero, suc, ◌<◌, ◌≤◌, ◌==◌, ◌||◌, not, Bool, true, false, map, List, [], ◌∷◌, ◌++◌, length, Some, None, encode_utf8, encode_utf8_all, refl, sym, ap, subst, ◌∙◌, arith, inl, inr, true≢false}
 use Rattle.std.proofs.lemmas.Bool.{eq-eqb, eqb-true, ne_eqb, or_parts}
 use Rattle.std.proofs.lemmas.Str.{encode_ascii, encode_same}
@@ -73,14 +73,14 @@ some_bytes c after scalar none =
     let read : (decoded []).char ≡ Some c = ap (λ l. (decoded l).char) (sym none) ∙ ap (λ (p : Decoded). p.char) (decoded-encode c after scalar) in
     let e : None ≡ Some c = read in cc
 
--- ---- what stands for a character, or for a name
+-- ---- the bytes that represent a character or a name
 
--- it is a character, and not a dash unless the bytes begin with one
+-- bytes that represent a dash begin with one
 pub letter_dash : (c : ℕ) (bytes after : List ℕ) → damaged.character c bytes after → c ≡ dash → BeginsWith dash (bytes ++ after)
 letter_dash c bytes after (inl is) same = subst (λ (l : List ℕ). BeginsWith dash (l ++ after)) (sym is.1) (dash_begins c after same)
 letter_dash c bytes after (inr is) same = absurd (let e : replacement ≡ dash = sym is.0 ∙ same in omega arith)
 
--- lossy text has no `=` of its own
+-- a character has an `=` only if the bytes that represent it have one
 letter_none : (c : ℕ) (bytes after : List ℕ) → damaged.character c bytes after → has_equals bytes ≡ false → has_equals (encode_utf8 c) ≡ false
 unfolding lib.Utf8.encode
 letter_none c bytes after (inl is) none = ap has_equals (sym is.1) ∙ none

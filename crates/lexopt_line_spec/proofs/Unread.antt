@@ -1,4 +1,4 @@
--- What an unread line shows, and how one call takes the first of it away.
+-- The items that an unread line shows, and those that it shows after one call.
 use Rattle.std.proofs.Common.{◌≡◌, ℕ, Bool, true, false, List, [], ◌∷◌, ◌++◌, map, Option, Some, None}
 use Rattle.lexopt_spec.specs.UnreadLine.{Tail, no_tail, joined, rest, UnreadLine, pending}
 use Rattle.lexopt_spec.specs.Steps as steps
@@ -7,7 +7,7 @@ use Rattle.lexopt_line_spec.specs.Table.{Name, short, long, Item, option, many, 
 use Rattle.lexopt_line_spec.specs.Spelling as spelling
 use Rattle.lexopt_line_spec.specs.Spelling.{damaged, After, nothing, attached, Completes, BeginsWithMark, Cluster, Shows}
 
--- ---- what an unread line shows
+-- ---- the items that an unread line shows
 
 -- the bytes of a cluster, with the words after it, show these items
 pub record ClusterShows (t : Table) (short_equals : Bool) (bytes : List ℕ) (words : List (List ℕ)) (items : List Item) : Type 0 where
@@ -24,17 +24,18 @@ PartsShow t short_equals no_tail true words items = items ≡ map positional wor
 PartsShow t short_equals (joined value) ended words items = ⊥
 PartsShow t short_equals (rest bytes) ended words items = (¬ BeginsWithMark short_equals bytes) × ClusterShows t short_equals bytes words items
 
--- read from here on by `next`, the line shows these items
+-- the line shows these items, if `next` is called first
 abbrev pub ShowsFrom : Table → UnreadLine → List Item → Type 0
 ShowsFrom t u items = PartsShow t u.short_equals u.tail u.ended u.words items
 
--- what is pending, as what comes after an option in its word
+-- the pending value, as the text after an option in its word
 abbrev pub after_of : Option (List ℕ × Bool) → After
 after_of None = nothing
 after_of (Some (value, true)) = spelling.joined value
 after_of (Some (value, false)) = attached value
 
--- read from here on, after an option of this name that has values, the line shows these items, the first of which is the option
+-- after an option of this name that has values, the line shows these items, of which the option is
+-- the first
 pub record ShowsAfter (t : Table) (name : Name) (u : UnreadLine) (items : List Item) : Type 0 where
   pub left : List (List ℕ)
   pub item : Item
@@ -43,7 +44,7 @@ pub record ShowsAfter (t : Table) (name : Name) (u : UnreadLine) (items : List I
   pub line : PartsShow t u.short_equals no_tail u.ended left others
   pub items_are : items ≡ item ∷ others
 
--- these items are this one, and then those that the line shows
+-- these items are this one, and then the items that the line shows
 pub record Leads (t : Table) (item : Item) (u : UnreadLine) (items : List Item) : Type 0 where
   pub others : List Item
   pub shows : ShowsFrom t u others
@@ -54,7 +55,7 @@ abbrev pub GoesOnShowing : Table → Kind → Name → UnreadLine → List Item 
 GoesOnShowing t flag name u items = Leads t (option name None) u items
 GoesOnShowing t k name u items = ShowsAfter t name u items
 
--- `next` gave this reply, and left this line: so the line before it shows these items
+-- `next` gave this reply and left this line, so the line before it shows these items
 abbrev pub NextShows : Table → Reply → UnreadLine → List Item → Type 0
 NextShows t (steps.short c) u items = GoesOnShowing t (kind t (short c)) (short c) u items
 NextShows t (steps.long name) u items = GoesOnShowing t (kind t (long name)) (long name) u items
@@ -62,7 +63,7 @@ NextShows t (steps.positional word) u items = Leads t (positional word) u items
 NextShows t steps.end u items = items ≡ []
 NextShows t reply u items = ⊥
 
--- the call for values gave this reply, after an option of this name, and left this line
+-- after an option of this name, the call for its values gave this reply and left this line
 abbrev pub ValueShows : Table → Name → Reply → UnreadLine → List Item → Type 0
 ValueShows t name (steps.taken word) u items = Leads t (option name (Some word)) u items
 ValueShows t name (steps.maybe value) u items = Leads t (option name value) u items

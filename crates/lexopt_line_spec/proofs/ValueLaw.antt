@@ -1,6 +1,6 @@
--- What a line shows after an option, and what it shows once `value` has returned.
+-- The items that a line shows after an option of one value, and those that it shows after `value`.
 use Rattle.std.proofs.Common.{◌≡◌, ◌↔◌, ℕ, Bool, true, false, List, [], ◌∷◌, Option, Some, None, refl, sym, ap, subst, ◌∙◌}
-use Rattle.lexopt_spec.specs.UnreadLine.{Tail, no_tail, joined, rest, LastOption, UnreadLine, pending, spelling, IsLine, TailStands}
+use Rattle.lexopt_spec.specs.UnreadLine.{Tail, no_tail, joined, rest, LastOption, UnreadLine, pending, spelling, IsLine, TailFits}
 use Rattle.lexopt_spec.specs.Steps.{Reply, taken, missing, ValueStep, pending_value, takes_word, nothing_to_take}
 use Rattle.lexopt_line_spec.specs.Table.{Name, Item, option, Kind, one, kind, Table}
 use Rattle.lexopt_line_spec.specs.Spelling as spelling
@@ -9,7 +9,7 @@ use Rattle.lexopt_line_spec.proofs.HandedItems.{is_some_rest}
 use Rattle.lexopt_line_spec.proofs.Unread.{PartsShow, after_of, ShowsAfter, ValueShows}
 use Rattle.lexopt_line_spec.proofs.Exact.{value_same}
 
--- a value in the option's own word is its value
+-- the value of an option is the one in its own word, if there is one
 own_value : (name : Name) (after : After) (words left : List (List ℕ)) (item : Item) (value : List ℕ) (by : Bool)
     → after ≡ after_of (Some (value, by)) → OneValue name after words item left → (item ≡ option name (Some value)) × (left ≡ words)
 own_value name after words left item value true is (attached_value v b i l) = absurd (let e : spelling.joined value ≡ attached v = sym is ∙ b in cc)
@@ -26,14 +26,14 @@ with_value : (name : Name) (words : List (List ℕ)) (value : List ℕ) (by : Bo
 with_value name words value true = joined_value value refl refl refl
 with_value name words value false = attached_value value refl refl refl
 
--- no value in the option's own word
+-- the value of an option without a value in its own word is the next word
 other_value : (name : Name) (words left : List (List ℕ)) (item : Item)
     → OneValue name nothing words item left → (w : List ℕ) × (item ≡ option name (Some w)) × (w ∷ left ≡ words)
 other_value name words left item (attached_value v b i l) = absurd (let e : nothing ≡ attached v = b in cc)
 other_value name words left item (joined_value v b i l) = absurd (let e : nothing ≡ spelling.joined v = b in cc)
 other_value name words left item (next_word w b i l) = (w, i, l)
 
--- the option is of the kind that has one value
+-- the option is of the kind with one value
 is_one : (t : Table) (name : Name) (after : After) (words : List (List ℕ)) (item : Item) (left : List (List ℕ)) → kind t name ≡ one
     → Completes (kind t name) name after words item left → OneValue name after words item left
 is_one t name after words item left k completes = subst (λ (x : Kind). Completes x name after words item left) k completes
@@ -42,7 +42,7 @@ one_is : (t : Table) (name : Name) (after : After) (words : List (List ℕ)) (it
     → OneValue name after words item left → Completes (kind t name) name after words item left
 one_is t name after words item left k completes = subst (λ (x : Kind). Completes x name after words item left) (sym k) completes
 
--- ---- one result, and what it means
+-- ---- one result
 
 abbrev ValueLaw : Table → Name → UnreadLine → Reply → UnreadLine → Type 0
 ValueLaw t name u r v = (items : List Item) → ShowsAfter t name u items ↔ ValueShows t name r v items
@@ -102,7 +102,7 @@ none_law t name ended last short_equals bin k items =
 
 parts_answer : (t : Table) (name : Name) (p : Option (List ℕ × Bool)) (tail : Tail) (words : List (List ℕ)) (ended : Bool) (last : LastOption) (short_equals : Bool) (bin : Option (List ℕ))
     → kind t name ≡ one → pending (record { tail = tail; words = words; ended = ended; last = last; short_equals = short_equals; bin_name = bin }) ≡ p
-    → TailStands tail last ended → Answer t name (record { tail = tail; words = words; ended = ended; last = last; short_equals = short_equals; bin_name = bin })
+    → TailFits tail last ended → Answer t name (record { tail = tail; words = words; ended = ended; last = last; short_equals = short_equals; bin_name = bin })
 parts_answer t name (Some value) tail words ended last short_equals bin k is stands =
     let u : UnreadLine = record { tail = tail; words = words; ended = ended; last = last; short_equals = short_equals; bin_name = bin } in
     (_, _, pending_value value.0 value.1 is refl refl, own_law t name u value.0 value.1 k is)
@@ -114,7 +114,8 @@ parts_answer t name None (rest (b ∷ bs)) words ended last short_equals bin k i
 
 -- ---- each result
 
--- what the line shows after an option that has one value is what it shows by the reply of `value`
+-- after an option of one value, the line shows some items if and only if it does so by the reply of
+-- `value`
 pub value_law : (t : Table) (name : Name) (u v : UnreadLine) (r : Reply) (items : List Item) → kind t name ≡ one → IsLine u → ValueStep u r v
     → ShowsAfter t name u items ↔ ValueShows t name r v items
 value_law t name u v r items k line step =

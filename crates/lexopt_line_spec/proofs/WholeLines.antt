@@ -1,4 +1,4 @@
--- Whole lines: what a reading gives, and what the words show.
+-- Whole lines: the items that a reading gives, and the items that the words show.
 use Rattle.std.proofs.Common.{◌≡◌, Bool, List, [], ℕ, sym, subst, ◌∙◌}
 use Rattle.lexopt_spec.specs.Steps.{Reply, end}
 use Rattle.lexopt_line_spec.specs.Table.{flag, long, Item, Table}

@@ -1,5 +1,5 @@
--- Steps of worked examples. What a list of bytes decides is a test here, so that an example proves
--- it by `refl`.
+-- Steps of worked examples. A condition on bytes is a boolean here, so that an example proves it by
+-- `refl`.
 use Rattle.std.proofs.Common.{◌≡◌, ◌≢◌, ℕ, zero, suc, Bool, true, false, ◌==◌, ◌&&◌, not, List, [], ◌∷◌, ◌++◌, None, encode_utf8, length, take, refl, sym, ap, ◌∙◌, arith, true≢false}
 use Rattle.std.proofs.lemmas.Bool.{eq-eqb}
 use lib.Utf8.{scalar}
@@ -21,7 +21,7 @@ use Rattle.lexopt_line_spec.specs.Spelling.{exact, damaged, After, nothing, atta
 use Rattle.lexopt_spec.proofs.PlainFronts.{plain_holds, plain_passes, front-none, front_only}
 use Rattle.lexopt_line_spec.proofs.WholeLines.{shown_said}
 
--- ---- tests
+-- ---- booleans
 
 both : (a b : Bool) → a && b ≡ true → (a ≡ true) × (b ≡ true)
 both true b is = (refl, is)
@@ -42,7 +42,7 @@ pub not_mark : (short_equals : Bool) (bs : List ℕ) → short_equals && begins 
 not_mark false bs is = λ mark. true≢false (sym mark.0)
 not_mark true bs is = λ mark. not_begins equals bs is mark.1
 
--- the number is none of these
+-- the number is not one of these
 abbrev pub lacks : ℕ → List ℕ → Bool
 lacks x [] = true
 lacks x (b ∷ bs) = not (b == x) && lacks x bs
@@ -55,7 +55,7 @@ not_among x (b ∷ bs) is (suc n, below, same) = not_among x bs (both (not (b ==
 pub differ : (a b : ℕ) → a == b ≡ false → a ≢ b
 differ a b is same = true≢false (sym (eq-eqb a b same) ∙ is)
 
--- the bytes hold no `=`
+-- the bytes have no `=`
 abbrev pub free : List ℕ → Bool
 free bs = lacks equals bs
 
@@ -86,7 +86,7 @@ plain_front_is {ended = ended} front left plain longest = record { words_are = r
 
 -- ---- from items to words
 
--- a flag of a cluster, and more of it
+-- a flag of a cluster, and more of the cluster
 pub flag_of : {t : Table} {short_equals : Bool} {words left : List (List ℕ)} {items : List Item} (c : ℕ) (others : List ℕ) → IsScalar c → kind t (short c) ≡ flag
     → short_equals && begins equals others ≡ false → Cluster exact t short_equals words left others items
     → Cluster exact t short_equals words left (encode_utf8 c ++ others) (option (short c) None ∷ items)
@@ -107,7 +107,7 @@ pub cluster_line : {t : Table} {short_equals : Bool} {others left : List (List �
 cluster_line {others = others} {left = left} {items = items} bytes front other spelled line =
     group ((dash ∷ bytes) ∷ others) left front items (cluster bytes others refl (not_begins dash bytes other) spelled) line
 
--- `--name`, where the name is not empty
+-- `--name`, if the name is not empty
 pub name_line : {t : Table} {short_equals : Bool} {others left : List (List ℕ)} {items : List Item} (b : ℕ) (bs : List ℕ) (item : Item) → free (b ∷ bs) ≡ true → IsUtf8 (b ∷ bs)
     → Completes (kind t (long (b ∷ bs))) (long (b ∷ bs)) nothing others item left → Line exact t short_equals left items
     → Line exact t short_equals ((dash ∷ dash ∷ b ∷ bs) ∷ others) (item ∷ items)
@@ -156,19 +156,19 @@ pub reads_plain : (u : UnreadLine) (w : List ℕ) (ws : List (List ℕ)) → u.t
     → NextStep u (steps.positional w) (record u { words = ws })
 reads_plain u w ws tail ended words plain = next_word tail ended (reads_positional w ws words (plain_holds false w plain) refl refl)
 
--- `values` returns n of the values that can be had
+-- `values` returns n of the available values
 pub gives_values : (n : ℕ) (u : UnreadLine) (front left : List (List ℕ)) → IsPlainFront u.ended u.words front left → available_with (pending u) front ≢ []
     → ValuesStep n u (steps.items (take n (available_with (pending u) front))) (without (pending u) (length (take n (available_with (pending u) front))) u)
 gives_values n u front left is found =
     let same : available u ≡ available_with (pending u) front = ap (available_with (pending u)) (front_only u.ended u.words front left is) in
     some_values (λ none. found (sym same ∙ none)) (ap (λ l. steps.items (take n l)) (sym same)) (ap (λ l. without (pending u) (length (take n l)) u) (sym same))
 
--- nothing is pending, and the next word is not plain: no values can be had
+-- nothing is pending, and the next word is not plain: no values are available
 pub misses_values : (n : ℕ) (u : UnreadLine) → pending u ≡ None → stops u.ended u.words ≡ true → ValuesStep n u (steps.missing (spelling u.last)) u
 misses_values n u none stop = no_values
     (ap (λ p. available_with p (plain_front u.ended u.words)) none ∙ front-none u.ended u.words (not_normal u.ended u.words stop)) refl refl
 
--- a reading that ends in an error: the words show no list
+-- if a reading ends in an error, the words show no list
 pub none_shown : (t : Table) (short_equals : Bool) (words : List (List ℕ)) (calls : List Call) (replies : List Reply) (final : Reply) (after : UnreadLine)
     → Run (start short_equals words) calls replies after → Asked t calls replies final → final ≢ steps.end → (l : List Item) → Shows t short_equals words l → ⊥
 none_shown t short_equals words calls replies final after run asked error l shows =

@@ -7,9 +7,9 @@ use Rattle.lexopt_spec.specs.UnreadLine.{UnreadLine, dash, equals, no_tail}
 use Rattle.lexopt_spec.specs.Steps.{Reply, short}
 use Rattle.lexopt_spec.specs.Runs.{Call, next}
 
--- Take a line that begins with a cluster, where `short_equals` is false or no `=` comes after the
--- first byte of the cluster. If the calls are `next`, once for each piece, the replies are its
--- lossy characters, so none of them is `no_memory`, and the word is gone.
+-- Let a line begin with a cluster, and let `short_equals` be false, or no `=` come after the first
+-- byte of the cluster. If the calls are one `next` for each piece, the replies are its lossy
+-- characters, so none is `no_memory`, and the word is consumed.
 abbrev pub ReadsPieces : UnreadLine → List Call → List Reply → UnreadLine → Type 0
 ReadsPieces u calls replies v =
     (b : ℕ) (bs : List ℕ) (words : List (List ℕ)) → u.tail ≡ no_tail → u.ended ≡ false

@@ -1,7 +1,7 @@
--- Words that spell what a line is to mean, where some do: from items to words. The source is
+-- The words that the speller chooses for items, or the item that cannot be spelled. The source is
 -- `docs/behaviour.md`, "From items back to words", after the POSIX Utility Syntax Guidelines and
 -- GNU's long options. Each row of the tables there is a constructor here. `SpellerTables` computes
--- the same.
+-- the same words and faults.
 use Rattle.std.specs.Prelude.{◌≡◌, ◌≢◌, ◌⊎◌, ℕ, suc, Bool, true, false, ◌<◌, List, [], ◌∷◌, ◌++◌}
 use Rattle.std.specs.Prelude.{length, take, map, Contains, Option, Some, None, encode_utf8}
 use Rattle.std.specs.Char.{IsScalar}
@@ -12,15 +12,16 @@ use Rattle.lexopt_line_spec.specs.Table.{Name, short, long, Item, option, many, 
 use Rattle.lexopt_line_spec.specs.Table.{flag, one, optional, several, kind, Table}
 use Rattle.lexopt_line_spec.specs.Spelling.{After, nothing, attached, joined, Spells}
 
--- why an item cannot be spelled after those before it
+-- the reason why an item cannot be spelled after those before it. `Reason` of `lexopt_spell` is the
+-- same for code, without `no_name`
 pub data Reason : Type 0 where
-  -- the option's name is not a character, or not text: a `char` and a `String` always are
+  -- the option's name is not a character, or not UTF-8; a `char` and a `String` always are
   no_name : Reason
   -- a long option has `=` in its name
   equals_in_name : Reason
-  -- an option that has no value is given one
+  -- a flag is given a value
   unexpected_value : Reason
-  -- an option that needs a value, or values, is given none
+  -- an option of one value, or of several, is given none
   missing_value : Reason
   -- an option of several values is not given them as a list
   wants_many : Reason
@@ -28,27 +29,26 @@ pub data Reason : Type 0 where
   not_many : Reason
   -- an empty value cannot come right after a character
   empty_value : Reason
-  -- one of several values would be an option
+  -- one of several values would be read as an option
   option_among_values : Reason
-  -- a long option has no name, and no value after `=`
+  -- a long option has the empty name, and no value after `=`
   empty_name : Reason
-  -- it is an option, and a positional before it needs the separator
+  -- an option comes after a positional that needs the separator
   past_separator : Reason
-  -- `-` as an option of one character can only go on with the cluster of a flag, and there is none
-  -- right before it
+  -- the short option `-` has no short flag right before it, whose cluster it could continue
   dash_without_flag : Reason
 
--- what the next item follows
+-- the place of the next item: what comes right before it
 pub data Place : Type 0 where
-  -- nothing that it has to do with
+  -- nothing that matters for its words
   open_line : Place
-  -- a flag, which is the last of its cluster
+  -- a short flag, the last option of its cluster
   in_cluster : Place
-  -- values of an option that has several, which go on in words
+  -- values of an option of several that are not joined: a plain word would be one more value
   after_values : Place
-  -- a positional that needs no separator
+  -- a positional without a separator before it
   after_positional : Place
-  -- the separator, and perhaps positionals
+  -- the separator, perhaps with positionals after it
   ended : Place
 
 -- ---- the items after an item
@@ -74,20 +74,20 @@ NeedSeparator items = (words : List (List ℕ)) × (items ≡ map positional wor
 
 -- ---- an option and its values
 
--- this is the only value, a positional comes right after the option, and an option somewhere after
--- that; and the setting is on
+-- there is only one value, a positional comes right after the option and an option somewhere after
+-- that, and `short_equals` is on
 abbrev pub IsLoneAndJoined : Bool → List Item → List (List ℕ) → Type 0
 IsLoneAndJoined short_equals later values = (length values ≡ 1) × (short_equals ≡ true)
     × ArePositionalThenOption later
 
--- An option of this kind and name, as this item, before these items: what comes after its name in
--- its word, which words come after that word, and what the next item follows then.
+-- An option of this kind and name, given as this item before the items `later`, has this form: the
+-- text after its name in its word, the words after that word, and the place of the next item.
 --
--- In the comments v is a flag, o and out have one value, c and color one or none, d and cmd
--- several.
+-- In the comments v and verbose are flags, o and out have one value, c and color one or none, d and
+-- cmd several. "The setting" is `short_equals`.
 pub data HasForm (short_equals : Bool) (later : List Item)
     : Kind → Name → Item → After → List (List ℕ) → Place → Type 0 where
-  -- v: `-v`, which the option `-` may go on with
+  -- v: `-v`, which the option `-` can continue
   short_flag : (c : ℕ) → HasForm short_equals later flag (short c) (option (short c) None)
       nothing [] in_cluster
   -- verbose: `--verbose`
@@ -143,9 +143,9 @@ pub data HasForm (short_equals : Bool) (later : List Item)
       → HasForm short_equals later several (long name) (many (long name) (v ∷ w ∷ vs))
       nothing (v ∷ w ∷ vs) after_values
 
--- an option of this kind and name, as this item, has no form, and this is why
+-- an option of this kind and name, given as this item, has no form, for this reason
 pub data HasNoForm (short_equals : Bool) : Kind → Name → Item → Reason → Type 0 where
-  -- d "1", given with no list
+  -- d "1", given without a list
   no_list : (name : Name) (value : Option (List ℕ))
       → HasNoForm short_equals several name (option name value) wants_many
   -- o "1", given with a list
@@ -176,21 +176,21 @@ after_bytes nothing = []
 after_bytes (attached v) = v
 after_bytes (joined v) = equals ∷ v
 
--- a positional here is the first of a row of positionals
+-- a positional at this place is the first of successive positionals
 pub data BeginsRow : Place → Type 0 where
   row_at_open : BeginsRow open_line
   row_at_cluster : BeginsRow in_cluster
 
--- At this place, and before these items, an item adds a word, and more words; and the next item
--- follows this place.
+-- At this place, and before the items `later`, an item adds a word and more words, and leads to the
+-- place of the next item.
 pub data Adds (t : Table) (short_equals : Bool) (later : List Item)
     : Place → Item → List ℕ → List (List ℕ) → Place → Type 0 where
-  -- an option of one character that is not `-`: `-v`, with its value
+  -- a short option other than `-`: `-v`, with its value
   short_option : (c : ℕ) (place next : Place) (item : Item) (after : After) (words : List (List ℕ))
       → IsScalar c → c ≢ dash → place ≢ ended
       → HasForm short_equals later (kind t (short c)) (short c) item after words next
       → Adds t short_equals later place item (dash ∷ encode_utf8 c ++ after_bytes after) words next
-  -- an option with a name: `--name`, with its value
+  -- a long option: `--name`, with its value
   long_option : (name : List ℕ) (place next : Place) (item : Item) (after : After)
       (words : List (List ℕ)) → IsUtf8 name → ¬ Contains name equals
       → (name ≢ []) ⊎ (after ≢ nothing) → place ≢ ended
@@ -198,11 +198,11 @@ pub data Adds (t : Table) (short_equals : Bool) (later : List Item)
       → Adds t short_equals later place item (dash ∷ dash ∷ name ++ after_bytes after) words next
   -- a positional after the separator: the word
   after_separator : (w : List ℕ) → Adds t short_equals later ended (positional w) w [] ended
-  -- right after values that are words: `--` and the word
+  -- right after several values that are not joined: `--` and the word
   separator_after_values : (w : List ℕ)
       → Adds t short_equals later after_values (positional w) (dash ∷ dash ∷ []) (w ∷ []) ended
-  -- otherwise, if it begins a row, only positionals are left, and one of them is not plain: `--`
-  -- and the word
+  -- otherwise, if it is the first of successive positionals, only positionals are left, and one of
+  -- them is not plain: `--` and the word
   separator_before_row : (w : List ℕ) (place : Place) → BeginsRow place
       → NeedSeparator (positional w ∷ later)
       → Adds t short_equals later place (positional w) (dash ∷ dash ∷ []) (w ∷ []) ended
@@ -216,33 +216,33 @@ pub data Adds (t : Table) (short_equals : Bool) (later : List Item)
   next_of_row : (w : List ℕ) → IsPlain false w
       → Adds t short_equals later after_positional (positional w) w [] after_positional
 
--- The same of an item that goes on with the word before it: these bytes, and more words.
+-- The same for an item that continues the word before it: it adds these bytes, and more words.
 pub data GoesOn (t : Table) (short_equals : Bool) (later : List Item)
     : Place → Item → List ℕ → List (List ℕ) → Place → Type 0 where
-  -- `-` as an option of one character, right after a flag of one character: the second `-` of `-v-`
+  -- the short option `-`, right after a short flag: the second `-` of `-v-`
   dash_option : (next : Place) (item : Item) (after : After) (words : List (List ℕ))
       → HasForm short_equals later (kind t (short dash)) (short dash) item after words next
       → GoesOn t short_equals later in_cluster item (dash ∷ after_bytes after) words next
 
--- the item is of the option of this name
+-- the item is an option of this name
 abbrev pub IsOf : Name → Item → Type 0
 IsOf name (option other value) = other ≡ name
 IsOf name (many other values) = other ≡ name
 IsOf name (positional w) = ⊥
 
--- At this place, and before these items, an item cannot be spelled, and this is why.
+-- At this place, and before the items `later`, an item cannot be spelled, for this reason.
 pub data CannotBeSpelled (t : Table) (short_equals : Bool) (later : List Item)
     : Place → Item → Reason → Type 0 where
-  -- a number that is not a character, which no `char` is
+  -- a number that is not a character; each `char` is one
   no_character : (c : ℕ) (place : Place) (item : Item) → ¬ IsScalar c → IsOf (short c) item
       → CannotBeSpelled t short_equals later place item no_name
-  -- bytes that are not text; those of each `String` are
+  -- bytes that are not UTF-8; those of each `String` are
   no_text : (name : List ℕ) (place : Place) (item : Item) → ¬ IsUtf8 name → IsOf (long name) item
       → CannotBeSpelled t short_equals later place item no_name
   -- a long option has `=` in its name
   with_equals : (name : List ℕ) (place : Place) (item : Item) → IsUtf8 name → Contains name equals
       → IsOf (long name) item → CannotBeSpelled t short_equals later place item equals_in_name
-  -- an option of one character has no form
+  -- a short option has no form
   no_short_form : (c : ℕ) (place : Place) (item : Item) (reason : Reason) → IsScalar c
       → HasNoForm short_equals (kind t (short c)) (short c) item reason
       → CannotBeSpelled t short_equals later place item reason
@@ -254,7 +254,7 @@ pub data CannotBeSpelled (t : Table) (short_equals : Bool) (later : List Item)
   empty_long : (place next : Place) (item : Item) (words : List (List ℕ))
       → HasForm short_equals later (kind t (long [])) (long []) item nothing words next
       → CannotBeSpelled t short_equals later place item empty_name
-  -- an option of one character comes after the separator
+  -- a short option comes after the separator
   short_past_separator : (c : ℕ) (next : Place) (item : Item) (after : After)
       (words : List (List ℕ)) → IsScalar c
       → HasForm short_equals later (kind t (short c)) (short c) item after words next
@@ -265,7 +265,7 @@ pub data CannotBeSpelled (t : Table) (short_equals : Bool) (later : List Item)
       → (name ≢ []) ⊎ (after ≢ nothing)
       → HasForm short_equals later (kind t (long name)) (long name) item after words next
       → CannotBeSpelled t short_equals later ended item past_separator
-  -- `-`, as an option of one character, has no flag of one character right before it
+  -- the short option `-` has no short flag right before it
   dash_alone : (place next : Place) (item : Item) (after : After) (words : List (List ℕ))
       → place ≢ in_cluster → place ≢ ended
       → HasForm short_equals later (kind t (short dash)) (short dash) item after words next
@@ -273,7 +273,7 @@ pub data CannotBeSpelled (t : Table) (short_equals : Bool) (later : List Item)
 
 -- ---- all items
 
--- From this place on, the items are spelled by these bytes, which go on with the word before them,
+-- From this place on, the items are spelled by these bytes, which continue the word before them,
 -- and these words.
 pub data SpelledFrom (t : Table) (short_equals : Bool)
     : Place → List Item → List ℕ → List (List ℕ) → Type 0 where
@@ -287,12 +287,12 @@ pub data SpelledFrom (t : Table) (short_equals : Bool)
       → SpelledFrom t short_equals next later bytes words
       → SpelledFrom t short_equals place (item ∷ later) (word ++ bytes) (more ++ words)
 
--- of the words that spell the items, the rules choose these
+-- the rules choose these words among those that spell the items
 abbrev pub SpelledAs : Table → Bool → List Item → List (List ℕ) → Type 0
 SpelledAs t short_equals items words = SpelledFrom t short_equals open_line items [] words
 
 -- From this place on, the item of this index, counted from 0, is the first that cannot be spelled,
--- and this is why.
+-- for this reason.
 pub data FaultFrom (t : Table) (short_equals : Bool)
     : Place → List Item → ℕ → Reason → Type 0 where
   here : (place : Place) (item : Item) (later : List Item) (reason : Reason)
@@ -309,27 +309,27 @@ pub data FaultFrom (t : Table) (short_equals : Bool)
       → FaultFrom t short_equals next later index reason
       → FaultFrom t short_equals place (item ∷ later) (suc index) reason
 
--- which item cannot be spelled, counted from 0, and why
+-- the index of an item that cannot be spelled, counted from 0, and the reason
 pub record Fault : Type 0 where
   pub index : ℕ
   pub reason : Reason
 
--- the first of the items that cannot be spelled after those before it, and why
+-- this is the first item that cannot be spelled after those before it, and the reason
 abbrev pub HasFault : Table → Bool → List Item → Fault → Type 0
 HasFault t short_equals items fault =
     FaultFrom t short_equals open_line items fault.index fault.reason
 
--- ---- which item is at fault
+-- ---- the item at fault
 
--- the items before this one can be spelled, and with it they cannot
+-- the items before this one can be spelled, and together with it they cannot
 pub record IsAtFault (t : Table) (short_equals : Bool) (items : List Item) (i : ℕ) : Type 0 where
   pub within : i < length items
   pub before : (words : List (List ℕ)) × Spells t short_equals words (take i items)
   pub none : (words : List (List ℕ)) → ¬ Spells t short_equals words (take (suc i) items)
 
--- ---- what a reason is of
+-- ---- the two sorts of reasons
 
--- the reason is where the item is, and not the item
+-- the reason is the place of the item, not the item itself
 abbrev pub is_of_the_place : Reason → Bool
 is_of_the_place no_name = false
 is_of_the_place equals_in_name = false

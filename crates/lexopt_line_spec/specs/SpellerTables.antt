@@ -1,5 +1,5 @@
--- The words that the relations of `Speller` choose, and the faults that they name, as functions:
--- what an item adds, by the place that it is at.
+-- The words that the relations of `Speller` choose, and the faults that they name, computed: what
+-- an item adds at its place.
 use Rattle.std.specs.Prelude.{ℕ, suc, Bool, true, false, ◌==◌, ◌&&◌, not, List, [], ◌∷◌, ◌++◌}
 use Rattle.std.specs.Prelude.{Option, Some, None, Result, Ok, Err, encode_utf8, if◌then◌else◌}
 use Rattle.std.specs.List.{list_any, list_all}
@@ -18,23 +18,23 @@ use Rattle.lexopt_line_spec.specs.Speller.{is_positional, Fault}
 
 -- ---- the values of an option
 
--- what comes after an option's name in its word, the words after that word, and what the next item
--- follows then
+-- the form of an option: the text after its name in its word, the words after that word, and the
+-- place of the next item
 pub record Form : Type 0 where
   pub after : After
   pub words : List (List ℕ)
   pub place : Place
 
--- nothing but the name
+-- an option that is only its name
 abbrev pub name_only : Place → Form
 name_only place = record { after = nothing; words = []; place = place }
 
--- all in one word
+-- an option with all its values in its word
 abbrev pub in_word : After → Form
 in_word after = record { after = after; words = []; place = open_line }
 
--- a value right after a character; after `=` where it is empty or begins with a mark, if the
--- setting is on
+-- a value right after a character; or after `=` if it is empty or begins with `=`, and the setting
+-- is on
 abbrev pub attached_form : Bool → List ℕ → Result Form Reason
 attached_form true [] = Ok (in_word (joined []))
 attached_form false [] = Err empty_value
@@ -63,20 +63,20 @@ long_form optional None = Ok (name_only open_line)
 long_form optional (Some v) = Ok (in_word (joined v))
 long_form several value = Err wants_many
 
--- values in words of their own, which are all plain, or not
+-- values in words of their own; the boolean is whether all are plain
 abbrev pub words_form : Bool → List (List ℕ) → Result Form Reason
 words_form true values = Ok (record { after = nothing; words = values; place = after_values })
 words_form false values = Err option_among_values
 
--- the same after a character: a first value that would be an option is in its word. Whether the
--- first is plain, and the others
+-- the same for a short option, whose first value comes right after the character if it is not
+-- plain; the booleans are whether the first value is plain, and whether the others are
 abbrev pub short_words_form : Bool → Bool → List ℕ → List (List ℕ) → Result Form Reason
 short_words_form true others v vs = words_form others (v ∷ vs)
 short_words_form false true v vs =
     Ok (record { after = attached v; words = vs; place = after_values })
 short_words_form false false v vs = Err option_among_values
 
--- a short option with several values: one value may have to be joined by `=`
+-- a short option with several values; the boolean is whether an only value is joined by `=`
 abbrev pub short_many_form : Bool → Kind → List (List ℕ) → Result Form Reason
 short_many_form joins several [] = Err missing_value
 short_many_form true several (v ∷ []) = Ok (in_word (joined v))
@@ -99,24 +99,24 @@ long_many_form optional values = Err not_many
 
 -- ---- one item
 
--- what an item adds: a word, which may go on with the word before it, and more words; and what the
--- next item follows then
+-- the words that an item adds: one word, or bytes that continue the word before, and more words;
+-- and the place of the next item
 pub record Added : Type 0 where
-  pub goes_on : Bool
+  pub continues : Bool
   pub word : List ℕ
   pub words : List (List ℕ)
   pub place : Place
 
--- an option by its name, with its dashes if it does not go on
+-- an option with this name, which has its dashes unless it continues the word before
 abbrev pub with_form : Bool → List ℕ → Form → Added
-with_form goes_on name f = record {
-  goes_on = goes_on;
+with_form continues name f = record {
+  continues = continues;
   word = name ++ after_bytes f.after;
   words = f.words;
   place = f.place;
 }
 
--- a short option: whether it is a character, and `-`
+-- a short option; the booleans are whether it is a character, and whether it is `-`
 abbrev pub short_added : Bool → Bool → Place → ℕ → Result Form Reason → Result Added Reason
 short_added false is_dash place c form = Err no_name
 short_added true is_dash place c (Err reason) = Err reason
@@ -130,14 +130,14 @@ short_added true true open_line c (Ok f) = Err dash_without_flag
 short_added true true after_values c (Ok f) = Err dash_without_flag
 short_added true true after_positional c (Ok f) = Err dash_without_flag
 
--- a name has bytes, or a value after `=`
+-- the name is not empty, or a value comes after `=`
 abbrev pub is_named : List ℕ → After → Bool
 is_named [] nothing = false
 is_named [] (attached v) = false
 is_named [] (joined v) = true
 is_named (b ∷ bs) after = true
 
--- a long option that is named, or not
+-- a long option; the boolean is whether it is named
 abbrev pub long_placed : Bool → Place → List ℕ → Form → Result Added Reason
 long_placed false place name f = Err empty_name
 long_placed true ended name f = Err past_separator
@@ -146,43 +146,44 @@ long_placed true in_cluster name f = Ok (with_form false (dash ∷ dash ∷ name
 long_placed true after_values name f = Ok (with_form false (dash ∷ dash ∷ name) f)
 long_placed true after_positional name f = Ok (with_form false (dash ∷ dash ∷ name) f)
 
--- a long option: whether it is a text, and has an `=`
+-- a long option; the booleans are whether its name is UTF-8, and whether it has `=`
 abbrev pub long_added : Bool → Bool → Place → List ℕ → Result Form Reason → Result Added Reason
 long_added false has_equals place name form = Err no_name
 long_added true true place name form = Err equals_in_name
 long_added true false place name (Err reason) = Err reason
 long_added true false place name (Ok f) = long_placed (is_named name f.after) place name f
 
--- a positional is by itself where it is plain, unless it begins a row before which the
--- separator is to come
-abbrev pub stands : Bool → Bool → Place → Bool
-stands plain due open_line = plain && not due
-stands plain due in_cluster = plain && not due
-stands plain due after_values = plain
-stands plain due after_positional = plain
-stands plain due ended = plain
+-- a positional needs no separator if it is plain, unless it is the first of successive positionals
+-- before which the separator is due
+abbrev pub needs_no_separator : Bool → Bool → Place → Bool
+needs_no_separator plain due open_line = plain && not due
+needs_no_separator plain due in_cluster = plain && not due
+needs_no_separator plain due after_values = plain
+needs_no_separator plain due after_positional = plain
+needs_no_separator plain due ended = plain
 
--- a positional: whether it is by itself. After values the separator keeps it from being one
--- more of them
+-- a positional; the boolean is whether it needs no separator. After several values a separator
+-- keeps it from being one more value
 abbrev pub positional_added : Bool → Place → List ℕ → Added
-positional_added alone ended w = record { goes_on = false; word = w; words = []; place = ended }
+positional_added alone ended w = record { continues = false; word = w; words = []; place = ended }
 positional_added alone after_values w =
-    record { goes_on = false; word = dash ∷ dash ∷ []; words = w ∷ []; place = ended }
+    record { continues = false; word = dash ∷ dash ∷ []; words = w ∷ []; place = ended }
 positional_added false open_line w =
-    record { goes_on = false; word = dash ∷ dash ∷ []; words = w ∷ []; place = ended }
+    record { continues = false; word = dash ∷ dash ∷ []; words = w ∷ []; place = ended }
 positional_added false in_cluster w =
-    record { goes_on = false; word = dash ∷ dash ∷ []; words = w ∷ []; place = ended }
+    record { continues = false; word = dash ∷ dash ∷ []; words = w ∷ []; place = ended }
 positional_added false after_positional w =
-    record { goes_on = false; word = dash ∷ dash ∷ []; words = w ∷ []; place = ended }
+    record { continues = false; word = dash ∷ dash ∷ []; words = w ∷ []; place = ended }
 positional_added true open_line w =
-    record { goes_on = false; word = w; words = []; place = after_positional }
+    record { continues = false; word = w; words = []; place = after_positional }
 positional_added true in_cluster w =
-    record { goes_on = false; word = w; words = []; place = after_positional }
+    record { continues = false; word = w; words = []; place = after_positional }
 positional_added true after_positional w =
-    record { goes_on = false; word = w; words = []; place = after_positional }
+    record { continues = false; word = w; words = []; place = after_positional }
 
--- an item at this place; whether one of several values is to be joined, where it can be, and
--- whether the separator is to come before a row of positionals that begins here
+-- an item at this place; the booleans are `short_equals`, whether the only one of several values is
+-- to be joined if it can be, and whether the separator is due before successive positionals that
+-- begin here
 abbrev pub adds : Table → Bool → Bool → Bool → Place → Item → Result Added Reason
 adds t short_equals joins due place (option (short c) value) =
     short_added (scalar c) (c == dash) place c (short_form short_equals (kind t (short c)) value)
@@ -196,12 +197,12 @@ adds t short_equals joins due place (many (long name) values) =
     long_added (is_utf8 name) (list_any (λ b. b == equals) name) place name
     (long_many_form (kind t (long name)) values)
 adds t short_equals joins due place (positional w) =
-    Ok (positional_added (stands (is_plain false w) due place) place w)
+    Ok (positional_added (needs_no_separator (is_plain false w) due place) place w)
 
 -- ---- all items
 
--- these items are a positional and, after it, an option among others. After a value in a word the
--- separator would have to come before that positional, and so before that option
+-- these items are a positional and, somewhere after it, an option. After several values that are
+-- not joined, the separator would have to come before the positional, and so before the option
 abbrev pub separator_comes_too_early : List Item → Bool
 separator_comes_too_early [] = false
 separator_comes_too_early (item ∷ items) = is_positional item && not (list_all is_positional items)
@@ -211,12 +212,12 @@ is_plain_item (option name value) = true
 is_plain_item (many name values) = true
 is_plain_item (positional w) = is_plain false w
 
--- these items are positionals, and one of them would be an option: so the separator is to come
--- before all that are left. A program that stops at the first positional reads it there alone
+-- these items are positionals, and one of them is not plain: so the separator comes before all of
+-- them. A program that stops at the first positional reads a separator only there
 abbrev pub separator_is_due : List Item → Bool
 separator_is_due items = list_all is_positional items && not (list_all is_plain_item items)
 
--- what is spelled from some place on: bytes that go on with the word before, and words
+-- the words spelled from some place on: bytes that continue the word before, and words
 pub record Rest : Type 0 where
   pub first : List ℕ
   pub words : List (List ℕ)
@@ -227,7 +228,7 @@ put_in_front false word words = record { first = []; words = word ∷ words }
 
 abbrev pub with_rest : Added → Result Rest Fault → Result Rest Fault
 with_rest a (Err fault) = Err (record { index = suc fault.index; reason = fault.reason })
-with_rest a (Ok r) = Ok (put_in_front a.goes_on (a.word ++ r.first) (a.words ++ r.words))
+with_rest a (Ok r) = Ok (put_in_front a.continues (a.word ++ r.first) (a.words ++ r.words))
 
 abbrev pub with_rests : Result Added Reason → (Place → Result Rest Fault) → Result Rest Fault
 with_rests (Err reason) rest = Err (record { index = 0; reason = reason })
@@ -244,6 +245,6 @@ abbrev pub words_or_fault : Result Rest Fault → Result (List (List ℕ)) Fault
 words_or_fault (Err fault) = Err fault
 words_or_fault (Ok r) = Ok r.words
 
--- the words that spell the items, or the first item that no words can spell after those before it
+-- the words that spell the items, or the first item that cannot be spelled after those before it
 abbrev pub spelled : Table → Bool → List Item → Result (List (List ℕ)) Fault
 spelled t short_equals items = words_or_fault (spelled_from t short_equals items open_line)

@@ -1,4 +1,4 @@
--- How words spell what a line means: from items to words, with no call and no state.
+-- The grammar of whole lines: which words spell which items, without calls or states.
 -- The source is `docs/behaviour.md`, after the README of lexopt 0.3.2, "Command line syntax".
 use Rattle.std.specs.Prelude.{◌≡◌, ◌≢◌, ℕ, Bool, true, false, ◌⊎◌, List, [], ◌∷◌, ◌++◌, length, map}
 use Rattle.std.specs.Prelude.{Contains, Some, None, encode_utf8}
@@ -9,22 +9,22 @@ use Rattle.lexopt_spec.specs.UnreadLine.{dash, equals, BeginsWith, IsPlain, IsPl
 use Rattle.lexopt_line_spec.specs.Table.{Name, short, long, Item, option, positional, many, Kind}
 use Rattle.lexopt_line_spec.specs.Table.{flag, one, optional, several, kind, Table}
 
--- ---- what may stand for an option's name
+-- ---- the bytes that may represent an option's name
 
 pub record Letters : Type 1 where
-  -- these bytes, with those after them in the word, stand for the character
+  -- these bytes, with those after them in the word, represent the character
   pub character : ℕ → List ℕ → List ℕ → Type 0
-  -- these bytes stand for the name
+  -- these bytes represent the name
   pub name : List ℕ → List ℕ → Type 0
 
--- the UTF-8 of a character, and the bytes of a name that is UTF-8, and nothing else
+-- only its UTF-8 represents a character, and only its bytes, which are UTF-8, represent a name
 abbrev pub exact : Letters
 exact = record {
   character = λ c bytes after. IsScalar c × (bytes ≡ encode_utf8 c);
   name = λ name bytes. IsUtf8 name × (bytes ≡ name);
 }
 
--- damage may stand for U+FFFD too
+-- damage may also represent U+FFFD
 abbrev pub damaged : Letters
 damaged = record {
   character = λ c bytes after. (IsScalar c × (bytes ≡ encode_utf8 c))
@@ -34,33 +34,33 @@ damaged = record {
 
 -- ---- an option's value
 
--- what comes after an option's name in its word
+-- the text after an option's name in its word
 pub data After : Type 0 where
   nothing : After
-  -- a value, right after a character
+  -- a value right after a character
   attached : List ℕ → After
-  -- a value, after `=`
+  -- a value after `=`
   joined : List ℕ → After
 
--- an option that has no value, with this after it in its word, and these words after that word, is
--- this item, and the words are left
+-- a flag, with this text after its name in its word and these words after that word, is this item,
+-- and the words `left` are left
 pub data NoValue (name : Name) (after : After) (words : List (List ℕ)) (item : Item)
     (left : List (List ℕ)) : Type 0 where
   no_value : after ≡ nothing → item ≡ option name None → left ≡ words
       → NoValue name after words item left
 
--- and so for one that has a value
+-- the same for an option of one value
 pub data OneValue (name : Name) (after : After) (words : List (List ℕ)) (item : Item)
     (left : List (List ℕ)) : Type 0 where
   attached_value : (v : List ℕ) → after ≡ attached v → item ≡ option name (Some v) → left ≡ words
       → OneValue name after words item left
   joined_value : (v : List ℕ) → after ≡ joined v → item ≡ option name (Some v) → left ≡ words
       → OneValue name after words item left
-  -- whatever it looks like
+  -- the next word, whatever it looks like
   next_word : (w : List ℕ) → after ≡ nothing → item ≡ option name (Some w) → w ∷ left ≡ words
       → OneValue name after words item left
 
--- for one that may have a value: the next word is never taken
+-- the same for an option of one value or none, which never takes the next word
 pub data OptionalValue (name : Name) (after : After) (words : List (List ℕ)) (item : Item)
     (left : List (List ℕ)) : Type 0 where
   no_optional : after ≡ nothing → item ≡ option name None → left ≡ words
@@ -70,8 +70,8 @@ pub data OptionalValue (name : Name) (after : After) (words : List (List ℕ)) (
   joined_optional : (v : List ℕ) → after ≡ joined v → item ≡ option name (Some v) → left ≡ words
       → OptionalValue name after words item left
 
--- and for one that has several values, at least one: the words after are taken up to the first that
--- can be an option
+-- the same for an option of several values, at least one: it takes the next words up to the first
+-- one that is not plain
 pub data SeveralValues (name : Name) (after : After) (words : List (List ℕ)) (item : Item)
     (left : List (List ℕ)) : Type 0 where
   joined_several : (v : List ℕ) → after ≡ joined v → item ≡ many name (v ∷ []) → left ≡ words
@@ -89,13 +89,13 @@ Completes one = OneValue
 Completes optional = OptionalValue
 Completes several = SeveralValues
 
--- ---- clusters, as `-abc`
+-- ---- clusters, such as `-abc`
 
--- `=` comes first in these bytes, and the setting makes it a mark
+-- these bytes begin with `=`, and `short_equals` is on, so it is a mark
 abbrev pub BeginsWithMark : Bool → List ℕ → Type 0
 BeginsWithMark short_equals bytes = (short_equals ≡ true) × BeginsWith equals bytes
 
--- these bytes come after the last character of a cluster
+-- these bytes come after the last option of a cluster
 pub data IsAfterLast (short_equals : Bool) (bytes : List ℕ) (after : After) : Type 0 where
   nothing_more : bytes ≡ [] → after ≡ nothing → IsAfterLast short_equals bytes after
   a_value : bytes ≢ [] → ¬ BeginsWithMark short_equals bytes → after ≡ attached bytes
@@ -103,10 +103,10 @@ pub data IsAfterLast (short_equals : Bool) (bytes : List ℕ) (after : After) : 
   marked_value : (v : List ℕ) → short_equals ≡ true → bytes ≡ equals ∷ v → after ≡ joined v
       → IsAfterLast short_equals bytes after
 
--- these bytes of a cluster, with the words after it, spell the items, and the words are left
+-- these bytes of a cluster, with the words after it, spell the items, and the words `left` are left
 pub data Cluster (letters : Letters) (t : Table) (short_equals : Bool)
     (words left : List (List ℕ)) : List ℕ → List Item → Type 0 where
-  -- a flag, and more characters, the first of which is not an `=` that is a mark
+  -- a flag, and more bytes, which do not begin with a mark
   flag_first : (c : ℕ) (character others : List ℕ) (items : List Item)
       → letters.character c character others → kind t (short c) ≡ flag
       → ¬ BeginsWithMark short_equals others
@@ -119,9 +119,9 @@ pub data Cluster (letters : Letters) (t : Table) (short_equals : Bool)
       → Completes (kind t (short c)) (short c) after words item left
       → Cluster letters t short_equals words left (character ++ others) (item ∷ [])
 
--- ---- long options, as `--name` and `--name=value`
+-- ---- long options, such as `--name` and `--name=value`
 
--- after its dashes the word has these bytes for a name, and this after them
+-- the text after the dashes of a word has these bytes as its name, and then this
 pub data IsLong (text bytes : List ℕ) (after : After) : Type 0 where
   name_alone : bytes ≢ [] → text ≡ bytes → after ≡ nothing → IsLong text bytes after
   name_and_value : (v : List ℕ) → text ≡ bytes ++ equals ∷ v → after ≡ joined v
@@ -129,7 +129,7 @@ pub data IsLong (text bytes : List ℕ) (after : After) : Type 0 where
 
 -- ---- a whole line
 
--- the first of these words spell the items, and the words are left
+-- a front of these words spells the items, and the words `left` are left
 pub data Group (letters : Letters) (t : Table) (short_equals : Bool) (words : List (List ℕ))
     (items : List Item) (left : List (List ℕ)) : Type 0 where
   cluster : (bytes : List ℕ) (others : List (List ℕ)) → words ≡ (dash ∷ bytes) ∷ others
@@ -159,7 +159,7 @@ pub data Line (letters : Letters) (t : Table)
 abbrev pub Spells : Table → Bool → List (List ℕ) → List Item → Type 0
 Spells = Line exact
 
--- the same, with damage let in
+-- the same, if damage may also represent U+FFFD
 abbrev pub Shows : Table → Bool → List (List ℕ) → List Item → Type 0
 Shows = Line damaged
 
@@ -169,7 +169,7 @@ abbrev pub IsWholeName : Name → Type 0
 IsWholeName (short c) = c ≢ replacement
 IsWholeName (long name) = ¬ Contains (lossy_characters name) replacement
 
--- of each option's name this is true
+-- `P` holds of the name of each option
 abbrev pub HaveNames : (Name → Type 0) → List Item → Type 0
 HaveNames P [] = Unit {0}
 HaveNames P (option name value ∷ items) = P name × HaveNames P items

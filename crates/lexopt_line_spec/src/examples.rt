@@ -1,7 +1,7 @@
-//! Examples of definitions: what they mean, and what they rule out.
+//! Worked examples of the definitions of whole lines: what they mean, and what they rule out.
 ghost use Rattle.std.specs.Prelude.{◌≡◌, [], ◌∷◌, ℕ, List, false, true, Some, None, codes};
 ghost use Rattle.lexopt_line_spec.specs.Clusters.{ReadsPieces};
-ghost use Rattle.lexopt_line_spec.specs.Readings.{items_said};
+ghost use Rattle.lexopt_line_spec.specs.Readings.{items_of_replies};
 ghost use Rattle.lexopt_line_spec.specs.Bound.{bound};
 ghost use Rattle.lexopt_line_spec.specs.Spelling.{HaveWholeNames};
 ghost use Rattle.lexopt_line_spec.specs.Table as table;
@@ -36,8 +36,8 @@ fn clusters_are_read_to_their_end()
         → ⊥ }
 {}
 
-// Whether an option has U+FFFD in its name: a damaged name has. C2 B5 is another character, and
-// EF BF BD is U+FFFD itself.
+// Names with and without U+FFFD. A damaged name has it. C2 B5 is another character, and EF BF BD is
+// U+FFFD itself.
 fn names_are_whole()
     ensures no_items { HaveWholeNames [] }
     ensures short { HaveWholeNames (option (table.short 0x78) None ∷ []) }
@@ -62,7 +62,7 @@ fn names_are_whole()
         ∷ many (table.short 0x64) ((0xEF ∷ 0xBF ∷ 0xBD ∷ []) ∷ []) ∷ []) }
 {}
 
-// The bounds of a line with no words.
+// The bounds of lines without words.
 fn tails_are_bounded()
     ensures cluster { bound (record (fresh []) {
       tail = rest (codes "bc");
@@ -75,7 +75,7 @@ fn tails_are_bounded()
     ensures nothing { bound (fresh []) ≡ 0 }
 {}
 
-// The options of a table, and what replies mean.
+// The options of a table, and the items that replies mean.
 fn tables_and_replies_are_told_apart()
     ensures one_value { one_value (codes "o") (codes "out" ∷ []) ≡ record {
       shorts = codes "o";
@@ -85,7 +85,7 @@ fn tables_and_replies_are_told_apart()
       several_shorts = [];
       several_longs = [];
     } }
-    ensures last_option { items_said (short 0x61 ∷ []) ≡ option (table.short 0x61) None ∷ [] }
-    ensures value_left_out { items_said (short 0x61 ∷ maybe None ∷ end ∷ [])
+    ensures last_option { items_of_replies (short 0x61 ∷ []) ≡ option (table.short 0x61) None ∷ [] }
+    ensures value_left_out { items_of_replies (short 0x61 ∷ maybe None ∷ end ∷ [])
         ≡ option (table.short 0x61) None ∷ [] }
 {}

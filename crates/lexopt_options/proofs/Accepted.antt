@@ -37,7 +37,7 @@ none_never (v ∷ values) = go (position (λ (w : List ℕ). false) (v ∷ value
     go None is = is
     go (Some i) is = absurd (false≢true (position-Some (λ (w : List ℕ). false) (v ∷ values) i v is).1)
 
--- a place in a list has a value
+-- a place that was found in a list has a value
 first_there : (p : List ℕ → Bool) (values : List (List ℕ)) → is_none (option_and_then (λ n. slice_get values n) (position p values)) ≡ is_none (position p values)
 first_there p [] = refl
 first_there p (v ∷ values) = go (position p (v ∷ values)) refl
@@ -53,7 +53,7 @@ none_cond false value = refl
 view_at : {F V M S : Type 0} (options : List (Declared F V M S)) (i : ℕ) (o : Option (Declared F V M S)) → slice_get options i ≡ o → slice_get (map option_view options) i ≡ option_map option_view o
 view_at options i o at = slice_get-map option_view options i ∙ ap (option_map option_view) at
 
--- the option of an index
+-- the element at an index
 pub at_place : {X : Type 0} (xs : List X) (i : ℕ) (x : X) → i < length xs → x ≡ get_or xs i x → slice_get xs i ≡ Some x
 at_place xs i x within is = slice_get-get_or xs i x within ∙ ap (λ y. Some y) (sym is)
 
@@ -94,7 +94,7 @@ pub value_refused : (options : List spec.Declared) (i : ℕ) (o : spec.Declared)
     → refused_value options (legal.option i (Some value)) ≡ Some value
 value_refused options i o value at is = ap (λ b. cond b None (Some value)) (ap (λ x. unwrap_or (option_map (λ p. spec.accepts p.words value) x) true) at ∙ is)
 
--- the first of several that is not accepted
+-- the first of several values that is not accepted
 pub first_refused : (options : List spec.Declared) (i : ℕ) (o : spec.Declared) (values : List (List ℕ)) (n : Option ℕ) → slice_get options i ≡ Some o
     → n ≡ position (λ value. not (spec.accepts o.words value)) values → refused_value options (legal.several i values) ≡ option_and_then (λ k. slice_get values k) n
 first_refused options i o values n at is =
@@ -124,7 +124,7 @@ not_true : (b : Bool) → not b ≡ true → b ≡ false
 not_true true is = absurd (false≢true is)
 not_true false is = refl
 
--- the place of the first of several that is not accepted
+-- the value at the place of the first of several that is not accepted
 pub place_refused : (words : spec.Words) (values : List (List ℕ)) (place : ℕ) (value : List ℕ) → Some place ≡ position (λ value. not (spec.accepts words value)) values → value ≡ get_or values place value
     → (slice_get values place ≡ Some value) × (spec.accepts words value ≡ false)
 place_refused words values place value found is =

@@ -12,7 +12,7 @@ use Rattle.std.proofs.lemmas.Option.{slice_get-map}
 use Rattle.std.specs.declared.alloc.AllocError.{AllocError}
 use Rattle.lexopt_options_spec.specs.Declaration.{Declaration, Declared, has_name, index_of, is_long, is_short, is_sound}
 use Rattle.lexopt_options_spec.specs.Legal as legal
-use Rattle.lexopt_options_spec.specs.Legal.{SaysFront, said_item}
+use Rattle.lexopt_options_spec.specs.Legal.{MeansFront, parsed_item}
 use Rattle.lexopt_options_spec.proofs.Lists.{first_same}
 use Rattle.lexopt_line_spec.specs.Table as table
 use Rattle.lexopt_line_spec.specs.Table.{Item, Name}
@@ -24,7 +24,7 @@ use Rattle.lexopt_options_spec.proofs.LastWords.{no_last, same_last}
 use Rattle.lexopt_options_spec.proofs.OpenLines.{dashes}
 use Rattle.lexopt_options_spec.proofs.OpenWords as open_words
 use Rattle.lexopt_options_spec.proofs.OpenWords.{EndsInOne, OpenOrNot, takes_any_word, open_or_not, open_adds}
-use Rattle.lexopt_options_spec.proofs.Stands.{AreNamed, stands_accepted, stands_open, stands_taken}
+use Rattle.lexopt_options_spec.proofs.Occurs.{AreNamed, occurs_accepted, occurs_open, occurs_taken}
 use Rattle.lexopt_options_spec.proofs.Taken.{CanBeTaken, filled}
 use Rattle.lexopt_options_spec.specs.Declaration.{Positional, are_listable}
 use Rattle.lexopt_options_spec.specs.Legal.{positional_count, positional_words}
@@ -38,7 +38,7 @@ use Rattle.lexopt_declaration.specs.declared.declaration.Positional as rust_posi
 use Rattle.lexopt_declaration.specs.declared.declaration.Declared as rust
 use Rattle.lexopt_declaration.specs.declared.declaration.Names.{Names}
 use Rattle.lexopt_declaration.specs.declared.declaration.Names.TheVariants as names
-use Rattle.lexopt_options_spec.proofs.Offered.{kept, keeps, offered_stands, stands_offered}
+use Rattle.lexopt_options_spec.proofs.Offered.{kept, keeps, offered_occurs, occurs_offered}
 use Rattle.lexopt_options.specs.declared.indexed.Indexed.{Indexed}
 use Rattle.lexopt_options.specs.declared.indexed.Indexed.TheVariants as indexed
 use Rattle.lexopt_options.specs.Completions.{AreOffered, CanCome, HasPositional, IsLastPlace, Opens, TakeAnyWord, ends_in_one, is_one, joined_values, values_so, word_values, words_so}
@@ -57,7 +57,7 @@ use Rattle.std.proofs.lemmas.List.Folds.{list_all-map}
 use Rattle.std.specs.List.{list_all}
 use Rattle.lexopt_options_spec.specs.Legal.{refused_value}
 
--- ---- the last that is read
+-- ---- the last thing that is read
 
 pub ends_so : (l : List Indexed) → ends_in_one l ≡ true → EndsInOne (map indexed_view l)
 ends_so [] is = absurd (false≢true is)
@@ -68,7 +68,7 @@ ends_so (s ∷ t ∷ l) is =
     let rest = ends_so (t ∷ l) is in
     record { front = indexed_view s ∷ rest.front; last = rest.last; are = ap (λ m. indexed_view s ∷ m) rest.are; one = rest.one }
 
-pub so_ends : (l : List Indexed) (front : List legal.Said) (last : legal.Said) → map indexed_view l ≡ front ++ last ∷ [] → ((i : ℕ) (values : List (List ℕ)) → last ≢ legal.several i values) → ends_in_one l ≡ true
+pub so_ends : (l : List Indexed) (front : List legal.Parsed) (last : legal.Parsed) → map indexed_view l ≡ front ++ last ∷ [] → ((i : ℕ) (values : List (List ℕ)) → last ≢ legal.several i values) → ends_in_one l ≡ true
 so_ends [] front last are one = absurd (no_last front last are)
 so_ends (indexed.Option i value ∷ []) front last are one = refl
 so_ends (indexed.Several i values ∷ []) front last are one = absurd (one i values.items (sym (same_last [] front (legal.several i values.items) last are).1))
@@ -87,8 +87,8 @@ ends_at (s ∷ t ∷ l) last some is =
 
 -- ---- whether an option can come
 
-opens_by : (d : Declaration) (words : List (List ℕ)) (l m : Vec Indexed Global) (r : Bool) → SaysFront d (words ++ dashes ∷ []) (map indexed_view l.items)
-    → SaysFront d (words ++ [] ∷ []) (map indexed_view m.items) → (IsTrue r ↔ TakeAnyWord l.items m.items) → Opens d words (not r)
+opens_by : (d : Declaration) (words : List (List ℕ)) (l m : Vec Indexed Global) (r : Bool) → MeansFront d (words ++ dashes ∷ []) (map indexed_view l.items)
+    → MeansFront d (words ++ [] ∷ []) (map indexed_view m.items) → (IsTrue r ↔ TakeAnyWord l.items m.items) → Opens d words (not r)
 opens_by d words l m true dashed plain takes = (
   (λ yes. absurd (false≢true yes)),
   (λ there.
@@ -99,10 +99,10 @@ opens_by d words l m true dashed plain takes = (
 )
 opens_by d words l m false dashed plain takes = ((λ yes. go (open_or_not d words (map indexed_view l.items) dashed)), (λ there. refl))
   where
-    go : OpenOrNot d words (map indexed_view l.items) → (n : List legal.Said) × IsOpen d words n
+    go : OpenOrNot d words (map indexed_view l.items) → (n : List legal.Parsed) × IsOpen d words n
     go (open_words.opens is) = (map indexed_view l.items, is)
     go (takes_any_word as_much) =
-        let e = one_front d (words ++ [] ∷ []) (map indexed_view m.items) as_much.said plain as_much.front in
+        let e = one_front d (words ++ [] ∷ []) (map indexed_view m.items) as_much.parsed plain as_much.front in
         absurd
         (false≢true (takes.1 (
           sym (length-map l.items indexed_view) ∙ sym as_much.same ∙ sym (ap length e) ∙ length-map m.items indexed_view,
@@ -110,60 +110,60 @@ opens_by d words l m false dashed plain takes = ((λ yes. go (open_or_not d word
         )))
 
 pub opens_so : (d : Declaration) (words : List (List ℕ)) (l m : Vec Indexed Global) (xs ys : List Indexed) (r : Bool) → xs ≡ l.items → ys ≡ m.items
-    → SaysFront d (words ++ dashes ∷ []) (map indexed_view l.items) → SaysFront d (words ++ [] ∷ []) (map indexed_view m.items)
+    → MeansFront d (words ++ dashes ∷ []) (map indexed_view l.items) → MeansFront d (words ++ [] ∷ []) (map indexed_view m.items)
     → (IsTrue r ↔ TakeAnyWord xs ys) → Opens d words (not r)
 opens_so d words l m xs ys r dashed_is plain_is dashed plain takes =
     opens_by d words l m r dashed plain
     (subst (λ (x : List Indexed). IsTrue r ↔ TakeAnyWord x m.items) dashed_is (subst (λ (y : List Indexed). IsTrue r ↔ TakeAnyWord xs y) plain_is takes))
 
--- nothing is read with an empty word
-pub opens_full : (d : Declaration) (words : List (List ℕ)) (l : Vec Indexed Global) → SaysFront d (words ++ dashes ∷ []) (map indexed_view l.items) → IsPart d (words ++ [] ∷ []) None → Opens d words true
+-- where the reading with an empty word gives nothing
+pub opens_full : (d : Declaration) (words : List (List ℕ)) (l : Vec Indexed Global) → MeansFront d (words ++ dashes ∷ []) (map indexed_view l.items) → IsPart d (words ++ [] ∷ []) None → Opens d words true
 opens_full d words l dashed plain = ((λ yes. go (open_or_not d words (map indexed_view l.items) dashed)), (λ there. refl))
   where
-    go : OpenOrNot d words (map indexed_view l.items) → (n : List legal.Said) × IsOpen d words n
+    go : OpenOrNot d words (map indexed_view l.items) → (n : List legal.Parsed) × IsOpen d words n
     go (open_words.opens is) = (map indexed_view l.items, is)
-    go (takes_any_word as_much) = absurd (plain as_much.said as_much.front)
+    go (takes_any_word as_much) = absurd (plain as_much.parsed as_much.front)
 
--- nothing is read with `--`
+-- where the reading with `--` gives nothing
 pub opens_never : (d : Declaration) (words : List (List ℕ)) → IsPart d (words ++ dashes ∷ []) None → Opens d words false
 opens_never d words dashed = ((λ yes. absurd (false≢true yes)), (λ there. absurd (dashed there.0 there.1.with_separator)))
 
--- ---- what an empty word would be
+-- ---- what an empty word is
 
 mapped_last : (before : List Indexed) (last : Indexed) → map indexed_view (before ++ last ∷ []) ≡ map indexed_view before ++ indexed_view last ∷ []
 mapped_last [] last = refl
 mapped_last (x ∷ before) last = ap (λ l. indexed_view x ∷ l) (mapped_last before last)
 
-pub some_role : (d : Declaration) (words : List (List ℕ)) (said : List Indexed) (r : Option Place) → SaysFront d (words ++ [] ∷ []) (map indexed_view said)
-    → IsLastPlace said r
+pub some_role : (d : Declaration) (words : List (List ℕ)) (parsed : List Indexed) (r : Option Place) → MeansFront d (words ++ [] ∷ []) (map indexed_view parsed)
+    → IsLastPlace parsed r
     → IsPlainRole d words (option_map place_view r)
-some_role d words said None says none = λ before s other.
-    no_last before s (sym (ap (map indexed_view) none) ∙ one_front d (words ++ [] ∷ []) (map indexed_view said) (before ++ s ∷ []) says other)
-some_role d words said (Some role) says (counted, (before, last, items_are, role_is)) = (
+some_role d words parsed None means none = λ before s other.
+    no_last before s (sym (ap (map indexed_view) none) ∙ one_front d (words ++ [] ∷ []) (map indexed_view parsed) (before ++ s ∷ []) means other)
+some_role d words parsed (Some role) means (counted, (before, last, items_are, role_is)) = (
   map indexed_view before,
   indexed_view last,
-  subst (SaysFront d (words ++ [] ∷ [])) (ap (map indexed_view) items_are ∙ mapped_last before last) says,
+  subst (MeansFront d (words ++ [] ∷ [])) (ap (map indexed_view) items_are ∙ mapped_last before last) means,
   role_is,
 )
 
--- ---- what `--` would be
+-- ---- what `--` is
 
--- it adds nothing where an option can come
+-- where an option can come, it adds nothing
 pub no_dashed : (d : Declaration) (words : List (List ℕ)) → Opens d words true → IsDashedRole d words None
 no_dashed d words opens = λ before s other.
     let there = opens.0 refl in
-    subst (SaysFront d words) (one_front d (words ++ dashes ∷ []) there.0 (before ++ s ∷ []) there.1.with_separator other) there.1.front
+    subst (MeansFront d words) (one_front d (words ++ dashes ∷ []) there.0 (before ++ s ∷ []) there.1.with_separator other) there.1.front
 
 pub unsaid_dashed : (d : Declaration) (words : List (List ℕ)) → IsPart d (words ++ dashes ∷ []) None → IsDashedRole d words None
 unsaid_dashed d words none = λ before s other. absurd (none (before ++ s ∷ []) other)
 
-pub some_dashed : (d : Declaration) (words : List (List ℕ)) (said : List Indexed) (r : Option Place) → Opens d words false → SaysFront d (words ++ dashes ∷ []) (map indexed_view said)
-    → IsLastPlace said r
+pub some_dashed : (d : Declaration) (words : List (List ℕ)) (parsed : List Indexed) (r : Option Place) → Opens d words false → MeansFront d (words ++ dashes ∷ []) (map indexed_view parsed)
+    → IsLastPlace parsed r
     → IsDashedRole d words (option_map place_view r)
-some_dashed d words said None closed says none = λ before s other.
-    absurd (no_last before s (sym (ap (map indexed_view) none) ∙ one_front d (words ++ dashes ∷ []) (map indexed_view said) (before ++ s ∷ []) says other))
-some_dashed d words said (Some role) closed says (counted, (before, last, items_are, role_is)) =
-    let dashed = subst (SaysFront d (words ++ dashes ∷ [])) (ap (map indexed_view) items_are ∙ mapped_last before last) says in (
+some_dashed d words parsed None closed means none = λ before s other.
+    absurd (no_last before s (sym (ap (map indexed_view) none) ∙ one_front d (words ++ dashes ∷ []) (map indexed_view parsed) (before ++ s ∷ []) means other))
+some_dashed d words parsed (Some role) closed means (counted, (before, last, items_are, role_is)) =
+    let dashed = subst (MeansFront d (words ++ dashes ∷ [])) (ap (map indexed_view) items_are ∙ mapped_last before last) means in (
       map indexed_view before,
       indexed_view last,
       dashed,
@@ -174,14 +174,14 @@ some_dashed d words said (Some role) closed says (counted, (before, last, items_
 -- ---- a value in the word of its option
 
 pub none_joined : (d : Declaration) (words : List (List ℕ)) (typed : List ℕ) → Opens d words false → IsJoined d words typed None
-none_joined d words typed none = λ i before joins. absurd (false≢true (none.1 (joins.said, joins.is_open)))
+none_joined d words typed none = λ i before joins. absurd (false≢true (none.1 (joins.parsed, joins.is_open)))
 
 pub unsaid_joined : (d : Declaration) (words one : List (List ℕ)) (typed : List ℕ) → one ≡ typed ∷ [] → IsPart d one None → IsJoined d words typed None
 unsaid_joined d words one typed is none = λ i before joins.
-    absurd (none (joins.others ++ joins.last ∷ []) (subst (λ ws. SaysFront d ws (joins.others ++ joins.last ∷ [])) (sym is) joins.word_says))
+    absurd (none (joins.others ++ joins.last ∷ []) (subst (λ ws. MeansFront d ws (joins.others ++ joins.last ∷ [])) (sym is) joins.word_means))
 
--- the last of what is read
-last_of : (items : List Indexed) (others : List legal.Said) (last : legal.Said) → map indexed_view items ≡ others ++ last ∷ [] → (before : List Indexed) × (x : Indexed) × (items ≡ before ++ x ∷ []) × (indexed_view x ≡ last)
+-- the last thing that is read
+last_of : (items : List Indexed) (others : List legal.Parsed) (last : legal.Parsed) → map indexed_view items ≡ others ++ last ∷ [] → (before : List Indexed) × (x : Indexed) × (items ≡ before ++ x ∷ []) × (indexed_view x ≡ last)
 last_of [] [] last is = let e : [] ≡ last ∷ [] = is in cc
 last_of [] (o ∷ others) last is = let e : [] ≡ o ∷ (others ++ last ∷ []) = is in cc
 last_of (x ∷ []) [] last is = let e : indexed_view x ∷ [] ≡ last ∷ [] = is in ([], x, refl, cc)
@@ -191,28 +191,28 @@ last_of (x ∷ items) (o ∷ others) last is =
     let more = last_of items others last parts.1 in
     (x ∷ more.0, more.1, ap (λ l. x ∷ l) more.2, more.3)
 
-pub no_value : (d : Declaration) (words : List (List ℕ)) (typed : List ℕ) (said : List Indexed) → SaysFront d (typed ∷ []) (map indexed_view said)
-    → ((others : List Indexed) (last : Indexed) → said ≡ others ++ last ∷ [] → spec.value_of (indexed_view last) ≡ None) → IsJoined d words typed None
-no_value d words typed said says none = λ i before joins.
-    let x = last_of said joins.others joins.last (one_front d (typed ∷ []) (map indexed_view said) (joins.others ++ joins.last ∷ []) says joins.word_says) in
+pub no_value : (d : Declaration) (words : List (List ℕ)) (typed : List ℕ) (parsed : List Indexed) → MeansFront d (typed ∷ []) (map indexed_view parsed)
+    → ((others : List Indexed) (last : Indexed) → parsed ≡ others ++ last ∷ [] → spec.value_of (indexed_view last) ≡ None) → IsJoined d words typed None
+no_value d words typed parsed means none = λ i before joins.
+    let x = last_of parsed joins.others joins.last (one_front d (typed ∷ []) (map indexed_view parsed) (joins.others ++ joins.last ∷ []) means joins.word_means) in
     let e : None ≡ Some joins.value = sym (none x.0 x.1 x.2) ∙ ap spec.value_of x.3 ∙ joins.has_value in cc
 
-pub no_text : (d : Declaration) (words : List (List ℕ)) (typed : List ℕ) (said others : List Indexed) (last : Indexed) (value : List ℕ) → SaysFront d (typed ∷ []) (map indexed_view said) → said ≡ others ++ last ∷ []
+pub no_text : (d : Declaration) (words : List (List ℕ)) (typed : List ℕ) (parsed others : List Indexed) (last : Indexed) (value : List ℕ) → MeansFront d (typed ∷ []) (map indexed_view parsed) → parsed ≡ others ++ last ∷ []
     → spec.value_of (indexed_view last) ≡ Some value → ((before : List ℕ) → IsUtf8 before → typed ≡ before ++ value → ⊥) → IsJoined d words typed None
-no_text d words typed said others last value says are has none = λ i before joins.
-    let same = one_front d (typed ∷ []) (map indexed_view others ++ indexed_view last ∷ []) (joins.others ++ joins.last ∷ []) (subst (SaysFront d (typed ∷ [])) (ap (map indexed_view) are ∙ mapped_last others last) says) joins.word_says in
+no_text d words typed parsed others last value means are has none = λ i before joins.
+    let same = one_front d (typed ∷ []) (map indexed_view others ++ indexed_view last ∷ []) (joins.others ++ joins.last ∷ []) (subst (MeansFront d (typed ∷ [])) (ap (map indexed_view) are ∙ mapped_last others last) means) joins.word_means in
     let values : Some value ≡ Some joins.value = sym has ∙ ap spec.value_of (same_last (map indexed_view others) joins.others (indexed_view last) joins.last same).1 ∙ joins.has_value in
     let value_is : value ≡ joins.value = cc in
     none before joins.text (joins.apart ∙ ap (λ v. before ++ v) (sym value_is))
 
-pub joins : (d : Declaration) (words : List (List ℕ)) (typed : List ℕ) (said others : List Indexed) (last : Indexed) (i : ℕ) (before value : List ℕ) → Opens d words true → SaysFront d (typed ∷ []) (map indexed_view said)
-    → said ≡ others ++ last ∷ [] → IsOption i (indexed_view last) → spec.value_of (indexed_view last) ≡ Some value → IsUtf8 before → typed ≡ before ++ value → JoinsValue d words typed i before
-joins d words typed said others last i before value opens says are is has utf8 apart = record {
-  said = (opens.0 refl).0;
+pub joins : (d : Declaration) (words : List (List ℕ)) (typed : List ℕ) (parsed others : List Indexed) (last : Indexed) (i : ℕ) (before value : List ℕ) → Opens d words true → MeansFront d (typed ∷ []) (map indexed_view parsed)
+    → parsed ≡ others ++ last ∷ [] → IsOption i (indexed_view last) → spec.value_of (indexed_view last) ≡ Some value → IsUtf8 before → typed ≡ before ++ value → JoinsValue d words typed i before
+joins d words typed parsed others last i before value opens means are is has utf8 apart = record {
+  parsed = (opens.0 refl).0;
   is_open = (opens.0 refl).1;
   others = map indexed_view others;
   last = indexed_view last;
-  word_says = subst (SaysFront d (typed ∷ [])) (ap (map indexed_view) are ∙ mapped_last others last) says;
+  word_means = subst (MeansFront d (typed ∷ [])) (ap (map indexed_view) are ∙ mapped_last others last) means;
   is = is;
   value = value;
   has_value = has;
@@ -238,7 +238,7 @@ all_named {F} {V} {M} {S} (o ∷ os) = (one o.names refl, all_named os)
     one (names.Long name) is = (table.long name.now, ap (is_long name.now) (ap long_name is) ∙ pointwise_refl name.now)
     one (names.Both c name) is = (table.short c, ap (is_short c) (ap short_name is) ∙ eq-eqb c c refl)
 
--- the spellings without what the help tells
+-- the spellings without their help texts
 firsts_kept : (q : List ℕ → Bool) (l : List (List ℕ × List ℕ)) → map (λ p. p.0) (filter (λ p. q p.0) l) ≡ filter q (map (λ p. p.0) l)
 firsts_kept q [] = refl
 firsts_kept q (x ∷ l) = elim (q x.0) as (λ b. map (λ (p : List ℕ × List ℕ). p.0) (if b then x ∷ filter (λ (p : List ℕ × List ℕ). q p.0) l else filter (λ (p : List ℕ × List ℕ). q p.0) l) ≡ (if b then x.0 ∷ filter q (map (λ (p : List ℕ × List ℕ). p.0) l) else filter q (map (λ (p : List ℕ × List ℕ). p.0) l)))
@@ -262,14 +262,14 @@ pub offered : (d : Declaration) (words : List (List ℕ)) (typed : List ℕ) (li
 offered d words typed list sound good named utf8 opens text is = record {
   sound = λ s has.
       let k = kept (λ x. starts_with nat_eq x typed) (spellings d.options) s (subst (λ x. Contains x s) (firsts_are typed d.options list is) has) in
-      record { text = utf8; begins = k.1; stands = let there = opens.0 refl in offered_stands d words there.0 s sound text named there.1 there.2 (filled d.positionals (positional_words there.0) good there.3) k.0 };
+      record { text = utf8; begins = k.1; possible = let there = opens.0 refl in offered_occurs d words there.0 s sound text named there.1 there.2 (filled d.positionals (positional_words there.0) good there.3) k.0 };
   complete = λ s completes.
       subst (λ x. Contains x s) (sym (firsts_are typed d.options list is))
-      (keeps (λ x. starts_with nat_eq x typed) (spellings d.options) s (stands_offered d words s completes.stands) completes.begins);
+      (keeps (λ x. starts_with nat_eq x typed) (spellings d.options) s (occurs_offered d words s completes.possible) completes.begins);
   in_order = inl is;
 }
 
--- the same of what a call returns
+-- the same for the spellings that a call returns
 pub offered_all : (d : Declaration) (typed : List ℕ) (r : Result (Vec Spelling Global) AllocError) (options : List Declared) (bytes : List ℕ) (b : Bool) → is_sound d.options ≡ true → are_listable d.positionals ≡ true → AreNamed d.options → IsUtf8 typed → b ≡ true
     → options ≡ d.options → bytes ≡ typed → OnOk r (AreText options) → IfOk r (λ list. map spelling_view list.items ≡ filter (λ p. starts_with nat_eq p.0 bytes) (explained options))
     → IfOk r (λ list. (words : List (List ℕ)) → CanCome d words b → AreOffered d words typed (map spelling_view list.items))
@@ -281,28 +281,28 @@ offered_all d typed (Err e) options bytes b sound good named utf8 can are also t
 none_there : (s : List ℕ) → Contains [] s → ⊥
 none_there s (k, below, is) = omega (arith, below)
 
--- one can come where one could, and what was read is accepted
-pub comes_so : (d : Declaration) (words : List (List ℕ)) (said : List legal.Said) (legal_so : Bool) → Opens d words true → SaysFront d (words ++ dashes ∷ []) said
-    → (IsTrue legal_so ↔ ((legal.are_accepted d.options said ≡ true) × CanBeTaken d.positionals (positional_words said))) → CanCome d words legal_so
-comes_so d words said legal_so opens front is = (
+-- a declared option can come where an option can, and what was read is accepted
+pub comes_so : (d : Declaration) (words : List (List ℕ)) (parsed : List legal.Parsed) (legal_so : Bool) → Opens d words true → MeansFront d (words ++ dashes ∷ []) parsed
+    → (IsTrue legal_so ↔ ((legal.are_accepted d.options parsed ≡ true) × CanBeTaken d.positionals (positional_words parsed))) → CanCome d words legal_so
+comes_so d words parsed legal_so opens front is = (
   (λ yes.
       let there = opens.0 refl in
-      let same = one_front d (words ++ dashes ∷ []) there.0 said there.1.with_separator front in
+      let same = one_front d (words ++ dashes ∷ []) there.0 parsed there.1.with_separator front in
       let both = is.0 yes in
       (there.0, there.1, ap (legal.are_accepted d.options) same ∙ both.0, subst (λ l. CanBeTaken d.positionals (positional_words l)) (sym same) both.1)),
   (λ there.
-      let same = one_front d (words ++ dashes ∷ []) there.0 said there.1.with_separator front in
+      let same = one_front d (words ++ dashes ∷ []) there.0 parsed there.1.with_separator front in
       is.1 (sym (ap (legal.are_accepted d.options) same) ∙ there.2, subst (λ l. CanBeTaken d.positionals (positional_words l)) same there.3)),
 )
 
--- by the options and the positionals that a call returns
-pub accepted_so : (options others : List Declared) (said : List Indexed) (b : Bool) → options ≡ others → b ≡ list_all (λ own. is_none (refused_value options (indexed_view own))) said → legal.are_accepted others (map indexed_view said) ≡ b
-accepted_so options others said b same is =
-    list_all-map (λ s. is_none (refused_value others s)) indexed_view said ∙ sym (ap (λ (os : List Declared). list_all (λ own. is_none (refused_value os (indexed_view own))) said) same) ∙ sym is
+-- the same for the options and positionals that a call returns
+pub accepted_so : (options others : List Declared) (parsed : List Indexed) (b : Bool) → options ≡ others → b ≡ list_all (λ own. is_none (refused_value options (indexed_view own))) parsed → legal.are_accepted others (map indexed_view parsed) ≡ b
+accepted_so options others parsed b same is =
+    list_all-map (λ s. is_none (refused_value others s)) indexed_view parsed ∙ sym (ap (λ (os : List Declared). list_all (λ own. is_none (refused_value os (indexed_view own))) parsed) same) ∙ sym is
 
-pub taken_so : (ps others : List Positional) (said : List Indexed) (b : Bool) → ps ≡ others → (IsTrue b ↔ CanBeTaken ps (indexed_words said)) → IsTrue b ↔ CanBeTaken others (positional_words (map indexed_view said))
-taken_so ps others said b same is =
-    subst (λ ws. IsTrue b ↔ CanBeTaken others ws) (sym (index_words_are said)) (subst (λ qs. IsTrue b ↔ CanBeTaken qs (indexed_words said)) same is)
+pub taken_so : (ps others : List Positional) (parsed : List Indexed) (b : Bool) → ps ≡ others → (IsTrue b ↔ CanBeTaken ps (indexed_words parsed)) → IsTrue b ↔ CanBeTaken others (positional_words (map indexed_view parsed))
+taken_so ps others parsed b same is =
+    subst (λ ws. IsTrue b ↔ CanBeTaken others ws) (sym (index_words_are parsed)) (subst (λ qs. IsTrue b ↔ CanBeTaken qs (indexed_words parsed)) same is)
 
 pub legal_so : (d : Declaration) (xs ys : List Indexed) (b : Bool) → xs ≡ ys → (IsTrue b ↔ ((legal.are_accepted d.options (map indexed_view xs) ≡ true) × CanBeTaken d.positionals (positional_words (map indexed_view xs))))
     → IsTrue b ↔ ((legal.are_accepted d.options (map indexed_view ys) ≡ true) × CanBeTaken d.positionals (positional_words (map indexed_view ys)))
@@ -314,29 +314,29 @@ comes_closed d words opens = ((λ yes. absurd (false≢true yes)), (λ there. op
 pub comes_never : (d : Declaration) (words : List (List ℕ)) → IsPart d (words ++ dashes ∷ []) None → CanCome d words false
 comes_never d words dashed = ((λ yes. absurd (false≢true yes)), (λ there. absurd (dashed there.0 there.1.with_separator)))
 
--- nothing is offered where no option can come
+-- no spelling is offered where no option can come
 pub none_stands : (d : Declaration) (words : List (List ℕ)) (typed : List ℕ) → CanCome d words false → AreOffered d words typed []
 none_stands d words typed closed = record {
   sound = λ s has. absurd (none_there s has);
-  complete = λ s completes. absurd (false≢true (closed.1 (completes.stands.before, stands_open d words s completes.stands, stands_accepted d words s completes.stands, stands_taken d words s completes.stands)));
+  complete = λ s completes. absurd (false≢true (closed.1 (completes.possible.before, occurs_open d words s completes.possible, occurs_accepted d words s completes.possible, occurs_taken d words s completes.possible)));
   in_order = inr refl;
 }
 
--- ---- an option that a word belongs to is declared
+-- ---- the option that a word belongs to is declared
 
 known : {X Y : Type 0} (f : X → Y) (o : Option X) (y : Y) → option_map f o ≡ Some y → (x : X) × (o ≡ Some x) × (f x ≡ y)
 known f None y is = absurd (let e : None ≡ Some y = is in cc)
 known f (Some x) y is = (x, refl, cc)
 
-declared_by : (options : List Declared) (items : List Item) (l before : List legal.Said) (s : legal.Said) → map (said_item options) items ≡ map (λ x. Some x) l → l ≡ before ++ s ∷ []
-    → (earlier : List legal.Said) → IsDeclared (length options) (spec.role_of earlier s)
-declared_by options [] l [] s said is earlier = absurd (let e : [] ≡ Some s ∷ [] = said ∙ ap (map (λ x. Some x)) is in cc)
-declared_by options [] l (b ∷ before) s said is earlier = absurd (let e : [] ≡ Some b ∷ map (λ x. Some x) (before ++ s ∷ []) = said ∙ ap (map (λ x. Some x)) is in cc)
-declared_by options (item ∷ items) l (b ∷ before) s said is earlier =
-    let parts = first_same (said_item options item) (Some b) (map (said_item options) items) (map (λ x. Some x) (before ++ s ∷ [])) (said ∙ ap (map (λ x. Some x)) is) in
+declared_by : (options : List Declared) (items : List Item) (l before : List legal.Parsed) (s : legal.Parsed) → map (parsed_item options) items ≡ map (λ x. Some x) l → l ≡ before ++ s ∷ []
+    → (earlier : List legal.Parsed) → IsDeclared (length options) (spec.role_of earlier s)
+declared_by options [] l [] s parsed is earlier = absurd (let e : [] ≡ Some s ∷ [] = parsed ∙ ap (map (λ x. Some x)) is in cc)
+declared_by options [] l (b ∷ before) s parsed is earlier = absurd (let e : [] ≡ Some b ∷ map (λ x. Some x) (before ++ s ∷ []) = parsed ∙ ap (map (λ x. Some x)) is in cc)
+declared_by options (item ∷ items) l (b ∷ before) s parsed is earlier =
+    let parts = first_same (parsed_item options item) (Some b) (map (parsed_item options) items) (map (λ x. Some x) (before ++ s ∷ [])) (parsed ∙ ap (map (λ x. Some x)) is) in
     declared_by options items (before ++ s ∷ []) before s parts.1 refl earlier
-declared_by options (item ∷ items) l [] s said is earlier =
-    let parts = first_same (said_item options item) (Some s) (map (said_item options) items) [] (said ∙ ap (map (λ x. Some x)) is) in
+declared_by options (item ∷ items) l [] s parsed is earlier =
+    let parts = first_same (parsed_item options item) (Some s) (map (parsed_item options) items) [] (parsed ∙ ap (map (λ x. Some x)) is) in
     one item parts.0
   where
     within : (name : Name) (i : ℕ) → index_of options name ≡ Some i → i < length options
@@ -346,7 +346,7 @@ declared_by options (item ∷ items) l [] s said is earlier =
         inside [] found = absurd (let e : None ≡ Some i = found in cc)
         inside (o ∷ os) found = (position-Some (has_name name) (o ∷ os) i o found).0
 
-    one : (item : Item) → said_item options item ≡ Some s → IsDeclared (length options) (spec.role_of earlier s)
+    one : (item : Item) → parsed_item options item ≡ Some s → IsDeclared (length options) (spec.role_of earlier s)
     one (table.option name value) so =
         let index = known (λ i. legal.option i value) (index_of options name) s so in
         subst (λ x. IsDeclared (length options) (spec.role_of earlier x)) index.2 (within name index.0 index.1)
@@ -357,9 +357,9 @@ declared_by options (item ∷ items) l [] s said is earlier =
         let e : legal.positional word ≡ s = cc in
         subst (λ x. IsDeclared (length options) (spec.role_of earlier x)) e tt
 
--- the last of what words mean
-last_declared : (d : Declaration) (words : List (List ℕ)) (before : List legal.Said) (s : legal.Said) → SaysFront d words (before ++ s ∷ []) → IsDeclared (length d.options) (spec.role_of before s)
-last_declared d words before s says = declared_by d.options says.items (before ++ s ∷ []) before s says.said refl before
+-- the last thing that words mean
+last_declared : (d : Declaration) (words : List (List ℕ)) (before : List legal.Parsed) (s : legal.Parsed) → MeansFront d words (before ++ s ∷ []) → IsDeclared (length d.options) (spec.role_of before s)
+last_declared d words before s means = declared_by d.options means.items (before ++ s ∷ []) before s means.parsed refl before
 
 starts_so : (typed : List ℕ) → BeginsWith dash typed ⊎ (¬ BeginsWith dash typed)
 starts_so [] = inr (λ begins. begins)
@@ -371,9 +371,9 @@ role_declared d words typed role is = ⊎_elim
     (λ not. let there = is.plain not in subst (IsDeclared (length d.options)) there.3 (last_declared d _ there.0 there.1 there.2)) (starts_so typed)
 
 pub joined_declared : (d : Declaration) (words : List (List ℕ)) (typed : List ℕ) (i : ℕ) (before : List ℕ) → JoinsValue d words typed i before → i < length d.options
-joined_declared d words typed i before joins = of joins.last joins.is (last_declared d (typed ∷ []) joins.others joins.last joins.word_says)
+joined_declared d words typed i before joins = of joins.last joins.is (last_declared d (typed ∷ []) joins.others joins.last joins.word_means)
   where
-    of : (s : legal.Said) → IsOption i s → IsDeclared (length d.options) (spec.role_of joins.others s) → i < length d.options
+    of : (s : legal.Parsed) → IsOption i s → IsDeclared (length d.options) (spec.role_of joins.others s) → i < length d.options
     of (legal.option j value) same within = subst (λ n. n < length d.options) same within
     of (legal.several j values) same within = subst (λ n. n < length d.options) same within
     of (legal.positional word) same within = absurd same
@@ -405,13 +405,13 @@ filter_append p [] ys = refl
 filter_append p (x ∷ xs) ys = elim (p x) as (λ b. (if b then x ∷ filter p (xs ++ ys) else filter p (xs ++ ys)) ≡ (if b then x ∷ filter p xs else filter p xs) ++ filter p ys)
     [ true ↦ ap (λ l. x ∷ l) (filter_append p xs ys) | false ↦ filter_append p xs ys ]
 
--- the words of the positionals that begin so, of each in turn
+-- the words of the positionals that begin with what was typed, of each positional in turn
 words_are_so : (ps : List Positional) (typed : List ℕ) (owners : List ℕ) → flat_map (words_so ps typed) owners ≡ filter (λ v. starts_with nat_eq v typed) (flat_map (words_at ps) owners)
 words_are_so ps typed [] = refl
 words_are_so ps typed (i ∷ owners) =
     ap (λ l. words_so ps typed i ++ l) (words_are_so ps typed owners) ∙ sym (filter_append (λ v. starts_with nat_eq v typed) (words_at ps i) (flat_map (words_at ps) owners))
 
--- the values of the options that are found are those of the options at the indices
+-- the values of the options that are found are those of the options at their indices
 pub values_are : {F V P M S : Type 0} (o : Options F V P M S) (typed : List ℕ) (r : Option spec.Role) (owners : List ℕ) (i : Option spec.Joined) (word : Option (Role F V M S)) (joined : Option (Joined F V M S))
     → IsRoleAt (options_of o) r word → IsJoinedAt (options_of o) i joined → values_so (declaration_of o).positionals typed word owners joined ≡ offered_values (declaration_of o) typed r owners i
 values_are o typed r owners i word joined is at =
@@ -420,7 +420,7 @@ values_are o typed r owners i word joined is at =
     ∙ ap (λ l. filter (λ v. starts_with nat_eq v typed) (values_at (declaration_of o).options r) ++ filter (λ v. starts_with nat_eq v typed) (flat_map (words_at (declaration_of o).positionals) owners) ++ filter (λ v. starts_with nat_eq v typed) l)
     (joined_so (options_of o) i joined at)
 
--- ---- the last of what is read
+-- ---- the last thing that is read, as a positional
 
 pub last_split : (l : List Indexed) (last : Indexed) → 1 ≤ length l → last ≡ get_or l (length l - 1) last → l ≡ take (length l - 1) l ++ last ∷ []
 last_split [] last some is = absurd (omega (arith, some))
@@ -430,13 +430,13 @@ last_split (s ∷ t ∷ l) last some is =
     let at : length (s ∷ t ∷ l) - 1 ≡ suc i = omega arith in
     ap (λ m. s ∷ m) (last_split (t ∷ l) last (omega arith) (is ∙ ap (λ (n : ℕ). get_or (s ∷ t ∷ l) n last) at)) ∙ ap (λ n. take n (s ∷ t ∷ l) ++ last ∷ []) (sym at)
 
-pub last_found : {X : Type 0} (P Q : X → legal.Said → Type 0) (said : List Indexed) (last : Indexed) (r : Option X) → 1 ≤ length said → last ≡ get_or said (length said - 1) last
+pub last_found : {X : Type 0} (P Q : X → legal.Parsed → Type 0) (parsed : List Indexed) (last : Indexed) (r : Option X) → 1 ≤ length parsed → last ≡ get_or parsed (length parsed - 1) last
     → MatchOption r (spec.value_of (indexed_view last) ≡ None) (λ found. P found (indexed_view last) × Q found (indexed_view last))
-    → MatchOption r ((others : List Indexed) (x : Indexed) → said ≡ others ++ x ∷ [] → spec.value_of (indexed_view x) ≡ None)
-    (λ found. (others : List Indexed) × (x : Indexed) × (said ≡ others ++ x ∷ []) × P found (indexed_view x) × Q found (indexed_view x))
-last_found P Q said last None some is none = λ others x are.
-    ap (λ l. spec.value_of (indexed_view l)) (sym (same_last (take (length said - 1) said) others last x (sym (last_split said last some is) ∙ are)).1) ∙ none
-last_found P Q said last (Some f) some is found = (take (length said - 1) said, last, last_split said last some is, found.0, found.1)
+    → MatchOption r ((others : List Indexed) (x : Indexed) → parsed ≡ others ++ x ∷ [] → spec.value_of (indexed_view x) ≡ None)
+    (λ found. (others : List Indexed) × (x : Indexed) × (parsed ≡ others ++ x ∷ []) × P found (indexed_view x) × Q found (indexed_view x))
+last_found P Q parsed last None some is none = λ others x are.
+    ap (λ l. spec.value_of (indexed_view l)) (sym (same_last (take (length parsed - 1) parsed) others last x (sym (last_split parsed last some is) ∙ are)).1) ∙ none
+last_found P Q parsed last (Some f) some is found = (take (length parsed - 1) parsed, last, last_split parsed last some is, found.0, found.1)
 
 indexed_append : (before : List Indexed) (last : Indexed) (word : List ℕ) → last ≡ indexed.Positional word → length (indexed_words (before ++ last ∷ [])) ≡ suc (positional_count (map indexed_view before))
 indexed_append [] last word is = ap (λ x. length (indexed_words (x ∷ []))) is
@@ -445,22 +445,22 @@ indexed_append (indexed.Several i vs ∷ before) last word is = let rest = index
 indexed_append (indexed.Positional w ∷ before) last word is = let rest = indexed_append before last word is in omega (arith, rest)
 
 -- the last word is a positional, after those before it
-pub argument_last : (said before : List Indexed) (last : Indexed) (word : List ℕ) (count : ℕ) → last ≡ indexed.Positional word → count ≡ length (filter (λ x. taken.is_positional x) said) → said ≡ before ++ last ∷ []
+pub argument_last : (parsed before : List Indexed) (last : Indexed) (word : List ℕ) (count : ℕ) → last ≡ indexed.Positional word → count ≡ length (filter (λ x. taken.is_positional x) parsed) → parsed ≡ before ++ last ∷ []
     → IsCounted (Some (place.Argument count)) × (spec.role_of (map indexed_view before) (indexed_view last) ≡ place_view (place.Argument count))
-argument_last said before last word count is counted are =
-    let many : count ≡ suc (positional_count (map indexed_view before)) = counted ∙ index_counted said ∙ ap (λ l. length (indexed_words l)) are ∙ indexed_append before last word is in
+argument_last parsed before last word count is counted are =
+    let many : count ≡ suc (positional_count (map indexed_view before)) = counted ∙ index_counted parsed ∙ ap (λ l. length (indexed_words l)) are ∙ indexed_append before last word is in
     let one : positional_count (map indexed_view before) ≡ count - 1 = omega (arith, many) in
     (omega (arith, many), ap (λ x. spec.role_of (map indexed_view before) (indexed_view x)) is ∙ ap (λ n. spec.argument n) one)
 
-pub counted_last : (said : List Indexed) (r : Option Place) → IsLastPlace said r → IsCounted r
-counted_last said None is = tt
-counted_last said (Some place) is = is.0
+pub counted_last : (parsed : List Indexed) (r : Option Place) → IsLastPlace parsed r → IsCounted r
+counted_last parsed None is = tt
+counted_last parsed (Some place) is = is.0
 
 nothing_more : {X : Type 0} (l : List X) → l ++ [] ≡ l
 nothing_more [] = refl
 nothing_more (x ∷ l) = ap (λ m. x ∷ m) (nothing_more l)
 
--- no positional has this index
+-- there is no positional at this index
 pub no_words_past : {P : Type 0} (ps : List (rust_positional.Positional P)) (typed : List ℕ) (i : ℕ) (l : List (List ℕ)) → length ps ≤ i → l ≡ l ++ words_so (map positional_view ps) typed i
 no_words_past ps typed i l past = sym (nothing_more l) ∙ ap (λ m. l ++ m) (sym (none ps i past))
   where
@@ -469,7 +469,7 @@ no_words_past ps typed i l past = sym (nothing_more l) ∙ ap (λ m. l ++ m) (sy
     none (p ∷ ps) zero past = absurd (omega (arith, past))
     none (p ∷ ps) (suc i) past = none ps i (omega (arith, past))
 
--- the same by the positionals and the indices that calls return
+-- the same for the positionals and indices that calls return
 pub values_given : {F V P M S : Type 0} (o : Options F V P M S) (typed : List ℕ) (r : Option spec.Role) (ps : List Positional) (given owners : List ℕ) (i : Option spec.Joined) (word : Option (Role F V M S)) (joined : Option (Joined F V M S))
     → ps ≡ (declaration_of o).positionals → given ≡ owners → IsRoleAt (options_of o) r word → IsJoinedAt (options_of o) i joined → values_so ps typed word given joined ≡ offered_values (declaration_of o) typed r owners i
 values_given o typed r ps given owners i word joined ps_are same is at =
@@ -477,23 +477,23 @@ values_given o typed r ps given owners i word joined ps_are same is at =
 
 -- ---- a positional among the words
 
-counts_are : (said : List Indexed) → positional_count (map indexed_view said) ≡ length (filter (λ x. taken.is_positional x) said)
+counts_are : (parsed : List Indexed) → positional_count (map indexed_view parsed) ≡ length (filter (λ x. taken.is_positional x) parsed)
 counts_are [] = refl
-counts_are (indexed.Option i v ∷ said) = let rest = counts_are said in omega (arith, rest)
-counts_are (indexed.Several i vs ∷ said) = let rest = counts_are said in omega (arith, rest)
-counts_are (indexed.Positional w ∷ said) = let rest = counts_are said in omega (arith, rest)
+counts_are (indexed.Option i v ∷ parsed) = let rest = counts_are parsed in omega (arith, rest)
+counts_are (indexed.Several i vs ∷ parsed) = let rest = counts_are parsed in omega (arith, rest)
+counts_are (indexed.Positional w ∷ parsed) = let rest = counts_are parsed in omega (arith, rest)
 
-pub some_positional : (d : Declaration) (words own : List (List ℕ)) (said items : List Indexed) (count : ℕ) → own ≡ words → items ≡ said → SaysFront d own (map indexed_view said) → count ≡ length (filter (λ x. taken.is_positional x) items)
+pub some_positional : (d : Declaration) (words own : List (List ℕ)) (parsed items : List Indexed) (count : ℕ) → own ≡ words → items ≡ parsed → MeansFront d own (map indexed_view parsed) → count ≡ length (filter (λ x. taken.is_positional x) items)
     → (0 < count) ↔ HasPositional d words
-some_positional d words own said items count same are says is =
-    let front = subst (λ ws. SaysFront d ws (map indexed_view said)) same says in
-    let counted : positional_count (map indexed_view said) ≡ count = counts_are said ∙ ap (λ l. length (filter (λ x. taken.is_positional x) l)) (sym are) ∙ sym is in (
-      (λ some. (map indexed_view said, front, omega (arith, some, counted))),
+some_positional d words own parsed items count same are means is =
+    let front = subst (λ ws. MeansFront d ws (map indexed_view parsed)) same means in
+    let counted : positional_count (map indexed_view parsed) ≡ count = counts_are parsed ∙ ap (λ l. length (filter (λ x. taken.is_positional x) l)) (sym are) ∙ sym is in (
+      (λ some. (map indexed_view parsed, front, omega (arith, some, counted))),
       (λ there.
-          let one = ap positional_count (one_front d words there.0 (map indexed_view said) there.1 front) in
+          let one = ap positional_count (one_front d words there.0 (map indexed_view parsed) there.1 front) in
           let more = there.2 in
           omega (arith, more, one, counted)),
     )
 
 pub no_positional : (d : Declaration) (words own : List (List ℕ)) → own ≡ words → IsPart d own None → HasPositional d words → ⊥
-no_positional d words own same none there = none there.0 (subst (λ ws. SaysFront d ws there.0) (sym same) there.1)
+no_positional d words own same none there = none there.0 (subst (λ ws. MeansFront d ws there.0) (sym same) there.1)

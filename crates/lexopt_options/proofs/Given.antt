@@ -13,74 +13,74 @@ use Rattle.lexopt_options_spec.specs.Places.{ArePlaces}
 use Rattle.lexopt_declaration.specs.Models.{positional_view}
 use Rattle.lexopt_declaration.specs.declared.declaration.Declared.{Declared}
 use Rattle.lexopt_declaration.specs.declared.declaration.Positional.{Positional}
-use Rattle.lexopt_options.specs.declared.said.Said.{Said}
-use Rattle.lexopt_options.specs.declared.said.Said.TheVariants as said
-use Rattle.lexopt_options.specs.Keys.{AreSaid, HasKey, HaveKeys, IsGiven, IsSaid, IsSame, is_positional, positional_keys}
+use Rattle.lexopt_options.specs.declared.parsed.Parsed.{Parsed}
+use Rattle.lexopt_options.specs.declared.parsed.Parsed.TheVariants as parsed
+use Rattle.lexopt_options.specs.Keys.{AreParsedAs, HasKey, HaveKeys, IsGiven, IsParsedAs, IsSame, is_positional, positional_keys}
 use Rattle.lexopt_options.proofs.Owners.{places_length}
 
-abbrev pub word_count : {F V P M S : Type 0} → List (Said F V P M S) → ℕ
+abbrev pub word_count : {F V P M S : Type 0} → List (Parsed F V P M S) → ℕ
 word_count xs = length (positional_keys xs)
 
-pub counted : {F V P M S : Type 0} (xs : List (Said F V P M S)) → length (filter (λ x. is_positional x) xs) ≡ word_count xs
+pub counted : {F V P M S : Type 0} (xs : List (Parsed F V P M S)) → length (filter (λ x. is_positional x) xs) ≡ word_count xs
 counted [] = refl
-counted (said.Flag key ∷ xs) = counted xs
-counted (said.Value key word ∷ xs) = counted xs
-counted (said.Maybe key value ∷ xs) = counted xs
-counted (said.Values key values ∷ xs) = counted xs
-counted (said.Positional key word ∷ xs) = ap suc (counted xs)
+counted (parsed.Flag key ∷ xs) = counted xs
+counted (parsed.Value key word ∷ xs) = counted xs
+counted (parsed.Maybe key value ∷ xs) = counted xs
+counted (parsed.Values key values ∷ xs) = counted xs
+counted (parsed.Positional key word ∷ xs) = ap suc (counted xs)
 
 -- the key that is found for a positional
-pub given_one : {F V P M S : Type 0} (positionals : List (Positional P)) (places : List ℕ) (n : ℕ) (own : Said F V P M S) (old other : P) (word : _) (found : Option P) → own ≡ said.Positional old word → found ≡ Some other
-    → ((key : P) × (i : ℕ) × (found ≡ Some key) × (slice_get places n ≡ Some i) × HasKey positionals i key) → IsGiven positionals places n own (said.Positional other word)
+pub given_one : {F V P M S : Type 0} (positionals : List (Positional P)) (places : List ℕ) (n : ℕ) (own : Parsed F V P M S) (old other : P) (word : _) (found : Option P) → own ≡ parsed.Positional old word → found ≡ Some other
+    → ((key : P) × (i : ℕ) × (found ≡ Some key) × (slice_get places n ≡ Some i) × HasKey positionals i key) → IsGiven positionals places n own (parsed.Positional other word)
 given_one {F} {V} {P} {M} {S} positionals places n own old other word found own_is found_is (key, i, is, at, has) =
     let e : Some key ≡ Some other = sym is ∙ found_is in
     let same : key ≡ other = cc in
-    subst (λ (x : Said F V P M S). IsGiven positionals places n x (said.Positional other word)) (sym own_is) (other, i, refl, at, subst (HasKey positionals i) same has)
+    subst (λ (x : Parsed F V P M S). IsGiven positionals places n x (parsed.Positional other word)) (sym own_is) (other, i, refl, at, subst (HasKey positionals i) same has)
 
 -- ---- from each to all
 
--- two lists, element by element
-abbrev pub EachSame : {F V P M S : Type 0} → List (Said F V P M S) → List (Said F V P M S) → Type 0
+-- two lists, compared element by element
+abbrev pub EachSame : {F V P M S : Type 0} → List (Parsed F V P M S) → List (Parsed F V P M S) → Type 0
 EachSame [] [] = Unit {0}
 EachSame (x ∷ xs) (y ∷ ys) = IsSame x y × EachSame xs ys
 EachSame xs ys = ⊥
 
-pub each_same : {F V P M S : Type 0} (xs ys : List (Said F V P M S)) → length ys ≡ length xs → ((i : ℕ) (d : Said F V P M S) → i < length xs → IsSame (get_or xs i d) (get_or ys i d)) → EachSame xs ys
+pub each_same : {F V P M S : Type 0} (xs ys : List (Parsed F V P M S)) → length ys ≡ length xs → ((i : ℕ) (d : Parsed F V P M S) → i < length xs → IsSame (get_or xs i d) (get_or ys i d)) → EachSame xs ys
 each_same [] [] same at = tt
 each_same [] (y ∷ ys) same at = absurd (omega (arith, same))
 each_same (x ∷ xs) [] same at = absurd (omega (arith, same))
 each_same (x ∷ xs) (y ∷ ys) same at = (at 0 x (omega arith), each_same xs ys (omega (arith, same)) (λ i d below. at (suc i) d (omega (arith, below))))
 
-said_so : {F V P M S : Type 0} (options : List (Declared F V M S)) (s : legal.Said) (x y : Said F V P M S) → IsSame x y → IsSaid options s x → IsSaid options s y
-said_so options s (said.Flag key) y same is = subst (IsSaid options s) (sym same) is
-said_so options s (said.Value key word) y same is = subst (IsSaid options s) (sym same) is
-said_so options s (said.Maybe key value) y same is = subst (IsSaid options s) (sym same) is
-said_so options s (said.Values key values) y same is = subst (IsSaid options s) (sym same) is
-said_so options s (said.Positional key word) y same is = subst (IsSaid options s) (sym same.1) is
+parsed_so : {F V P M S : Type 0} (options : List (Declared F V M S)) (s : legal.Parsed) (x y : Parsed F V P M S) → IsSame x y → IsParsedAs options s x → IsParsedAs options s y
+parsed_so options s (parsed.Flag key) y same is = subst (IsParsedAs options s) (sym same) is
+parsed_so options s (parsed.Value key word) y same is = subst (IsParsedAs options s) (sym same) is
+parsed_so options s (parsed.Maybe key value) y same is = subst (IsParsedAs options s) (sym same) is
+parsed_so options s (parsed.Values key values) y same is = subst (IsParsedAs options s) (sym same) is
+parsed_so options s (parsed.Positional key word) y same is = subst (IsParsedAs options s) (sym same.1) is
 
--- what was read is read still
-pub said_still : {F V P M S : Type 0} (options : List (Declared F V M S)) (l : List legal.Said) (xs ys : List (Said F V P M S)) → EachSame xs ys → AreSaid options l xs → AreSaid options l ys
-said_still options [] [] [] same are = tt
-said_still options [] [] (y ∷ ys) same are = absurd same
-said_still options [] (x ∷ xs) ys same are = absurd are
-said_still options (s ∷ l) [] ys same are = absurd are
-said_still options (s ∷ l) (x ∷ xs) [] same are = absurd same
-said_still options (s ∷ l) (x ∷ xs) (y ∷ ys) same are = (said_so options s x y same.0 are.0, said_still options l xs ys same.1 are.1)
+-- what was read is still the same
+pub parsed_still : {F V P M S : Type 0} (options : List (Declared F V M S)) (l : List legal.Parsed) (xs ys : List (Parsed F V P M S)) → EachSame xs ys → AreParsedAs options l xs → AreParsedAs options l ys
+parsed_still options [] [] [] same are = tt
+parsed_still options [] [] (y ∷ ys) same are = absurd same
+parsed_still options [] (x ∷ xs) ys same are = absurd are
+parsed_still options (s ∷ l) [] ys same are = absurd are
+parsed_still options (s ∷ l) (x ∷ xs) [] same are = absurd same
+parsed_still options (s ∷ l) (x ∷ xs) (y ∷ ys) same are = (parsed_so options s x y same.0 are.0, parsed_still options l xs ys same.1 are.1)
 
-abbrev pub EachGiven : {F V P M S : Type 0} → List (Positional P) → List ℕ → ℕ → List (Said F V P M S) → List (Said F V P M S) → Type 0
+abbrev pub EachGiven : {F V P M S : Type 0} → List (Positional P) → List ℕ → ℕ → List (Parsed F V P M S) → List (Parsed F V P M S) → Type 0
 EachGiven positionals places n [] [] = Unit {0}
 EachGiven positionals places n (x ∷ xs) (y ∷ ys) = IsGiven positionals places n x y × EachGiven positionals places (word_count (x ∷ []) + n) xs ys
 EachGiven positionals places n xs ys = ⊥
 
-word_cons : {F V P M S : Type 0} (x : Said F V P M S) (xs : List (Said F V P M S)) → word_count (x ∷ xs) ≡ word_count (x ∷ []) + word_count xs
-word_cons (said.Flag key) xs = omega arith
-word_cons (said.Value key word) xs = omega arith
-word_cons (said.Maybe key value) xs = omega arith
-word_cons (said.Values key values) xs = omega arith
-word_cons (said.Positional key word) xs = omega arith
+word_cons : {F V P M S : Type 0} (x : Parsed F V P M S) (xs : List (Parsed F V P M S)) → word_count (x ∷ xs) ≡ word_count (x ∷ []) + word_count xs
+word_cons (parsed.Flag key) xs = omega arith
+word_cons (parsed.Value key word) xs = omega arith
+word_cons (parsed.Maybe key value) xs = omega arith
+word_cons (parsed.Values key values) xs = omega arith
+word_cons (parsed.Positional key word) xs = omega arith
 
-pub each_given : {F V P M S : Type 0} (positionals : List (Positional P)) (places : List ℕ) (n : ℕ) (xs ys : List (Said F V P M S)) → length ys ≡ length xs
-    → ((i : ℕ) (d : Said F V P M S) → i < length xs → IsGiven positionals places (word_count (take i xs) + n) (get_or xs i d) (get_or ys i d)) → EachGiven positionals places n xs ys
+pub each_given : {F V P M S : Type 0} (positionals : List (Positional P)) (places : List ℕ) (n : ℕ) (xs ys : List (Parsed F V P M S)) → length ys ≡ length xs
+    → ((i : ℕ) (d : Parsed F V P M S) → i < length xs → IsGiven positionals places (word_count (take i xs) + n) (get_or xs i d) (get_or ys i d)) → EachGiven positionals places n xs ys
 each_given positionals places n [] [] same at = tt
 each_given positionals places n [] (y ∷ ys) same at = absurd (omega (arith, same))
 each_given positionals places n (x ∷ xs) [] same at = absurd (omega (arith, same))
@@ -101,8 +101,8 @@ no_places [] (suc n) is = absurd (omega (arith, is))
 no_places (p ∷ places) zero is = absurd (omega (arith, is))
 no_places (p ∷ places) (suc n) is = no_places places n (omega (arith, is))
 
--- the keys that were given, from the word of this index on
-pub given_keys : {F V P M S : Type 0} (positionals : List (Positional P)) (places : List ℕ) (n : ℕ) (xs ys : List (Said F V P M S)) → EachGiven positionals places n xs ys → word_count xs + n ≡ length places
+-- the keys that were given, from the word at this index on
+pub given_keys : {F V P M S : Type 0} (positionals : List (Positional P)) (places : List ℕ) (n : ℕ) (xs ys : List (Parsed F V P M S)) → EachGiven positionals places n xs ys → word_count xs + n ≡ length places
     → AllZip (HasKey positionals) (drop n places) (positional_keys ys)
 given_keys positionals places n [] [] given all = subst (λ l. AllZip (HasKey positionals) l []) (sym (no_places places n (omega (arith, all)))) tt
 given_keys positionals places n [] (y ∷ ys) given all = absurd given
@@ -110,38 +110,38 @@ given_keys positionals places n (x ∷ xs) [] given all = absurd given
 given_keys positionals places n (x ∷ xs) (y ∷ ys) given all =
     one x given.0 (given_keys positionals places (word_count (x ∷ []) + n) xs ys given.1 (let e = word_cons x xs in omega (arith, e, all)))
   where
-    keys_of : (k : Said _ _ _ _ _) → y ≡ k → positional_keys (k ∷ ys) ≡ positional_keys (y ∷ ys)
+    keys_of : (k : Parsed _ _ _ _ _) → y ≡ k → positional_keys (k ∷ ys) ≡ positional_keys (y ∷ ys)
     keys_of k is = ap (λ z. positional_keys (z ∷ ys)) (sym is)
 
-    one : (x : Said _ _ _ _ _) → IsGiven positionals places n x y → AllZip (HasKey positionals) (drop (word_count (x ∷ []) + n) places) (positional_keys ys)
+    one : (x : Parsed _ _ _ _ _) → IsGiven positionals places n x y → AllZip (HasKey positionals) (drop (word_count (x ∷ []) + n) places) (positional_keys ys)
         → AllZip (HasKey positionals) (drop n places) (positional_keys (y ∷ ys))
-    one (said.Flag key) is rest = subst (AllZip (HasKey positionals) (drop n places)) (keys_of (said.Flag key) is) (subst (λ m. AllZip (HasKey positionals) (drop m places) (positional_keys ys)) (omega arith) rest)
-    one (said.Value key word) is rest = subst (AllZip (HasKey positionals) (drop n places)) (keys_of (said.Value key word) is) (subst (λ m. AllZip (HasKey positionals) (drop m places) (positional_keys ys)) (omega arith) rest)
-    one (said.Maybe key value) is rest = subst (AllZip (HasKey positionals) (drop n places)) (keys_of (said.Maybe key value) is) (subst (λ m. AllZip (HasKey positionals) (drop m places) (positional_keys ys)) (omega arith) rest)
-    one (said.Values key values) is rest = subst (AllZip (HasKey positionals) (drop n places)) (keys_of (said.Values key values) is) (subst (λ m. AllZip (HasKey positionals) (drop m places) (positional_keys ys)) (omega arith) rest)
-    one (said.Positional key word) (k, i, is, at, has) rest =
-        subst (AllZip (HasKey positionals) (drop n places)) (keys_of (said.Positional k word) is)
+    one (parsed.Flag key) is rest = subst (AllZip (HasKey positionals) (drop n places)) (keys_of (parsed.Flag key) is) (subst (λ m. AllZip (HasKey positionals) (drop m places) (positional_keys ys)) (omega arith) rest)
+    one (parsed.Value key word) is rest = subst (AllZip (HasKey positionals) (drop n places)) (keys_of (parsed.Value key word) is) (subst (λ m. AllZip (HasKey positionals) (drop m places) (positional_keys ys)) (omega arith) rest)
+    one (parsed.Maybe key value) is rest = subst (AllZip (HasKey positionals) (drop n places)) (keys_of (parsed.Maybe key value) is) (subst (λ m. AllZip (HasKey positionals) (drop m places) (positional_keys ys)) (omega arith) rest)
+    one (parsed.Values key values) is rest = subst (AllZip (HasKey positionals) (drop n places)) (keys_of (parsed.Values key values) is) (subst (λ m. AllZip (HasKey positionals) (drop m places) (positional_keys ys)) (omega arith) rest)
+    one (parsed.Positional key word) (k, i, is, at, has) rest =
+        subst (AllZip (HasKey positionals) (drop n places)) (keys_of (parsed.Positional k word) is)
         (subst (λ l. AllZip (HasKey positionals) l (k ∷ positional_keys ys)) (sym (places_from places n i at)) (has, rest))
 
--- no more and no fewer
-pub same_count : {F V P M S : Type 0} (xs ys : List (Said F V P M S)) → EachSame xs ys → word_count ys ≡ word_count xs
+-- there are as many positionals as before
+pub same_count : {F V P M S : Type 0} (xs ys : List (Parsed F V P M S)) → EachSame xs ys → word_count ys ≡ word_count xs
 same_count [] [] same = refl
 same_count [] (y ∷ ys) same = absurd same
 same_count (x ∷ xs) [] same = absurd same
 same_count (x ∷ xs) (y ∷ ys) same = one x same.0 (same_count xs ys same.1)
   where
-    keys_of : (k : Said _ _ _ _ _) → y ≡ k → word_count (y ∷ ys) ≡ word_count (k ∷ ys)
+    keys_of : (k : Parsed _ _ _ _ _) → y ≡ k → word_count (y ∷ ys) ≡ word_count (k ∷ ys)
     keys_of k is = ap (λ z. word_count (z ∷ ys)) is
 
-    one : (x : Said _ _ _ _ _) → IsSame x y → word_count ys ≡ word_count xs → word_count (y ∷ ys) ≡ word_count (x ∷ xs)
-    one (said.Flag key) is rest = keys_of (said.Flag key) is ∙ rest
-    one (said.Value key word) is rest = keys_of (said.Value key word) is ∙ rest
-    one (said.Maybe key value) is rest = keys_of (said.Maybe key value) is ∙ rest
-    one (said.Values key values) is rest = keys_of (said.Values key values) is ∙ rest
-    one (said.Positional key word) (k, is) rest = keys_of (said.Positional k word) is ∙ ap suc rest
+    one : (x : Parsed _ _ _ _ _) → IsSame x y → word_count ys ≡ word_count xs → word_count (y ∷ ys) ≡ word_count (x ∷ xs)
+    one (parsed.Flag key) is rest = keys_of (parsed.Flag key) is ∙ rest
+    one (parsed.Value key word) is rest = keys_of (parsed.Value key word) is ∙ rest
+    one (parsed.Maybe key value) is rest = keys_of (parsed.Maybe key value) is ∙ rest
+    one (parsed.Values key values) is rest = keys_of (parsed.Values key values) is ∙ rest
+    one (parsed.Positional key word) (k, is) rest = keys_of (parsed.Positional k word) is ∙ ap suc rest
 
--- so they have the keys of the positionals that they belong to
-pub have_keys : {F V P M S : Type 0} (positionals : List (Positional P)) (xs ys : List (Said F V P M S)) (places : List ℕ) → ArePlaces (map positional_view positionals) (word_count xs) places → EachSame xs ys
+-- so the positionals have the keys of those that they belong to
+pub have_keys : {F V P M S : Type 0} (positionals : List (Positional P)) (xs ys : List (Parsed F V P M S)) (places : List ℕ) → ArePlaces (map positional_view positionals) (word_count xs) places → EachSame xs ys
     → EachGiven positionals places 0 xs ys → HaveKeys positionals ys
 have_keys positionals xs ys places are same given = record {
   places = places;
@@ -151,51 +151,51 @@ have_keys positionals xs ys places are same given = record {
 
 -- ---- one after another
 
--- each before this index has its key, and the others are as they were
-pub record AreDone {F V P M S : Type 0} (positionals : List (Positional P)) (count : ℕ) (xs ys : List (Said F V P M S)) (index word : ℕ) : Type 0 where
+-- each positional before this index has its key, and the others are as they were
+pub record AreDone {F V P M S : Type 0} (positionals : List (Positional P)) (count : ℕ) (xs ys : List (Parsed F V P M S)) (index word : ℕ) : Type 0 where
   pub counted : word ≡ word_count (take index xs)
-  pub same : (i : ℕ) → i < index → (d : Said F V P M S) → IsSame (get_or xs i d) (get_or ys i d)
-  pub given : (places : List ℕ) → ArePlaces (map positional_view positionals) count places → (i : ℕ) → i < index → (d : Said F V P M S)
+  pub same : (i : ℕ) → i < index → (d : Parsed F V P M S) → IsSame (get_or xs i d) (get_or ys i d)
+  pub given : (places : List ℕ) → ArePlaces (map positional_view positionals) count places → (i : ℕ) → i < index → (d : Parsed F V P M S)
       → IsGiven positionals places (word_count (take i xs) + 0) (get_or xs i d) (get_or ys i d)
-  pub later : (i : ℕ) → index ≤ i → (d : Said F V P M S) → get_or ys i d ≡ get_or xs i d
+  pub later : (i : ℕ) → index ≤ i → (d : Parsed F V P M S) → get_or ys i d ≡ get_or xs i d
 
-one_word : {F V P M S : Type 0} (x : Said F V P M S) → is_positional x ≡ true → word_count (x ∷ []) ≡ 1
-one_word (said.Flag key) is = absurd (false≢true is)
-one_word (said.Value key word) is = absurd (false≢true is)
-one_word (said.Maybe key value) is = absurd (false≢true is)
-one_word (said.Values key values) is = absurd (false≢true is)
-one_word (said.Positional key word) is = refl
+one_word : {F V P M S : Type 0} (x : Parsed F V P M S) → is_positional x ≡ true → word_count (x ∷ []) ≡ 1
+one_word (parsed.Flag key) is = absurd (false≢true is)
+one_word (parsed.Value key word) is = absurd (false≢true is)
+one_word (parsed.Maybe key value) is = absurd (false≢true is)
+one_word (parsed.Values key values) is = absurd (false≢true is)
+one_word (parsed.Positional key word) is = refl
 
-no_word : {F V P M S : Type 0} (x : Said F V P M S) → is_positional x ≡ false → word_count (x ∷ []) ≡ 0
-no_word (said.Flag key) is = refl
-no_word (said.Value key word) is = refl
-no_word (said.Maybe key value) is = refl
-no_word (said.Values key values) is = refl
-no_word (said.Positional key word) is = absurd (false≢true (sym is))
+no_word : {F V P M S : Type 0} (x : Parsed F V P M S) → is_positional x ≡ false → word_count (x ∷ []) ≡ 0
+no_word (parsed.Flag key) is = refl
+no_word (parsed.Value key word) is = refl
+no_word (parsed.Maybe key value) is = refl
+no_word (parsed.Values key values) is = refl
+no_word (parsed.Positional key word) is = absurd (false≢true (sym is))
 
--- how many words there are, where this tells whether one more is
+-- one more word, if this is a positional
 abbrev pub after : Bool → ℕ → ℕ
 after true n = n + 1
 after false n = n
 
-one_after : {F V P M S : Type 0} (x : Said F V P M S) (b : Bool) (n : ℕ) → is_positional x ≡ b → after b n ≡ word_count (x ∷ []) + n
+one_after : {F V P M S : Type 0} (x : Parsed F V P M S) (b : Bool) (n : ℕ) → is_positional x ≡ b → after b n ≡ word_count (x ∷ []) + n
 one_after x true n is = let e = one_word x is in omega (arith, e)
 one_after x false n is = let e = no_word x is in omega (arith, e)
 
-take_count : {F V P M S : Type 0} (n : ℕ) (xs : List (Said F V P M S)) → word_count (take n xs) ≤ word_count xs
+take_count : {F V P M S : Type 0} (n : ℕ) (xs : List (Parsed F V P M S)) → word_count (take n xs) ≤ word_count xs
 take_count n xs = go n xs
   where
-    go : {F V P M S : Type 0} (n : ℕ) (xs : List (Said F V P M S)) → word_count (take n xs) ≤ word_count xs
-    go {F} {V} {P} {M} {S} n [] = subst (λ (l : List (Said F V P M S)). word_count l ≤ 0) (sym (take-nil n)) (omega arith)
+    go : {F V P M S : Type 0} (n : ℕ) (xs : List (Parsed F V P M S)) → word_count (take n xs) ≤ word_count xs
+    go {F} {V} {P} {M} {S} n [] = subst (λ (l : List (Parsed F V P M S)). word_count l ≤ 0) (sym (take-nil n)) (omega arith)
     go zero (x ∷ xs) = omega arith
     go (suc n) (x ∷ xs) = let e = go n xs in let a = word_cons x (take n xs) in let b = word_cons x xs in omega (arith, e, a, b)
 
-taken_more : {F V P M S : Type 0} (xs : List (Said F V P M S)) (index : ℕ) (x : Said F V P M S) → index < length xs → x ≡ get_or xs index x → word_count (take (index + 1) xs) ≡ word_count (x ∷ []) + word_count (take index xs)
+taken_more : {F V P M S : Type 0} (xs : List (Parsed F V P M S)) (index : ℕ) (x : Parsed F V P M S) → index < length xs → x ≡ get_or xs index x → word_count (take (index + 1) xs) ≡ word_count (x ∷ []) + word_count (take index xs)
 taken_more xs index x within is =
     ap word_count (take_more xs index x within) ∙ ap length (keys_append (take index xs) (get_or xs index x ∷ [])) ∙ length-append (positional_keys (take index xs)) (positional_keys (get_or xs index x ∷ []))
     ∙ ap (λ y. word_count (take index xs) + word_count (y ∷ [])) (sym is) ∙ omega arith
 
-pub done_none : {F V P M S : Type 0} (positionals : List (Positional P)) (count : ℕ) (xs : List (Said F V P M S)) → AreDone positionals count xs xs 0 0
+pub done_none : {F V P M S : Type 0} (positionals : List (Positional P)) (count : ℕ) (xs : List (Parsed F V P M S)) → AreDone positionals count xs xs 0 0
 done_none positionals count xs = record {
   counted = refl;
   same = λ i below. absurd (omega (arith, below));
@@ -203,12 +203,12 @@ done_none positionals count xs = record {
   later = λ i past d. refl;
 }
 
-old_at : {F V P M S : Type 0} (positionals : List (Positional P)) (count : ℕ) (xs ys : List (Said F V P M S)) (index word : ℕ) (old : Said F V P M S) → AreDone positionals count xs ys index word
+old_at : {F V P M S : Type 0} (positionals : List (Positional P)) (count : ℕ) (xs ys : List (Parsed F V P M S)) (index word : ℕ) (old : Parsed F V P M S) → AreDone positionals count xs ys index word
     → old ≡ get_or ys index old → old ≡ get_or xs index old
 old_at positionals count xs ys index word old done old_is = old_is ∙ done.later index (omega arith) old
 
--- a positional that is not done is one more
-pub word_below : {F V P M S : Type 0} (positionals : List (Positional P)) (count : ℕ) (xs ys : List (Said F V P M S)) (index word : ℕ) (old : Said F V P M S) → AreDone positionals count xs ys index word → index < length xs
+-- a positional whose key is not given yet is one more word
+pub word_below : {F V P M S : Type 0} (positionals : List (Positional P)) (count : ℕ) (xs ys : List (Parsed F V P M S)) (index word : ℕ) (old : Parsed F V P M S) → AreDone positionals count xs ys index word → index < length xs
     → old ≡ get_or ys index old → is_positional old ≡ true → word < word_count xs
 word_below positionals count xs ys index word old done within old_is is =
     let more = taken_more xs index old within (old_at positionals count xs ys index word old done old_is) in
@@ -216,7 +216,7 @@ word_below positionals count xs ys index word old done within old_is is =
     let less = take_count (index + 1) xs in
     omega (arith, more, one, less, done.counted)
 
-pub done_more : {F V P M S : Type 0} (positionals : List (Positional P)) (count : ℕ) (xs ys : List (Said F V P M S)) (index word word_now : ℕ) (old new : Said F V P M S) (b : Bool)
+pub done_more : {F V P M S : Type 0} (positionals : List (Positional P)) (count : ℕ) (xs ys : List (Parsed F V P M S)) (index word word_now : ℕ) (old new : Parsed F V P M S) (b : Bool)
     → AreDone positionals count xs ys index word → index < length xs → length ys ≡ length xs → old ≡ get_or ys index old → count ≡ word_count xs → b ≡ is_positional old → IsSame old new
     → ((places : List ℕ) → ArePlaces (map positional_view positionals) count places → (is_positional old ≡ true → word < count) → IsGiven positionals places word old new)
     → word_now ≡ after b word → AreDone positionals count xs (set ys index new) (index + 1) word_now
@@ -235,10 +235,10 @@ done_more {F} {V} {P} {M} {S} positionals count xs ys index word word_now old ne
     at_old : old ≡ get_or xs index old
     at_old = old_at positionals count xs ys index word old done old_is
 
-    at : (d : Said F V P M S) → get_or xs index d ≡ old
+    at : (d : Parsed F V P M S) → get_or xs index d ≡ old
     at d = get_or_default xs index d old within ∙ sym at_old
 
-    set_is : (d : Said F V P M S) → get_or (set ys index new) index d ≡ new
+    set_is : (d : Parsed F V P M S) → get_or (set ys index new) index d ≡ new
     set_is d = get_or-set_same ys index new d (omega (arith, same_length, within))
 
     more : word_count (take (index + 1) xs) ≡ word_count (old ∷ []) + word_count (take index xs)
@@ -247,8 +247,8 @@ done_more {F} {V} {P} {M} {S} positionals count xs ys index word word_now old ne
     now : word_now ≡ word_count (take (index + 1) xs)
     now = now_is ∙ one_after old b word (sym b_is) ∙ ap (λ n. word_count (old ∷ []) + n) done.counted ∙ sym more
 
--- the same of what is found there
-pub done_item : {F V P M S : Type 0} (positionals : List (Positional P)) (count : ℕ) (xs ys : List (Said F V P M S)) (index word word_now : ℕ) (old new : Said F V P M S) (b : Bool)
+-- the same for the element that is found there
+pub done_item : {F V P M S : Type 0} (positionals : List (Positional P)) (count : ℕ) (xs ys : List (Parsed F V P M S)) (index word word_now : ℕ) (old new : Parsed F V P M S) (b : Bool)
     → AreDone positionals count xs ys index word → index < length xs → length ys ≡ length xs → old ≡ get_or ys index old → count ≡ word_count xs → b ≡ is_positional (get_or ys index old) → IsSame (get_or ys index old) new
     → ((places : List ℕ) → ArePlaces (map positional_view positionals) count places → (is_positional (get_or ys index old) ≡ true → word < count) → IsGiven positionals places word (get_or ys index old) new)
     → word_now ≡ after b word → AreDone positionals count xs (set ys index new) (index + 1) word_now
@@ -256,16 +256,16 @@ done_item positionals count xs ys index word word_now old new b done within same
     done_more positionals count xs ys index word word_now old new b done within same_length is counted (b_is ∙ ap is_positional (sym is)) (subst (λ x. IsSame x new) (sym is) same)
     (λ places are below. subst (λ x. IsGiven positionals places word x new) (sym is) (given places are (λ so. below (ap is_positional is ∙ so)))) now_is
 
-pub item_below : {F V P M S : Type 0} (positionals : List (Positional P)) (count : ℕ) (xs ys : List (Said F V P M S)) (index word : ℕ) (old : Said F V P M S) → AreDone positionals count xs ys index word → index < length xs
+pub item_below : {F V P M S : Type 0} (positionals : List (Positional P)) (count : ℕ) (xs ys : List (Parsed F V P M S)) (index word : ℕ) (old : Parsed F V P M S) → AreDone positionals count xs ys index word → index < length xs
     → old ≡ get_or ys index old → is_positional (get_or ys index old) ≡ true → word < word_count xs
 item_below positionals count xs ys index word old done within is so = word_below positionals count xs ys index word old done within is (ap is_positional is ∙ so)
 
--- at the end each has its key
-pub all_same : {F V P M S : Type 0} (positionals : List (Positional P)) (count : ℕ) (xs ys : List (Said F V P M S)) (index word : ℕ) → AreDone positionals count xs ys index word → length ys ≡ length xs → length xs ≤ index
+-- at the end each positional has its key
+pub all_same : {F V P M S : Type 0} (positionals : List (Positional P)) (count : ℕ) (xs ys : List (Parsed F V P M S)) (index word : ℕ) → AreDone positionals count xs ys index word → length ys ≡ length xs → length xs ≤ index
     → EachSame xs ys
 all_same positionals count xs ys index word done same_length all = each_same xs ys same_length (λ i d below. done.same i (omega (arith, below, all)) d)
 
-pub all_given : {F V P M S : Type 0} (positionals : List (Positional P)) (count : ℕ) (xs ys : List (Said F V P M S)) (index word : ℕ) → AreDone positionals count xs ys index word → length ys ≡ length xs → length xs ≤ index
+pub all_given : {F V P M S : Type 0} (positionals : List (Positional P)) (count : ℕ) (xs ys : List (Parsed F V P M S)) (index word : ℕ) → AreDone positionals count xs ys index word → length ys ≡ length xs → length xs ≤ index
     → count ≡ word_count xs → IsWithin (word_count xs) (most (map positional_view positionals)) → HaveKeys positionals ys
 all_given positionals count xs ys index word done same_length all counted within =
     let some = some_places (map positional_view positionals) (word_count xs) within in

@@ -1,4 +1,4 @@
--- What is read has keys.
+-- What is read, by keys.
 use Rattle.std.proofs.Common.{◌≡◌, ◌<◌, ℕ, List, [], ◌∷◌, ◌++◌, map, length, get_or, Option, Some, None, Vec, slice_get, refl, sym, ap, ◌∙◌, arith}
 use Rattle.std.specs.Option.{option_map}
 use Rattle.std.specs.Prelude.{option_and_then, unwrap_or}
@@ -9,7 +9,7 @@ use Rattle.lexopt_spec.specs.UnreadLine.{UnreadLine}
 use Rattle.lexopt_line_spec.specs.Table.{Name, flag}
 use Rattle.lexopt_options_spec.specs.Declaration as spec
 use Rattle.lexopt_options_spec.specs.Declaration.{has_name, index_of}
-use Rattle.lexopt_options_spec.specs.Asking.{all_but_last, asked_at, asked_by, first_asked, or_asked, said_before}
+use Rattle.lexopt_options_spec.specs.Asking.{all_but_last, asked_at, asked_by, first_asked, or_asked, parsed_before}
 use Rattle.lexopt_options_spec.specs.Stops as stops
 use Rattle.lexopt_options_spec.specs.Legal as legal
 use Rattle.lexopt_items.specs.Items.{ReadsValues}
@@ -20,17 +20,17 @@ use Rattle.lexopt_declaration.specs.Models.{asked_of, kind_of, option_view}
 use Rattle.lexopt_declaration.specs.declared.declaration.Declared.{Declared}
 use Rattle.lexopt_declaration.specs.declared.declaration.Kind.{Kind}
 use Rattle.lexopt_declaration.specs.declared.declaration.Kind.TheVariants as kind
-use Rattle.lexopt_options.specs.declared.said.Asked.TheVariants as asked
-use Rattle.lexopt_options.specs.declared.said.Said.{Said}
-use Rattle.lexopt_options.specs.declared.said.Said.TheVariants as said
-use Rattle.lexopt_options.specs.declared.said.Told.TheVariants as told
+use Rattle.lexopt_options.specs.declared.parsed.Asked.TheVariants as asked
+use Rattle.lexopt_options.specs.declared.parsed.Parsed.{Parsed}
+use Rattle.lexopt_options.specs.declared.parsed.Parsed.TheVariants as parsed
+use Rattle.lexopt_options.specs.declared.parsed.ByKey.TheVariants as told
 use Rattle.lexopt_options.specs.Declarations.{options_of}
 use Rattle.lexopt_options.specs.declared.options.Options.{Options}
-use Rattle.lexopt_options.specs.Keys.{AreSaid, HasKind, IsSaid, IsTold}
+use Rattle.lexopt_options.specs.Keys.{AreParsedAs, HasKind, IsParsedAs, IsByKey}
 use Rattle.lexopt_options.specs.Kinds.{kind_at}
 use Rattle.lexopt_options.specs.Reading.{AreAll, IsAtMostOne, IsOne}
 
--- ---- the option of an index
+-- ---- the option at an index
 
 has_kind : {F V M S : Type 0} (options : List (Declared F V M S)) (i : ℕ) (o : Declared F V M S) (k : Kind F V M S) → i < length options → o ≡ get_or options i o → o.kind ≡ k → HasKind options i k
 has_kind options i o k inside is k_is = ap (option_map (λ p. p.kind)) (slice_get-get_or options i o inside) ∙ ap (λ x. Some x) (ap (λ p. p.kind) (sym is) ∙ k_is)
@@ -40,7 +40,7 @@ kinds_are : {F V M S : Type 0} (o : Option (Declared F V M S)) (k : Kind F V M S
 kinds_are None k is = absurd (let e : None ≡ Some k = is in cc)
 kinds_are (Some o) k is = let e : o.kind ≡ k = cc in (ap (λ x. Some (kind_of x)) e, ap asked_of e)
 
--- the kind of the option, as the calls for its values see it
+-- the kind of the option, as the calls for its values take it
 pub kind_is : {F V M S : Type 0} (options : List (Declared F V M S)) (i : ℕ) (o : Declared F V M S) (k : Kind F V M S) → i < length options → o ≡ get_or options i o → o.kind ≡ k
     → kind_of k ≡ kind_at (map option_view options) i
 kind_is options i o k inside at is =
@@ -49,36 +49,36 @@ kind_is options i o k inside at is =
 asked_is : {F V M S : Type 0} (options : List (Declared F V M S)) (i : ℕ) (k : Kind F V M S) → HasKind options i k → asked_at (map option_view options) i ≡ asked_of k
 asked_is options i k has = ap (option_and_then (λ p. p.asks)) (slice_get-map option_view options i) ∙ (kinds_are (slice_get options i) k has).1
 
--- an option that was found is one of them
+-- an option that was found is among the options
 pub found_within : {F V M S : Type 0} (options : List (Declared F V M S)) (name : Name) (i : ℕ) → index_of (map option_view options) name ≡ Some i → i < length options
 found_within [] name i found = absurd (let e : None ≡ Some i = found in cc)
 found_within (o ∷ os) name i found =
     omega (arith, (position-Some (has_name name) (map option_view (o ∷ os)) i (option_view o) found).0, length-map (o ∷ os) option_view)
 
--- ---- what one tells
+-- ---- what one thing means
 
 pub tells_flag : {F V P M S : Type 0} (own : Options F V P M S) (i : ℕ) (o : Declared F V M S) (key : F) → i < length (options_of own) → o ≡ get_or (options_of own) i o → o.kind ≡ kind.Flag key
-    → IsTold {P = P} (options_of own) (legal.option i None) (told.Said (said.Flag key))
+    → IsByKey {P = P} (options_of own) (legal.option i None) (told.Parsed (parsed.Flag key))
 tells_flag own i o key inside at is = let has = has_kind (options_of own) i o (kind.Flag key) inside at is in (asked_is (options_of own) i (kind.Flag key) has, (i, refl, has))
 
 pub tells_value : {F V P M S : Type 0} (own : Options F V P M S) (i : ℕ) (o : Declared F V M S) (key : V) (p : _) (word : _) → i < length (options_of own) → o ≡ get_or (options_of own) i o → o.kind ≡ kind.Value key p
-    → IsTold {P = P} (options_of own) (legal.option i (Some word)) (told.Said (said.Value key word))
+    → IsByKey {P = P} (options_of own) (legal.option i (Some word)) (told.Parsed (parsed.Value key word))
 tells_value own i o key p word inside at is = let has = has_kind (options_of own) i o (kind.Value key p) inside at is in (asked_is (options_of own) i (kind.Value key p) has, (i, p, refl, has))
 
 pub tells_maybe : {F V P M S : Type 0} (own : Options F V P M S) (i : ℕ) (o : Declared F V M S) (key : M) (p : _) (value : _) → i < length (options_of own) → o ≡ get_or (options_of own) i o → o.kind ≡ kind.Maybe key p
-    → IsTold {P = P} (options_of own) (legal.option i value) (told.Said (said.Maybe key value))
+    → IsByKey {P = P} (options_of own) (legal.option i value) (told.Parsed (parsed.Maybe key value))
 tells_maybe own i o key p value inside at is = let has = has_kind (options_of own) i o (kind.Maybe key p) inside at is in (asked_is (options_of own) i (kind.Maybe key p) has, (i, p, refl, has))
 
 pub tells_values : {F V P M S : Type 0} (own : Options F V P M S) (i : ℕ) (o : Declared F V M S) (key : S) (p : _) (words : Vec _ _) → i < length (options_of own) → o ≡ get_or (options_of own) i o → o.kind ≡ kind.Values key p
-    → IsTold {P = P} (options_of own) (legal.several i words.items) (told.Said (said.Values key words))
+    → IsByKey {P = P} (options_of own) (legal.several i words.items) (told.Parsed (parsed.Values key words))
 tells_values own i o key p words inside at is = let has = has_kind (options_of own) i o (kind.Values key p) inside at is in (asked_is (options_of own) i (kind.Values key p) has, (i, p, refl, has))
 
 pub tells_help : {F V P M S : Type 0} (own : Options F V P M S) (i : ℕ) (o : Declared F V M S) → i < length (options_of own) → o ≡ get_or (options_of own) i o → o.kind ≡ kind.Help
-    → IsTold {P = P} (options_of own) (legal.option i None) (told.Asked asked.Help)
+    → IsByKey {P = P} (options_of own) (legal.option i None) (told.Asked asked.Help)
 tells_help own i o inside at is = asked_is (options_of own) i kind.Help (has_kind (options_of own) i o kind.Help inside at is)
 
 pub tells_version : {F V P M S : Type 0} (own : Options F V P M S) (i : ℕ) (o : Declared F V M S) (text : _) → i < length (options_of own) → o ≡ get_or (options_of own) i o → o.kind ≡ kind.Version text
-    → IsTold {P = P} (options_of own) (legal.option i None) (told.Asked (asked.Version text))
+    → IsByKey {P = P} (options_of own) (legal.option i None) (told.Asked (asked.Version text))
 tells_version own i o text inside at is = asked_is (options_of own) i (kind.Version text) (has_kind (options_of own) i o (kind.Version text) inside at is)
 
 -- ---- the values of a kind
@@ -96,40 +96,40 @@ pub reads_all : (u v : UnreadLine) (values : Values) → ReadsValues Several u v
 reads_all u v (AtMostOne word) reads = reads
 reads_all u v (All words) reads = tt
 
--- ---- what a list tells
+-- ---- what a list means
 
 none_both : (a b : Option spec.Asked) → or_asked a b ≡ None → (a ≡ None) × (b ≡ None)
 none_both None b is = (refl, is)
 none_both (Some a) b is = absurd (let e : Some a ≡ None = is in cc)
 
-pub asked_none : (options : List spec.Declared) (l m : List legal.Said) → first_asked options l ≡ None → first_asked options (l ++ m) ≡ first_asked options m
+pub asked_none : (options : List spec.Declared) (l m : List legal.Parsed) → first_asked options l ≡ None → first_asked options (l ++ m) ≡ first_asked options m
 asked_none options [] m none = refl
 asked_none options (s ∷ l) m none =
     let both = none_both (asked_by options s) (first_asked options l) none in
     ap (λ a. or_asked a (first_asked options (l ++ m))) both.0 ∙ asked_none options l m both.1
 
-pub asked_here : (options : List spec.Declared) (l m : List legal.Said) (s : legal.Said) (a : spec.Asked) → first_asked options l ≡ None → asked_by options s ≡ Some a
+pub asked_here : (options : List spec.Declared) (l m : List legal.Parsed) (s : legal.Parsed) (a : spec.Asked) → first_asked options l ≡ None → asked_by options s ≡ Some a
     → first_asked options (l ++ s ∷ m) ≡ Some a
 asked_here options l m s a none is = asked_none options l (s ∷ m) none ∙ ap (λ x. or_asked x (first_asked options m)) is
 
-pub asked_more : (options : List spec.Declared) (l : List legal.Said) (s : legal.Said) → first_asked options l ≡ None → asked_by options s ≡ None → first_asked options (l ++ s ∷ []) ≡ None
+pub asked_more : (options : List spec.Declared) (l : List legal.Parsed) (s : legal.Parsed) → first_asked options l ≡ None → asked_by options s ≡ None → first_asked options (l ++ s ∷ []) ≡ None
 asked_more options l s none is = asked_none options l (s ∷ []) none ∙ ap (λ x. or_asked x None) is
 
-pub said_more : {F V P M S : Type 0} (options : List (Declared F V M S)) (l : List legal.Said) (said : List (Said F V P M S)) (s : legal.Said) (own : Said F V P M S) → AreSaid options l said → IsSaid options s own
-    → AreSaid options (l ++ s ∷ []) (said ++ own ∷ [])
-said_more options [] [] s own are is = (is, tt)
-said_more options [] (x ∷ said) s own are is = absurd are
-said_more options (x ∷ l) [] s own are is = absurd are
-said_more options (x ∷ l) (y ∷ said) s own are is = (are.0, said_more options l said s own are.1 is)
+pub parsed_more : {F V P M S : Type 0} (options : List (Declared F V M S)) (l : List legal.Parsed) (parsed : List (Parsed F V P M S)) (s : legal.Parsed) (own : Parsed F V P M S) → AreParsedAs options l parsed → IsParsedAs options s own
+    → AreParsedAs options (l ++ s ∷ []) (parsed ++ own ∷ [])
+parsed_more options [] [] s own are is = (is, tt)
+parsed_more options [] (x ∷ parsed) s own are is = absurd are
+parsed_more options (x ∷ l) [] s own are is = absurd are
+parsed_more options (x ∷ l) (y ∷ parsed) s own are is = (are.0, parsed_more options l parsed s own are.1 is)
 
-none_of_all : (options : List spec.Declared) (s : legal.Said) (l : List legal.Said) → first_asked options (s ∷ l) ≡ None → first_asked options (all_but_last (s ∷ l)) ≡ None
+none_of_all : (options : List spec.Declared) (s : legal.Parsed) (l : List legal.Parsed) → first_asked options (s ∷ l) ≡ None → first_asked options (all_but_last (s ∷ l)) ≡ None
 none_of_all options s [] none = refl
 none_of_all options s (t ∷ l) none =
     let both = none_both (asked_by options s) (first_asked options (t ∷ l)) none in
     ap (λ a. or_asked a (first_asked options (all_but_last (t ∷ l)))) both.0 ∙ none_of_all options t l both.1
 
--- nothing is asked for before a mistake, if nothing is at all
-pub none_before : (options : List spec.Declared) (why : stops.Mistake) (l : List legal.Said) → first_asked options l ≡ None → first_asked options (said_before why l) ≡ None
+-- if nothing asks for anything, nothing before a mistake does
+pub none_before : (options : List spec.Declared) (why : stops.Mistake) (l : List legal.Parsed) → first_asked options l ≡ None → first_asked options (parsed_before why l) ≡ None
 none_before options (stops.unexpected_value option value) [] none = refl
 none_before options (stops.unexpected_value option value) (s ∷ l) none = none_of_all options s l none
 none_before options (stops.unknown_option name left) l none = none
@@ -140,8 +140,8 @@ none_before options (stops.unexpected_argument word) l none = none
 none_before options (stops.missing_argument count) l none = none
 none_before options (stops.missing_option index) l none = none
 
-pub said_length : {F V P M S : Type 0} (options : List (Declared F V M S)) (l : List legal.Said) (xs : List (Said F V P M S)) → AreSaid options l xs → length l ≡ length xs
-said_length options [] [] are = refl
-said_length options [] (x ∷ xs) are = absurd are
-said_length options (s ∷ l) [] are = absurd are
-said_length options (s ∷ l) (x ∷ xs) are = let rest = said_length options l xs are.1 in omega (arith, rest)
+pub parsed_length : {F V P M S : Type 0} (options : List (Declared F V M S)) (l : List legal.Parsed) (xs : List (Parsed F V P M S)) → AreParsedAs options l xs → length l ≡ length xs
+parsed_length options [] [] are = refl
+parsed_length options [] (x ∷ xs) are = absurd are
+parsed_length options (s ∷ l) [] are = absurd are
+parsed_length options (s ∷ l) (x ∷ xs) are = let rest = parsed_length options l xs are.1 in omega (arith, rest)

@@ -1,4 +1,4 @@
--- What is read of a line up to its first positional, by keys.
+-- What is read of the leading options of a line, by keys.
 use Rattle.std.proofs.Common.{◌≡◌, ℕ, List, [], ◌∷◌, ◌++◌, length, Some, None, refl, subst, ap, append_assoc, ◌∙◌, arith}
 use Rattle.lexopt_spec.specs.UnreadLine.{UnreadLine, pending, pending_in}
 use Rattle.lexopt_spec.specs.Steps as steps
@@ -12,18 +12,18 @@ use Rattle.lexopt_options_spec.specs.Legal.{positional_count}
 use Rattle.lexopt_options_spec.proofs.Lists.{count_append}
 use Rattle.lexopt_options_spec.proofs.LeadingStops.{leading_later, nothing_leads}
 use Rattle.lexopt_options_spec.proofs.OneLeading.{one_leading}
-use Rattle.lexopt_options_spec.specs.Leading.{SaysLeading}
+use Rattle.lexopt_options_spec.specs.Leading.{MeansLeading}
 use Rattle.lexopt_options_spec.specs.Asking.{first_asked}
 use Rattle.lexopt_options.specs.declared.leading.Leading.{Leading}
 use Rattle.lexopt_options.specs.declared.leading.Leading.TheVariants as variant
 use Rattle.lexopt_options.specs.declared.options.Options.{Options}
 use Rattle.lexopt_options.specs.Declarations.{declaration_of, options_of}
-use Rattle.lexopt_options.specs.Keys.{AreSaid, asked_view}
+use Rattle.lexopt_options.specs.Keys.{AreParsedAs, asked_view}
 use Rattle.lexopt_options.specs.LeadingLines.{IsLeadingOf, IsLeadingRead}
 use Rattle.lexopt_options.proofs.Keys.{asked_here}
 
--- what asks for something is no positional
-pub asked_alone : (options : List spec.Declared) (l : List legal.Said) (s : legal.Said) (a : spec.Asked) → positional_count l ≡ 0 → asked_by options s ≡ Some a → positional_count (l ++ s ∷ []) ≡ 0
+-- what asks for something is not a positional
+pub asked_alone : (options : List spec.Declared) (l : List legal.Parsed) (s : legal.Parsed) (a : spec.Asked) → positional_count l ≡ 0 → asked_by options s ≡ Some a → positional_count (l ++ s ∷ []) ≡ 0
 asked_alone options l (legal.option i value) a alone asks = count_append l (legal.option i value ∷ []) ∙ omega (arith, alone)
 asked_alone options l (legal.several i values) a alone asks = count_append l (legal.several i values ∷ []) ∙ omega (arith, alone)
 asked_alone options l (legal.positional word) a alone asks = absurd (let e : None ≡ Some a = asks in cc)
@@ -36,15 +36,15 @@ no_length (x ∷ l) is = absurd (omega (arith, is))
 pub nothing_pending : (u w : UnreadLine) (word : List ℕ) → Next u (steps.positional word) w → pending w ≡ None
 nothing_pending u w word next = ap (pending_in w.short_equals) (word_read u w word (enough NextStep u (steps.positional word) w next (λ is. cc))).none
 
--- options that are read so are those that their words mean
+-- leading options that are read are those that their words mean
 pub leading_of : {F V P M S : Type 0} (o : Options F V P M S) (words : List (List ℕ)) (leading : Leading F V P M S) → IsLeadingRead o words leading
-    → (l : List legal.Said) (rest : List (List ℕ)) → SaysLeading (declaration_of o) words l rest → IsLeadingOf o l rest leading
-leading_of o words (variant.Said said others) (m, other, none, are) l rest says =
-    let same = one_leading (declaration_of o) words m l others.items rest other.split says.split in
-    (subst (λ x. first_asked (declaration_of o).options x ≡ None) same.0 none, subst (λ x. AreSaid (options_of o) x said.items) same.0 are, same.1)
-leading_of o words (variant.Asked asked) read l rest says =
+    → (l : List legal.Parsed) (rest : List (List ℕ)) → MeansLeading (declaration_of o) words l rest → IsLeadingOf o l rest leading
+leading_of o words (variant.Parsed parsed others) (m, other, none, are) l rest means =
+    let same = one_leading (declaration_of o) words m l others.items rest other.split means.split in
+    (subst (λ x. first_asked (declaration_of o).options x ≡ None) same.0 none, subst (λ x. AreParsedAs (options_of o) x parsed.items) same.0 are, same.1)
+leading_of o words (variant.Asked asked) read l rest means =
     let d = declaration_of o in
     let own = read.asks in
-    let later = leading_later d words (own.before ++ own.said ∷ []) own.there own.read (asked_alone d.options own.before own.said _ read.alone own.asks) l rest says.split in
-    ap (first_asked d.options) (later.1 ∙ append_assoc own.before (own.said ∷ []) later.0) ∙ asked_here d.options own.before later.0 own.said (asked_view asked) own.none_before own.asks
-leading_of o words (variant.Refused refused) read l rest says = absurd (nothing_leads (declaration_of o) o.sound words read.read l rest read.why read.stops says)
+    let later = leading_later d words (own.before ++ own.parsed ∷ []) own.there own.read (asked_alone d.options own.before own.parsed _ read.alone own.asks) l rest means.split in
+    ap (first_asked d.options) (later.1 ∙ append_assoc own.before (own.parsed ∷ []) later.0) ∙ asked_here d.options own.before later.0 own.parsed (asked_view asked) own.none_before own.asks
+leading_of o words (variant.Refused refused) read l rest means = absurd (nothing_leads (declaration_of o) o.sound words read.read l rest read.why read.stops means)

@@ -27,7 +27,7 @@ several_values : (n : ℕ) (u v : UnreadLine) (r : Reply) (o x : List ℕ) → r
 several_values n u v r o x is (no_values none p after) = let e : missing _ ≡ unexpected o x = sym p ∙ is in cc
 several_values n u v r o x is (some_values some p after) = let e : steps.items _ ≡ unexpected o x = sym p ∙ is in cc
 
--- a call for values never finds a value that was not expected
+-- a call for values never returns an unexpected value
 never_unexpected : (k : Kind) (call : Call) (u v : UnreadLine) (o x : List ℕ) → k ≢ Flag → IsDue (kind_view k) call → Step call u (unexpected o x) v → ⊥
 never_unexpected k call u v o x other due (inr refused) = let e : unexpected o x ≡ steps.no_memory = refused.reply_is in cc
 never_unexpected Flag call u v o x other due (inl step) = other refl

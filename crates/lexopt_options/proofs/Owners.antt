@@ -20,7 +20,7 @@ total shares = sum_by (λ n. n) shares
 total_cons : (n : ℕ) (ns : List ℕ) → total (n ∷ ns) ≡ n + total ns
 total_cons n ns = sum_by-cons (λ m. m) n ns
 
--- ---- the word of an index
+-- ---- the word at an index
 
 in_first : (k m left : ℕ) (rest : List ℕ) → left < m → slice_get (replicate m k ++ rest) left ≡ Some k
 in_first k zero left rest inside = absurd (omega (arith, inside))
@@ -32,8 +32,8 @@ past_first k zero left rest past = ap (slice_get rest) (omega arith)
 past_first k (suc m) zero rest past = absurd (omega (arith, past))
 past_first k (suc m) (suc left) rest past = past_first k m left rest (omega (arith, past)) ∙ ap (slice_get rest) (omega arith)
 
--- the word of this index belongs to a positional after the first ones, of which the shares are
--- these
+-- the word at this index has the positional of the word at index `left`, counted among the words of
+-- the positionals from index k on
 pub record IsLeft (ps : List spec.Positional) (spare word k left spare_now : ℕ) : Type 0 where
   pub same : slice_get (owners 0 (greedy ps spare)) word ≡ slice_get (owners k (greedy (drop k ps) spare_now)) left
   pub inside : word < total (greedy ps spare) → left < total (greedy (drop k ps) spare_now)
@@ -45,14 +45,14 @@ next : (ps : List spec.Positional) (spare_now k : ℕ) (p : spec.Positional) →
     → greedy (drop k ps) spare_now ≡ (needs p.count + extra p.count spare_now) ∷ greedy (drop (k + 1) ps) (spare_now - extra p.count spare_now)
 next ps spare_now k p within is = ap (λ l. greedy l spare_now) (drop_more ps k p within ∙ ap (λ x. x ∷ drop (k + 1) ps) (sym is))
 
--- it belongs to this one
+-- it belongs to the next positional
 pub found_here : (ps : List spec.Positional) (spare word k left spare_now : ℕ) (p : spec.Positional) → IsLeft ps spare word k left spare_now → k < length ps → p ≡ get_or ps k p
     → left < needs p.count + extra p.count spare_now → slice_get (owners 0 (greedy ps spare)) word ≡ Some k
 found_here ps spare word k left spare_now p before within is inside =
     before.same ∙ ap (λ l. slice_get (owners k l) left) (next ps spare_now k p within is)
     ∙ in_first k (needs p.count + extra p.count spare_now) left (owners (suc k) (greedy (drop (k + 1) ps) (spare_now - extra p.count spare_now))) inside
 
--- it belongs to one after it
+-- it belongs to a later positional
 pub found_later : (ps : List spec.Positional) (spare word k left spare_now left_next spare_next : ℕ) (p : spec.Positional) → IsLeft ps spare word k left spare_now → k < length ps → p ≡ get_or ps k p
     → needs p.count + extra p.count spare_now ≤ left → left_next ≡ left - (needs p.count + extra p.count spare_now) → spare_next ≡ spare_now - extra p.count spare_now
     → IsLeft ps spare word (k + 1) left_next spare_next
@@ -80,7 +80,7 @@ nothing_left ps spare word left spare_now k past before = before.same ∙ ap (λ
     drop_all (p ∷ ps) zero past = absurd (omega (arith, past))
     drop_all (p ∷ ps) (suc k) past = drop_all ps k (omega (arith, past))
 
--- there is no other
+-- there is no other positional
 pub none_left : (ps : List spec.Positional) (spare word left spare_now k : ℕ) → length ps ≤ k → IsLeft ps spare word k left spare_now → word < total (greedy ps spare) → ⊥
 none_left ps spare word left spare_now k past before inside =
     let h = subst (λ l. left < total (greedy l spare_now)) (drop_all ps k past) (before.inside inside) in omega (arith, h)
@@ -120,7 +120,7 @@ shares_so : (ps : List spec.Positional) (count : ℕ) (places : List ℕ) (are :
 shares_so ps count places are =
     shares_are_greedy ps (count - least ps) are.shares (subst (λ n. AreShares ps n are.shares) (omega arith) are.are_shares)
 
--- the positional of each word is the one that is found for it
+-- the positional of each word is the one that is found
 pub place_is : (ps : List spec.Positional) (count : ℕ) (places : List ℕ) (word i : ℕ) → ArePlaces ps count places → word < count
     → slice_get (owners 0 (greedy ps (count - least ps))) word ≡ Some i → slice_get places word ≡ Some i
 place_is ps count places word i are below is =
@@ -130,7 +130,7 @@ pub word_inside : (ps : List spec.Positional) (count : ℕ) (places : List ℕ) 
 word_inside ps count places word are below =
     subst (λ l. word < total l) (shares_so ps count places are) (omega (arith, below, are.are_shares.all))
 
--- the same by how many words there are to spare
+-- the same, by the number of words that are not required
 pub place_there : (ps : List spec.Positional) (count : ℕ) (places : List ℕ) (spare word i : ℕ) → ArePlaces ps count places → spare ≡ count - least ps → word < count → slice_get (owners 0 (greedy ps spare)) word ≡ Some i
     → slice_get places word ≡ Some i
 place_there ps count places spare word i are is below here = place_is ps count places word i are below (ap (λ s. slice_get (owners 0 (greedy ps s)) word) (sym is) ∙ here)
@@ -147,7 +147,7 @@ pub viewed_length : {P : Type 0} (ps : List (Positional P)) → length (map posi
 viewed_length [] = refl
 viewed_length (p ∷ ps) = ap suc (viewed_length ps)
 
--- each word belongs to a positional that is there
+-- the positional that a word belongs to is declared
 pub owner_within : (ps : List spec.Positional) (k spare word i : ℕ) → slice_get (owners k (greedy ps spare)) word ≡ Some i → i < k + length ps
 owner_within [] k spare word i is = absurd (let e : None ≡ Some i = is in cc)
 owner_within (p ∷ ps) k spare word i is = go (λ n. owner_within ps (suc k) (spare - extra p.count spare) n i) (needs p.count + extra p.count spare) word is
@@ -202,7 +202,7 @@ zip_first positionals (x ∷ places) [] zero_all first same = absurd (omega (ari
 zip_first positionals (x ∷ places) (k ∷ keys) zero_all first same =
     (subst (λ n. HasKey positionals n k) (sym (zero_all 0 x refl)) first.0, zip_first positionals places keys (λ i. zero_all (suc i)) first.1 (omega (arith, same)))
 
--- where there are not two positionals, each word belongs to the first
+-- if there are fewer than two positionals, each word belongs to the first
 pub first_keys : {P : Type 0} (positionals : List (Positional P)) (keys : List P) → length positionals < 2 → IsWithin (length keys) (most (map positional_view positionals)) → AllFirst positionals keys
     → (places : List ℕ) × ArePlaces (map positional_view positionals) (length keys) places × AllZip (HasKey positionals) places keys
 first_keys positionals keys few within first =

@@ -1,4 +1,4 @@
--- One step of the reading of a line by keys.
+-- One step of reading a line by keys.
 use Rattle.std.proofs.Common.{◌≡◌, ◌≤◌, ◌+◌, ◌==◌, ◌||◌, ◌&&◌, ℕ, suc, Bool, Ok, Option, is_none, true, false, add-zero, map, List, [], ◌∷◌, ◌++◌, None, Some, length, refl, sym, ap, subst, ◌∙◌, inl, inr, arith}
 use Rattle.lexopt_spec.specs.UnreadLine.{UnreadLine, IsLine, LastOption, no_option, short_option, long_option, no_tail, joined, rest, equals, BeginsWith}
 use Rattle.lexopt_spec.specs.Steps as steps
@@ -21,38 +21,38 @@ use Rattle.lexopt_items.specs.declared.kinds.Kind.{Kind}
 use Rattle.lexopt_items.specs.declared.values.Values.{Values}
 use Rattle.lexopt_options.specs.declared.indexed.Indexed.{Indexed}
 use Rattle.lexopt_options.specs.declared.options.Options.{Options}
-use Rattle.lexopt_options.specs.declared.said.Said.{Said}
-use Rattle.lexopt_options.specs.declared.said.Told.{Told}
+use Rattle.lexopt_options.specs.declared.parsed.Parsed.{Parsed}
+use Rattle.lexopt_options.specs.declared.parsed.ByKey.{ByKey}
 use Rattle.lexopt_options.specs.Declarations.{declaration_of, options_of, positionals_of}
 use Rattle.lexopt_options.specs.Kinds.{kind_at}
-use Rattle.lexopt_options.specs.Keys.{AllFirst, AreSaid, HasKey, IsSaid, IsTold, positional_keys}
+use Rattle.lexopt_options.specs.Keys.{AllFirst, AreParsedAs, HasKey, IsParsedAs, IsByKey, positional_keys}
 use Rattle.lexopt_options_spec.specs.Stops as stops
 use Rattle.lexopt_options.specs.declared.mistake.Mistake.{Mistake}
 use Rattle.lexopt_options.specs.Mistakes.{IsMistake}
-use Rattle.lexopt_options.specs.Reading.{StopsAtOption, StopsByKey, AreSeen, IsReadByKey, ReadsSaid, indexed_view, noted, said_with}
-use Rattle.lexopt_options.specs.declared.said.Said.TheVariants as variant
+use Rattle.lexopt_options.specs.Reading.{StopsAtOption, StopsByKey, AreSeen, IsReadByKey, ReadsParsed, indexed_view, noted, parsed_with}
+use Rattle.lexopt_options.specs.declared.parsed.Parsed.TheVariants as variant
 use Rattle.lexopt_declaration.specs.Models.{positional_view}
 use Rattle.lexopt_declaration.specs.declared.declaration.Positional.{Positional}
 use Rattle.lexopt_options_spec.specs.Completion.{IsOption}
 use Rattle.lexopt_options_spec.specs.Declaration as spec
 use Rattle.std.proofs.lemmas.Bool.{eq-eqb, eqb-true, false≢true}
 use Rattle.lexopt_items.specs.declared.values.Values.TheVariants.{AtMostOne, All}
-use Rattle.lexopt_options.proofs.Keys.{asked_more, said_length, said_more}
-use Rattle.lexopt_options.proofs.ReadNext.{count_more, count_small, no_count, nothing_read, one_more, option_said}
+use Rattle.lexopt_options.proofs.Keys.{asked_more, parsed_length, parsed_more}
+use Rattle.lexopt_options.proofs.ReadNext.{count_more, count_small, no_count, nothing_read, one_more, option_parsed}
 
--- the line u was read up to v, and this was read by the keys; nothing was asked for
-pub record HasRead {F V P M S : Type 0} (o : Options F V P M S) (u v : UnreadLine) (count : ℕ) (seen : List ℕ) (said : List (Said F V P M S)) : Type 0 where
-  pub l : List legal.Said
+-- the line u was read up to v, and this was read, by keys; nothing was asked for
+pub record HasRead {F V P M S : Type 0} (o : Options F V P M S) (u v : UnreadLine) (count : ℕ) (seen : List ℕ) (parsed : List (Parsed F V P M S)) : Type 0 where
+  pub l : List legal.Parsed
   pub read : ReadsUpTo (declaration_of o) u l v
   pub none : first_asked (declaration_of o).options l ≡ None
-  pub are : AreSaid (options_of o) l said
+  pub are : AreParsedAs (options_of o) l parsed
   pub counted : count ≡ positional_count l
   pub are_seen : AreSeen (declaration_of o).options l seen
-  pub firsts : AllFirst (positionals_of o) (positional_keys said)
+  pub firsts : AllFirst (positionals_of o) (positional_keys parsed)
   pub accepted : are_accepted (declaration_of o).options l ≡ true
 
-pub at_start : {F V P M S : Type 0} (o : Options F V P M S) (u : UnreadLine) {said : List (Said F V P M S)} {seen : List ℕ} → IsLine u → said ≡ [] → seen ≡ [] → HasRead o u u 0 seen said
-at_start {F} {V} {P} {M} {S} o u {said} {seen} line none_said none_seen = subst (λ (xs : List (Said F V P M S)). HasRead o u u 0 seen xs) (sym none_said) (subst (λ (l : List ℕ). HasRead o u u 0 l []) (sym none_seen) (record {
+pub at_start : {F V P M S : Type 0} (o : Options F V P M S) (u : UnreadLine) {parsed : List (Parsed F V P M S)} {seen : List ℕ} → IsLine u → parsed ≡ [] → seen ≡ [] → HasRead o u u 0 seen parsed
+at_start {F} {V} {P} {M} {S} o u {parsed} {seen} line none_parsed none_seen = subst (λ (xs : List (Parsed F V P M S)). HasRead o u u 0 seen xs) (sym none_parsed) (subst (λ (l : List ℕ). HasRead o u u 0 l []) (sym none_seen) (record {
   l = [];
   read = nothing_read (declaration_of o) u line;
   none = refl;
@@ -65,7 +65,7 @@ at_start {F} {V} {P} {M} {S} o u {said} {seen} line none_said none_seen = subst 
 
 -- ---- which options were seen
 
-is_option_so : (i index : ℕ) (s : legal.Said) → IsOption index s → legal.is_option i s ≡ (index == i)
+is_option_so : (i index : ℕ) (s : legal.Parsed) → IsOption index s → legal.is_option i s ≡ (index == i)
 is_option_so i index (legal.option j value) is = ap (λ n. n == i) is
 is_option_so i index (legal.several j values) is = ap (λ n. n == i) is
 is_option_so i index (legal.positional word) is = absurd is
@@ -74,7 +74,7 @@ or_false : (b : Bool) → (b || false) ≡ b
 or_false true = refl
 or_false false = refl
 
-occurs_last : (i : ℕ) (l : List legal.Said) (s : legal.Said) → occurs i (l ++ s ∷ []) ≡ (occurs i l || legal.is_option i s)
+occurs_last : (i : ℕ) (l : List legal.Parsed) (s : legal.Parsed) → occurs i (l ++ s ∷ []) ≡ (occurs i l || legal.is_option i s)
 occurs_last i [] s = or_false (legal.is_option i s)
 occurs_last i (x ∷ l) s = elim (legal.is_option i x) as (λ b. (b || occurs i (l ++ s ∷ [])) ≡ ((b || occurs i l) || legal.is_option i s)) [ true ↦ refl | false ↦ occurs_last i l s ]
 
@@ -82,7 +82,7 @@ has_last : (i : ℕ) (l : List ℕ) (x : ℕ) → has i (l ++ x ∷ []) ≡ (has
 has_last i [] x = or_false (x == i)
 has_last i (y ∷ l) x = elim (y == i) as (λ b. (b || has i (l ++ x ∷ [])) ≡ ((b || has i l) || (x == i))) [ true ↦ refl | false ↦ has_last i l x ]
 
-seen_more : (options : List spec.Declared) (l : List legal.Said) (seen : List ℕ) (index : ℕ) (s : legal.Said) → IsOption index s → AreSeen options l seen
+seen_more : (options : List spec.Declared) (l : List legal.Parsed) (seen : List ℕ) (index : ℕ) (s : legal.Parsed) → IsOption index s → AreSeen options l seen
     → AreSeen options (l ++ s ∷ []) (noted (is_required options index) index seen)
 seen_more options l seen index s is are = λ i needed. at (is_required options index) refl i needed
   where
@@ -97,12 +97,12 @@ seen_more options l seen index s is are = λ i needed. at (is_required options i
         other : (index == i) ≡ false
         other = differ (index == i) refl
 
-seen_same : (options : List spec.Declared) (l : List legal.Said) (seen : List ℕ) (word : List ℕ) → AreSeen options l seen → AreSeen options (l ++ legal.positional word ∷ []) seen
+seen_same : (options : List spec.Declared) (l : List legal.Parsed) (seen : List ℕ) (word : List ℕ) → AreSeen options l seen → AreSeen options (l ++ legal.positional word ∷ []) seen
 seen_same options l seen word are = λ i needed. are i needed ∙ sym (or_false (occurs i l)) ∙ sym (occurs_last i l (legal.positional word))
 
 -- ---- the keys of positionals
 
-pub keys_append : {F V P M S : Type 0} (xs ys : List (Said F V P M S)) → positional_keys (xs ++ ys) ≡ positional_keys xs ++ positional_keys ys
+pub keys_append : {F V P M S : Type 0} (xs ys : List (Parsed F V P M S)) → positional_keys (xs ++ ys) ≡ positional_keys xs ++ positional_keys ys
 keys_append [] ys = refl
 keys_append (variant.Flag key ∷ xs) ys = keys_append xs ys
 keys_append (variant.Value key word ∷ xs) ys = keys_append xs ys
@@ -114,84 +114,84 @@ firsts_append : {P : Type 0} (positionals : List (Positional P)) (ks ls : List P
 firsts_append positionals [] ls first others = others
 firsts_append positionals (k ∷ ks) ls first others = (first.0, firsts_append positionals ks ls first.1 others)
 
-no_key : {F V P M S : Type 0} (options : List (Declared F V M S)) (index : ℕ) (s : legal.Said) (own : Said F V P M S) → IsSaid options s own → IsOption index s → positional_keys (own ∷ []) ≡ []
+no_key : {F V P M S : Type 0} (options : List (Declared F V M S)) (index : ℕ) (s : legal.Parsed) (own : Parsed F V P M S) → IsParsedAs options s own → IsOption index s → positional_keys (own ∷ []) ≡ []
 no_key options index s (variant.Flag key) is option = refl
 no_key options index s (variant.Value key word) is option = refl
 no_key options index s (variant.Maybe key value) is option = refl
 no_key options index s (variant.Values key values) is option = refl
 no_key options index s (variant.Positional key word) is option = absurd (subst (IsOption index) is option)
 
-pub keys_count : {F V P M S : Type 0} (options : List (Declared F V M S)) (l : List legal.Said) (xs : List (Said F V P M S)) → AreSaid options l xs → length (positional_keys xs) ≡ positional_count l
+pub keys_count : {F V P M S : Type 0} (options : List (Declared F V M S)) (l : List legal.Parsed) (xs : List (Parsed F V P M S)) → AreParsedAs options l xs → length (positional_keys xs) ≡ positional_count l
 keys_count options [] [] are = refl
 keys_count options [] (x ∷ xs) are = absurd are
 keys_count options (s ∷ l) [] are = absurd are
 keys_count options (s ∷ l) (x ∷ xs) are = one x are.0 (keys_count options l xs are.1)
   where
-    one : (x : Said _ _ _ _ _) → IsSaid options s x → length (positional_keys xs) ≡ positional_count l → length (positional_keys (x ∷ xs)) ≡ counts s + positional_count l
-    one (variant.Flag key) is others = others ∙ sym (ap (λ (y : legal.Said). counts y + positional_count l) is.1 ∙ omega arith)
-    one (variant.Value key word) is others = others ∙ sym (ap (λ (y : legal.Said). counts y + positional_count l) is.2 ∙ omega arith)
-    one (variant.Maybe key value) is others = others ∙ sym (ap (λ (y : legal.Said). counts y + positional_count l) is.2 ∙ omega arith)
-    one (variant.Values key values) is others = others ∙ sym (ap (λ (y : legal.Said). counts y + positional_count l) is.2 ∙ omega arith)
-    one (variant.Positional key word) is others = ap suc others ∙ sym (ap (λ (y : legal.Said). counts y + positional_count l) is ∙ omega arith)
+    one : (x : Parsed _ _ _ _ _) → IsParsedAs options s x → length (positional_keys xs) ≡ positional_count l → length (positional_keys (x ∷ xs)) ≡ counts s + positional_count l
+    one (variant.Flag key) is others = others ∙ sym (ap (λ (y : legal.Parsed). counts y + positional_count l) is.1 ∙ omega arith)
+    one (variant.Value key word) is others = others ∙ sym (ap (λ (y : legal.Parsed). counts y + positional_count l) is.2 ∙ omega arith)
+    one (variant.Maybe key value) is others = others ∙ sym (ap (λ (y : legal.Parsed). counts y + positional_count l) is.2 ∙ omega arith)
+    one (variant.Values key values) is others = others ∙ sym (ap (λ (y : legal.Parsed). counts y + positional_count l) is.2 ∙ omega arith)
+    one (variant.Positional key word) is others = ap suc others ∙ sym (ap (λ (y : legal.Parsed). counts y + positional_count l) is ∙ omega arith)
 
--- there is a positional if one is read
+-- if a positional is read, one is declared
 pub some_positional : {P : Type 0} (ps : List (Positional P)) (n : ℕ) → IsWithin (n + 1) (most (map positional_view ps)) → 1 ≤ length ps
 some_positional [] n within = absurd (omega (arith, within))
 some_positional (p ∷ ps) n within = omega arith
 
 -- ---- one more
 
-pub one_unrefused : (options : List spec.Declared) (s : legal.Said) → refused_value options s ≡ None → are_accepted options (s ∷ []) ≡ true
+pub one_unrefused : (options : List spec.Declared) (s : legal.Parsed) → refused_value options s ≡ None → are_accepted options (s ∷ []) ≡ true
 one_unrefused options s none = ap (λ (x : Option (List ℕ)). is_none x && true) none
 
-pub has_option : {F V P M S : Type 0} (o : Options F V P M S) (u v w : UnreadLine) (count index : ℕ) (seen seen_now : List ℕ) (said more : List (Said F V P M S)) (s : legal.Said) (own : Said F V P M S)
-    → HasRead o u v count seen said → ReadsSaid (declaration_of o) count v s w → asked_by (declaration_of o).options s ≡ None → IsSaid (options_of o) s own → counts s ≡ 0 → IsOption index s → refused_value (declaration_of o).options s ≡ None
-    → seen_now ≡ noted (is_required (declaration_of o).options index) index seen → more ≡ said ++ own ∷ [] → HasRead o u w count seen_now more
-has_option o u v w count index seen seen_now said more s own had reads none is counts_is option unrefused seen_is more_is = record {
+pub has_option : {F V P M S : Type 0} (o : Options F V P M S) (u v w : UnreadLine) (count index : ℕ) (seen seen_now : List ℕ) (parsed more : List (Parsed F V P M S)) (s : legal.Parsed) (own : Parsed F V P M S)
+    → HasRead o u v count seen parsed → ReadsParsed (declaration_of o) count v s w → asked_by (declaration_of o).options s ≡ None → IsParsedAs (options_of o) s own → counts s ≡ 0 → IsOption index s → refused_value (declaration_of o).options s ≡ None
+    → seen_now ≡ noted (is_required (declaration_of o).options index) index seen → more ≡ parsed ++ own ∷ [] → HasRead o u w count seen_now more
+has_option o u v w count index seen seen_now parsed more s own had reads none is counts_is option unrefused seen_is more_is = record {
   l = had.l ++ s ∷ [];
   read = one_more (declaration_of o) u v w had.l count s had.read had.counted reads;
   none = asked_more (declaration_of o).options had.l s had.none none;
-  are = subst (AreSaid (options_of o) (had.l ++ s ∷ [])) (sym more_is) (said_more (options_of o) had.l said s own had.are is);
+  are = subst (AreParsedAs (options_of o) (had.l ++ s ∷ [])) (sym more_is) (parsed_more (options_of o) had.l parsed s own had.are is);
   counted = sym (add-zero count) ∙ count_more had.l count 0 s had.counted counts_is;
   are_seen = subst (AreSeen (declaration_of o).options (had.l ++ s ∷ [])) (sym seen_is) (seen_more (declaration_of o).options had.l seen index s option had.are_seen);
-  firsts = subst (AllFirst (positionals_of o)) (sym (ap positional_keys more_is ∙ keys_append said (own ∷ [])))
-      (firsts_append (positionals_of o) (positional_keys said) (positional_keys (own ∷ [])) had.firsts (subst (AllFirst (positionals_of o)) (sym (no_key (options_of o) index s own is option)) tt));
+  firsts = subst (AllFirst (positionals_of o)) (sym (ap positional_keys more_is ∙ keys_append parsed (own ∷ [])))
+      (firsts_append (positionals_of o) (positional_keys parsed) (positional_keys (own ∷ [])) had.firsts (subst (AllFirst (positionals_of o)) (sym (no_key (options_of o) index s own is option)) tt));
   accepted = accepted_append (declaration_of o).options had.l (s ∷ []) had.accepted (one_unrefused (declaration_of o).options s unrefused);
 }
 
-pub has_positional : {F V P M S : Type 0} (o : Options F V P M S) (u v w : UnreadLine) (count : ℕ) (seen : List ℕ) (said more : List (Said F V P M S)) (word : List ℕ) (key : P)
-    → HasRead o u v count seen said → ReadsSaid (declaration_of o) count v (legal.positional word) w → HasKey (positionals_of o) 0 key → more ≡ said ++ variant.Positional key word ∷ []
+pub has_positional : {F V P M S : Type 0} (o : Options F V P M S) (u v w : UnreadLine) (count : ℕ) (seen : List ℕ) (parsed more : List (Parsed F V P M S)) (word : List ℕ) (key : P)
+    → HasRead o u v count seen parsed → ReadsParsed (declaration_of o) count v (legal.positional word) w → HasKey (positionals_of o) 0 key → more ≡ parsed ++ variant.Positional key word ∷ []
     → HasRead o u w (count + 1) seen more
-has_positional o u v w count seen said more word key had reads first more_is = record {
+has_positional o u v w count seen parsed more word key had reads first more_is = record {
   l = had.l ++ legal.positional word ∷ [];
   read = one_more (declaration_of o) u v w had.l count (legal.positional word) had.read had.counted reads;
   none = asked_more (declaration_of o).options had.l (legal.positional word) had.none refl;
-  are = subst (AreSaid (options_of o) (had.l ++ legal.positional word ∷ [])) (sym more_is) (said_more (options_of o) had.l said (legal.positional word) (variant.Positional key word) had.are refl);
+  are = subst (AreParsedAs (options_of o) (had.l ++ legal.positional word ∷ [])) (sym more_is) (parsed_more (options_of o) had.l parsed (legal.positional word) (variant.Positional key word) had.are refl);
   counted = count_more had.l count 1 (legal.positional word) had.counted refl;
   are_seen = seen_same (declaration_of o).options had.l seen word had.are_seen;
-  firsts = subst (AllFirst (positionals_of o)) (sym (ap positional_keys more_is ∙ keys_append said (variant.Positional key word ∷ [])))
-      (firsts_append (positionals_of o) (positional_keys said) (key ∷ []) had.firsts (first, tt));
+  firsts = subst (AllFirst (positionals_of o)) (sym (ap positional_keys more_is ∙ keys_append parsed (variant.Positional key word ∷ [])))
+      (firsts_append (positionals_of o) (positional_keys parsed) (key ∷ []) had.firsts (first, tt));
   accepted = accepted_append (declaration_of o).options had.l (legal.positional word ∷ []) had.accepted refl;
 }
 
-option_with : (index : ℕ) (values : Values) → IsOption index (said_with index values)
+option_with : (index : ℕ) (values : Values) → IsOption index (parsed_with index values)
 option_with index (AtMostOne value) = refl
 option_with index (All values) = refl
 
-option_is : (index : ℕ) (values : Values) → legal.is_option index (said_with index values) ≡ true
+option_is : (index : ℕ) (values : Values) → legal.is_option index (parsed_with index values) ≡ true
 option_is index (AtMostOne value) = eq-eqb index index refl
 option_is index (All values) = eq-eqb index index refl
 
--- an option with its values, and what it tells
-pub read_so : {F V P M S : Type 0} (o : Options F V P M S) (count : ℕ) (u v w : UnreadLine) (name : Name) (k : Kind) (index : ℕ) (values : Values) (s : Indexed) (t : Told F V P M S)
-    → kind_view k ≡ kind_at (declaration_of o).options index → Next u (option_reply name) v → index_of (declaration_of o).options name ≡ Some index → indexed_view s ≡ said_with index values
-    → ReadsValues k v values w → IsTold (options_of o) (indexed_view s) t → refused_value (declaration_of o).options (indexed_view s) ≡ None → IsReadByKey (declaration_of o) (options_of o) index count u (Ok t) w
+-- an option with its values, and what it means
+pub read_so : {F V P M S : Type 0} (o : Options F V P M S) (count : ℕ) (u v w : UnreadLine) (name : Name) (k : Kind) (index : ℕ) (values : Values) (s : Indexed) (t : ByKey F V P M S)
+    → kind_view k ≡ kind_at (declaration_of o).options index → Next u (option_reply name) v → index_of (declaration_of o).options name ≡ Some index → indexed_view s ≡ parsed_with index values
+    → ReadsValues k v values w → IsByKey (options_of o) (indexed_view s) t → refused_value (declaration_of o).options (indexed_view s) ≡ None → IsReadByKey (declaration_of o) (options_of o) index count u (Ok t) w
 read_so o count u v w name k index values s t k_is step found is reads tells unrefused =
-    (indexed_view s, option_said (declaration_of o) count u v w name k index s o.sound k_is step found (values, is, reads), tells, ap counts is ∙ no_count index values, subst (IsOption index) (sym is) (option_with index values), unrefused)
+    (indexed_view s, option_parsed (declaration_of o) count u v w name k index s o.sound k_is step found (values, is, reads), tells, ap counts is ∙ no_count index values, subst (IsOption index) (sym is) (option_with index values), unrefused)
 
 -- an option with a value that it does not accept
 pub refused_so : {F V P M S : Type 0} (o : Options F V P M S) (count : ℕ) (u v w : UnreadLine) (name : Name) (k : Kind) (index : ℕ) (values : Values) (s : Indexed) (m : Mistake) (value : List ℕ)
-    → kind_view k ≡ kind_at (declaration_of o).options index → Next u (option_reply name) v → index_of (declaration_of o).options name ≡ Some index → indexed_view s ≡ said_with index values
+    → kind_view k ≡ kind_at (declaration_of o).options index → Next u (option_reply name) v → index_of (declaration_of o).options name ≡ Some index → indexed_view s ≡ parsed_with index values
     → ReadsValues k v values w → (refused_value (declaration_of o).options (indexed_view s) ≡ Some value) × IsMistake (declaration_of o) m (stops.invalid_value index value)
     → StopsByKey (declaration_of o) count u m
 refused_so o count u v w name k index values s m value k_is step found is reads refused = record {
@@ -199,18 +199,18 @@ refused_so o count u v w name k index values s m value k_is step found is reads 
   told = refused.1;
   of_option = tt;
   stops = λ l line counted. stops.not_accepted (indexed_view s) index value w
-      (one_more (declaration_of o) u u w [] 0 (indexed_view s) (nothing_read (declaration_of o) u line) refl (option_said (declaration_of o) 0 u v w name k index s o.sound k_is step found (values, is, reads)))
+      (one_more (declaration_of o) u u w [] 0 (indexed_view s) (nothing_read (declaration_of o) u line) refl (option_parsed (declaration_of o) 0 u v w name k index s o.sound k_is step found (values, is, reads)))
       (subst (λ x. legal.is_option index x ≡ true) (sym is) (option_is index values)) refused.0;
 }
 
 pub by_key : (d : spec.Declaration) (count : ℕ) (u : UnreadLine) (m : Mistake) → StopsAtOption d u m → StopsByKey d count u m
 by_key d count u m by = record { why = by.why; told = by.told; of_option = by.of_option; stops = λ l line counted. by.stops l }
 
--- there are no more positionals than things that are read
-pub count_within : {F V P M S : Type 0} (o : Options F V P M S) (u v : UnreadLine) (count : ℕ) (seen : List ℕ) (said : List (Said F V P M S)) → HasRead o u v count seen said → count ≤ length said
-count_within o u v count seen said had = omega (arith, had.counted, count_small had.l, said_length (options_of o) had.l said had.are)
+-- there are at most as many positionals as things that are read
+pub count_within : {F V P M S : Type 0} (o : Options F V P M S) (u v : UnreadLine) (count : ℕ) (seen : List ℕ) (parsed : List (Parsed F V P M S)) → HasRead o u v count seen parsed → count ≤ length parsed
+count_within o u v count seen parsed had = omega (arith, had.counted, count_small had.l, parsed_length (options_of o) had.l parsed had.are)
 
--- ---- an option with a value that nobody asked for is read in no other way
+-- ---- where an option has an unexpected value, nothing else is read
 
 positional_never : (u v : UnreadLine) (o x : List ℕ) → ReadsPositional u (unexpected o x) v → ⊥
 positional_never u v o x (no_word_left none is after) = let e : unexpected o x ≡ steps.end = is in cc
@@ -223,7 +223,7 @@ word_never u v o x (reads_long text name tail ws are some long_is is after) = le
 word_never u v o x (reads_cluster bytes ws are other reads) = let e : unexpected o x ≡ steps.short _ = reads.reply_is in cc
 word_never u v o x (reads_positional w ws are plain is after) = let e : unexpected o x ≡ steps.positional w = is in cc
 
--- it is joined to a long option, or comes after `=` in a cluster
+-- the value is joined to a long option, or comes after `=` in a cluster
 pub data IsJoinedThere (u : UnreadLine) : Type 0 where
   to_long : (value : List ℕ) → u.tail ≡ joined value → IsJoinedThere u
   by_equals : (value : List ℕ) → u.tail ≡ rest (equals ∷ value) → u.short_equals ≡ true → IsJoinedThere u
@@ -246,7 +246,7 @@ in_cluster u bytes tail mark (by_equals value is on) =
     let same : bytes ≡ equals ∷ value = cc in
     mark (on, subst (BeginsWith equals) (sym same) refl)
 
--- nothing else is read there
+-- `next` returns nothing else there
 never_both : (u w : UnreadLine) (r : Reply) → NextStep u r w → ((o x : List ℕ) → r ≡ unexpected o x → ⊥) → IsJoinedThere u → ⊥
 never_both u w r (joined_value value option tail spelled is after) other there = other option value is
 never_both u w r (equals_value value option tail on spelled is after) other there = other option value is
@@ -262,7 +262,7 @@ found_alone : (u w : UnreadLine) (r : Reply) → Next u r w → (r ≡ steps.no_
 found_alone u w r (inl step) some other there = never_both u w r step other there
 found_alone u w r (inr none) some other there = some none.reply_is
 
--- where something was found, no value is joined
+-- where `next` finds something, no value is joined
 pub asks_alone : (u w : UnreadLine) (f : Found) → RepliesWith Next u (found_as w.last f) w → (o x : List ℕ) (v : UnreadLine) → Next u (unexpected o x) v → ⊥
 asks_alone u w (found.Short c) replies o x v step = found_alone u w (steps.short c) replies (λ is. cc) (λ p y is. cc) (joined_next u v o x step)
 asks_alone u w (found.Value word) replies o x v step = found_alone u w (steps.positional word) replies (λ is. cc) (λ p y is. cc) (joined_next u v o x step)

@@ -1,4 +1,4 @@
--- One step of the reading of a line.
+-- One step of reading a line.
 use Rattle.std.proofs.Common.{◌≡◌, ◌≢◌, ◌≤◌, ℕ, ◌+◌, List, [], ◌∷◌, ◌++◌, length, Option, Some, None, refl, sym, ap, subst, ◌∙◌, arith}
 use Rattle.std.specs.Option.{option_map}
 use Rattle.lexopt_spec.specs.UnreadLine.{UnreadLine, IsLine}
@@ -32,7 +32,7 @@ use Rattle.std.proofs.Common.{inl, inr, String, Global, string_bytes}
 use Rattle.lexopt_base.specs.Replies.{RepliesWith}
 use Rattle.lexopt_options_spec.specs.Declaration.{Declaration, Declared, Positional, has_name, index_of, is_sound, table}
 use Rattle.lexopt_options_spec.specs.Legal as legal
-use Rattle.lexopt_options_spec.specs.Legal.{IsWithin, counts, most, positional_count, said_item}
+use Rattle.lexopt_options_spec.specs.Legal.{IsWithin, counts, most, positional_count, parsed_item}
 use Rattle.lexopt_options_spec.proofs.Lists.{count_append, joined}
 use Rattle.lexopt_options_spec.specs.Stops.{ReadsUpTo}
 use Rattle.lexopt_items.specs.Items.{ReadsValues, item_with, kind_view}
@@ -43,13 +43,13 @@ use Rattle.lexopt_items.specs.declared.values.Values.TheVariants.{AtMostOne, All
 use Rattle.lexopt_items.proofs.ReadsItems.{option_read, positional_read}
 use Rattle.lexopt_options.specs.declared.indexed.Indexed.{Indexed}
 use Rattle.lexopt_options.specs.declared.mistake.Mistake.{Mistake}
-use Rattle.lexopt_options.specs.Reading.{ReadsSaid, StopsAtOption, StopsBy, StopsWithin, indexed_view, said_with}
+use Rattle.lexopt_options.specs.Reading.{ReadsParsed, StopsAtOption, StopsBy, StopsWithin, indexed_view, parsed_with}
 
-option_item : (d : Declaration) (name : Name) (index : ℕ) (values : Values) → index_of d.options name ≡ Some index → said_item d.options (item_with name values) ≡ Some (said_with index values)
+option_item : (d : Declaration) (name : Name) (index : ℕ) (values : Values) → index_of d.options name ≡ Some index → parsed_item d.options (item_with name values) ≡ Some (parsed_with index values)
 option_item d name index (AtMostOne value) found = ap (option_map (λ i. legal.option i value)) found
 option_item d name index (All values) found = ap (option_map (λ i. legal.several i values.items)) found
 
-pub no_count : (index : ℕ) (values : Values) → counts (said_with index values) ≡ 0
+pub no_count : (index : ℕ) (values : Values) → counts (parsed_with index values) ≡ 0
 no_count index (AtMostOne value) = refl
 no_count index (All values) = refl
 
@@ -64,7 +64,7 @@ values_line Optional v w (AtMostOne value) reads line = step_line calls.optional
 values_line Several v w (All values) reads line = step_line (calls.values reads.0) v (steps.items values.items) w line reads.2
 values_line k v w values reads line = absurd reads
 
--- by the table of the options an option has the kind of its index
+-- in the table of the options, an option has the kind of the option at its index
 pub kind_of_index : (options : List Declared) (name : Name) (index : ℕ) → is_sound options ≡ true → index_of options name ≡ Some index → kind_at options index ≡ kind (table options) name
 kind_of_index [] name index sound found = absurd (let e : None ≡ Some index = found in cc)
 kind_of_index (o ∷ os) name index sound found =
@@ -82,25 +82,25 @@ option_first t u v w name Several (All values) is step reads = first_several nam
 option_first t u v w name k values is step reads = absurd reads
 
 -- an option that is declared, with its values
-pub option_said : (d : Declaration) (count : ℕ) (u v w : UnreadLine) (name : Name) (k : Kind) (index : ℕ) (said : Indexed) → is_sound d.options ≡ true → kind_view k ≡ kind_at d.options index
-    → Next u (option_reply name) v → index_of d.options name ≡ Some index → (values : Values) × (indexed_view said ≡ said_with index values) × ReadsValues k v values w
-    → ReadsSaid d count u (indexed_view said) w
-option_said d count u v w name k index said sound k_is step found reads =
+pub option_parsed : (d : Declaration) (count : ℕ) (u v w : UnreadLine) (name : Name) (k : Kind) (index : ℕ) (parsed : Indexed) → is_sound d.options ≡ true → kind_view k ≡ kind_at d.options index
+    → Next u (option_reply name) v → index_of d.options name ≡ Some index → (values : Values) × (indexed_view parsed ≡ parsed_with index values) × ReadsValues k v values w
+    → ReadsParsed d count u (indexed_view parsed) w
+option_parsed d count u v w name k index parsed sound k_is step found reads =
     let values = reads.0 in
-    subst (λ (s : legal.Said). ReadsSaid d count u s w) (sym reads.1) (record {
+    subst (λ (s : legal.Parsed). ReadsParsed d count u s w) (sym reads.1) (record {
       item = item_with name values;
       reads = option_first (table d.options) u v w name k values (k_is ∙ kind_of_index d.options name index sound found) step reads.2;
       shorter = (option_read (table d.options) u v w name k values (k_is ∙ kind_of_index d.options name index sound found) step reads.2).1;
-      said = option_item d name index values found;
+      parsed = option_item d name index values found;
       line = λ line. values_line k v w values reads.2 (step_line calls.next u (option_reply name) v line step);
-      within = λ within. same_count count (counts (said_with index values)) (most d.positionals) (no_count index values) within;
+      within = λ within. same_count count (counts (parsed_with index values)) (most d.positionals) (no_count index values) within;
     })
 
--- what was returned
+-- what a call returned
 pub answered : (u w : UnreadLine) (r x : Result Found Refusal) → RepliesWith Next u (advance_reply w.last r) w → r ≡ x → RepliesWith Next u (advance_reply w.last x) w
 answered u w r x h is = subst (λ (q : Result Found Refusal). RepliesWith Next u (advance_reply w.last q) w) is h
 
--- after a short option some bytes are the rest of its cluster
+-- after a short option, some bytes are the rest of its cluster
 pub short_rest : (u v : UnreadLine) (c : ℕ) → Next u (steps.short c) v → (bytes : List ℕ) × (v.tail ≡ rest_of bytes)
 short_rest u v c step = in_step u v (steps.short c) refl (option_given u v (spec.short c) step)
   where
@@ -122,7 +122,7 @@ short_rest u v c step = in_step u v (steps.short c) refl (option_given u v (spec
     in_step u v r is (after_separator tail ended reads) = absurd (in_positional u v r is reads)
     in_step u v r is (next_word tail ended reads) = in_word u v r is reads
 
--- what is taken with `=` as a character of the cluster
+-- what is taken, where `=` is a character of the cluster
 taken_bytes : (u w : UnreadLine) (given : Option (List ℕ)) → OptionalStep u (steps.maybe given) w → option_map (λ found. found.0) (pending u) ≡ given
 taken_bytes u w given (optional_pending value by_equals is reply after) = ap (option_map (λ found. found.0)) is ∙ sym (given_is (Some value) reply)
   where
@@ -144,7 +144,7 @@ rest_hint options c tail (b ∷ bs) given hint is taken told =
     subst (λ t. IsHint options (spec.short c) t hint) (sym is)
     (subst (λ (x : Option (List ℕ)). MatchOption x (hint ≡ None) (λ left. IsHint options (spec.short c) (rest left) hint)) some told)
 
--- the hint that the rest of a cluster gives is that of what was left of the word
+-- the hint by the taken rest of the cluster is that by the rest of the word
 pub short_hinted : (options : List Declared) (u v off w : UnreadLine) (c : ℕ) (given hint : Option (List ℕ)) → Next u (steps.short c) v → off ≡ record v { short_equals = false }
     → OptionalStep off (steps.maybe given) w → MatchOption given (hint ≡ None) (λ left. IsHint options (spec.short c) (rest left) hint) → IsHint options (spec.short c) v.tail hint
 short_hinted options u v off w c given hint step is takes told =
@@ -162,7 +162,7 @@ pub no_hint : (options : List Declared) (c : ℕ) (given hint : Option (List ℕ
 no_hint options c given hint none is =
     subst (λ (x : Option (List ℕ)). MatchOption x (hint ≡ None) (λ left. IsHint options (spec.short c) (rest left) hint)) (sym none) is
 
--- a name that was copied
+-- a copy of a name
 pub long_hinted : (options os : List Declared) (name text : List ℕ) (left : Tail) (hint : Option (List ℕ)) → os ≡ options → name ≡ text → IsHint os (spec.long text) left hint
     → IsHint options (spec.long name) left hint
 long_hinted options os name text left hint os_is is told =
@@ -177,7 +177,7 @@ one_name u w text other step is also = name_in w.last step is also
     name_in (short_option c) step is also = absurd step
     name_in (long_option n) step is also = is n refl ∙ sym (also n refl)
 
--- `next` never finds that a value is missing
+-- `next` never returns that a value is missing
 pub never_missing : (u v : UnreadLine) (o : Option (String Global)) → Next u (refusal_reply (refused.MissingValue o)) v → ⊥
 never_missing u v o (inl step) = next_reply u v (steps.missing (option_map string_bytes o)) step
 never_missing u v o (inr none) = let e : steps.missing (option_map string_bytes o) ≡ steps.no_memory = none.reply_is in cc
@@ -186,14 +186,14 @@ more : (n : ℕ) (limit : Option ℕ) → limit ≢ Some n → IsWithin n limit 
 more n None room within = tt
 more n (Some m) room within = let other : m ≢ n = λ same. room (ap (λ x. Some x) same) in omega arith
 
--- a positional, where there is room for it
-pub positional_said : (d : Declaration) (count : ℕ) (u v : UnreadLine) (word : List ℕ) → most d.positionals ≢ Some count → Next u (steps.positional word) v
-    → ReadsSaid d count u (legal.positional word) v
-positional_said d count u v word room step = record {
+-- a positional, if one more is allowed
+pub positional_parsed : (d : Declaration) (count : ℕ) (u v : UnreadLine) (word : List ℕ) → most d.positionals ≢ Some count → Next u (steps.positional word) v
+    → ReadsParsed d count u (legal.positional word) v
+positional_parsed d count u v word room step = record {
   item = spec.positional word;
   reads = first_positional word v step;
   shorter = (positional_read (table d.options) u v word step).1;
-  said = refl;
+  parsed = refl;
   line = λ line. step_line calls.next u (steps.positional word) v line step;
   within = λ within. more count (most d.positionals) room within;
 }
@@ -206,7 +206,7 @@ nothing_read d u line = record {
   items = [];
   read = refl;
   line = line;
-  said = refl;
+  parsed = refl;
   within = zero_within (most d.positionals);
 }
   where
@@ -214,40 +214,40 @@ nothing_read d u line = record {
     zero_within None = tt
     zero_within (Some n) = omega arith
 
--- and what comes next
-pub one_more : (d : Declaration) (u v w : UnreadLine) (l : List legal.Said) (count : ℕ) (s : legal.Said) → ReadsUpTo d u l v → count ≡ positional_count l → ReadsSaid d count v s w
+-- and one more thing
+pub one_more : (d : Declaration) (u v w : UnreadLine) (l : List legal.Parsed) (count : ℕ) (s : legal.Parsed) → ReadsUpTo d u l v → count ≡ positional_count l → ReadsParsed d count v s w
     → ReadsUpTo d u (l ++ s ∷ []) w
 one_more d u v w l count s read counted reads = record {
   items = read.items ++ reads.item ∷ [];
   read = one_more_item (table d.options) u v w read.items reads.item read.read reads.reads;
   line = reads.line read.line;
-  said = joined (said_item d.options) read.items l reads.item s read.said reads.said;
+  parsed = joined (parsed_item d.options) read.items l reads.item s read.parsed reads.parsed;
   within = subst (λ n. IsWithin n (most d.positionals)) (ap (λ n. n + counts s) counted ∙ sym (count_append l (s ∷ []) ∙ ap (λ n. positional_count l + n) (omega arith)))
       (reads.within (subst (λ n. IsWithin n (most d.positionals)) (sym counted) read.within));
 }
 
-pub count_more : (l : List legal.Said) (count n : ℕ) (s : legal.Said) → count ≡ positional_count l → counts s ≡ n → count + n ≡ positional_count (l ++ s ∷ [])
+pub count_more : (l : List legal.Parsed) (count n : ℕ) (s : legal.Parsed) → count ≡ positional_count l → counts s ≡ n → count + n ≡ positional_count (l ++ s ∷ [])
 count_more l count n s counted is = let e = count_append l (s ∷ []) in omega arith
 
-pub count_small : (l : List legal.Said) → positional_count l ≤ length l
+pub count_small : (l : List legal.Parsed) → positional_count l ≤ length l
 count_small [] = omega arith
 count_small (legal.option i v ∷ l) = let rest = count_small l in omega arith
 count_small (legal.several i v ∷ l) = let rest = count_small l in omega arith
 count_small (legal.positional w ∷ l) = let rest = count_small l in omega arith
 
--- what stops the reading, where there may be as many positionals as are declared
+-- what stops the reading, by the limit of positionals
 pub by_limit : (d : Declaration) (limit : Option ℕ) (count : ℕ) (u : UnreadLine) (mistake : Mistake) → limit ≡ most d.positionals → StopsWithin d limit count u mistake → StopsBy d count u mistake
 by_limit d limit count u mistake is stops = record { why = stops.why; told = stops.told; early = stops.early; stops = λ l counted. stops.stops l is counted }
 
--- and one positional more
+-- one more positional, by the limit
 pub by_room : (d : Declaration) (limit : Option ℕ) (count : ℕ) (u v : UnreadLine) (word : List ℕ) → limit ≡ most d.positionals → Next u (steps.positional word) v × (limit ≢ Some count)
-    → ReadsSaid d count u (legal.positional word) v
-by_room d limit count u v word is next = positional_said d count u v word (λ full. next.1 (is ∙ full)) next.0
+    → ReadsParsed d count u (legal.positional word) v
+by_room d limit count u v word is next = positional_parsed d count u v word (λ full. next.1 (is ∙ full)) next.0
 
 pub at_any : (d : Declaration) (count : ℕ) (u : UnreadLine) (mistake : Mistake) → StopsAtOption d u mistake → StopsBy d count u mistake
 at_any d count u mistake stops = record { why = stops.why; told = stops.told; early = stops.early; stops = λ l counted. stops.stops l }
 
--- where there is room for one more, a positional is declared
+-- if one more positional is allowed, one is declared
 pub has_room : (ps : List Positional) (limit : Option ℕ) (count : ℕ) → limit ≡ most ps → IsWithin count (most ps) → limit ≢ Some count → 1 ≤ length ps
 has_room [] limit count is within room = absurd (room (is ∙ ap (λ n. Some n) (omega (arith, within))))
 has_room (p ∷ ps) limit count is within room = omega arith

@@ -32,7 +32,7 @@ required_within (o ∷ os) (suc i) is = let rest = required_within os i is in om
 pub names_here : {F V M S : Type 0} (options : List (Declared F V M S)) (i : ℕ) (x : Declared F V M S) → i < length options → x ≡ get_or options i x → names_at options (Some i) ≡ Some x.names
 names_here options i x within is = ap (option_map (λ p. p.names)) (slice_get-get_or options i x within) ∙ ap (λ p. Some p.names) (sym is)
 
--- the names of the option of an index
+-- the names of the option at an index
 are_names : {F V M S : Type 0} (options : List (Declared F V M S)) (i : ℕ) (names : Names) → is_required (map option_view options) i ≡ true → names_at options (Some i) ≡ Some names → AreNames (map option_view options) i names
 are_names [] i names needed is = absurd (false≢true needed)
 are_names (o ∷ os) zero names needed is =
@@ -45,13 +45,13 @@ neither : (a b : Bool) → a || b ≡ false → (a ≡ false) × (b ≡ false)
 neither true b is = absurd (false≢true (sym is))
 neither false b is = (refl, is)
 
--- where no option is required, none is missing
+-- if no option is required, none is missing
 pub none_required : {F V M S : Type 0} (options : List (Declared F V M S)) (i : ℕ) → list_any (λ o. o.required) options ≡ false → is_required (map option_view options) i ≡ false
 none_required [] i none = refl
 none_required (o ∷ os) zero none = (neither o.required (list_any (λ p. p.required) os) none).0
 none_required (o ∷ os) (suc i) none = none_required os i (neither o.required (list_any (λ p. p.required) os) none).1
 
--- the first that is missing, among the options of a declaration
+-- the first that is missing among the options of a declaration
 pub missing_so : {F V P M S : Type 0} (o : Options F V P M S) (os : List (Declared F V M S)) (seen : List ℕ) (r : Option Names) → os ≡ options_of o
     → MatchOption r (AllSeen (map option_view os) seen) (λ names. (index : ℕ) × IsFirstUnseen (map option_view os) seen index × (names_at os (Some index) ≡ Some names))
     → MatchOption r (AllSeen (declaration_of o).options seen) (λ names. (index : ℕ) × IsFirstUnseen (declaration_of o).options seen index × AreNames (declaration_of o).options index names)

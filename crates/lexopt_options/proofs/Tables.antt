@@ -1,4 +1,4 @@
--- A table with one option more.
+-- A table with one more option.
 use Rattle.std.proofs.Common.{◌≡◌, ◌<◌, ◌+◌, ◌++◌, ◌∷◌, ◌∙◌, ℕ, List, [], map, take, get_or, length, sym, ap}
 use Rattle.std.specs.List.{flat_map}
 use Rattle.std.specs.Option.{option_to_list}

@@ -24,21 +24,21 @@ use Rattle.lexopt_declaration.specs.declared.declaration.Words.{Words}
 use Rattle.lexopt_declaration.specs.declared.declaration.Words.TheVariants as words
 use Rattle.lexopt_options.specs.declared.indexed.Indexed.{Indexed}
 use Rattle.lexopt_options.specs.declared.indexed.Indexed.TheVariants as indexed
-use Rattle.lexopt_options.specs.declared.said.Said.{Said}
-use Rattle.lexopt_options.specs.declared.said.Said.TheVariants as said
+use Rattle.lexopt_options.specs.declared.parsed.Parsed.{Parsed}
+use Rattle.lexopt_options.specs.declared.parsed.Parsed.TheVariants as parsed
 use Rattle.lexopt_options.specs.declared.mistake.Mistake.{Mistake}
 use Rattle.std.specs.declared.alloc.AllocError.{AllocError}
 use Rattle.lexopt_options_spec.specs.Stops as stops
 use Rattle.lexopt_options.specs.Mistakes.{IsMistake}
 use Rattle.lexopt_options.specs.Keys as keys
-use Rattle.lexopt_options.specs.Keys.{AreSaid, said_words}
+use Rattle.lexopt_options.specs.Keys.{AreParsedAs, parsed_words}
 use Rattle.lexopt_options.specs.Reading.{indexed_view}
 use Rattle.lexopt_options.specs.Taken as taken
 use Rattle.lexopt_options.specs.Taken.{has_list, indexed_words}
 
--- ---- by how many words there are to spare
+-- ---- by the number of words that are not required
 
--- the places of words, by how many there are more than are required
+-- the places of words, by the number that are not required
 shares_so : (ps : List spec.Positional) (count : ℕ) (places : List ℕ) → ArePlaces ps count places → places ≡ take count (owners 0 (greedy ps (count - least ps)))
 shares_so ps count places are =
     are.placed ∙ ap (λ s. take count (owners 0 s)) (shares_are_greedy ps (count - least ps) are.shares (subst (λ n. AreShares ps n are.shares) (omega arith) are.are_shares))
@@ -54,7 +54,7 @@ enough_within : (limit : Option ℕ) (n m : ℕ) → IsWithin n limit → IsWith
 enough_within None n m a b = tt
 enough_within (Some limit) n m a b = omega (arith, a, b)
 
--- as many words can be to spare
+-- this many words may be beyond the required ones
 pub record CanSpare (ps : List spec.Positional) (count s : ℕ) : Type 0 where
   pub low : count - least ps ≤ s
   pub high : s ≤ count
@@ -112,7 +112,7 @@ owned_spare ps n i s can is =
       here = take_get (least ps + s) (owners 0 (greedy ps s)) n long ∙ is;
     }
 
--- ---- the words of a line, in turn
+-- ---- the words of a line, one after another
 
 refused_none : (ps : List spec.Positional) (places : List ℕ) → refused_word ps places [] ≡ None
 refused_none ps [] = refl
@@ -137,7 +137,7 @@ drop_more_past (p ∷ places) (suc n) is = drop_more_past places n is
 drop_past : (places : List ℕ) (n : ℕ) → drop n places ≡ [] → drop (n + 1) places ≡ []
 drop_past places n is = let same : n + 1 ≡ suc n = omega arith in ap (λ m. drop m places) same ∙ drop_more_past places n is
 
--- what is refused of all words is refused of those that are left
+-- the first refused word of all words is that of the words that are left
 pub record IsAt (ps : List spec.Positional) (places : List ℕ) (all rest : List (List ℕ)) (n : ℕ) : Type 0 where
   pub same : refused_word ps places all ≡ refused_word ps (drop n places) rest
 
@@ -150,11 +150,11 @@ at_end ps places all rest n at is = at.same ∙ ap (refused_word ps (drop n plac
 pub at_same : (ps : List spec.Positional) (places : List ℕ) (all rest : List (List ℕ)) (n m : ℕ) → n ≡ m → IsAt ps places all rest n → IsAt ps places all rest m
 at_same ps places all rest n m same at = subst (IsAt ps places all rest) same at
 
--- what comes next is not a word
+-- the next thing is not a word
 pub at_later : (ps : List spec.Positional) (places : List ℕ) (all rest later : List (List ℕ)) (n : ℕ) → IsAt ps places all rest n → rest ≡ later → IsAt ps places all later n
 at_later ps places all rest later n at same = subst (λ l. IsAt ps places all l n) same at
 
--- there is no place for a word
+-- there is no positional for a word
 pub at_no_place : (ps : List spec.Positional) (places : List ℕ) (all rest later : List (List ℕ)) (w : List ℕ) (n : ℕ) → IsAt ps places all rest n → rest ≡ w ∷ later → slice_get places n ≡ None → IsAt ps places all later (n + 1)
 at_no_place ps places all rest later w n at is none =
     let here = places_none places n none in
@@ -170,7 +170,7 @@ pub at_next : (ps : List spec.Positional) (places : List ℕ) (all rest later : 
 at_next ps places all rest later w n i at is here takes =
     record { same = at_place ps places all rest later w n i at is here ∙ ap (λ (b : Bool). cond b (refused_word ps (drop (n + 1) places) later) (Some (i, w))) takes }
 
--- or it is not
+-- a word is not accepted
 pub at_refused : (ps : List spec.Positional) (places : List ℕ) (all rest later : List (List ℕ)) (w : List ℕ) (n i : ℕ) → IsAt ps places all rest n → rest ≡ w ∷ later → slice_get places n ≡ Some i → takes_at ps i w ≡ false
     → refused_word ps places all ≡ Some (i, w)
 at_refused ps places all rest later w n i at is here takes =
@@ -178,48 +178,48 @@ at_refused ps places all rest later w n i at is here takes =
 
 -- ---- the words that were read by keys
 
-said_front : {F V P M S : Type 0} (xs : List (Said F V P M S)) (k : ℕ) (x : Said F V P M S) → k < length xs → x ≡ get_or xs k x → said_words (drop k xs) ≡ said_words (x ∷ drop (k + 1) xs)
-said_front xs k x within is = ap said_words (drop_more xs k x within ∙ ap (λ y. y ∷ drop (k + 1) xs) (sym is))
+parsed_front : {F V P M S : Type 0} (xs : List (Parsed F V P M S)) (k : ℕ) (x : Parsed F V P M S) → k < length xs → x ≡ get_or xs k x → parsed_words (drop k xs) ≡ parsed_words (x ∷ drop (k + 1) xs)
+parsed_front xs k x within is = ap parsed_words (drop_more xs k x within ∙ ap (λ y. y ∷ drop (k + 1) xs) (sym is))
 
-pub said_word : {F V P M S : Type 0} (xs : List (Said F V P M S)) (k : ℕ) (x : Said F V P M S) (key : P) (w : List ℕ) → k < length xs → x ≡ get_or xs k x → x ≡ said.Positional key w → said_words (drop k xs) ≡ w ∷ said_words (drop (k + 1) xs)
-said_word xs k x key w within is word = said_front xs k x within is ∙ ap (λ y. said_words (y ∷ drop (k + 1) xs)) word
+pub parsed_word : {F V P M S : Type 0} (xs : List (Parsed F V P M S)) (k : ℕ) (x : Parsed F V P M S) (key : P) (w : List ℕ) → k < length xs → x ≡ get_or xs k x → x ≡ parsed.Positional key w → parsed_words (drop k xs) ≡ w ∷ parsed_words (drop (k + 1) xs)
+parsed_word xs k x key w within is word = parsed_front xs k x within is ∙ ap (λ y. parsed_words (y ∷ drop (k + 1) xs)) word
 
-pub said_no_word : {F V P M S : Type 0} (xs : List (Said F V P M S)) (k : ℕ) (x : Said F V P M S) → k < length xs → x ≡ get_or xs k x → ((key : P) (w : List ℕ) → x ≡ said.Positional key w → ⊥)
-    → said_words (drop k xs) ≡ said_words (drop (k + 1) xs)
-said_no_word {F} {V} {P} {M} {S} xs k x within is other = said_front xs k x within is ∙ go x other
+pub parsed_no_word : {F V P M S : Type 0} (xs : List (Parsed F V P M S)) (k : ℕ) (x : Parsed F V P M S) → k < length xs → x ≡ get_or xs k x → ((key : P) (w : List ℕ) → x ≡ parsed.Positional key w → ⊥)
+    → parsed_words (drop k xs) ≡ parsed_words (drop (k + 1) xs)
+parsed_no_word {F} {V} {P} {M} {S} xs k x within is other = parsed_front xs k x within is ∙ go x other
   where
-    go : (y : Said F V P M S) → ((key : P) (w : List ℕ) → y ≡ said.Positional key w → ⊥) → said_words (y ∷ drop (k + 1) xs) ≡ said_words (drop (k + 1) xs)
-    go (said.Flag key) other = refl
-    go (said.Value key word) other = refl
-    go (said.Maybe key value) other = refl
-    go (said.Values key values) other = refl
-    go (said.Positional key word) other = absurd (other key word refl)
+    go : (y : Parsed F V P M S) → ((key : P) (w : List ℕ) → y ≡ parsed.Positional key w → ⊥) → parsed_words (y ∷ drop (k + 1) xs) ≡ parsed_words (drop (k + 1) xs)
+    go (parsed.Flag key) other = refl
+    go (parsed.Value key word) other = refl
+    go (parsed.Maybe key value) other = refl
+    go (parsed.Values key values) other = refl
+    go (parsed.Positional key word) other = absurd (other key word refl)
 
-pub said_past : {F V P M S : Type 0} (xs : List (Said F V P M S)) (k : ℕ) → length xs ≤ k → said_words (drop k xs) ≡ []
-said_past [] zero past = refl
-said_past [] (suc k) past = refl
-said_past (x ∷ xs) zero past = absurd (omega (arith, past))
-said_past (x ∷ xs) (suc k) past = said_past xs k (omega (arith, past))
+pub parsed_past : {F V P M S : Type 0} (xs : List (Parsed F V P M S)) (k : ℕ) → length xs ≤ k → parsed_words (drop k xs) ≡ []
+parsed_past [] zero past = refl
+parsed_past [] (suc k) past = refl
+parsed_past (x ∷ xs) zero past = absurd (omega (arith, past))
+parsed_past (x ∷ xs) (suc k) past = parsed_past xs k (omega (arith, past))
 
--- there are at least as many words as have come
-pub said_count : {F V P M S : Type 0} (xs : List (Said F V P M S)) → length (said_words xs) ≤ length xs
-said_count [] = omega arith
-said_count (said.Flag key ∷ xs) = let rest = said_count xs in omega (arith, rest)
-said_count (said.Value key word ∷ xs) = let rest = said_count xs in omega (arith, rest)
-said_count (said.Maybe key value ∷ xs) = let rest = said_count xs in omega (arith, rest)
-said_count (said.Values key values ∷ xs) = let rest = said_count xs in omega (arith, rest)
-said_count (said.Positional key word ∷ xs) = let rest = said_count xs in omega (arith, rest)
+-- there are at most as many words as things that were read
+pub parsed_count : {F V P M S : Type 0} (xs : List (Parsed F V P M S)) → length (parsed_words xs) ≤ length xs
+parsed_count [] = omega arith
+parsed_count (parsed.Flag key ∷ xs) = let rest = parsed_count xs in omega (arith, rest)
+parsed_count (parsed.Value key word ∷ xs) = let rest = parsed_count xs in omega (arith, rest)
+parsed_count (parsed.Maybe key value ∷ xs) = let rest = parsed_count xs in omega (arith, rest)
+parsed_count (parsed.Values key values ∷ xs) = let rest = parsed_count xs in omega (arith, rest)
+parsed_count (parsed.Positional key word ∷ xs) = let rest = parsed_count xs in omega (arith, rest)
 
--- the words of what was read
-pub words_are : {F V P M S : Type 0} (options : List (Declared F V M S)) (l : List legal.Said) (xs : List (Said F V P M S)) → AreSaid options l xs → positional_words l ≡ said_words xs
+-- the words of the positionals that were read
+pub words_are : {F V P M S : Type 0} (options : List (Declared F V M S)) (l : List legal.Parsed) (xs : List (Parsed F V P M S)) → AreParsedAs options l xs → positional_words l ≡ parsed_words xs
 words_are options [] [] are = refl
 words_are options [] (x ∷ xs) are = absurd are
 words_are options (s ∷ l) [] are = absurd are
-words_are options (s ∷ l) (said.Flag key ∷ xs) are = ap (λ t. positional_words (t ∷ l)) are.0.1 ∙ words_are options l xs are.1
-words_are options (s ∷ l) (said.Value key word ∷ xs) are = ap (λ t. positional_words (t ∷ l)) are.0.2 ∙ words_are options l xs are.1
-words_are options (s ∷ l) (said.Maybe key value ∷ xs) are = ap (λ t. positional_words (t ∷ l)) are.0.2 ∙ words_are options l xs are.1
-words_are options (s ∷ l) (said.Values key values ∷ xs) are = ap (λ t. positional_words (t ∷ l)) are.0.2 ∙ words_are options l xs are.1
-words_are options (s ∷ l) (said.Positional key word ∷ xs) are = ap (λ t. positional_words (t ∷ l)) are.0 ∙ ap (λ ws. word ∷ ws) (words_are options l xs are.1)
+words_are options (s ∷ l) (parsed.Flag key ∷ xs) are = ap (λ t. positional_words (t ∷ l)) are.0.1 ∙ words_are options l xs are.1
+words_are options (s ∷ l) (parsed.Value key word ∷ xs) are = ap (λ t. positional_words (t ∷ l)) are.0.2 ∙ words_are options l xs are.1
+words_are options (s ∷ l) (parsed.Maybe key value ∷ xs) are = ap (λ t. positional_words (t ∷ l)) are.0.2 ∙ words_are options l xs are.1
+words_are options (s ∷ l) (parsed.Values key values ∷ xs) are = ap (λ t. positional_words (t ∷ l)) are.0.2 ∙ words_are options l xs are.1
+words_are options (s ∷ l) (parsed.Positional key word ∷ xs) are = ap (λ t. positional_words (t ∷ l)) are.0 ∙ ap (λ ws. word ∷ ws) (words_are options l xs are.1)
 
 -- ---- the words that were read by indices
 
@@ -298,7 +298,7 @@ not_taken ps ws spare i w within is refused =
     let some = some_places ps (length ws) within in
     record { places = some.0; are_places = some.1; refused = so_many ps ws some.0 some.1 ∙ ap (λ s. refused_word ps (owners 0 (greedy ps s)) ws) (sym is) ∙ refused }
 
--- ---- the positional of an index
+-- ---- the positional at an index
 
 view_here : {P : Type 0} (ps : List (Positional P)) (i : ℕ) (x : Positional P) → i < length ps → x ≡ get_or ps i x → slice_get (map positional_view ps) i ≡ Some (positional_view x)
 view_here [] i x within is = absurd (omega (arith, within))
@@ -313,7 +313,7 @@ takes_past [] i w past = refl
 takes_past (p ∷ ps) zero w past = absurd (omega (arith, past))
 takes_past (p ∷ ps) (suc i) w past = takes_past ps i w (omega (arith, past))
 
--- what is refused of the positional is refused of the one of its index
+-- the mistake of a positional is that of the positional at its index
 pub refusal_here : {P : Type 0} (ps : List (Positional P)) (i : ℕ) (x : Positional P) (w : List ℕ) (found : Option Mistake) → i < length ps → x ≡ get_or ps i x → taken.IsRefusal x w found → taken.IsRefusalAt ps i w found
 refusal_here ps i x w None within is so = takes_here ps i x w within is ∙ so
 refusal_here ps i x w (Some m) within is so = (
@@ -321,14 +321,14 @@ refusal_here ps i x w (Some m) within is so = (
   λ d are. so.1 d i (ap (λ l. slice_get l i) are ∙ view_here ps i x within is),
 )
 
--- ---- the positionals to which a word can belong
+-- ---- the positionals that a word can belong to
 
 ascending_end : (l : List ℕ) (n : ℕ) → IsAscending l → ((i : ℕ) → Contains l i → i < n) → IsAscending (l ++ n ∷ [])
 ascending_end [] n up below = tt
 ascending_end (i ∷ []) n up below = (below i (zero, omega arith, refl), tt)
 ascending_end (i ∷ j ∷ l) n up below = (up.0, ascending_end (j ∷ l) n up.1 (λ m has. below m (Contains-append_right (i ∷ []) (j ∷ l) m has)))
 
--- of the positionals before this index, these are the ones to which the last of `count` words can belong
+-- these are the positionals before this index that the last of `count` words can belong to
 pub record OwnersUpTo (ps : List spec.Positional) (count below : ℕ) (owners : List ℕ) : Type 0 where
   pub sound : (i : ℕ) → Contains owners i → (i < below) × CanOwn ps (count - 1) i
   pub complete : (i : ℕ) → i < below → CanOwn ps (count - 1) i → Contains owners i
@@ -371,7 +371,7 @@ not_owner ps count n owners are none = record {
 pub owners_are : (ps : List spec.Positional) (count n : ℕ) (owners more : Vec ℕ Global) → owners ≡ more → OwnersUpTo ps count n owners.items → OwnersUpTo ps count n more.items
 owners_are ps count n owners more same are = subst (λ (v : Vec ℕ Global). OwnersUpTo ps count n v.items) same are
 
--- each owner is one of the positionals
+-- a positional that a word can belong to is declared
 owned_within : (ps : List spec.Positional) (n i : ℕ) → CanOwn ps n i → i < length ps
 owned_within ps n i can = let s = spare_owned ps n i can in let w = owner_within ps 0 s.0 n i s.2 in omega (arith, w)
 
@@ -382,9 +382,9 @@ all_owners ps count n owners are past = record {
   in_order = are.in_order;
 }
 
--- ---- the numbers of words to spare that are tried
+-- ---- the numbers of words that are not required, which are tried
 
--- as many words can be to spare exactly if they are from the first to the last of these numbers
+-- s words may be beyond the required ones if and only if s is one of the numbers from low to high
 pub can_spare : (ps : List spec.Positional) (count low high s : ℕ) → low ≡ count - least ps → ((s : ℕ) → (s ≤ high) ↔ ((s ≤ count) × IsWithin (least ps + s) (most ps))) → low ≤ s → s ≤ high → CanSpare ps count s
 can_spare ps count low high s low_is most_are above below =
     let both = (most_are s).0 below in record { low = omega (arith, low_is, above); high = both.0; within = both.1 }
@@ -392,13 +392,13 @@ can_spare ps count low high s low_is most_are above below =
 pub spare_within : (ps : List spec.Positional) (count high s : ℕ) → ((s : ℕ) → (s ≤ high) ↔ ((s ≤ count) × IsWithin (least ps + s) (most ps))) → CanSpare ps count s → s ≤ high
 spare_within ps count high s most_are can = (most_are s).1 (can.high, can.within)
 
--- one is found
+-- a number is found
 pub taken_found : (ps : List spec.Positional) (words : List (List ℕ)) (count low high s : ℕ) → count ≡ length words → low ≡ count - least ps → ((s : ℕ) → (s ≤ high) ↔ ((s ≤ count) × IsWithin (least ps + s) (most ps))) → low ≤ s → s ≤ high
     → refused_word ps (owners 0 (greedy ps s)) words ≡ None → CanBeTaken ps words
 taken_found ps words count low high s counted low_is most_are above below none =
     taken_spare ps words s (subst (λ n. CanSpare ps n s) counted (can_spare ps count low high s low_is most_are above below)) none
 
--- or none
+-- no number is found
 pub taken_never : (ps : List spec.Positional) (words : List (List ℕ)) (count high past : ℕ) → count ≡ length words → ((s : ℕ) → (s ≤ high) ↔ ((s ≤ count) × IsWithin (least ps + s) (most ps))) → high < past
     → ((s : ℕ) → count - least ps ≤ s → s < past → ¬ (refused_word ps (owners 0 (greedy ps s)) words ≡ None)) → ¬ CanBeTaken ps words
 taken_never ps words count high past counted most_are over none can =
@@ -422,7 +422,7 @@ owned_never ps count high past i some most_are over none can =
     let within = spare_within ps count high there.0 most_are spares in
     none there.0 spares.low (omega (arith, over, within)) there.2
 
--- none of those before, and not this one
+-- none before, and not this one
 pub and_not : (P : ℕ → Type 0) (low n : ℕ) → ((s : ℕ) → low ≤ s → s < n → ¬ P s) → ¬ P n → (s : ℕ) → low ≤ s → s < n + 1 → ¬ P s
 and_not P low n before not s above below = ⊎_elim (λ less. before s above less) (λ past. let same : n ≡ s = omega (arith, below, past) in λ is. not (subst P (sym same) is)) (cases_lt s n)
 
@@ -438,15 +438,15 @@ pub same_place : (o : Option ℕ) (i : ℕ) → o ≡ Some i → option_eq ◌==
 same_place None i is = absurd (let e : None ≡ Some i = is in cc)
 same_place (Some j) i is = let e : Some j ≡ Some i = is in let same : j ≡ i = cc in eq-eqb j i same
 
-pub said_counted : {F V P M S : Type 0} (xs : List (Said F V P M S)) → length (filter (λ x. keys.is_positional x) xs) ≡ length (said_words xs)
-said_counted [] = refl
-said_counted (said.Flag key ∷ xs) = said_counted xs
-said_counted (said.Value key word ∷ xs) = said_counted xs
-said_counted (said.Maybe key value ∷ xs) = said_counted xs
-said_counted (said.Values key values ∷ xs) = said_counted xs
-said_counted (said.Positional key word ∷ xs) = ap suc (said_counted xs)
+pub parsed_counted : {F V P M S : Type 0} (xs : List (Parsed F V P M S)) → length (filter (λ x. keys.is_positional x) xs) ≡ length (parsed_words xs)
+parsed_counted [] = refl
+parsed_counted (parsed.Flag key ∷ xs) = parsed_counted xs
+parsed_counted (parsed.Value key word ∷ xs) = parsed_counted xs
+parsed_counted (parsed.Maybe key value ∷ xs) = parsed_counted xs
+parsed_counted (parsed.Values key values ∷ xs) = parsed_counted xs
+parsed_counted (parsed.Positional key word ∷ xs) = ap suc (parsed_counted xs)
 
--- what is found of the words of a line
+-- what is found for the words of a line
 pub invalid_so : {P : Type 0} (ps : List (Positional P)) (ws : List (List ℕ)) (spare : ℕ) (r : Result (Option Mistake) AllocError) → spare ≡ length ws - least (map positional_view ps)
     → IfOk r (λ found. MatchOption found (refused_word (map positional_view ps) (owners 0 (greedy (map positional_view ps) spare)) ws ≡ None)
     (λ mistake. (i : ℕ) × (w : List ℕ) × (refused_word (map positional_view ps) (owners 0 (greedy (map positional_view ps) spare)) ws ≡ Some (i, w)) × taken.IsInvalid ps i w mistake))
@@ -456,7 +456,7 @@ invalid_so ps ws spare (Ok None) is found = λ within. are_taken (map positional
 invalid_so ps ws spare (Ok (Some m)) is (i, w, refused, invalid) = λ within. (i, w, not_taken (map positional_view ps) ws spare i w within is refused, invalid)
 invalid_so ps ws spare (Err e) is found = tt
 
--- the same of the positionals of a declaration
+-- the same for the positionals of a declaration
 pub invalid_line : {F V P M S : Type 0} (o : Options F V P M S) (ps : List (Positional P)) (ws : List (List ℕ)) (r : Result (Option Mistake) AllocError) → ps ≡ positionals_of o
     → IfOk r (λ found. IsWithin (length ws) (most (map positional_view ps)) → MatchOption found (AreTaken (map positional_view ps) ws)
     (λ mistake. (i : ℕ) × (w : List ℕ) × IsNotTaken (map positional_view ps) ws i w × taken.IsInvalid ps i w mistake))

@@ -1,4 +1,4 @@
--- What a reading of a whole line shows.
+-- What the reading of a whole line means.
 use Rattle.std.proofs.Common.{append_assoc, ◌≡◌, ◌≤◌, ◌<◌, ◌-◌, ℕ, suc, length, take, arith, true, List, [], ◌∷◌, ◌++◌, refl, sym, ap, subst, ◌∙◌}
 use Rattle.lexopt_spec.specs.UnreadLine.{UnreadLine}
 use Rattle.lexopt_spec.specs.Steps as steps
@@ -9,13 +9,13 @@ use Rattle.lexopt_line_spec.proofs.ItemsRead.{says_items}
 use Rattle.lexopt_line_spec.proofs.ReadingSteps.{reads_last}
 use Rattle.lexopt_options_spec.specs.Declaration.{Declaration, is_sound, table}
 use Rattle.lexopt_options_spec.specs.Legal as legal
-use Rattle.lexopt_options_spec.specs.Legal.{Says, SaysFront, are_accepted, positional_count, positional_words}
+use Rattle.lexopt_options_spec.specs.Legal.{Means, MeansFront, are_accepted, positional_count, positional_words}
 use Rattle.lexopt_options_spec.specs.Places.{AreTaken, IsNotTaken, least}
 use Rattle.lexopt_options_spec.proofs.Taken.{words_count}
 use Rattle.lexopt_options_spec.specs.Stops as stops
-use Rattle.lexopt_options_spec.specs.Asking.{all_but_last, first_asked, said_before}
+use Rattle.lexopt_options_spec.specs.Asking.{all_but_last, first_asked, parsed_before}
 use Rattle.lexopt_options_spec.specs.Stops.{ReadsUpTo, Stops, StopsAt, required_placeholder}
-use Rattle.lexopt_options_spec.proofs.Fronts.{ComesTo, front_later, front_said, no_front, nothing_said, one_front}
+use Rattle.lexopt_options_spec.proofs.Fronts.{ComesTo, front_later, front_parsed, no_front, nothing_parsed, one_front}
 use Rattle.std.specs.Borrow.{Bor}
 use Rattle.lexopt_declaration.specs.declared.declaration.Names.{Names}
 use Rattle.lexopt_options.specs.declared.mistake.Mistake.{Mistake}
@@ -25,8 +25,8 @@ use Rattle.lexopt_options.specs.declared.refused.Line.{Line}
 use Rattle.lexopt_options.specs.declared.refused.Line.TheVariants as line
 use Rattle.lexopt_declaration.specs.declared.declaration.Declared as declared
 use Rattle.lexopt_options.specs.Declarations.{declaration_of}
-use Rattle.lexopt_options.specs.declared.said.Said.{Said}
-use Rattle.lexopt_options.specs.Keys.{AreSaid, asked_view}
+use Rattle.lexopt_options.specs.declared.parsed.Parsed.{Parsed}
+use Rattle.lexopt_options.specs.Keys.{AreParsedAs, asked_view}
 use Rattle.lexopt_options.proofs.Keys.{asked_here}
 use Rattle.lexopt_options.specs.Lines.{IsLineOf, IsLineRead, before_mistake}
 use Rattle.lexopt_options.specs.Mistakes.{AreNames, IsMistake}
@@ -36,32 +36,32 @@ append_nil : (l : List Item) → l ++ [] ≡ l
 append_nil [] = refl
 append_nil (x ∷ l) = ap (λ m. x ∷ m) (append_nil l)
 
--- words that are read to their end mean what was read
-front : (d : Declaration) (words : List (List ℕ)) (l : List legal.Said) (v w : UnreadLine) → is_sound d.options ≡ true → ReadsUpTo d (start d.short_equals words) l v → Next v steps.end w
-    → SaysFront d words l
+-- words that are read to the end of the line mean what was read
+front : (d : Declaration) (words : List (List ℕ)) (l : List legal.Parsed) (v w : UnreadLine) → is_sound d.options ≡ true → ReadsUpTo d (start d.short_equals words) l v → Next v steps.end w
+    → MeansFront d words l
 front d words l v w sound read ends =
-    front_said d sound words read.items l
+    front_parsed d sound words read.items l
     (subst (IsReading (table d.options) (start d.short_equals words) steps.end) (append_nil read.items)
     (says_items (table d.options) (start d.short_equals words) v read.items read.read steps.end [] (reads_last (table d.options) v w steps.end tt ends)))
-    read.said read.within
+    read.parsed read.within
 
-pub front_of : (d : Declaration) (words : List (List ℕ)) (l : List legal.Said) (u v w : UnreadLine) → is_sound d.options ≡ true → u ≡ start d.short_equals words → ReadsUpTo d u l v → Next v steps.end w
-    → SaysFront d words l
+pub front_of : (d : Declaration) (words : List (List ℕ)) (l : List legal.Parsed) (u v w : UnreadLine) → is_sound d.options ≡ true → u ≡ start d.short_equals words → ReadsUpTo d u l v → Next v steps.end w
+    → MeansFront d words l
 front_of d words l u v w sound is read ends = front d words l v w sound (subst (λ (x : UnreadLine). ReadsUpTo d x l v) is read) ends
 
-counted_so : (d : Declaration) (l : List legal.Said) (words : List (List ℕ)) → positional_words l ≡ words → positional_count l ≡ length words
+counted_so : (d : Declaration) (l : List legal.Parsed) (words : List (List ℕ)) → positional_words l ≡ words → positional_count l ≡ length words
 counted_so d l words is = sym (words_count l) ∙ ap length is
 
--- nothing is wrong at the end of a line with these words of positionals, of whose required options these
--- were seen
+-- at the end of a line with these positionals and these required options, nothing is missing, and
+-- each word is accepted
 pub record IsRight (d : Declaration) (words : List (List ℕ)) (seen : List ℕ) : Type 0 where
   pub enough : least d.positionals ≤ length words
   pub taken : AreTaken d.positionals words
   pub all : AllSeen d.options seen
 
-pub line_said : (d : Declaration) (words : List (List ℕ)) (l : List legal.Said) (v w : UnreadLine) (own : List (List ℕ)) (seen : List ℕ) → is_sound d.options ≡ true
-    → ReadsUpTo d (start d.short_equals words) l v → positional_words l ≡ own → AreSeen d.options l seen → Next v steps.end w → IsRight d own seen → are_accepted d.options l ≡ true → Says d words l
-line_said d words l v w own seen sound read words_are are_seen ends right accepted = record {
+pub line_parsed : (d : Declaration) (words : List (List ℕ)) (l : List legal.Parsed) (v w : UnreadLine) (own : List (List ℕ)) (seen : List ℕ) → is_sound d.options ≡ true
+    → ReadsUpTo d (start d.short_equals words) l v → positional_words l ≡ own → AreSeen d.options l seen → Next v steps.end w → IsRight d own seen → are_accepted d.options l ≡ true → Means d words l
+line_parsed d words l v w own seen sound read words_are are_seen ends right accepted = record {
   front = front d words l v w sound read ends;
   enough = subst (λ n. least d.positionals ≤ n) (sym (counted_so d l own words_are)) right.enough;
   complete = λ i is. sym (are_seen i is) ∙ right.all i is;
@@ -69,8 +69,8 @@ line_said d words l v w own seen sound read words_are are_seen ends right accept
   taken = subst (AreTaken d.positionals) (sym words_are) right.taken;
 }
 
-pub line_stopped : (d : Declaration) (words : List (List ℕ)) (l : List legal.Said) (u v : UnreadLine) (count : ℕ) (why : stops.Mistake) → u ≡ start d.short_equals words → ReadsUpTo d u l v
-    → count ≡ positional_count l → ((m : List legal.Said) → count ≡ positional_count m → Stops d m v why) → are_accepted d.options l ≡ true → StopsAt d words l why
+pub line_stopped : (d : Declaration) (words : List (List ℕ)) (l : List legal.Parsed) (u v : UnreadLine) (count : ℕ) (why : stops.Mistake) → u ≡ start d.short_equals words → ReadsUpTo d u l v
+    → count ≡ positional_count l → ((m : List legal.Parsed) → count ≡ positional_count m → Stops d m v why) → are_accepted d.options l ≡ true → StopsAt d words l why
 line_stopped d words l u v count why is read counted stops accepted = record {
   there = v;
   read = subst (λ (x : UnreadLine). ReadsUpTo d x l v) is read;
@@ -78,9 +78,9 @@ line_stopped d words l u v count why is read counted stops accepted = record {
   accepted = accepted;
 }
 
--- the same whether or not each option accepts the values before
-pub part_stopped : (d : Declaration) (words : List (List ℕ)) (l : List legal.Said) (u v : UnreadLine) (count : ℕ) (why : stops.Mistake) → u ≡ start d.short_equals words → ReadsUpTo d u l v
-    → count ≡ positional_count l → ((m : List legal.Said) → count ≡ positional_count m → Stops d m v why) → ComesTo d words l why
+-- the same, even if an option does not accept a value
+pub part_stopped : (d : Declaration) (words : List (List ℕ)) (l : List legal.Parsed) (u v : UnreadLine) (count : ℕ) (why : stops.Mistake) → u ≡ start d.short_equals words → ReadsUpTo d u l v
+    → count ≡ positional_count l → ((m : List legal.Parsed) → count ≡ positional_count m → Stops d m v why) → ComesTo d words l why
 part_stopped d words l u v count why is read counted stops = record {
   there = v;
   read = subst (λ (x : UnreadLine). ReadsUpTo d x l v) is read;
@@ -89,13 +89,13 @@ part_stopped d words l u v count why is read counted stops = record {
 
 -- ---- what is wrong at the end
 
--- at the end of a line with these words of positionals, of whose required options these were seen,
--- this is wrong: something is missing, or a word is not accepted
+-- at the end of a line with these positionals and these required options, something is missing or a
+-- word is not accepted, which is this mistake
 pub record IsWrong (d : Declaration) (words : List (List ℕ)) (seen : List ℕ) (mistake : Mistake)
     : Type 0 where
   pub why : stops.Mistake
   pub told : IsMistake d mistake why
-  pub stops : (u v : UnreadLine) (l : List legal.Said) → Next u steps.end v
+  pub stops : (u v : UnreadLine) (l : List legal.Parsed) → Next u steps.end v
       → positional_words l ≡ words → AreSeen d.options l seen → Stops d l u why
 
 -- a positional is missing
@@ -134,18 +134,18 @@ lacks_option d words seen names index enough taken first are_names = record {
 
 -- ---- what was read before a mistake
 
-pub before_is : (d : Declaration) (m : Mistake) (why : stops.Mistake) (l : List legal.Said) → IsMistake d m why → before_mistake m l ≡ said_before why l
-before_is d (mistake.UnknownOption name hint) why l told = ap (λ w. said_before w l) (sym told.1)
-before_is d (mistake.UnexpectedValue option value) why l told = ap (λ w. said_before w l) (sym told)
-before_is d (mistake.MissingValue option placeholder) why l told = ap (λ w. said_before w l) (sym told.1)
-before_is d (mistake.InvalidValue option value values) why l told = ap (λ w. said_before w l) (sym told.1)
-before_is d (mistake.UnexpectedArgument word) why l told = ap (λ w. said_before w l) (sym told)
-before_is d (mistake.InvalidArgument placeholder word values) why l told = ap (λ w. said_before w l) (sym told.1)
-before_is d (mistake.MissingArgument placeholder) why l told = ap (λ w. said_before w l) (sym told.1)
-before_is d (mistake.MissingOption names) why l told = ap (λ w. said_before w l) (sym told.1)
+pub before_is : (d : Declaration) (m : Mistake) (why : stops.Mistake) (l : List legal.Parsed) → IsMistake d m why → before_mistake m l ≡ parsed_before why l
+before_is d (mistake.UnknownOption name hint) why l told = ap (λ w. parsed_before w l) (sym told.1)
+before_is d (mistake.UnexpectedValue option value) why l told = ap (λ w. parsed_before w l) (sym told)
+before_is d (mistake.MissingValue option placeholder) why l told = ap (λ w. parsed_before w l) (sym told.1)
+before_is d (mistake.InvalidValue option value values) why l told = ap (λ w. parsed_before w l) (sym told.1)
+before_is d (mistake.UnexpectedArgument word) why l told = ap (λ w. parsed_before w l) (sym told)
+before_is d (mistake.InvalidArgument placeholder word values) why l told = ap (λ w. parsed_before w l) (sym told.1)
+before_is d (mistake.MissingArgument placeholder) why l told = ap (λ w. parsed_before w l) (sym told.1)
+before_is d (mistake.MissingOption names) why l told = ap (λ w. parsed_before w l) (sym told.1)
 before_is d (mistake.InvalidVariable name) why l told = absurd told
 
-pub before_other : (m : Mistake) (l : List legal.Said) → ((option : _) (value : _) → m ≡ mistake.UnexpectedValue option value → ⊥) → before_mistake m l ≡ l
+pub before_other : (m : Mistake) (l : List legal.Parsed) → ((option : _) (value : _) → m ≡ mistake.UnexpectedValue option value → ⊥) → before_mistake m l ≡ l
 before_other (mistake.UnknownOption name hint) l other = refl
 before_other (mistake.UnexpectedValue option value) l other = absurd (other option value refl)
 before_other (mistake.MissingValue option placeholder) l other = refl
@@ -156,39 +156,39 @@ before_other (mistake.MissingArgument placeholder) l other = refl
 before_other (mistake.MissingOption names) l other = refl
 before_other (mistake.InvalidVariable name) l other = refl
 
-pub last_dropped : (l : List legal.Said) (s : legal.Said) → all_but_last (l ++ s ∷ []) ≡ l
+pub last_dropped : (l : List legal.Parsed) (s : legal.Parsed) → all_but_last (l ++ s ∷ []) ≡ l
 last_dropped [] s = refl
 last_dropped (x ∷ []) s = refl
 last_dropped (x ∷ y ∷ l) s = ap (λ m. x ∷ m) (last_dropped (y ∷ l) s)
 
-pub kept_said : {F V P M S : Type 0} (options : List (declared.Declared F V M S)) (l : List legal.Said) (xs : List (Said F V P M S)) (n : ℕ) → n ≡ length xs - 1 → AreSaid options l xs
-    → AreSaid options (all_but_last l) (take n xs)
-kept_said options [] [] n is are = rw is tt
-kept_said options [] (x ∷ xs) n is are = absurd are
-kept_said options (s ∷ l) [] n is are = absurd are
-kept_said options (s ∷ []) (x ∷ []) n is are = rw is tt
-kept_said options (s ∷ []) (x ∷ y ∷ xs) n is are = absurd are.1
-kept_said options (s ∷ t ∷ l) (x ∷ []) n is are = absurd are.1
-kept_said options (s ∷ t ∷ l) (x ∷ y ∷ xs) n is are =
+pub kept_parsed : {F V P M S : Type 0} (options : List (declared.Declared F V M S)) (l : List legal.Parsed) (xs : List (Parsed F V P M S)) (n : ℕ) → n ≡ length xs - 1 → AreParsedAs options l xs
+    → AreParsedAs options (all_but_last l) (take n xs)
+kept_parsed options [] [] n is are = rw is tt
+kept_parsed options [] (x ∷ xs) n is are = absurd are
+kept_parsed options (s ∷ l) [] n is are = absurd are
+kept_parsed options (s ∷ []) (x ∷ []) n is are = rw is tt
+kept_parsed options (s ∷ []) (x ∷ y ∷ xs) n is are = absurd are.1
+kept_parsed options (s ∷ t ∷ l) (x ∷ []) n is are = absurd are.1
+kept_parsed options (s ∷ t ∷ l) (x ∷ y ∷ xs) n is are =
     let e : n ≡ suc (length xs) = omega (arith, is) in
-    subst (λ k. AreSaid options (all_but_last (s ∷ t ∷ l)) (take k (x ∷ y ∷ xs))) (sym e)
-    (are.0, kept_said options (t ∷ l) (y ∷ xs) (length xs) (omega arith) are.1)
+    subst (λ k. AreParsedAs options (all_but_last (s ∷ t ∷ l)) (take k (x ∷ y ∷ xs))) (sym e)
+    (are.0, kept_parsed options (t ∷ l) (y ∷ xs) (length xs) (omega arith) are.1)
 
--- ---- what a line comes to
+-- ---- the result of reading a line
 
--- a line that is read so is of the list that its words mean
-pub line_of : {F V P M S : Type 0} (o : Options F V P M S) (words : List (List ℕ)) (line : Line F V P M S) → IsLineRead o words line → (l : List legal.Said) → Says (declaration_of o) words l → IsLineOf o l line
-line_of o words (line.Said said) (m, other, none, are, keys) l says =
-    subst (λ (x : List legal.Said). IsLineOf o x (line.Said said)) (one_front (declaration_of o) words m l other.front says.front) (none, are, keys)
-line_of o words (line.Asked asked) read l says =
-    let later = front_later (declaration_of o) words (read.before ++ read.said ∷ []) read.there read.read l says.front in
-    ap (first_asked (declaration_of o).options) (later.1 ∙ append_assoc read.before (read.said ∷ []) later.0)
-    ∙ asked_here (declaration_of o).options read.before later.0 read.said (asked_view asked) read.none_before read.asks
-line_of o words (line.Refused refused) read l says = absurd (nothing_said (declaration_of o) words read.read read.why read.stops l says)
+-- a line that is read is of the list that its words mean
+pub line_of : {F V P M S : Type 0} (o : Options F V P M S) (words : List (List ℕ)) (line : Line F V P M S) → IsLineRead o words line → (l : List legal.Parsed) → Means (declaration_of o) words l → IsLineOf o l line
+line_of o words (line.Parsed parsed) (m, other, none, are, keys) l means =
+    subst (λ (x : List legal.Parsed). IsLineOf o x (line.Parsed parsed)) (one_front (declaration_of o) words m l other.front means.front) (none, are, keys)
+line_of o words (line.Asked asked) read l means =
+    let later = front_later (declaration_of o) words (read.before ++ read.parsed ∷ []) read.there read.read l means.front in
+    ap (first_asked (declaration_of o).options) (later.1 ∙ append_assoc read.before (read.parsed ∷ []) later.0)
+    ∙ asked_here (declaration_of o).options read.before later.0 read.parsed (asked_view asked) read.none_before read.asks
+line_of o words (line.Refused refused) read l means = absurd (nothing_parsed (declaration_of o) words read.read read.why read.stops l means)
 
 -- ---- a part of a line
 
--- where the reading stops before the end, the words mean nothing
-pub nothing_part : (d : Declaration) (words : List (List ℕ)) (l : List legal.Said) (why : stops.Mistake) → IsEarly why → ComesTo d words l why → (said : List legal.Said) → SaysFront d words said → ⊥
-nothing_part d words l why early stops said says =
-    no_front d words l why stops (λ count is. subst IsEarly is early) (λ index is. subst IsEarly is early) (λ index value is. subst IsEarly is early) (λ index word is. subst IsEarly is early) said says
+-- if the reading stops before the end of the line, the words mean nothing
+pub nothing_part : (d : Declaration) (words : List (List ℕ)) (l : List legal.Parsed) (why : stops.Mistake) → IsEarly why → ComesTo d words l why → (parsed : List legal.Parsed) → MeansFront d words parsed → ⊥
+nothing_part d words l why early stops parsed means =
+    no_front d words l why stops (λ count is. subst IsEarly is early) (λ index is. subst IsEarly is early) (λ index value is. subst IsEarly is early) (λ index word is. subst IsEarly is early) parsed means

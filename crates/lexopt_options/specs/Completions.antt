@@ -23,8 +23,8 @@ use Rattle.lexopt_options.specs.declared.complete.Place.{Place}
 use Rattle.lexopt_options.specs.Reading.{indexed_view}
 use Rattle.lexopt_options.specs.Roles.{IsCounted, IsJoinedAt, IsRoleAt, place_view}
 
--- exactly the spellings that can come where this was typed after these words, each with what the help
--- tells of its option, in the order of the declaration
+-- exactly the spellings that can come where this was typed after these words, each with the help
+-- text of its option, in the order of the declaration
 pub record AreOffered (d : Declaration) (words : List (List ℕ)) (typed : List ℕ)
     (offered : List (List ℕ × List ℕ)) : Type 0 where
   pub sound : (s : List ℕ) → Contains (map (λ p. p.0) offered) s → Completes d words typed s
@@ -37,13 +37,13 @@ pub record IsCompletion {F V P M S : Type 0} (o : Options F V P M S) (words : Li
     (typed : List ℕ) (completion : Completion F V M S) : Type 0 where
   pub spellings : AreOffered (declaration_of o) words typed
       (map spelling_view completion.spellings.items)
-  -- what a word would be that is not an option and begins so
+  -- what a word would be that begins so and is not an option
   pub role : Option spec.Role
   pub has_role : HasRole (declaration_of o) words typed role
   pub word : IsRoleAt (options_of o) role completion.word
-  -- to which positionals it can belong, if it would be one
+  -- the positionals that it can belong to, if it would be one
   pub arguments : AreOwnersIn (declaration_of o).positionals role completion.arguments.items
-  -- of which option a value is typed in the word, and after what
+  -- the option whose value is typed in the word, and what comes before the value
   pub with_value : Option spec.Joined
   pub is_joined : IsJoined (declaration_of o) words typed with_value
   pub joined : IsJoinedAt (options_of o) with_value completion.joined
@@ -51,9 +51,9 @@ pub record IsCompletion {F V P M S : Type 0} (o : Options F V P M S) (words : Li
   pub values : map string_bytes completion.values.items
       ≡ offered_values (declaration_of o) typed role completion.arguments.items with_value
 
--- the words mean this so far, and a positional is among it
+-- the words mean something, even if something is missing after them, and a positional is part of it
 abbrev pub HasPositional : Declaration → List (List ℕ) → Type 0
-HasPositional d words = (l : List legal.Said) × legal.SaysFront d words l
+HasPositional d words = (l : List legal.Parsed) × legal.MeansFront d words l
     × (0 < legal.positional_count l)
 
 -- ---- values in lists
@@ -64,17 +64,18 @@ word_values None = []
 word_values (Some role.Argument) = []
 word_values (Some (role.Value option)) = list_of (words_view option.now.words)
 
--- the words with a value of the list of this option in them, where this is typed
+-- the words that have a value in the list of the option whose value is typed in the word
 abbrev pub joined_values : {F V M S : Type 0} → Option (Joined F V M S) → List (List ℕ)
 joined_values None = []
 joined_values (Some joined) =
     map (λ v. string_bytes joined.before ++ v) (list_of (words_view joined.option.now.words))
 
--- the words in the list of the positional of this index that begin with what was typed
+-- the words in the list of the positional at this index that begin with what was typed
 abbrev pub words_so : List Positional → List ℕ → ℕ → List (List ℕ)
 words_so ps typed i = filter (λ v. starts_with nat_eq v typed) (words_at ps i)
 
--- all of these that begin so, where a word can belong to the positionals of these indices
+-- all values in lists that begin with what was typed, where a word can belong to the positionals at
+-- these indices
 abbrev pub values_so : {F V M S : Type 0} → List Positional → List ℕ → Option (Role F V M S)
     → List ℕ → Option (Joined F V M S) → List (List ℕ)
 values_so ps typed word arguments joined =
@@ -84,14 +85,14 @@ values_so ps typed word arguments joined =
 
 -- ---- where an option can come
 
--- this tells whether an option can come after these words
+-- b is true if and only if an option can come after these words
 abbrev pub Opens : Declaration → List (List ℕ) → Bool → Type 0
-Opens d words b = IsTrue b ↔ ((l : List legal.Said) × IsOpen d words l)
+Opens d words b = IsTrue b ↔ ((l : List legal.Parsed) × IsOpen d words l)
 
--- this tells whether a declared option can come after these words: one could, each option accepts
--- the values that it has, and the positionals can accept the words, with some more after them
+-- b is true if and only if a declared option can come after these words: an option can, each option
+-- accepts its values, and the positionals accept the words, with some more words after them
 abbrev pub CanCome : Declaration → List (List ℕ) → Bool → Type 0
-CanCome d words b = IsTrue b ↔ ((l : List legal.Said) × IsOpen d words l
+CanCome d words b = IsTrue b ↔ ((l : List legal.Parsed) × IsOpen d words l
     × (are_accepted d.options l ≡ true) × CanBeTaken d.positionals (positional_words l))
 
 -- it is not an option of several values
@@ -100,20 +101,20 @@ is_one (indexed.Option index value) = true
 is_one (indexed.Several index values) = false
 is_one (indexed.Positional word) = true
 
--- something is read, and the last of it is not an option of several values
+-- anything is read, and the last thing is not an option of several values
 abbrev pub ends_in_one : List Indexed → Bool
 ends_in_one [] = false
 ends_in_one (s ∷ []) = is_one s
 ends_in_one (s ∷ t ∷ l) = ends_in_one (t ∷ l)
 
--- as much is read with `--` as with an empty word, and the last that is read with the empty word is
--- not an option of several values
+-- as much is read with `--` as with an empty word, and the last thing that is read with the empty
+-- word is not an option of several values
 abbrev pub TakeAnyWord : List Indexed → List Indexed → Type 0
 TakeAnyWord l m = (length l ≡ length m) × (ends_in_one m ≡ true)
 
--- what the last of what is read is, if something is read
+-- what the last word is, by the last thing that is read, if anything is
 abbrev pub IsLastPlace : List Indexed → Option Place → Type 0
-IsLastPlace said None = said ≡ []
-IsLastPlace said (Some place) = IsCounted (Some place) × ((before : List Indexed) × (last : Indexed)
-    × (said ≡ before ++ last ∷ [])
+IsLastPlace parsed None = parsed ≡ []
+IsLastPlace parsed (Some place) = IsCounted (Some place) × ((before : List Indexed) × (last : Indexed)
+    × (parsed ≡ before ++ last ∷ [])
     × (spec.role_of (map indexed_view before) (indexed_view last) ≡ place_view place))

@@ -9,10 +9,10 @@ use Rattle.lexopt_options.specs.declared.options.Options.{Options}
 abbrev pub declaration_of : {F V P M S : Type 0} → Options F V P M S → Declaration
 declaration_of o = declaration_view o.declaration.now
 
--- the options as they were given
+-- the options of the declaration
 abbrev pub options_of : {F V P M S : Type 0} → Options F V P M S → List (Declared F V M S)
 options_of o = o.declaration.now.options.now
 
--- and the positionals
+-- the positionals of the declaration
 abbrev pub positionals_of : {F V P M S : Type 0} → Options F V P M S → List (Positional P)
 positionals_of o = o.declaration.now.positionals.now

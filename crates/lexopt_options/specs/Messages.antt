@@ -1,4 +1,4 @@
--- What is printed of a line that is refused. The source is `docs/formats.md`.
+-- The messages about a line that is refused. The source is `docs/formats.md`.
 use Rattle.std.specs.Prelude.{ℕ, List, [], ◌++◌, Option, Some, None, codes, encode_utf8, string_bytes}
 use Rattle.std.specs.Prelude.{nat_lt, ◌==◌, ◌||◌, if◌then◌else◌, map}
 use Rattle.std.specs.List.{flat_map}
@@ -18,7 +18,7 @@ use Rattle.lexopt_options.specs.declared.mistake.Mistake.TheVariants.{InvalidVar
 use Rattle.lexopt_options.specs.declared.mistake.OptionName.{OptionName}
 use Rattle.lexopt_options.specs.declared.mistake.OptionName.TheVariants.{Short, Long}
 
--- a character of a name: a control character of ASCII as in the quoted form, any other as it is
+-- a character of a name: a control character of ASCII is escaped as in the quoted form of bytes
 abbrev pub escaped : ℕ → List ℕ
 escaped c = if nat_lt c 0x20 || c == 0x7F then quoted_character c [] else encode_utf8 c
 
@@ -53,6 +53,6 @@ help_line program None = []
 help_line program (Some names) = codes "\nTry '"
     ++ (program ++ (codes " " ++ (names_text names ++ codes "' for more information.")))
 
--- a program's name and what is wrong, and where its help is
+-- the name of the program and the message, and where the help is
 abbrev pub refusal_text : List ℕ → Option Names → List ℕ → List ℕ
 refusal_text program help what = program ++ (codes ": " ++ (what ++ help_line program help))

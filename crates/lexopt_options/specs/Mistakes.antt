@@ -17,23 +17,23 @@ use Rattle.lexopt_options.specs.declared.mistake.Mistake.TheVariants.{Unexpected
 use Rattle.lexopt_options.specs.declared.mistake.Mistake.TheVariants.{MissingArgument, MissingOption}
 use Rattle.lexopt_options.specs.declared.mistake.Mistake.TheVariants.{InvalidVariable}
 
--- these are the names of the option of this index
+-- the option at this index has these names
 abbrev pub AreNames : List Declared → ℕ → Names → Type 0
 AreNames options index names = (o : Declared) × (slice_get options index ≡ Some o)
     × (o.short_name ≡ short_name names) × (o.long_name ≡ long_name names)
 
--- these are the values that the option of this index accepts
+-- the option at this index accepts these values
 abbrev pub AreValues : List Declared → ℕ → List (Bor (List ℕ)) → Type 0
 AreValues options index values = (o : Declared) × (slice_get options index ≡ Some o)
     × (o.words ≡ listed (map (λ value. value.now) values))
 
--- this is the placeholder of the positional of this index, and these are the words that it accepts
+-- the positional at this index has this placeholder, and accepts these words
 abbrev pub AreWords : List Positional → ℕ → List ℕ → List (Bor (List ℕ)) → Type 0
 AreWords positionals index placeholder values = (p : Positional)
     × (slice_get positionals index ≡ Some p) × (p.placeholder ≡ placeholder)
     × (p.words ≡ listed (map (λ value. value.now) values))
 
--- the mistake is this one of the definitions
+-- this mistake is that of the definitions
 abbrev pub IsMistake : Declaration → Mistake → stops.Mistake → Type 0
 IsMistake d (UnknownOption name hint) m = (left : Tail)
     × (m ≡ stops.unknown_option (name_view name) left)

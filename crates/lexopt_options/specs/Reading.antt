@@ -1,4 +1,4 @@
--- What is read from a line, as contracts see it, and what one step of its reading reads.
+-- What is read from a line, as contracts see it, and what one step of the reading reads.
 use Rattle.std.specs.Prelude.{None, ◌≡◌, ◌≢◌, ◌<◌, ◌+◌, ◌++◌, ◌∷◌, ℕ, Bool, true, false, List, [], Some}
 use Rattle.std.specs.Prelude.{Option, Result, Ok, Err, slice_get}
 use Rattle.lexopt_spec.specs.UnreadLine.{UnreadLine, IsLine}
@@ -13,7 +13,7 @@ use Rattle.lexopt_options_spec.specs.Completion.{IsOption}
 use Rattle.lexopt_options_spec.specs.Leading.{IsOfOption}
 use Rattle.lexopt_options_spec.specs.Legal as spec
 use Rattle.lexopt_options_spec.specs.Legal.{IsWithin, counts, is_required, most, occurs}
-use Rattle.lexopt_options_spec.specs.Legal.{positional_count, positional_words, refused_value, said_item}
+use Rattle.lexopt_options_spec.specs.Legal.{positional_count, positional_words, refused_value, parsed_item}
 use Rattle.lexopt_options_spec.specs.Stops as stops
 use Rattle.lexopt_options_spec.specs.Stops.{Stops}
 use Rattle.lexopt_items.specs.declared.values.Values.{Values}
@@ -25,31 +25,31 @@ use Rattle.lexopt_options.specs.declared.indexed.Indexed.{Indexed}
 use Rattle.lexopt_options.specs.declared.indexed.Indexed.TheVariants as indexed
 use Rattle.lexopt_declaration.specs.Models.{option_view}
 use Rattle.lexopt_declaration.specs.declared.declaration.Declared.{Declared}
-use Rattle.lexopt_options.specs.declared.said.Told.{Told}
-use Rattle.lexopt_options.specs.Keys.{IsTold}
+use Rattle.lexopt_options.specs.declared.parsed.ByKey.{ByKey}
+use Rattle.lexopt_options.specs.Keys.{IsByKey}
 use Rattle.lexopt_options.specs.Mistakes.{IsMistake}
 
-abbrev pub indexed_view : Indexed → spec.Said
+abbrev pub indexed_view : Indexed → spec.Parsed
 indexed_view (indexed.Option index value) = spec.option index value
 indexed_view (indexed.Several index values) = spec.several index values.items
 indexed_view (indexed.Positional word) = spec.positional word
 
 -- an option with these values
-abbrev pub said_with : ℕ → Values → spec.Said
-said_with index (AtMostOne value) = spec.option index value
-said_with index (All values) = spec.several index values.items
+abbrev pub parsed_with : ℕ → Values → spec.Parsed
+parsed_with index (AtMostOne value) = spec.option index value
+parsed_with index (All values) = spec.several index values.items
 
--- the next item is an option of the declaration, or one positional more that it allows
-pub record ReadsSaid (d : Declaration) (count : ℕ) (u : UnreadLine) (s : spec.Said)
+-- the next item is a declared option, or one more positional that the declaration allows
+pub record ReadsParsed (d : Declaration) (count : ℕ) (u : UnreadLine) (s : spec.Parsed)
     (v : UnreadLine) : Type 0 where
   pub item : Item
   pub reads : ReadsFirst (declared.table d.options) u item v
   pub shorter : bound v < bound u
-  pub said : said_item d.options item ≡ Some s
+  pub parsed : parsed_item d.options item ≡ Some s
   pub line : IsLine u → IsLine v
   pub within : IsWithin count (most d.positionals) → IsWithin (count + counts s) (most d.positionals)
 
--- it is a mistake before the end of the line, and not that a value is not accepted
+-- it is a mistake before the end of the line, and not a value that is not accepted
 abbrev pub IsEarly : stops.Mistake → Type 0
 IsEarly (stops.invalid_value index value) = ⊥
 IsEarly (stops.invalid_argument index word) = ⊥
@@ -57,40 +57,40 @@ IsEarly (stops.missing_argument count) = ⊥
 IsEarly (stops.missing_option index) = ⊥
 IsEarly mistake = Unit {0}
 
--- whatever was read before, the line cannot be read on at an option, and this is why
+-- whatever was read before, the reading stops at an option with this mistake
 pub record StopsAtOption (d : Declaration) (u : UnreadLine) (mistake : Mistake) : Type 0 where
   pub why : stops.Mistake
   pub told : IsMistake d mistake why
   pub early : IsEarly why
   pub of_option : IsOfOption why
-  pub stops : (l : List spec.Said) → Stops d l u why
+  pub stops : (l : List spec.Parsed) → Stops d l u why
 
--- after `count` positionals the line cannot be read on, and this is why
+-- after `count` positionals the reading stops with this mistake
 pub record StopsBy (d : Declaration) (count : ℕ) (u : UnreadLine) (mistake : Mistake)
     : Type 0 where
   pub why : stops.Mistake
   pub told : IsMistake d mistake why
   pub early : IsEarly why
-  pub stops : (l : List spec.Said) → count ≡ positional_count l → Stops d l u why
+  pub stops : (l : List spec.Parsed) → count ≡ positional_count l → Stops d l u why
 
--- the same, but it may be a value that the option which comes next does not accept
+-- the same, where the mistake may also be a value that the next option does not accept
 pub record StopsByKey (d : Declaration) (count : ℕ) (u : UnreadLine) (mistake : Mistake)
     : Type 0 where
   pub why : stops.Mistake
   pub told : IsMistake d mistake why
   pub of_option : IsOfOption why
-  pub stops : (l : List spec.Said) → IsLine u → count ≡ positional_count l → Stops d l u why
+  pub stops : (l : List spec.Parsed) → IsLine u → count ≡ positional_count l → Stops d l u why
 
--- After `count` positionals, of which there may be `limit`, the line cannot be read on, and this is
--- why. Without a limit it is a mistake of an option, whatever was read before.
+-- After `count` positionals, of which there may be `limit`, the reading stops with this mistake.
+-- Without a limit it is a mistake of an option, whatever was read before.
 pub record StopsWithin (d : Declaration) (limit : Option ℕ) (count : ℕ) (u : UnreadLine)
     (mistake : Mistake) : Type 0 where
   pub why : stops.Mistake
   pub told : IsMistake d mistake why
   pub early : IsEarly why
-  pub stops : (l : List spec.Said) → limit ≡ most d.positionals → count ≡ positional_count l
+  pub stops : (l : List spec.Parsed) → limit ≡ most d.positionals → count ≡ positional_count l
       → Stops d l u why
-  pub of_option : limit ≡ None → IsOfOption why × ((l : List spec.Said) → Stops d l u why)
+  pub of_option : limit ≡ None → IsOfOption why × ((l : List spec.Parsed) → Stops d l u why)
 
 -- after `count` positionals, of which there may be `limit`, this comes next
 abbrev pub ComesNext : Declaration → Option ℕ → ℕ → UnreadLine → Outcome → UnreadLine → Type 0
@@ -107,42 +107,42 @@ ComesNext d limit count u (outcome.Mistake mistake) v = StopsWithin d limit coun
 abbrev pub AllSeen : List declared.Declared → List ℕ → Type 0
 AllSeen options seen = (i : ℕ) → is_required options i ≡ true → has i seen ≡ true
 
--- the option of this index is the first that is required and not among these
+-- the option at this index is the first required one that is not among these
 pub record IsFirstUnseen (options : List declared.Declared) (seen : List ℕ) (index : ℕ)
     : Type 0 where
   pub here : is_required options index ≡ true
   pub absent : has index seen ≡ false
   pub first : (i : ℕ) → i < index → is_required options i ≡ true → has i seen ≡ true
 
--- these indices are those of the required options that occur in a list
-abbrev pub AreSeen : List declared.Declared → List spec.Said → List ℕ → Type 0
+-- a required option is among these indices if and only if it occurs in the list
+abbrev pub AreSeen : List declared.Declared → List spec.Parsed → List ℕ → Type 0
 AreSeen options l seen = (i : ℕ) → is_required options i ≡ true → has i seen ≡ occurs i l
 
--- the option of this index is noted if it is required
+-- these indices, and then this one if its option is required
 abbrev pub noted : Bool → ℕ → List ℕ → List ℕ
 noted true index seen = seen ++ index ∷ []
 noted false index seen = seen
 
 -- ---- what one option is
 
--- the option is read with its values, or it is a mistake that it has none
+-- the option is read with its values, or it is the mistake that it has none
 abbrev pub IsRead : Declaration → ℕ → UnreadLine → Result Indexed Mistake → UnreadLine → Type 0
-IsRead d count u (Ok said) v =
-    ReadsSaid d count u (indexed_view said) v × (counts (indexed_view said) ≡ 0)
+IsRead d count u (Ok parsed) v =
+    ReadsParsed d count u (indexed_view parsed) v × (counts (indexed_view parsed) ≡ 0)
 IsRead d count u (Err mistake) v = StopsBy d count u mistake
 
--- the same of the option of this index, by its key; or it is a mistake that it does not accept a
+-- the same for the option at this index, by its key; or it is the mistake that it does not accept a
 -- value
 abbrev pub IsReadByKey : {F V P M S : Type 0} → Declaration → List (Declared F V M S) → ℕ → ℕ
-    → UnreadLine → Result (Told F V P M S) Mistake → UnreadLine → Type 0
-IsReadByKey d options index count u (Ok told) v = (s : spec.Said) × ReadsSaid d count u s v
-    × IsTold options s told × (counts s ≡ 0) × IsOption index s
+    → UnreadLine → Result (ByKey F V P M S) Mistake → UnreadLine → Type 0
+IsReadByKey d options index count u (Ok told) v = (s : spec.Parsed) × ReadsParsed d count u s v
+    × IsByKey options s told × (counts s ≡ 0) × IsOption index s
     × (refused_value d.options s ≡ None)
 IsReadByKey d options index count u (Err mistake) v = StopsByKey d count u mistake
 
 -- ---- the values that an option accepts
 
--- wherever this option is declared, this is the mistake that it does not accept a value
+-- wherever this option is declared, this is the mistake that it does not accept the value
 abbrev pub IsInvalidValue : {F V M S : Type 0} → Declared F V M S → List ℕ → Mistake → Type 0
 IsInvalidValue option value mistake = (d : Declaration) (i : ℕ)
     → slice_get d.options i ≡ Some (option_view option)

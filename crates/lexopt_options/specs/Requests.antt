@@ -8,18 +8,18 @@ use Rattle.lexopt_options.specs.declared.request.Request.{Request}
 use Rattle.lexopt_options.specs.declared.request.Request.TheVariants.{Line, Completion, Script}
 use Rattle.lexopt_options.specs.declared.request.Request.TheVariants.{Unknown}
 
--- the last of these words is typed, after those before it; or there is no word, and nothing is typed
+-- the last of these words is typed, after the others; without words nothing is typed after none
 abbrev pub IsTyped : List (List ℕ) → List (List ℕ) → List ℕ → Type 0
 IsTyped words before typed = (words ≡ before ++ typed ∷ [])
     ⊎ ((words ≡ []) × (before ≡ []) × (typed ≡ []))
 
--- this asks what can come where the last of these words is typed
+-- the request asks what can come where the last of these words is typed
 abbrev pub IsCompletionRequest : List (List ℕ) → Request → Type 0
 IsCompletionRequest words (Completion before typed) = IsTyped words before.items typed
 IsCompletionRequest words request = ⊥
 
--- what is asked for, where the variable by which shells ask has this value, or is not set, and the
--- program was called with these words
+-- the request by the value of the variable by which shells ask, if it is set, and by the words of
+-- the command line
 abbrev pub IsRequest : Option (List ℕ) → List (List ℕ) → Request → Type 0
 IsRequest value words (Line own) = ((value ≡ None) ⊎ (value ≡ Some [])) × (own.items ≡ words)
 IsRequest value words (Completion before typed) =

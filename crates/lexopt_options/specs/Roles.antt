@@ -10,7 +10,7 @@ use Rattle.lexopt_options.specs.declared.complete.Place.TheVariants as place
 use Rattle.lexopt_options.specs.declared.complete.Role.{Role}
 use Rattle.lexopt_options.specs.declared.complete.Role.TheVariants as role
 
--- it is the role by the option of the index
+-- it is the same role, with the option instead of its index
 abbrev pub IsRole : {F V M S : Type 0} → List (Declared F V M S) → spec.Role → Role F V M S
     → Type 0
 IsRole options (spec.value i) (role.Value option) = slice_get options i ≡ Some option.now
@@ -23,7 +23,7 @@ IsRoleAt options None None = Unit {0}
 IsRoleAt options (Some r) (Some found) = IsRole options r found
 IsRoleAt options r found = ⊥
 
--- the option of this index, and what comes before its value in a word; or neither
+-- the option at this index, and what comes before its value in a word; or neither
 abbrev pub IsJoinedAt : {F V M S : Type 0} → List (Declared F V M S) → Option spec.Joined
     → Option (Joined F V M S) → Type 0
 IsJoinedAt options None None = Unit {0}
@@ -40,12 +40,12 @@ abbrev pub place_view : Place → spec.Role
 place_view (place.Value index) = spec.value index
 place_view (place.Argument count) = spec.argument (count - 1)
 
--- there is an option of the index, if it has one, where this is the number of options
+-- if it is a value, its index is that of one of `count` options
 abbrev pub IsDeclared : ℕ → spec.Role → Type 0
 IsDeclared count (spec.value i) = i < count
 IsDeclared count (spec.argument n) = Unit {0}
 
--- there is a positional, if it is to be one of them
+-- if it is a positional, it is counted from 1
 abbrev pub IsCounted : Option Place → Type 0
 IsCounted (Some (place.Argument count)) = 1 ≤ count
 IsCounted other = Unit {0}

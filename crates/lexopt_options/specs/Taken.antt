@@ -20,22 +20,22 @@ is_list words = false
 abbrev pub has_list : {P : Type 0} → Positional P → Bool
 has_list p = is_list p.words
 
--- wherever these are declared, this is the mistake that the positional of this index does not accept
--- this word
+-- wherever these positionals are declared, this is the mistake that the one at this index does not
+-- accept the word
 abbrev pub IsInvalid : {P : Type 0} → List (Positional P) → ℕ → List ℕ → Mistake → Type 0
 IsInvalid positionals index word mistake = (d : Declaration)
     → d.positionals ≡ map positional_view positionals
     → IsMistake d mistake (stops.invalid_argument index word)
 
--- the positional accepts this word; or this is, wherever it is declared, the mistake that it does
--- not
+-- the positional accepts the word; otherwise, wherever it is declared, this is the mistake that it
+-- does not
 abbrev pub IsRefusal : {P : Type 0} → Positional P → List ℕ → Option Mistake → Type 0
 IsRefusal p word found = MatchOption found (accepts (words_view p.words) word ≡ true)
     (λ mistake. (accepts (words_view p.words) word ≡ false)
     × ((d : Declaration) (i : ℕ) → slice_get d.positionals i ≡ Some (positional_view p)
     → IsMistake d mistake (stops.invalid_argument i word)))
 
--- the same of the positional of this index
+-- the same for the positional at this index
 abbrev pub IsRefusalAt : {P : Type 0} → List (Positional P) → ℕ → List ℕ → Option Mistake → Type 0
 IsRefusalAt positionals index word found = MatchOption found
     (takes_at (map positional_view positionals) index word ≡ true)

@@ -1,4 +1,4 @@
--- Mistakes that a program finds itself, and what is printed of them. The source is
+-- Mistakes that a program itself finds, and the messages about them. The source is
 -- `docs/formats.md`.
 use Rattle.std.specs.Prelude.{◌≡◌, ℕ, Bool, false, List, [], ◌++◌, Option, Some, None, codes}
 use Rattle.std.specs.Prelude.{IsUtf8, Result, Ok, Err, position, string_bytes}
@@ -21,7 +21,7 @@ use Rattle.lexopt_options.specs.declared.usage.Report.{Report}
 use Rattle.lexopt_options.specs.declared.usage.UsageError.{UsageError}
 use Rattle.lexopt_options.specs.declared.usage.UsageError.TheVariants as usage
 
--- for which option, if it is a value of one
+-- which option the value is for, if one is named
 abbrev pub for_option : Option Names → List ℕ
 for_option None = []
 for_option (Some names) = codes " for '" ++ (names_text names ++ codes "'")
@@ -35,13 +35,13 @@ what_message (ParsingFailed value cause) = value_message (string_bytes value)
 what_message (NonUnicodeValue value) = value_message value
 what_message error = codes "invalid value"
 
--- why
+-- the reason
 abbrev pub why_message : Error → List ℕ
 why_message (ParsingFailed value cause) = codes ": " ++ error_message cause
 why_message (NonUnicodeValue value) = codes ": not UTF-8"
 why_message error = codes ": " ++ words.message error
 
--- that memory ran out, or what is invalid, for which option, and why
+-- that memory ran out; or what is invalid, for which option, and the reason
 abbrev pub invalid_message : Option Names → Error → List ℕ
 invalid_message option OutOfMemory = no_memory_message
 invalid_message option error = what_message error ++ (for_option option ++ why_message error)
@@ -52,7 +52,7 @@ usage_message (usage.Text text) = text.now
 usage_message (usage.Formatted text) = string_bytes text
 usage_message usage.OutOfMemory = no_memory_message
 
--- where help is, unless memory ran out
+-- where the help is, unless memory ran out
 abbrev pub report_help : List ℕ → Option Names → UsageError → List ℕ
 report_help program help usage.OutOfMemory = []
 report_help program help error = help_line program help
@@ -61,14 +61,14 @@ abbrev pub report_text : Report → List ℕ
 report_text r = r.program.now
     ++ (codes ": " ++ (usage_message r.error ++ report_help r.program.now r.help r.error))
 
--- the status of a usage error, or 1 if memory ran out
+-- the exit status: 1 if memory ran out, otherwise that of a usage error
 abbrev pub report_status : UsageError → ℕ
 report_status usage.OutOfMemory = 1
 report_status error = 2
 
 -- ---- a value that is converted
 
--- it could not be converted, or memory ran out
+-- a value could not be converted, or memory ran out
 abbrev pub invalid : Option Names → Error → UsageError
 invalid option OutOfMemory = usage.OutOfMemory
 invalid option error = usage.Invalid option error
@@ -78,7 +78,7 @@ abbrev pub named : {T : Type 0} → Option Names → Result T Error → Result T
 named option (Ok value) = Ok value
 named option (Err error) = Err (invalid option error)
 
--- what the word denotes, by the `FromStr` of the type; or the error, which names the option
+-- what the type's `FromStr` makes of the word; or the error, which names the option
 pub record ConvertsFor {T E : Type 0} (option : Option Names)
     (gives : List ℕ → Result T E → Type 0) (converts : E → Cause → Type 0) (word : List ℕ)
     (result : Result T UsageError) : Type 0 where

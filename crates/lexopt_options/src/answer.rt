@@ -1,5 +1,5 @@
-//! What a program does about the words that it was called with: its work, or it writes a text, or
-//! it refuses them.
+//! What a program has to do about its command line or about the request of a shell: do its own
+//! work, print a text, or refuse the line.
 ghost use Rattle.std.specs.Prelude.{◌≡◌, ◌++◌, ℕ, IfOk, List, OnOk, Option, string_bytes};
 ghost use Rattle.std.specs.List.{flat_map, list_any};
 ghost use Rattle.std.specs.Str.{chars};
@@ -13,9 +13,9 @@ ghost use Rattle.lexopt_options.specs.Requests.{IsRequest};
 use crate::complete::{Completion, Joined, Role};
 use crate::mistake::Mistake;
 use crate::options::Options;
+use crate::parsed::{Asked, Parsed};
 use crate::refused::{Line, Refused};
 use crate::request::Request;
-use crate::said::{Asked, Said};
 use lexopt_declaration::declaration::{Positional, Words};
 use lexopt_declaration::help::WIDTH;
 use lexopt_declaration::shell::{Script, Shell, variable};
@@ -26,18 +26,19 @@ use std::convert::Infallible;
 use std::env::{Env, FillError};
 use std::str;
 
-/// What a program is to do.
+/// What a program has to do about a line or a request.
 #[derive(Debug, Drop)]
 pub enum Answer<'a, F, V = Infallible, P = Infallible, M = Infallible, S = Infallible> {
-    /// Do its work, by what was read from the line.
-    Said(Vec<Said<F, V, P, M, S>>),
-    /// Write this to standard output, and end: the help, the version, or what a shell asked for.
+    /// Do the program's own work. This is what the line means, in order.
+    Parsed(Vec<Parsed<F, V, P, M, S>>),
+    /// Print this to standard output, and exit: the help, the version, or what a shell asked for.
     Text(String),
-    /// Write this to standard error, and end with the status [`USAGE_ERROR`](crate::USAGE_ERROR).
+    /// Print this to standard error, and exit with the status [`USAGE_ERROR`](crate::USAGE_ERROR).
     Refused(Refused<'a, F, V, P, M, S>),
 }
 
-// The line for a shell by what completes a value of an option: names of files, or of directories.
+// The line that tells a shell which names complete a value of an option: of files, of directories,
+// or none.
 fn names_line(words: Words<'_>) -> &'static str
     ensures { result.now ≡ names_line words.entry }
 {
@@ -48,7 +49,7 @@ fn names_line(words: Words<'_>) -> &'static str
     }
 }
 
-// Whether the words of the positional argument of this index are completed by the names of files.
+// Whether the words of the positional at this index are completed by the names of files.
 fn is_of_files<P>(positionals: &[Positional<'_, P>], index: usize) -> bool
     ensures { result ≡ are_at are_files positionals.now index }
 {
@@ -58,7 +59,7 @@ fn is_of_files<P>(positionals: &[Positional<'_, P>], index: usize) -> bool
     }
 }
 
-// And whether by the names of directories.
+// Whether the words of the positional at this index are completed by the names of directories.
 fn is_of_directories<P>(positionals: &[Positional<'_, P>], index: usize) -> bool
     ensures { result ≡ are_at are_directories positionals.now index }
 {
@@ -68,8 +69,7 @@ fn is_of_directories<P>(positionals: &[Positional<'_, P>], index: usize) -> bool
     }
 }
 
-// Whether the words of one of the positional arguments of these indices are completed by the names
-// of files.
+// Whether the words of a positional at one of these indices are completed by the names of files.
 fn any_of_files<P>(positionals: &[Positional<'_, P>], arguments: &[usize]) -> bool
     ensures { result ≡ list_any (λ i. are_at are_files positionals.now i) arguments.now }
 {
@@ -78,7 +78,8 @@ fn any_of_files<P>(positionals: &[Positional<'_, P>], arguments: &[usize]) -> bo
         .any(|index| is_of_files(positionals, *index))
 }
 
-// And whether by the names of directories.
+// Whether the words of a positional at one of these indices are completed by the names of
+// directories.
 fn any_of_directories<P>(positionals: &[Positional<'_, P>], arguments: &[usize]) -> bool
     ensures { result ≡ list_any (λ i. are_at are_directories positionals.now i) arguments.now }
 {
@@ -87,7 +88,8 @@ fn any_of_directories<P>(positionals: &[Positional<'_, P>], arguments: &[usize])
         .any(|index| is_of_directories(positionals, *index))
 }
 
-// The line by what completes a word that can belong to the positional arguments of these indices.
+// The line that tells a shell which names complete a word that can belong to the positionals at
+// these indices.
 fn arguments_line<P>(positionals: &[Positional<'_, P>], arguments: &[usize]) -> &'static str
     ensures { result.now ≡ arguments_line positionals.now arguments.now }
 {
@@ -100,7 +102,7 @@ fn arguments_line<P>(positionals: &[Positional<'_, P>], arguments: &[usize]) -> 
     }
 }
 
-// The line by what completes a word that is not an option.
+// The line that tells a shell which names complete a word that is not an option.
 fn word_line<F, V, P, M, S>(
     positionals: &[Positional<'_, P>],
     word: &Option<Role<'_, F, V, M, S>>,
@@ -115,7 +117,8 @@ fn word_line<F, V, P, M, S>(
     }
 }
 
-// Adds a character of a help text: a blank for a control character of ASCII, so that it is one line.
+// Adds a character of a help text; a blank for a control character of ASCII, so that the text stays
+// on one line.
 fn push_on_one_line(text: &mut String, character: char) -> Result<(), AllocError>
     ensures { OnOk result
         (string_bytes text.new ≡ string_bytes text.old ++ on_one_line character) }
@@ -126,7 +129,11 @@ fn push_on_one_line(text: &mut String, character: char) -> Result<(), AllocError
     }
 }
 
-/// Adds a help text on one line.
+/// Adds a help text to `text`, on one line: with a blank for each control character of ASCII.
+///
+/// # Errors
+///
+/// Returns `AllocError` if an allocation fails.
 pub fn push_help(text: &mut String, help: &str) -> Result<(), AllocError>
     ensures { OnOk result (string_bytes text.new
         ≡ string_bytes text.old ++ flat_map on_one_line (chars help.now)) }
@@ -137,7 +144,7 @@ pub fn push_help(text: &mut String, help: &str) -> Result<(), AllocError>
     Ok(())
 }
 
-// Adds a line for a spelling: it, a tab, and what the help tells.
+// Adds a line for a spelling: the spelling, a tab, and the help text of its option.
 fn push_spelling(text: &mut String, spelling: &Spelling<'_>) -> Result<(), AllocError>
     ensures { OnOk result (string_bytes text.new
         ≡ string_bytes text.old ++ spelling_line (spelling_view spelling.now)) }
@@ -159,7 +166,7 @@ fn push_spellings(text: &mut String, spellings: &[Spelling<'_>]) -> Result<(), A
     Ok(())
 }
 
-// Adds a line for each of these spellings, if anything was typed.
+// Adds a line for each of these spellings, unless nothing was typed.
 fn push_typed(
     text: &mut String,
     typed: &OsString,
@@ -174,7 +181,8 @@ fn push_typed(
     push_spellings(text, spellings)
 }
 
-// Adds the line by what completes a value that comes after this in a word.
+// Adds the line that tells a shell which names complete a value, and what comes before the value in
+// its word.
 fn push_names(text: &mut String, words: Words<'_>, before: &str) -> Result<(), AllocError>
     ensures { OnOk result (string_bytes text.new
         ≡ string_bytes text.old ++ value_line words.entry before.now) }
@@ -188,7 +196,7 @@ fn push_names(text: &mut String, words: Words<'_>, before: &str) -> Result<(), A
     text.push('\n')
 }
 
-// Adds the line by the option whose value is typed in the word.
+// Adds the line for the option whose value is typed in the word, if there is one.
 fn push_joined<F, V, M, S>(
     text: &mut String,
     joined: &Option<Joined<'_, F, V, M, S>>,
@@ -201,7 +209,7 @@ fn push_joined<F, V, M, S>(
     }
 }
 
-// Adds a line for a value in a list: after `+`, unless it begins with a dash.
+// Adds a line for a value in a list, after `+` unless it begins with a dash.
 fn push_value(text: &mut String, value: &str) -> Result<(), AllocError>
     ensures { OnOk result
         (string_bytes text.new ≡ string_bytes text.old ++ listed_line value.now) }
@@ -224,7 +232,7 @@ fn push_values(text: &mut String, values: &[String]) -> Result<(), AllocError>
     Ok(())
 }
 
-// What is offered, as the scripts for shells read it.
+// What is offered, in the form that the scripts for shells read.
 fn text_of<F, V, P, M, S>(
     alloc: Global,
     positionals: &[Positional<'_, P>],
@@ -242,7 +250,8 @@ fn text_of<F, V, P, M, S>(
     Ok(text)
 }
 
-// The width that a text denotes: its number if it is one and not 0, and 80 otherwise.
+// The width that a text denotes: its number, if it is a decimal number that fits and is not 0;
+// otherwise 80.
 fn width_of(text: &[u8]) -> usize
     ensures { IsWidth text.now result }
 {
@@ -255,12 +264,14 @@ fn width_of(text: &[u8]) -> usize
     }
 }
 
-// How many bytes a number of columns has at most.
+// The most bytes of `COLUMNS` that are read. A 64-bit number has at most that many digits.
 const NUMBER_ROOM: usize = 20;
 
-/// The width of the help for a program that runs in this environment: the number in the variable
-/// `COLUMNS`, if it is one and not 0, and [`WIDTH`](crate::WIDTH) otherwise. No clause can tell what
-/// is in the environment.
+/// Returns the width of the terminal in columns, by the environment variable `COLUMNS`.
+///
+/// That is the decimal number in the variable, if it is above 0 and fits into 64 bits. If there is
+/// no such number, or the variable has more than 20 bytes, it is [`WIDTH`](crate::WIDTH). No clause
+/// can state what is in the environment.
 pub fn columns<R: Env>(rt: &R) -> usize {
     let mut room = [0u8; NUMBER_ROOM];
     match rt.var("COLUMNS", &mut room) {
@@ -269,10 +280,14 @@ pub fn columns<R: Env>(rt: &R) -> usize {
     }
 }
 
-// How many bytes of the variable by which a shell asks are read: more than any request has.
+// The most bytes that are read of the variable by which a shell asks. Every request is shorter.
 const REQUEST_ROOM: usize = 16;
 
-/// What is asked for by the variable of this name and these words.
+/// Returns the request that [`Request::new`] makes of the environment variable `name` and these
+/// words.
+///
+/// A value of more than 16 bytes is [`Request::Unknown`]. No clause can state what is in the
+/// environment, so this one is about some value.
 pub fn request_from<R: Env>(rt: &R, alloc: Global, name: &str, words: Vec<OsString>) -> Request
     ensures { (value : Option (List ℕ)) × IsRequest value words.items result }
 {
@@ -280,7 +295,7 @@ pub fn request_from<R: Env>(rt: &R, alloc: Global, name: &str, words: Vec<OsStri
     match rt.var(name, &mut room) {
         Ok(count) => Request::new(alloc, Some(&room[..count]), words),
         Err(FillError::NotPresent) => Request::new(alloc, None, words),
-        // Longer than any request.
+        // The value is longer than any request.
         Err(FillError::TooLong) => Request::new(alloc, Some(b"?"), words),
     }
 }
@@ -291,22 +306,35 @@ impl<F, V, P, M, S> Options<'_, F, V, P, M, S> {
     ghost use Rattle.lexopt_options.specs.Declarations.{declaration_of};
     ghost use Rattle.lexopt_options.specs.Keys.{asked_view};
 
-    /// What the scripts for shells read: what can come where this was typed after these words, the
-    /// name of the program not among them.
+    /// Returns what can come where `typed` is typed after `words`, as the scripts for shells read
+    /// it.
     ///
-    /// - Unless nothing was typed, a line for each spelling that can come there: it, a tab, and what
-    ///   the help tells of its option, with a blank for each control character of ASCII.
-    /// - A line for each value in a list that can come there, after `+` unless it begins with a
-    ///   dash. No value in a list begins with one; an option with its value does.
-    /// - If a word that is not an option can come there: a line by its [`Words`], those of the option
-    ///   that it is a value of or of the positional arguments that it can belong to: `files`,
-    ///   `directories` or none.
-    /// - If the value of an option is typed in the word itself: a line by the [`Words`] of that
-    ///   option, `files` or `directories`, a tab, and what comes before the value; or none.
+    /// The words are without the name of the program. The text has these lines, in this order:
+    ///
+    /// - Unless nothing was typed, one for each spelling that can come: the spelling, a tab, and
+    ///   the help text of its option, with a blank for each control character of ASCII.
+    /// - One for each value in a list that can come, after `+` unless it begins with a dash. No
+    ///   value in a list begins with a dash; an option with its value does.
+    /// - If a word that is not an option can come: one line by the [`Words`] of the option that it
+    ///   is a value of, or of the positionals that it can belong to: `files`, `directories`, or no
+    ///   line.
+    /// - If the value of an option is typed in the word itself: one line by the [`Words`] of that
+    ///   option: `files` or `directories`, a tab, and what comes before the value; or no line.
     ///
     /// # Errors
     ///
-    /// There is no memory for the text.
+    /// Returns `AllocError` if an allocation fails.
+    ///
+    /// # Examples
+    ///
+    /// With the declaration of [`declare!`](crate::declare), if `--o` was typed, and no word before
+    /// it:
+    ///
+    /// ```rust
+    /// let typed = OsString::from_text(alloc, "--o")?;
+    /// let text = options.completion_text(alloc, &[], &typed)?;
+    /// // "--output\tthe archive\n"
+    /// ```
     pub fn completion_text(
         &self,
         alloc: Global,
@@ -320,12 +348,20 @@ impl<F, V, P, M, S> Options<'_, F, V, P, M, S> {
         text_of(alloc, self.positionals(), typed, &completion)
     }
 
-    /// The script by which this shell completes the lines of the program, with a line feed at its
-    /// end.
+    /// Returns the script by which this shell completes the lines of the program, with a line feed
+    /// at its end.
+    ///
+    /// [`Script`] describes the script, and which names of programs it works for.
     ///
     /// # Errors
     ///
-    /// There is no memory for the text.
+    /// Returns `AllocError` if an allocation fails.
+    ///
+    /// # Examples
+    ///
+    /// ```rust
+    /// rt.print(options.script(alloc, Shell::Bash)?)?;
+    /// ```
     pub fn script(&self, alloc: Global, shell: Shell) -> Result<String, AllocError>
         ensures { IfOk result (λ text. string_bytes text ≡ script_lines self.now shell) }
     {
@@ -339,7 +375,7 @@ impl<F, V, P, M, S> Options<'_, F, V, P, M, S> {
         format!(in alloc; "{script}\n")
     }
 
-    // The text that is asked for, and a line feed after the version.
+    // The text for this request: the help, or the version and a line feed.
     fn asked_text(
         &self,
         alloc: Global,
@@ -361,11 +397,11 @@ impl<'a, F, V, P, M, S> Options<'a, F, V, P, M, S> {
     ghost use Rattle.std.specs.Prelude.{IfOk};
     ghost use Rattle.lexopt_options.specs.Answers.{IsUnknownRequest};
 
-    /// What is returned where a shell asks for something that is not known.
+    /// Returns the refusal of an unknown request of a shell. Its mistake names the variable.
     ///
     /// # Errors
     ///
-    /// Memory ran out.
+    /// Returns `AllocError` if an allocation fails.
     pub fn unknown_request(&self, alloc: Global) -> Result<Refused<'a, F, V, P, M, S>, AllocError>
         ensures { IfOk result (λ refused. IsUnknownRequest self.now refused) }
     {
@@ -386,16 +422,31 @@ impl<'a, F: Copy, V: Copy, P: Copy, M: Copy, S: Copy> Options<'a, F, V, P, M, S>
     ghost use Rattle.lexopt_options.specs.Requests.{IsRequest};
     ghost use Rattle.lexopt_options.specs.declared.request.Request.{Request};
 
-    /// What the program is to do about the words that it was called with, without its name.
+    /// Reads the words of a command line, and returns what the program has to do.
     ///
-    /// If an option that asks for the help or the version occurs before any mistake, the result is
-    /// the help for this width, or the text of the version and a line feed. The first of them
-    /// counts. Otherwise it is what [`Options::read`] returns of the words. No word is reserved for
-    /// shells: these ask by a variable of the environment ([`Options::from_env`]).
+    /// The words are without the name of the program. This call consumes them. If an option that
+    /// asks for the help or the version occurs before any mistake, the first such option counts:
+    /// the result is the help, wrapped to `width` columns, or the text of the version and a line
+    /// feed. Otherwise it is what [`Options::read`] returns. No word is reserved for shells, which
+    /// ask by an environment variable ([`Options::from_env`]).
     ///
     /// # Errors
     ///
-    /// Memory ran out.
+    /// Returns `AllocError` if an allocation fails.
+    ///
+    /// # Examples
+    ///
+    /// ```rust
+    /// match options.answer(alloc, words, WIDTH)? {
+    ///     Answer::Parsed(line) => work(rt, line),
+    ///     Answer::Text(text) => rt.print(text),
+    ///     Answer::Refused(refused) => refuse(rt, &refused),
+    /// }
+    /// ```
+    ///
+    /// With the declaration of [`declare!`](crate::declare), the words `-o out.zip a` are
+    /// [`Answer::Parsed`], `-v --help --bogus` is [`Answer::Text`], and `--bogus --help` is
+    /// [`Answer::Refused`].
     pub fn answer(
         &self,
         alloc: Global,
@@ -405,19 +456,35 @@ impl<'a, F: Copy, V: Copy, P: Copy, M: Copy, S: Copy> Options<'a, F, V, P, M, S>
         ensures { IfOk result (λ answer. IsAnswer self.now words.items width answer) }
     {
         match self.read(alloc, words)? {
-            Line::Said(said) => Ok(Answer::Said(said)),
+            Line::Parsed(parsed) => Ok(Answer::Parsed(parsed)),
             Line::Asked(asked) => Ok(Answer::Text(self.asked_text(alloc, asked, width)?)),
             Line::Refused(refused) => Ok(Answer::Refused(refused)),
         }
     }
 
-    /// What the program is to do about a request: about a line as [`Options::answer`], and for a
-    /// shell it writes [`Options::completion_text`] or [`Options::script`]. A request that is not
-    /// known is refused.
+    /// Returns what the program has to do about a request.
+    ///
+    /// - [`Request::Line`]: what [`Options::answer`] returns.
+    /// - [`Request::Completion`]: print [`Options::completion_text`].
+    /// - [`Request::Script`]: print [`Options::script`].
+    /// - [`Request::Unknown`]: refuse it, by [`Options::unknown_request`].
+    ///
+    /// This call consumes the request. A program with commands calls this for the request that a
+    /// command gets.
     ///
     /// # Errors
     ///
-    /// Memory ran out.
+    /// Returns `AllocError` if an allocation fails.
+    ///
+    /// # Examples
+    ///
+    /// ```rust
+    /// match options.answer_request(alloc, request, WIDTH)? {
+    ///     Answer::Parsed(line) => work(rt, line),
+    ///     Answer::Text(text) => rt.print(text),
+    ///     Answer::Refused(refused) => refuse(rt, &refused),
+    /// }
+    /// ```
     pub fn answer_request(
         &self,
         alloc: Global,
@@ -436,27 +503,48 @@ impl<'a, F: Copy, V: Copy, P: Copy, M: Copy, S: Copy> Options<'a, F, V, P, M, S>
         }
     }
 
-    /// What the program is to do about the words that it was called with, or about what a shell asks
-    /// by the environment.
+    /// Reads the program's own command line, or the request of a shell in the environment, and
+    /// returns what the program has to do.
     ///
-    /// A shell asks by the variable that [`variable`] names, `_EXAMPLE_ARCHIVE_COMPLETE` for
-    /// `example_archive`: for the script by the value `bash_source`, `zsh_source` or `fish_source`,
-    /// and for what can come by `bash_complete`, `zsh_complete` or `fish_complete`. Then the words
-    /// are those before the one that is typed, and the last is what was typed of it. Any other
-    /// value, unless it is empty, is refused.
+    /// The first word is taken for the name that the program was called by, and is not read. The
+    /// width of the help is [`columns`]. A shell asks by the environment variable that [`variable`]
+    /// names, such as `_EXAMPLE_ARCHIVE_COMPLETE` for `example_archive`, with the values of
+    /// Python's click:
+    ///
+    /// - `bash_source`, `zsh_source` and `fish_source` ask for the script of that shell.
+    /// - `bash_complete`, `zsh_complete` and `fish_complete` ask what can come. Then the last word
+    ///   is what was typed, and those before it are the words before that.
+    /// - Any other value is refused, unless it is empty.
+    ///
+    /// The clause is about some words, some value and some width. No clause can state that they are
+    /// those of the environment.
+    ///
+    /// # Errors
+    ///
+    /// Returns `AllocError` if an allocation fails.
+    ///
+    /// # Examples
+    ///
+    /// ```rust
+    /// match Options::new(&DECLARATION).from_env(rt)? {
+    ///     Answer::Parsed(line) => {
+    ///         for parsed in &line {
+    ///             print_parsed(rt, parsed)?;
+    ///         }
+    ///     }
+    ///     Answer::Text(text) => rt.print(text)?,
+    ///     Answer::Refused(refused) => {
+    ///         let _ = eprintln!(rt; "{refused}");
+    ///         return Ok(ExitCode::from(USAGE_ERROR));
+    ///     }
+    /// }
+    /// ```
+    ///
+    /// In bash this line completes the program's words:
     ///
     /// ```text
     /// source <(_EXAMPLE_ARCHIVE_COMPLETE=bash_source example_archive)
     /// ```
-    ///
-    /// The width of the help is the number in the environment variable `COLUMNS`, if it is one and
-    /// not 0, and [`WIDTH`](crate::WIDTH) otherwise. The first word is taken for the name that the
-    /// program was called by. The clause tells of some words, some value and some width: that they
-    /// are those of the environment no clause can tell.
-    ///
-    /// # Errors
-    ///
-    /// Memory ran out.
     pub fn from_env<R: Env + AllocGlobal>(
         &self,
         rt: &R,

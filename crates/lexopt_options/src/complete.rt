@@ -1,4 +1,4 @@
-//! What can come where a word is typed, for shells.
+//! What can come where a word is typed, for the completion of shells.
 ghost use Rattle.std.specs.Prelude.{◌≡◌, ◌↔◌, ◌∷◌, ◌++◌, ℕ, IfOk, IsTrue, List, MatchOption, OnOk, []};
 ghost use Rattle.std.specs.Prelude.{◌<◌, None, Some, filter, length, nat_eq, map, option_map, slice_get, string_bytes, true};
 ghost use Rattle.lexopt_spec.specs.UnreadLine.{BeginsWith, dash};
@@ -17,7 +17,7 @@ ghost use Rattle.lexopt_options.specs.Declarations.{declaration_of};
 ghost use Rattle.lexopt_options.specs.Fronts.{IsPart};
 ghost use Rattle.lexopt_options.specs.Reading.{indexed_view};
 ghost use Rattle.lexopt_options.specs.declared.indexed.Indexed.{Indexed};
-ghost use Rattle.lexopt_options_spec.specs.Legal.{SaysFront};
+ghost use Rattle.lexopt_options_spec.specs.Legal.{MeansFront};
 ghost use Rattle.std.specs.Str.{IsUtf8};
 ghost use Rattle.lexopt_options.specs.Roles.{IsCounted, IsDeclared, IsRole, joined_view};
 ghost use Rattle.lexopt_options.specs.Roles.{place_view};
@@ -34,16 +34,16 @@ use std::alloc::{AllocError, Global};
 use std::convert::Infallible;
 use std::str;
 
-/// What a word that is not an option would be.
+/// What a typed word is, if it is not an option.
 #[derive(Debug, Clone, Copy)]
 pub enum Role<'a, F, V = Infallible, M = Infallible, S = Infallible> {
     /// A value of this option.
     Value(&'a Declared<'a, F, V, M, S>),
-    /// A positional argument.
+    /// A positional.
     Argument,
 }
 
-/// An option with its value in one word: `--output=file`, `-ofile`.
+/// An option whose value is typed in the same word: `--output=file`, `-ofile`.
 #[derive(Debug, Drop)]
 pub struct Joined<'a, F, V = Infallible, M = Infallible, S = Infallible> {
     /// The option.
@@ -55,67 +55,66 @@ pub struct Joined<'a, F, V = Infallible, M = Infallible, S = Infallible> {
 /// What can come where a word is typed.
 #[derive(Debug, Drop)]
 pub struct Completion<'a, F, V = Infallible, M = Infallible, S = Infallible> {
-    /// The spellings of declared options that can come there and begin with what was typed. If
-    /// that is not UTF-8, there are none.
+    /// The spellings of declared options that can come there and begin with what was typed, in the
+    /// order of the declaration. There are none if what was typed is not UTF-8.
     pub spellings: Vec<Spelling<'a>>,
-    /// The values in the list of the option that a word would be a value of; then the words in the
-    /// lists of the positional arguments that it can belong to; and then, where a value is typed in
-    /// the word of its option, the words that have a value of its list there: those that begin with
-    /// what was typed, in the order of the lists.
+    /// Values in lists that begin with what was typed, in the order of the lists: values of the
+    /// option that a word would be a value of; then words of the positionals that it can belong to;
+    /// then, if a value is typed in the word of its option, that word with each value of its list.
     pub values: Vec<String>,
-    /// What a word that is not an option would be there, if anything: as the empty word would be,
-    /// or as the word `--` if a dash was typed first.
+    /// What a word that is not an option would be there, if one can come. It is judged by the empty
+    /// word, or by the word `--` if a dash was typed first.
     pub word: Option<Role<'a, F, V, M, S>>,
-    /// If such a word would be a positional argument: the indices of those of the declaration that
-    /// it can belong to, with some more words after it or with none.
+    /// If that word would be a positional: the indices of the declared positionals that it can
+    /// belong to, whether or not more words come after it.
     pub arguments: Vec<usize>,
-    /// The option whose value is typed in the word itself, if an option can come there: `output` if
+    /// The option whose value is typed in the word itself, where an option can come: `output` if
     /// `--output=` or `-ofi` was typed.
     pub joined: Option<Joined<'a, F, V, M, S>>,
 }
 
-// What a word that is not an option would be, by the index of the option.
+// What a typed word is, if it is not an option. A positional is counted.
 #[derive(Debug, Clone, Copy)]
 enum Place {
-    // A value of the option of this index.
+    // A value of the option at this index.
     Value(usize),
-    // A positional argument: this one of the positional arguments of the line, counted from 1.
+    // A positional: the one of this number in the line, counted from 1.
     Argument(usize),
 }
 
 // ---- where an option can come
 
 // Whether this is not an option of several values.
-fn is_one(said: &Indexed) -> bool
-    ensures { result ≡ is_one said.now }
+fn is_one(parsed: &Indexed) -> bool
+    ensures { result ≡ is_one parsed.now }
 {
-    match said {
+    match parsed {
         Indexed::Option(_, _) | Indexed::Positional(_) => true,
         Indexed::Several(_, _) => false,
     }
 }
 
-// Whether something is read, and the last of it is not an option of several values.
-fn ends_in_one(said: &[Indexed]) -> bool
-    ensures { result ≡ ends_in_one said.now }
+// Whether anything is read, and the last thing is not an option of several values.
+fn ends_in_one(parsed: &[Indexed]) -> bool
+    ensures { result ≡ ends_in_one parsed.now }
 {
-    match said {
+    match parsed {
         [.., last] => is_one(last),
         [] => false,
     }
 }
 
-// Whether as much is read with `--` as with an empty word, and the last that is read with the empty
-// word is not an option of several values: the next word is the value of an option, or a positional
-// argument after the separator, whatever it looks like.
+// Whether the next word is taken whatever it looks like: as a value, or as a positional after the
+// separator. That is so if as much is read with `--` as with an empty word, and the last thing that
+// is read with the empty word is not an option of several values.
 fn take_any_word(dashed: &[Indexed], plain: &[Indexed]) -> bool
     ensures { IsTrue result ↔ TakeAnyWord dashed.now plain.now }
 {
     dashed.len() == plain.len() && ends_in_one(plain)
 }
 
-// Whether an option can come after words from which this is read with `--` after them, and this
-// with an empty word.
+// Whether an option can come after some words. `dashed` is what is read from these words with `--`
+// after them, `plain` with an empty word after them.
 fn is_open(dashed: &Option<Vec<Indexed>>, plain: &Option<Vec<Indexed>>) -> bool
     ensures { (d : Declaration) (words : List (List ℕ))
         → IsPart d (words ++ (dash ∷ dash ∷ []) ∷ []) dashed.now
@@ -130,19 +129,18 @@ fn is_open(dashed: &Option<Vec<Indexed>>, plain: &Option<Vec<Indexed>>) -> bool
     }
 }
 
-// Whether each option accepts the values that it has, and the positional arguments the words, with
-// some more after them.
-fn can_be_legal<F, V, P, M, S>(options: &Options<'_, F, V, P, M, S>, said: &[Indexed]) -> bool
+// Whether, with some more words, each option accepts its values, and the positionals the words.
+fn can_be_legal<F, V, P, M, S>(options: &Options<'_, F, V, P, M, S>, parsed: &[Indexed]) -> bool
     ensures { let d = declaration_of options.now in IsTrue result ↔
-        ((are_accepted d.options (map indexed_view said.now) ≡ true)
-        × CanBeTaken d.positionals (positional_words (map indexed_view said.now))) }
+        ((are_accepted d.options (map indexed_view parsed.now) ≡ true)
+        × CanBeTaken d.positionals (positional_words (map indexed_view parsed.now))) }
 {
-    are_accepted(options.options(), said) && can_be_taken(options.positionals(), said)
+    are_accepted(options.options(), parsed) && can_be_taken(options.positionals(), parsed)
 }
 
-// Whether a declared option can come after words from which this is read with `--` after them: one
-// could, each option accepts the values that it has, and so do the positional arguments the words,
-// with some more after them.
+// Whether a declared option can come after some words: `opens` means that an option can, and with
+// some more words each option has to accept its values, and the positionals the words. `dashed` is
+// what is read from these words with `--` after them.
 fn can_come<F, V, P, M, S>(
     options: &Options<'_, F, V, P, M, S>,
     opens: bool,
@@ -160,41 +158,42 @@ fn can_come<F, V, P, M, S>(
 
 // ---- a word that is not an option
 
-// What the last word is, where all of this is read, and this is the last of it.
-fn place_of(said: &[Indexed], last: &Indexed) -> Place
-    ensures { (before : List Indexed) → said.now ≡ before ++ last.now ∷ []
+// What the last word is. `last`, the last thing of `parsed`, is read from it.
+fn place_of(parsed: &[Indexed], last: &Indexed) -> Place
+    ensures { (before : List Indexed) → parsed.now ≡ before ++ last.now ∷ []
         → IsCounted (Some result)
         × (spec.role_of (map indexed_view before) (indexed_view last.now) ≡ place_view result) }
 {
     match last {
         Indexed::Option(index, _) | Indexed::Several(index, _) => Place::Value(*index),
-        Indexed::Positional(_) => Place::Argument(word_count(said)),
+        Indexed::Positional(_) => Place::Argument(word_count(parsed)),
     }
 }
 
-// The same, if something is read.
-fn last_place(said: &[Indexed]) -> Option<Place>
-    ensures { IsLastPlace said.now result }
+// What the last word is, if anything is read.
+fn last_place(parsed: &[Indexed]) -> Option<Place>
+    ensures { IsLastPlace parsed.now result }
 {
-    match said {
-        [.., last] => Some(place_of(said, last)),
+    match parsed {
+        [.., last] => Some(place_of(parsed, last)),
         [] => None,
     }
 }
 
-// What an empty word would be after words from which this is read with it.
+// What an empty word is after some words. `plain` is what is read from them with it.
 fn plain_place(plain: &Option<Vec<Indexed>>) -> Option<Place>
     ensures counted { IsCounted result }
     ensures role { (d : Declaration) (words : List (List ℕ)) → IsPart d (words ++ [] ∷ []) plain.now
         → IsPlainRole d words (option_map place_view result) }
 {
     match plain {
-        Some(said) => last_place(said),
+        Some(parsed) => last_place(parsed),
         None => None,
     }
 }
 
-// What `--` would be after words from which this is read with it, if it is not the separator.
+// What `--` is after some words, if it is not the separator. `dashed` is what is read from them
+// with it.
 fn dashed_place(opens: bool, dashed: &Option<Vec<Indexed>>) -> Option<Place>
     ensures counted { IsCounted result }
     ensures role { (d : Declaration) (words : List (List ℕ)) → Opens d words opens
@@ -205,7 +204,7 @@ fn dashed_place(opens: bool, dashed: &Option<Vec<Indexed>>) -> Option<Place>
         return None;
     }
     match dashed {
-        Some(said) => last_place(said),
+        Some(parsed) => last_place(parsed),
         None => None,
     }
 }
@@ -217,8 +216,8 @@ fn begins_with_dash(typed: &OsString) -> bool
     typed.as_bytes().first() == Some(&b'-')
 }
 
-// What a word that is not an option and begins so would be after words from which this is read with
-// `--` after them, and this with an empty word.
+// What a word is that begins with `typed` and is not an option, after some words. `dashed` is what
+// is read from these words with `--` after them, `plain` with an empty word after them.
 fn place_after(
     typed: &OsString,
     opens: bool,
@@ -249,13 +248,13 @@ fn one_word(alloc: Global, word: &OsString) -> Result<Vec<OsString>, AllocError>
     Ok(words)
 }
 
-// The index of an option and its first value, if this is an option that has one.
-fn value_of(said: &Indexed) -> Option<(usize, &OsString)>
-    ensures { MatchOption result (spec.value_of (indexed_view said.now) ≡ None)
-        (λ found. IsOption found.0 (indexed_view said.now)
-        × (spec.value_of (indexed_view said.now) ≡ Some found.1.now)) }
+// The index of an option and its first value, if this is an option that has a value.
+fn value_of(parsed: &Indexed) -> Option<(usize, &OsString)>
+    ensures { MatchOption result (spec.value_of (indexed_view parsed.now) ≡ None)
+        (λ found. IsOption found.0 (indexed_view parsed.now)
+        × (spec.value_of (indexed_view parsed.now) ≡ Some found.1.now)) }
 {
-    match said {
+    match parsed {
         Indexed::Option(index, Some(value)) => Some((*index, value)),
         Indexed::Several(index, values) => match values.first() {
             Some(value) => Some((*index, value)),
@@ -265,22 +264,22 @@ fn value_of(said: &Indexed) -> Option<(usize, &OsString)>
     }
 }
 
-// The same of the last of what is read.
-fn last_value(said: &[Indexed]) -> Option<(usize, &OsString)>
+// The index of an option and its first value, if that is what is read last.
+fn last_value(parsed: &[Indexed]) -> Option<(usize, &OsString)>
     ensures { MatchOption result
-        ((others : List Indexed) (last : Indexed) → said.now ≡ others ++ last ∷ []
+        ((others : List Indexed) (last : Indexed) → parsed.now ≡ others ++ last ∷ []
         → spec.value_of (indexed_view last) ≡ None)
-        (λ found. (others : List Indexed) × (last : Indexed) × (said.now ≡ others ++ last ∷ [])
+        (λ found. (others : List Indexed) × (last : Indexed) × (parsed.now ≡ others ++ last ∷ [])
         × IsOption found.0 (indexed_view last)
         × (spec.value_of (indexed_view last) ≡ Some found.1.now)) }
 {
-    match said {
+    match parsed {
         [.., last] => value_of(last),
         [] => None,
     }
 }
 
-// What comes before this value, if the word ends with it, and that is text.
+// What comes before this value, if the word ends with it, and what comes before it is UTF-8.
 fn text_before(alloc: Global, word: &[u8], value: &[u8]) -> Result<Option<String>, AllocError>
     ensures { IfOk result (λ found. MatchOption found
         ((before : List ℕ) → IsUtf8 before → word.now ≡ before ++ value.now → ⊥)
@@ -295,18 +294,18 @@ fn text_before(alloc: Global, word: &[u8], value: &[u8]) -> Result<Option<String
     }
 }
 
-// The index of the option whose value is in the word, and what comes before the value, where this is
-// read from the word alone, and an option can come.
+// The index of the option whose value is in the word, and what comes before the value. `parsed` is
+// what is read from the word alone.
 fn joined_value(
     alloc: Global,
-    said: &[Indexed],
+    parsed: &[Indexed],
     typed: &OsString,
 ) -> Result<Option<(usize, String)>, AllocError>
     ensures { (d : Declaration) (words : List (List ℕ)) → Opens d words true
-        → SaysFront d (typed.now ∷ []) (map indexed_view said.now)
+        → MeansFront d (typed.now ∷ []) (map indexed_view parsed.now)
         → IfOk result (λ found. IsJoined d words typed.now (option_map joined_view found)) }
 {
-    let Some((index, value)) = last_value(said) else {
+    let Some((index, value)) = last_value(parsed) else {
         return Ok(None);
     };
     match text_before(alloc, typed.as_bytes(), value.as_bytes())? {
@@ -317,7 +316,7 @@ fn joined_value(
 
 // ---- the options of these indices
 
-// The option of this index.
+// The option at this index.
 fn option_at<'a, F, V, M, S>(
     options: &'a [Declared<'a, F, V, M, S>],
     index: usize,
@@ -328,7 +327,7 @@ fn option_at<'a, F, V, M, S>(
     &options[index]
 }
 
-// What a word that is not an option would be.
+// What a word that is not an option is, with the option itself.
 fn role_of<'a, F, V, M, S>(
     options: &'a [Declared<'a, F, V, M, S>],
     place: Place,
@@ -342,8 +341,7 @@ fn role_of<'a, F, V, M, S>(
     }
 }
 
-// Adds the words in the list of the positional argument of this index that begin with what was
-// typed.
+// Adds the words in the list of the positional at this index that begin with what was typed.
 fn add_words_at<P>(
     alloc: Global,
     values: &mut Vec<String>,
@@ -360,7 +358,7 @@ fn add_words_at<P>(
     }
 }
 
-// The same of the positional arguments of these indices.
+// Adds the words in the lists of the positionals at these indices that begin with what was typed.
 fn add_words<P>(
     alloc: Global,
     values: &mut Vec<String>,
@@ -377,8 +375,8 @@ fn add_words<P>(
     Ok(())
 }
 
-// Adds the values in the list of the option that a word would be a value of, if it would be one,
-// that begin with what was typed.
+// Adds the values that begin with what was typed in the list of the option that a word is a value
+// of, if it is one.
 fn add_word_values<F, V, M, S>(
     alloc: Global,
     values: &mut Vec<String>,
@@ -394,8 +392,8 @@ fn add_word_values<F, V, M, S>(
     }
 }
 
-// Adds the words that have a value of a list after what was typed of this option, if there is one,
-// and begin with what was typed.
+// Adds the words with a value in the list of the option whose value is typed in the word, if there
+// is one: those that begin with what was typed.
 fn add_joined_values<F, V, M, S>(
     alloc: Global,
     values: &mut Vec<String>,
@@ -414,8 +412,8 @@ fn add_joined_values<F, V, M, S>(
     }
 }
 
-// The values in lists that begin with what was typed, where a word would be this, or belong to one
-// of the positional arguments of these indices, and a value of this option is typed in the word.
+// The values in lists that begin with what was typed: of the option that a word is a value of, of
+// the positionals at these indices, and of the option whose value is typed in the word.
 fn values_for<F, V, P, M, S>(
     alloc: Global,
     word: &Option<Role<'_, F, V, M, S>>,
@@ -449,8 +447,8 @@ impl<'a, F, V, P, M, S> Options<'a, F, V, P, M, S> {
     ghost use Rattle.lexopt_options.specs.Roles.{place_view};
     ghost use Rattle.lexopt_options.specs.Fronts.{IsPart};
 
-    // What these words mean with this one after them, whether or not something is missing; nothing
-    // if no line begins so.
+    // What these words mean with this word after them, even if something is missing; `None` if no
+    // line begins with them.
     fn read_with(
         &self,
         alloc: Global,
@@ -465,7 +463,7 @@ impl<'a, F, V, P, M, S> Options<'a, F, V, P, M, S> {
         self.read_part(alloc, copy)
     }
 
-    // The spellings that begin with what was typed, if an option can come there.
+    // The spellings that begin with what was typed; none if no option can come there.
     fn spellings_for(
         &self,
         alloc: Global,
@@ -486,8 +484,8 @@ impl<'a, F, V, P, M, S> Options<'a, F, V, P, M, S> {
         }
     }
 
-    // The index of the option whose value is typed in the word, and what comes before the value, if an
-    // option can come there.
+    // The index of the option whose value is typed in the word, and what comes before the value;
+    // `None` if no option can come there.
     fn joined_option(
         &self,
         alloc: Global,
@@ -502,12 +500,12 @@ impl<'a, F, V, P, M, S> Options<'a, F, V, P, M, S> {
             return Ok(None);
         }
         match self.read_part(alloc, one_word(alloc, typed)?)? {
-            Some(said) => joined_value(alloc, &said, typed),
+            Some(parsed) => joined_value(alloc, &parsed, typed),
             None => Ok(None),
         }
     }
 
-    // The option whose value is typed in the word, if an option can come there.
+    // The option whose value is typed in the word; `None` if no option can come there.
     fn joined(
         &self,
         alloc: Global,
@@ -529,7 +527,7 @@ impl<'a, F, V, P, M, S> Options<'a, F, V, P, M, S> {
         }
     }
 
-    // What a word would be, where its place is this.
+    // What a word is at this place, with the option itself.
     fn role(
         &self,
         words: &[OsString],
@@ -546,7 +544,7 @@ impl<'a, F, V, P, M, S> Options<'a, F, V, P, M, S> {
         }
     }
 
-    // The indices of the positional arguments that a word can belong to, where its place is this.
+    // The indices of the positionals that a word at this place can belong to.
     fn arguments(&self, alloc: Global, place: Option<Place>) -> Result<Vec<usize>, AllocError>
         requires { IsCounted place }
         ensures { IfOk result (λ owners. AreOwnersIn (declaration_of self.now).positionals
@@ -558,41 +556,58 @@ impl<'a, F, V, P, M, S> Options<'a, F, V, P, M, S> {
         }
     }
 
-    /// Whether one of these words is a positional argument, as far as they begin a line that can be
-    /// legal.
+    /// Returns whether a positional is among these words.
+    ///
+    /// They are read as the beginning of a line: something may be missing after them. If no line
+    /// begins with them, the result is `false`. The words are copied.
     ///
     /// # Errors
     ///
-    /// Memory ran out.
+    /// Returns `AllocError` if an allocation fails.
     pub fn has_positional(&self, alloc: Global, words: &[OsString]) -> Result<bool, AllocError>
         ensures { IfOk result (λ b. IsTrue b ↔ HasPositional (declaration_of self.now) words.now) }
     {
         match self.read_part(alloc, copies(alloc, words)?)? {
-            Some(said) => Ok(word_count(&said) > 0),
+            Some(parsed) => Ok(word_count(&parsed) > 0),
             None => Ok(false),
         }
     }
 
-    /// What can come where a word is typed: after these words, the name of the program not among
-    /// them, and this much of it was typed.
+    /// Returns what can come where `typed` is typed after `words`, for the completion of shells.
     ///
-    /// Under options `v|verbose`, a flag, and `o|output` of one value, after `-v` and with `--` it
-    /// is `--verbose` and `--output`; after `-o` no option can come, but a value of `output`. Where
-    /// a word would be a positional argument, nobody knows how many follow: of `SOURCE... DEST` the
-    /// second word can belong to either.
+    /// The words are without the name of the program. They are copied. It is not known how many
+    /// words will follow, so a word may be able to belong to several positionals, such as the
+    /// second word of `SOURCE... DEST` to either.
     ///
-    /// The only error is that memory ran out.
+    /// # Errors
+    ///
+    /// Returns `AllocError` if an allocation fails.
+    ///
+    /// # Examples
+    ///
+    /// With the declaration of [`declare!`](crate::declare), after `-v`:
+    ///
+    /// ```rust
+    /// let typed = OsString::from_text(alloc, "--")?;
+    /// let completion = options.complete(alloc, &words, &typed)?;
+    /// for spelling in &completion.spellings {
+    ///     // --verbose, --output, --mode, --help, --version
+    ///     println!(rt; "{}", spelling.text)?;
+    /// }
+    /// ```
+    ///
+    /// After `-o` no spelling can come, but [`Completion::word`] is a value of `output`.
     pub fn complete(
         &self,
         alloc: Global,
         words: &[OsString],
         typed: &OsString,
     ) -> Result<Completion<'a, F, V, M, S>, AllocError>
-        // What is returned is exactly what can come there: the spellings of declared options that
-        // begin with what was typed, and after which some words make a legal line where that option
-        // occurs; what a word that is not an option and begins so would be, and to which positional
-        // arguments it can belong; of which option a value is typed after `=`; and the values in
-        // the lists of these that begin so.
+        // This is exactly what can come there: the spellings of declared options that begin with
+        // what was typed, and after which some words make a legal line where that option occurs;
+        // what a word is that is not an option, judged by the empty word or by `--`, and to which
+        // positionals it can belong; the option whose value is typed in the word; and the values in
+        // the lists of these that begin with what was typed.
         ensures { IfOk result (λ completion.
             IsCompletion self.now words.now typed.now completion) }
     {

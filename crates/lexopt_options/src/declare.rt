@@ -1,8 +1,29 @@
-//! A declaration in a constant, a line for each option.
+//! `declare!`: a declaration with a line for each option.
 
-/// A [`Declaration`](crate::Declaration), as the value of a constant, a static or a local.
+/// Makes a [`Declaration`](crate::Declaration), as the value of a constant, a static or a local.
 ///
-/// ```text
+/// - `program` and `options` are required. `about`, `positionals`, `epilogue` and `short_equals`
+///   may be left out. All come in the order `program`, `about`, `options`, `positionals`,
+///   `epilogue`, `short_equals`.
+/// - A line of `options` is a call of a function of [`Declared`](crate::Declared): `flag`, `value`,
+///   `maybe`, `values`, `help` or `version`.
+/// - After that come any of these, in any order. `.hidden()` leaves the option out of the help.
+///   `.required()` makes it an option that every line has to have. `.one_of(&["fast", "slow"])`
+///   lists the values that it accepts, which shells offer. After `.directories()` shells complete
+///   its values by the names of directories, and after `.text()` not at all. Without `.one_of`,
+///   `.directories` and `.text`, they complete the values by the names of files; with several of
+///   these, the last one counts.
+/// - A line of `positionals` is a call of a function of [`Positional`](crate::Positional): `once`,
+///   `at_most_once`, `any_number` or `at_least_once`. Its help text may be left out. `.one_of(..)`,
+///   `.directories()` or `.text()` may come after it.
+/// - `epilogue: ["..", ".."]` has paragraphs for the end of the help.
+/// - After `short_equals: false`, `=` in a cluster is a character like any other.
+///
+/// The macro does not check the declaration; [`Options::new`](crate::Options::new) does.
+///
+/// # Examples
+///
+/// ```rust
 /// #[derive(Clone, Copy)]
 /// enum Flag {
 ///     Verbose,
@@ -33,24 +54,7 @@
 /// };
 /// ```
 ///
-/// A line of `options` is a call of the function of that name of [`Declared`](crate::Declared),
-/// `maybe` and `values` among them. After it come any of these, in any order, with or without
-/// others:
-///
-/// - `.hidden()` leaves the option out of the help;
-/// - `.required()` makes it one that every line has to have;
-/// - `.one_of(&["fast", "slow"])` lists the values that it accepts;
-/// - `.directories()` has its values completed by the names of directories, and `.text()` by
-///   nothing; without these, they are completed by the names of files.
-///
-/// Of `one_of`, `directories` and `text` the last counts, as where these are called.
-///
-/// A line of `positionals` is `once`, `at_most_once`, `any_number` or `at_least_once`, with the key
-/// first; its text may be left out. `.one_of(..)`, `.directories()` or `.text()` may come after it.
-///
-/// `about` and `positionals` may be left out; so may `epilogue: ["..", ".."]`, paragraphs at the
-/// end of the help, and after it `short_equals: false`, by which `=` in a cluster is a character
-/// like any other. All come in this order.
+/// It declares lines such as `-vo out.zip --mode=fast a b`.
 #[macro_export]
 macro_rules! declare {
     (

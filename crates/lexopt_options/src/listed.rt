@@ -1,4 +1,4 @@
-//! Which values an option accepts.
+//! Which values an option accepts. The file of this name in `lexopt_declaration` prints a list.
 ghost use Rattle.std.specs.Prelude.{◌≡◌, false, is_none, map, not, position};
 ghost use Rattle.std.specs.Cmp.Lexicographic.{pointwise};
 ghost use Rattle.std.specs.Prelude.{◌==◌};
@@ -13,7 +13,7 @@ use crate::mistake::Mistake;
 use lexopt_declaration::declaration::{Declared, Words};
 use lexopt_words::os_string::OsString;
 
-/// Whether a value is one of these. It is not inlined, since few options have a list.
+/// Whether a value is in this list. It is not inlined, since few options have a list.
 #[inline(never)]
 pub fn is_listed(values: &[&str], value: &[u8]) -> bool
     ensures { result
@@ -22,7 +22,7 @@ pub fn is_listed(values: &[&str], value: &[u8]) -> bool
     values.iter().any(|own| own.as_bytes() == value)
 }
 
-/// Whether a value may be this.
+/// Whether a value is accepted: whether it is in the list, if there is one.
 pub fn accepts(words: Words<'_>, value: &OsString) -> bool
     ensures { result ≡ spec.accepts (words_view words.entry) value.now }
 {
@@ -32,7 +32,7 @@ pub fn accepts(words: Words<'_>, value: &OsString) -> bool
     }
 }
 
-/// The place of the first of these values that is not accepted.
+/// The index of the first of these values that is not accepted.
 pub fn refused_place(words: Words<'_>, values: &[OsString]) -> Option<usize>
     ensures { result
         ≡ position (λ value. not (spec.accepts (words_view words.entry) value)) values.now }
@@ -43,7 +43,7 @@ pub fn refused_place(words: Words<'_>, values: &[OsString]) -> Option<usize>
     }
 }
 
-/// The mistake that an option does not accept a value.
+/// The mistake that a value is not in the list of an option.
 pub fn invalid_value<'a, F, V, M, S>(
     option: &'a Declared<'a, F, V, M, S>,
     value: OsString,
@@ -61,12 +61,12 @@ pub fn invalid_value<'a, F, V, M, S>(
     }
 }
 
-// Whether the option of this index accepts the values that it has.
-fn is_accepted<F, V, M, S>(options: &[Declared<'_, F, V, M, S>], said: &Indexed) -> bool
+// Whether the option at this index accepts the values that it has.
+fn is_accepted<F, V, M, S>(options: &[Declared<'_, F, V, M, S>], parsed: &Indexed) -> bool
     ensures { result
-        ≡ is_none (refused_value (map option_view options.now) (indexed_view said.now)) }
+        ≡ is_none (refused_value (map option_view options.now) (indexed_view parsed.now)) }
 {
-    match said {
+    match parsed {
         Indexed::Option(index, Some(value)) => match options.get(*index) {
             Some(option) => accepts(option.words, value),
             None => true,
@@ -80,9 +80,9 @@ fn is_accepted<F, V, M, S>(options: &[Declared<'_, F, V, M, S>], said: &Indexed)
 }
 
 /// Whether each option accepts the values that it has.
-pub fn are_accepted<F, V, M, S>(options: &[Declared<'_, F, V, M, S>], said: &[Indexed]) -> bool
+pub fn are_accepted<F, V, M, S>(options: &[Declared<'_, F, V, M, S>], parsed: &[Indexed]) -> bool
     ensures { result ≡ list_all (λ own. is_none (refused_value (map option_view options.now)
-        (indexed_view own))) said.now }
+        (indexed_view own))) parsed.now }
 {
-    said.iter().all(|own| is_accepted(options, own))
+    parsed.iter().all(|own| is_accepted(options, own))
 }

@@ -1,4 +1,4 @@
-//! What can be wrong with a line, and what is printed about it.
+//! What can be wrong with a line, the messages about it, and the hint after an unknown option.
 ghost use Rattle.std.specs.Prelude.{IfOk, map, option_map};
 ghost use Rattle.lexopt_spec.specs.UnreadLine as unread;
 ghost use Rattle.lexopt_spec.specs.UnreadLine.{Tail};
@@ -19,17 +19,17 @@ use lexopt_words::os_string::{OsString, Quoted};
 use std::alloc::{AllocError, Global};
 use std::fmt;
 
-/// An option's name, without dashes, as it was typed. A damaged piece of it is U+FFFD.
+/// The name of an option as it was typed, without its dashes. Each damaged piece of it is U+FFFD.
 #[derive(Debug, PartialEq, Eq, Drop)]
 pub enum OptionName {
-    /// One character.
+    /// A short option: its character.
     Short(char),
-    /// A name.
+    /// A long option: its name.
     Long(String),
 }
 
-// Writes a character of a name: a control character of ASCII as in the quoted form of bytes, any
-// other as it is.
+// Writes a character of a name: a control character of ASCII is escaped as in the quoted form of
+// bytes, any other is written as it is.
 fn write_escaped<W: fmt::Write>(character: char, f: &mut fmt::Formatter<W>) -> fmt::Result
     ensures { WritesOnOk W.write_str_gives f.old result (escaped character) f.new }
 {
@@ -62,7 +62,7 @@ impl fmt::Display for OptionName {
 
     ghost output = { λ name. Some (name_text name) };
 
-    /// Writes the name with its dashes. A control character of ASCII is escaped, as in the quoted
+    /// Writes the name with its dashes. Control characters of ASCII are escaped, as in the quoted
     /// form of bytes.
     fn fmt<W: fmt::Write>(&self, f: &mut fmt::Formatter<W>) -> fmt::Result {
         match self {
@@ -78,62 +78,71 @@ impl fmt::Display for OptionName {
     }
 }
 
-/// What is wrong with a line.
+/// What is wrong with a line. `Display` writes it on one line, without the name of the program:
+///
+/// ```text
+/// invalid option '--verbsoe'; did you mean '--verbose'?
+/// missing argument FILE for option '-o'
+/// invalid value "medium" for '--mode': one of fast, slow
+/// ```
 #[derive(Debug, Drop)]
 pub enum Mistake<'a> {
     /// An option that is not declared. Nothing after its name was read.
     UnknownOption {
-        /// Its name.
+        /// The name.
         name: OptionName,
-        /// A declared long name that may have been meant. If a long name was typed: that of the
-        /// nearest option; or, if none is near, the one that begins with what was typed, if exactly
-        /// one does. If its cluster goes on after a short option: the one that ends with the option
-        /// and the rest, if exactly one does, as `--verbose` if `-verbose` was typed.
+        /// The declared long name that may have been meant, if there is one.
+        ///
+        /// For a long option it is the nearest name, if its distance is at most a third of the
+        /// number of characters typed; otherwise the name that begins with what was typed, if
+        /// exactly one does. For a short option whose cluster goes on it is the name that ends with
+        /// the option and the rest of the cluster, if exactly one does: `--verbose` if `-verbose`
+        /// was typed.
         hint: Option<&'a str>,
     },
-    /// An option that takes no value has one joined to it.
+    /// An option without values has a value joined to it: `--verbose=1`.
     UnexpectedValue {
         /// The option as it was typed, with its dashes.
         option: String,
         /// The value.
         value: OsString,
     },
-    /// An option needs a value, and there is none.
+    /// An option has no value, and needs one: `-o` as the last word.
     MissingValue {
         /// The option as it was typed, with its dashes.
         option: String,
-        /// The placeholder of the value in the declaration.
+        /// The placeholder of the value, by the declaration.
         placeholder: &'a str,
     },
-    /// An option does not accept a value.
+    /// An option has a value that is not in its list.
     InvalidValue {
         /// The names of the option.
         option: Names<'a>,
-        /// The first value that it does not accept.
+        /// The first value that is not in the list.
         value: OsString,
-        /// The values that it accepts.
+        /// The list.
         values: &'a [&'a str],
     },
-    /// One positional argument more than are declared.
+    /// The first positional that the declaration does not allow.
     UnexpectedArgument(OsString),
-    /// Fewer positional arguments than are required: the placeholder, in the declaration, of the
-    /// first that is missing.
+    /// A required positional is missing: the placeholder of the first that is.
     MissingArgument(&'a str),
-    /// A positional argument does not accept a word. No positional argument is missing.
+    /// A word is not in the list of the positional that it belongs to. No positional is missing.
     InvalidArgument {
-        /// The placeholder of the positional argument.
+        /// The placeholder of that positional.
         placeholder: &'a str,
-        /// The first word that is not accepted by the positional argument that it belongs to.
+        /// The first word that is not in the list of its positional.
         word: OsString,
-        /// The words that it accepts.
+        /// The list.
         values: &'a [&'a str],
     },
-    /// A required option does not occur: the names of the first such option of the declaration. No
-    /// positional argument is missing, and each accepts its words.
+    /// A required option is missing: the names of the first that is, in the order of the
+    /// declaration. In a whole line, no positional is missing then, and each accepts its words;
+    /// [`Options::read_leading`](crate::Options::read_leading) ignores the positionals.
     MissingOption(Names<'a>),
-    /// The variable of this name, by which shells ask, has a value that is not known. No words have
-    /// this mistake: only [`Options::answer_request`](crate::Options::answer_request) and
-    /// [`Options::from_env`](crate::Options::from_env) return it.
+    /// The environment variable of this name, by which shells ask, has a value that is not known.
+    /// No line has this mistake; only the request of a shell does
+    /// ([`Options::answer_request`](crate::Options::answer_request)).
     InvalidVariable(String),
 }
 
@@ -193,9 +202,11 @@ impl fmt::Display for Mistake<'_> {
 
 impl std::error::Error for Mistake<'_> {}
 
-/// The long name that may have been meant by one that is not declared.
+/// Returns the declared long name that may have been meant by the long option `name`.
 ///
-/// The only error is that memory ran out.
+/// # Errors
+///
+/// Returns `AllocError` if an allocation fails.
 pub(crate) fn long_hint<'a, F, V, M, S>(
     alloc: Global,
     options: &'a [Declared<'a, F, V, M, S>],
@@ -210,10 +221,12 @@ pub(crate) fn long_hint<'a, F, V, M, S>(
     }
 }
 
-/// The long name that may have been meant by a cluster, a dash too few, that goes on with `rest`
-/// after an option that is not declared.
+/// Returns the declared long name that may have been meant by a cluster with a dash too few: an
+/// undeclared option of it, and the `rest` after that.
 ///
-/// The only error is that memory ran out.
+/// # Errors
+///
+/// Returns `AllocError` if an allocation fails.
 pub(crate) fn short_hint<'a, F, V, M, S>(
     alloc: Global,
     options: &'a [Declared<'a, F, V, M, S>],

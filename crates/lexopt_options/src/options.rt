@@ -1,4 +1,4 @@
-//! What a program declares, and can declare.
+//! A declaration that was checked, and what every reading of a line needs to know of it.
 ghost use Rattle.std.specs.Prelude.{◌≡◌, true, map};
 ghost use Rattle.std.specs.List.{list_any};
 ghost use Rattle.lexopt_options_spec.specs.Declaration.{are_clear, are_listable, is_sound};
@@ -16,11 +16,13 @@ use lexopt_declaration::positionals::{least_of, most_of};
 use std::alloc::{AllocError, Global};
 use std::convert::Infallible;
 
-/// What a program declares, where all of its options can be declared together, one positional
-/// argument at most may occur more than once, and each list of words can be declared.
+/// A declaration whose options and positionals can all be declared together.
+///
+/// [`Options::new`] and [`Options::try_new`] make it. It borrows the declaration and is `Copy`. The
+/// types of keys are those of [`Declaration`].
 pub struct Options<'a, F, V = Infallible, P = Infallible, M = Infallible, S = Infallible> {
     declaration: &'a Declaration<'a, F, V, P, M, S>,
-    // What each line is checked for at its end, found once.
+    // What the end of each line is checked for, computed once.
     least: usize,
     most: Option<usize>,
     has_lists: bool,
@@ -43,15 +45,15 @@ fn is_required<F, V, M, S>(option: &Declared<'_, F, V, M, S>) -> bool
     option.required
 }
 
-// Whether one of these is required.
+// Whether one of these options is required.
 fn any_is_required<F, V, M, S>(options: &[Declared<'_, F, V, M, S>]) -> bool
     ensures { result ≡ list_any (λ o. o.required) options.now }
 {
     options.iter().any(|option| is_required(option))
 }
 
-// What a program declares, where all of it can be declared. It is not inlined: the loops that check
-// each option before keep their registers.
+// Makes `Options` of a declaration that can be declared. It is not inlined, so that the loops
+// before it, which check each option, keep their registers.
 #[inline(never)]
 fn checked<'a, F, V, P, M, S>(
     declaration: &'a Declaration<'a, F, V, P, M, S>,
@@ -84,9 +86,19 @@ impl<'a, F, V, P, M, S> Options<'a, F, V, P, M, S> {
     ghost use Rattle.lexopt_declaration.specs.Declarations.{declaration_view};
     ghost use Rattle.lexopt_options.specs.Declarations.{declaration_of, options_of, positionals_of};
 
-    /// What a program declares, where the check computes that all of it can be declared together:
-    /// so it does for a constant or a static, and nothing is left to go wrong when the program
-    /// runs.
+    /// Returns the options of a declaration that is known when the program is built.
+    ///
+    /// The prover computes for a constant or a static that all of it can be declared together. So a
+    /// program with a faulty declaration is refused, and this call cannot fail when the program
+    /// runs. [`DeclarationError`] and [`Reason`](crate::Reason) list the faults.
+    ///
+    /// # Examples
+    ///
+    /// With the declaration of [`declare!`](crate::declare):
+    ///
+    /// ```rust
+    /// let options = Options::new(&DECLARATION);
+    /// ```
     #[tactic(auto, using(lexopt_options_spec::proofs::Declarable::declarable_sound))]
     pub fn new(declaration: &'a Declaration<'a, F, V, P, M, S>) -> Options<'a, F, V, P, M, S>
         requires options { can_be_declared (map option_view declaration.now.options.now) ≡ true }
@@ -101,11 +113,32 @@ impl<'a, F, V, P, M, S> Options<'a, F, V, P, M, S> {
         checked(declaration)
     }
 
-    /// What a program declares, where that is known only when it runs.
+    /// Returns the options of a declaration that is known only when the program runs.
     ///
-    /// The error names the first option that cannot be declared after those before it; or, if there
-    /// is none, the second positional argument that may occur more than once; or, if there is none,
-    /// the first positional argument whose list of words cannot be declared.
+    /// # Errors
+    ///
+    /// The error is the first of these that applies:
+    ///
+    /// - [`DeclarationError::Option`] has the names of the first option that cannot be declared
+    ///   after those before it, and the reason.
+    /// - [`DeclarationError::Positional`] has the placeholder of the second positional that may
+    ///   occur more than once.
+    /// - [`DeclarationError::BadList`] has the placeholder of the first positional whose list of
+    ///   words cannot be declared.
+    ///
+    /// # Examples
+    ///
+    /// ```rust
+    /// let options = match Options::try_new(&declaration) {
+    ///     Ok(options) => options,
+    ///     Err(error) => {
+    ///         // If two options have the name `output`, this prints:
+    ///         // pack: option '--output': an option before it has one of its names
+    ///         let _ = eprintln!(rt; "pack: {error}");
+    ///         return ExitCode::FAILURE;
+    ///     }
+    /// };
+    /// ```
     pub fn try_new(
         declaration: &'a Declaration<'a, F, V, P, M, S>,
     ) -> Result<Options<'a, F, V, P, M, S>, DeclarationError<'a>>
@@ -121,28 +154,28 @@ impl<'a, F, V, P, M, S> Options<'a, F, V, P, M, S> {
         Ok(checked(declaration))
     }
 
-    /// Whether `=` in a cluster separates an option from its value.
+    /// Returns whether `=` in a cluster separates an option from its value, as in `-o=file`.
     pub fn has_short_equals(&self) -> bool
         ensures { result ≡ (declaration_of self.now).short_equals }
     {
         self.declaration.short_equals
     }
 
-    /// The name of the program.
+    /// Returns the name of the program.
     pub fn program(&self) -> &'a str
         ensures { result.now ≡ (declaration_of self.now).program }
     {
         self.declaration.program
     }
 
-    /// What it does.
+    /// Returns what the program does, in a sentence or two; maybe the empty text.
     pub fn about(&self) -> &'a str
         ensures { result.now ≡ (declaration_of self.now).about }
     {
         self.declaration.about
     }
 
-    /// The options, in order.
+    /// Returns the options, in the order of the declaration.
     pub fn options(&self) -> &'a [Declared<'a, F, V, M, S>]
         ensures same { result.now ≡ options_of self.now }
         ensures view { map option_view result.now ≡ (declaration_of self.now).options }
@@ -151,7 +184,7 @@ impl<'a, F, V, P, M, S> Options<'a, F, V, P, M, S> {
         self.declaration.options
     }
 
-    /// The positional arguments, in order.
+    /// Returns the positionals, in the order of the declaration.
     pub fn positionals(&self) -> &'a [Positional<'a, P>]
         ensures same { result.now ≡ positionals_of self.now }
         ensures view { map positional_view result.now ≡ (declaration_of self.now).positionals }
@@ -161,7 +194,7 @@ impl<'a, F, V, P, M, S> Options<'a, F, V, P, M, S> {
         self.declaration.positionals
     }
 
-    /// The paragraphs at the end of the help.
+    /// Returns the paragraphs at the end of the help.
     pub fn epilogue(&self) -> &'a [&'a str]
         ensures { map (λ paragraph. paragraph.now) result.now
             ≡ (declaration_of self.now).epilogue }
@@ -169,49 +202,59 @@ impl<'a, F, V, P, M, S> Options<'a, F, V, P, M, S> {
         self.declaration.epilogue
     }
 
-    // How many positional arguments are required.
+    // How many positionals a line has to have.
     pub(crate) fn least(&self) -> usize
         ensures { result ≡ places.least (declaration_of self.now).positionals }
     {
         self.least
     }
 
-    // How many there may be at most, if there is a limit.
+    // How many positionals a line may have; `None` if there is no limit.
     pub(crate) fn most(&self) -> Option<usize>
         ensures { result ≡ legal.most (declaration_of self.now).positionals }
     {
         self.most
     }
 
-    // Whether one of them has a list.
+    // Whether one of the positionals has a list.
     pub(crate) fn has_lists(&self) -> bool
         ensures { result ≡ list_any (λ p. has_list p) (positionals_of self.now) }
     {
         self.has_lists
     }
 
-    // Whether an option is required.
+    // Whether one of the options is required.
     pub(crate) fn has_required(&self) -> bool
         ensures { result ≡ list_any (λ o. o.required) (options_of self.now) }
     {
         self.has_required
     }
 
-    /// The usage line: the name of the program; `[OPTION]...` if an option that is neither hidden
-    /// nor required is declared; each required option that is not hidden, by its long name if it
-    /// has one, with its value; and each positional argument by its placeholder: `FILE` for one
-    /// that is required, `[FILE]` for one that may be left out, `[FILE]...` for any number,
-    /// `FILE...` for one at least. A line feed is at its end.
+    /// Returns the usage line, wrapped to `width` columns, with a line feed at its end.
+    ///
+    /// It has the name of the program; `[OPTION]...` if an option that is neither hidden nor
+    /// required is declared; each required option that is not hidden, by its long name if it has
+    /// one, with its value; and each positional by its placeholder: `FILE` if it is required,
+    /// `[FILE]` if it may be left out, `[FILE]...` for any number, `FILE...` for at least one.
+    ///
+    /// If it does not fit into `width` columns it goes on at column 7 of the next line, counted
+    /// from 0. [`Options::help`] describes what a column is.
+    ///
+    /// # Errors
+    ///
+    /// Returns `AllocError` if an allocation fails.
+    ///
+    /// # Examples
+    ///
+    /// ```rust
+    /// let usage = options.usage(alloc, WIDTH)?;
+    /// ```
+    ///
+    /// For the declaration of `example_copy` that is
     ///
     /// ```text
     /// Usage: example_copy [OPTION]... --owner=USER SOURCE... DEST
     /// ```
-    ///
-    /// If it has more than `width` columns it goes on at column 7 of the next line, counted from 0.
-    ///
-    /// # Errors
-    ///
-    /// There is no memory for the text.
     pub fn usage(&self, alloc: Global, width: usize) -> Result<String, AllocError>
         ensures { IfOk result
             (λ text. IsUsage width (declaration_of self.now) (string_bytes text)) }
@@ -219,10 +262,34 @@ impl<'a, F, V, P, M, S> Options<'a, F, V, P, M, S> {
         help::usage(alloc, self.declaration, width)
     }
 
-    /// The help: the usage line; what the program does; one entry for each positional argument that
-    /// has a text or a list; one entry for each option that is not hidden; and the paragraphs of the
-    /// epilogue. All are in the order in which they are declared, with an empty line between these
-    /// parts. Each line ends with a line feed.
+    /// Returns the help, wrapped to `width` columns: what a program prints for `--help`.
+    ///
+    /// It has these parts, in this order: the usage line; what the program does; an entry for each
+    /// positional that has a help text or a list; an entry for each option that is not hidden; and
+    /// the paragraphs of the epilogue. Entries are in the order of the declaration. An empty line
+    /// comes before the first positional, before the first option, and before each paragraph of the
+    /// epilogue. Each line ends with a line feed.
+    ///
+    /// The text of an entry begins at column 24, counted from 0, or at a third of `width` if that
+    /// is less: on the line of its label if at least two blanks are between them, otherwise on the
+    /// next line. A line takes as many words as fit into `width` columns. No word and no label is
+    /// broken, so a wide word makes a wide line.
+    ///
+    /// A column is a grapheme cluster, which a person sees as one character. It counts once even if
+    /// a terminal gives it two cells. [`WIDTH`](crate::WIDTH) is for a terminal whose width is not
+    /// known. Any width gives a help, even 0.
+    ///
+    /// # Errors
+    ///
+    /// Returns `AllocError` if an allocation fails.
+    ///
+    /// # Examples
+    ///
+    /// ```rust
+    /// rt.print(options.help(alloc, WIDTH)?)?;
+    /// ```
+    ///
+    /// For the declaration of `example_copy` that prints
     ///
     /// ```text
     /// Usage: example_copy [OPTION]... --owner=USER SOURCE... DEST
@@ -232,26 +299,16 @@ impl<'a, F, V, P, M, S> Options<'a, F, V, P, M, S> {
     ///   DEST                  where to
     ///
     ///   -v, --verbose         tell more; twice, still more
+    ///   -f, --force           replace a file that is there
     ///   -j, --jobs=COUNT      how many at a time, from 1 to 64
     ///   -o, --owner=USER      who owns the copies
     ///       --backup=WHEN     one of always, never
     ///       --suffix=SUFFIX   what a backup ends with
+    ///   -h, --help            print this help and exit
+    ///       --version         print the version and exit
     ///
     /// A file is never copied onto itself.
     /// ```
-    ///
-    /// The text of an entry begins at column 24, or at a third of `width` if that is less: on the
-    /// line of its label if at least two blanks are between them, else on the next one. Words are
-    /// put on as few lines as hold them in at most `width` columns; one that is wider is not
-    /// broken, and no label is.
-    ///
-    /// A column is a grapheme cluster, what a person sees as one character, and counts once even if
-    /// a terminal gives it two cells. [`WIDTH`](crate::WIDTH) is the width if none is known; any
-    /// other, and 0, gives a text too.
-    ///
-    /// # Errors
-    ///
-    /// There is no memory for the text.
     pub fn help(&self, alloc: Global, width: usize) -> Result<String, AllocError>
         ensures { IfOk result
             (λ text. IsHelp (declaration_of self.now) width (string_bytes text)) }

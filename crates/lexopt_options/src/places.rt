@@ -1,4 +1,4 @@
-//! Which positional argument each word of a line belongs to, and its key.
+//! Which positional each word of a line belongs to, and its key.
 ghost use Rattle.std.specs.Prelude.{◌≡◌, ◌≤◌, ◌<◌, ◌-◌, ℕ, List, Some, filter, length, map};
 ghost use Rattle.std.specs.Prelude.{slice_get, true};
 ghost use Rattle.lexopt_options_spec.specs.Legal as legal;
@@ -8,14 +8,14 @@ ghost use Rattle.lexopt_options_spec.proofs.Shares.{extra, greedy};
 ghost use Rattle.lexopt_declaration.specs.Models.{count_view, positional_view};
 ghost use Rattle.lexopt_declaration.specs.declared.declaration.Declared.{Declared};
 ghost use Rattle.lexopt_options.specs.Keys as keys;
-ghost use Rattle.lexopt_options.specs.Keys.{AllFirst, AreSaid, CanHaveKeys, HasKey, HaveKeys};
+ghost use Rattle.lexopt_options.specs.Keys.{AllFirst, AreParsedAs, CanHaveKeys, HasKey, HaveKeys};
 ghost use Rattle.lexopt_options.specs.Keys.{IsGiven, IsSame};
 
-use crate::said::Said;
+use crate::parsed::Parsed;
 use lexopt_declaration::declaration::{Count, Positional};
 use lexopt_declaration::positionals::least_of;
 
-// How many words belong to a positional argument at least.
+// The least number of words that belong to a positional.
 fn needs(count: Count) -> usize
     ensures { result ≡ spec.needs (count_view count) }
 {
@@ -25,7 +25,7 @@ fn needs(count: Count) -> usize
     }
 }
 
-// And how many besides, where `spare` words are left that no positional argument needs.
+// How many more words belong to it, where `spare` words are left that no positional needs.
 fn extra(count: Count, spare: usize) -> usize
     ensures { result ≡ extra (count_view count) spare }
 {
@@ -36,8 +36,8 @@ fn extra(count: Count, spare: usize) -> usize
     }
 }
 
-/// The index of the positional argument that the word of this index, counted from 0, belongs to,
-/// where there are `spare` words more than are required: nothing, if there is no such word.
+/// The index of the positional that the word at this index belongs to, counted from 0, where there
+/// are `spare` more words than are required; `None` if there is no such word.
 pub fn place_of<P>(positionals: &[Positional<'_, P>], spare: usize, word: usize) -> Option<usize>
     ensures { result ≡ slice_get (owners 0 (greedy (map positional_view positionals.now) spare)) word }
 {
@@ -66,8 +66,8 @@ pub fn spare_of<P>(positionals: &[Positional<'_, P>], count: usize) -> usize
     count.saturating_sub(least_of(positionals))
 }
 
-// The key of the positional argument that a word belongs to, where it is the word of this index,
-// counted from 0, and there are `spare` words more than are required.
+// The key of the positional that the word at this index belongs to, counted from 0, where there are
+// `spare` more words than are required.
 fn key_of<P: Copy>(positionals: &[Positional<'_, P>], spare: usize, word: usize) -> Option<P>
     ensures { (places : List ℕ) (count : ℕ)
         → ArePlaces (map positional_view positionals.now) count places
@@ -84,28 +84,28 @@ fn key_of<P: Copy>(positionals: &[Positional<'_, P>], spare: usize, word: usize)
     }
 }
 
-// Whether this is a positional argument.
-fn is_positional<F, V, P, M, S>(own: &Said<F, V, P, M, S>) -> bool
+// Whether this is a positional.
+fn is_positional<F, V, P, M, S>(own: &Parsed<F, V, P, M, S>) -> bool
     ensures { result ≡ keys.is_positional own.now }
 {
-    matches!(own, Said::Positional(_, _))
+    matches!(own, Parsed::Positional(_, _))
 }
 
-/// How many positional arguments are among these.
-pub fn count_of<F, V, P, M, S>(said: &[Said<F, V, P, M, S>]) -> usize
-    ensures { result ≡ length (filter (λ own. keys.is_positional own) said.now) }
+/// How many positionals are among these.
+pub fn count_of<F, V, P, M, S>(parsed: &[Parsed<F, V, P, M, S>]) -> usize
+    ensures { result ≡ length (filter (λ own. keys.is_positional own) parsed.now) }
 {
-    said.iter().filter(|own| is_positional(own)).count()
+    parsed.iter().filter(|own| is_positional(own)).count()
 }
 
-// Gives a positional argument the key of the one that it belongs to, where it is the word of this
-// index, counted from 0, and there are `spare` words more than are required. Returns whether it is
-// a positional argument.
+// Gives a positional the key of the declared one that it belongs to: that of the word at this
+// index, counted from 0, where there are `spare` more words than are required. Returns whether it
+// is a positional.
 fn give_key<F, V, P: Copy, M, S>(
     positionals: &[Positional<'_, P>],
     spare: usize,
     word: usize,
-    own: &mut Said<F, V, P, M, S>,
+    own: &mut Parsed<F, V, P, M, S>,
 ) -> bool
     ensures kind { result ≡ keys.is_positional own.old }
     ensures same { IsSame own.old own.new }
@@ -116,7 +116,7 @@ fn give_key<F, V, P: Copy, M, S>(
         → IsGiven positionals.now places word own.old own.new }
 {
     match own {
-        Said::Positional(key, _) => {
+        Parsed::Positional(key, _) => {
             if let Some(other) = key_of(positionals, spare, word) {
                 *key = other;
             }
@@ -126,7 +126,7 @@ fn give_key<F, V, P: Copy, M, S>(
     }
 }
 
-/// The key of the first positional argument.
+/// The key of the first declared positional.
 pub fn first_key<P: Copy>(positionals: &[Positional<'_, P>]) -> P
     requires { 1 ≤ length positionals.now }
     ensures { HasKey positionals.now 0 result }
@@ -134,39 +134,39 @@ pub fn first_key<P: Copy>(positionals: &[Positional<'_, P>]) -> P
     positionals[0].key
 }
 
-// Gives each of these that is a positional argument the key of the one that it belongs to, where it
-// has the key of the first.
+// Gives each positional among these the key of the declared one that it belongs to. Before, each
+// has the key of the first declared one.
 fn give_all<F, V, P: Copy, M, S>(
     positionals: &[Positional<'_, P>],
-    said: &mut [Said<F, V, P, M, S>],
+    parsed: &mut [Parsed<F, V, P, M, S>],
 )
-    ensures length { length said.new ≡ length said.old }
-    ensures same { (options : List (Declared F V M S)) (l : List legal.Said)
-        → AreSaid options l said.old → AreSaid options l said.new }
-    ensures keys { CanHaveKeys positionals.now said.old → HaveKeys positionals.now said.new }
+    ensures length { length parsed.new ≡ length parsed.old }
+    ensures same { (options : List (Declared F V M S)) (l : List legal.Parsed)
+        → AreParsedAs options l parsed.old → AreParsedAs options l parsed.new }
+    ensures keys { CanHaveKeys positionals.now parsed.old → HaveKeys positionals.now parsed.new }
 {
     if positionals.len() < 2 {
         return;
     }
-    let spare = spare_of(positionals, count_of(said));
+    let spare = spare_of(positionals, count_of(parsed));
     let mut word = 0usize;
-    for own in said.iter_mut() {
+    for own in parsed.iter_mut() {
         if give_key(positionals, spare, word, own) {
             word += 1;
         }
     }
 }
 
-/// Gives each positional argument that was read the key of the one that it belongs to, where it has
-/// the key of the first.
+/// Gives each positional that was read the key of the declared one that it belongs to. Before, each
+/// has the key of the first declared one.
 pub fn give_keys<F, V, P: Copy, M, S>(
     positionals: &[Positional<'_, P>],
-    said: &mut Vec<Said<F, V, P, M, S>>,
+    parsed: &mut Vec<Parsed<F, V, P, M, S>>,
 )
-    ensures same { (options : List (Declared F V M S)) (l : List legal.Said)
-        → AreSaid options l said.old.items → AreSaid options l said.new.items }
-    ensures keys { CanHaveKeys positionals.now said.old.items
-        → HaveKeys positionals.now said.new.items }
+    ensures same { (options : List (Declared F V M S)) (l : List legal.Parsed)
+        → AreParsedAs options l parsed.old.items → AreParsedAs options l parsed.new.items }
+    ensures keys { CanHaveKeys positionals.now parsed.old.items
+        → HaveKeys positionals.now parsed.new.items }
 {
-    give_all(positionals, said.as_mut_slice());
+    give_all(positionals, parsed.as_mut_slice());
 }

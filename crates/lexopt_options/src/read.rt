@@ -1,4 +1,4 @@
-//! Reading a line by a declaration.
+//! Reads a whole line by a declaration. `leading.rt` reads only the leading options.
 ghost use Rattle.std.specs.Prelude.{◌≡◌, ◌≢◌, ◌≤◌, ◌↔◌, ◌∷◌, ◌++◌, ℕ, List, [], IfOk, OnOk};
 ghost use Rattle.std.specs.Prelude.{IsTrue, None, Some, false, map, true};
 ghost use Rattle.std.specs.List.{list_any};
@@ -25,8 +25,8 @@ ghost use Rattle.lexopt_declaration.specs.declared.declaration.Declared.{Declare
 ghost use Rattle.lexopt_declaration.specs.Lookups.{names_at};
 ghost use Rattle.lexopt_declaration.specs.declared.declaration.Positional.{Positional};
 ghost use Rattle.lexopt_options.specs.Declarations.{declaration_of, options_of, positionals_of};
-ghost use Rattle.lexopt_options.specs.Keys.{AllFirst, AreSaid, asked_view, positional_keys};
-ghost use Rattle.lexopt_options.specs.Keys.{said_words};
+ghost use Rattle.lexopt_options.specs.Keys.{AllFirst, AreParsedAs, asked_view, positional_keys};
+ghost use Rattle.lexopt_options.specs.Keys.{parsed_words};
 ghost use Rattle.lexopt_options.specs.Kinds as kinds;
 ghost use Rattle.lexopt_options.specs.Taken.{has_list};
 ghost use Rattle.lexopt_options.specs.Mistakes.{AreNames, IsMistake};
@@ -40,9 +40,9 @@ use crate::indexed::Indexed;
 use crate::listed::{accepts, invalid_value, refused_place};
 use crate::mistake::{Mistake, OptionName, long_hint, short_hint};
 use crate::options::Options;
+use crate::parsed::{Asked, ByKey, Parsed};
 use crate::places::{first_key, give_keys};
 use crate::refused::{Line, Refused};
-use crate::said::{Asked, Said, Told};
 use crate::taken::invalid_argument;
 use lexopt_base::parser::{Found, Parser};
 use lexopt_base::refusal::Refusal;
@@ -57,20 +57,20 @@ use lexopt_items::values::{Values, read_values};
 use lexopt_words::os_string::OsString;
 use std::alloc::{AllocError, Global};
 
-// What comes next in a line.
+// What the next step of reading a line finds.
 #[derive(Drop)]
 pub enum Outcome<'a> {
-    // The option of this index, whose values are not read yet.
+    // The option at this index, whose values are not read yet.
     Option(usize),
-    // A positional argument.
+    // A positional.
     Positional(OsString),
-    // Its end.
+    // The end of the line.
     End,
-    // A mistake, which ends the reading.
+    // A mistake, where the reading stops.
     Mistake(Mistake<'a>),
 }
 
-// How many values the option of this index has.
+// How many values the option at this index has.
 fn kind_at<F, V, M, S>(options: &[Declared<'_, F, V, M, S>], index: usize) -> Kind
     ensures { kind_view result ≡ kinds.kind_at (map option_view options.now) index }
 {
@@ -87,7 +87,7 @@ fn kind_at<F, V, M, S>(options: &[Declared<'_, F, V, M, S>], index: usize) -> Ki
     }
 }
 
-// The mistake that the option of this index, which was just read, has no value.
+// The mistake that the option at this index, which was just read, has no value.
 fn missing_value<'a, F, V, P, M, S>(
     options: &Options<'a, F, V, P, M, S>,
     index: usize,
@@ -115,7 +115,8 @@ fn missing_value<'a, F, V, P, M, S>(
     }
 }
 
-// The option of this index, which was just read, with its values, or the mistake that it has none.
+// Reads the values of the option at this index, which was just read. `Err` is the mistake that it
+// has none.
 fn read_option<'a, F, V, P, M, S>(
     alloc: Global,
     parser: &mut Parser,
@@ -138,7 +139,7 @@ fn read_option<'a, F, V, P, M, S>(
     }
 }
 
-// The one value.
+// The one value. It is there by the premise.
 fn one_of(values: Values) -> OsString
     requires { IsOne values }
     ensures { values ≡ Values.AtMostOne (Some result) }
@@ -149,7 +150,7 @@ fn one_of(values: Values) -> OsString
     }
 }
 
-// The value, if there is one.
+// The value, if there is one. There are not several, by the premise.
 fn at_most_one_of(values: Values) -> Option<OsString>
     requires { IsAtMostOne values }
     ensures { values ≡ Values.AtMostOne result }
@@ -160,7 +161,7 @@ fn at_most_one_of(values: Values) -> Option<OsString>
     }
 }
 
-// All values.
+// All values. They are there by the premise.
 fn all_of(values: Values) -> Vec<OsString>
     requires { AreAll values }
     ensures { values ≡ Values.All result }
@@ -171,14 +172,14 @@ fn all_of(values: Values) -> Vec<OsString>
     }
 }
 
-// The option of this index, which was just read, by its key; or the mistake that it has no value,
-// or one that it does not accept.
-pub fn read_told<'a, F: Copy, V: Copy, P: Copy, M: Copy, S: Copy>(
+// Reads the values of the option at this index, which was just read, and returns it by its key.
+// `Err` is the mistake that it has no value, or one that it does not accept.
+pub fn read_by_key<'a, F: Copy, V: Copy, P: Copy, M: Copy, S: Copy>(
     alloc: Global,
     parser: &mut Parser,
     options: &Options<'a, F, V, P, M, S>,
     index: usize,
-) -> Result<Result<Told<'a, F, V, P, M, S>, Mistake<'a>>, AllocError>
+) -> Result<Result<ByKey<'a, F, V, P, M, S>, Mistake<'a>>, AllocError>
     requires { (u : UnreadLine) × (name : table.Name) × Next u (option_reply name) parser.old
         × (index_of (declaration_of options.now).options name ≡ Some index) }
     ensures { IfOk result (λ read. (count : ℕ) (u : UnreadLine) (name : table.Name)
@@ -190,14 +191,14 @@ pub fn read_told<'a, F: Copy, V: Copy, P: Copy, M: Copy, S: Copy>(
     let declared = options.options();
     let option = &declared[index];
     match option.kind {
-        declared::Kind::Flag(key) => Ok(Ok(Told::Said(Said::Flag(key)))),
-        declared::Kind::Help => Ok(Ok(Told::Asked(Asked::Help))),
-        declared::Kind::Version(text) => Ok(Ok(Told::Asked(Asked::Version(text)))),
+        declared::Kind::Flag(key) => Ok(Ok(ByKey::Parsed(Parsed::Flag(key)))),
+        declared::Kind::Help => Ok(Ok(ByKey::Asked(Asked::Help))),
+        declared::Kind::Version(text) => Ok(Ok(ByKey::Asked(Asked::Version(text)))),
         declared::Kind::Value(key, _) => match read_values(alloc, parser, Kind::One) {
             Ok(values) => {
                 let value = one_of(values);
                 if accepts(option.words, &value) {
-                    Ok(Ok(Told::Said(Said::Value(key, value))))
+                    Ok(Ok(ByKey::Parsed(Parsed::Value(key, value))))
                 } else {
                     Ok(Err(invalid_value(option, value)))
                 }
@@ -208,12 +209,12 @@ pub fn read_told<'a, F: Copy, V: Copy, P: Copy, M: Copy, S: Copy>(
             Ok(values) => match at_most_one_of(values) {
                 Some(value) => {
                     if accepts(option.words, &value) {
-                        Ok(Ok(Told::Said(Said::Maybe(key, Some(value)))))
+                        Ok(Ok(ByKey::Parsed(Parsed::Maybe(key, Some(value)))))
                     } else {
                         Ok(Err(invalid_value(option, value)))
                     }
                 }
-                None => Ok(Ok(Told::Said(Said::Maybe(key, None)))),
+                None => Ok(Ok(ByKey::Parsed(Parsed::Maybe(key, None)))),
             },
             Err(refused) => Ok(Err(missing_value(options, index, refused)?)),
         },
@@ -222,7 +223,7 @@ pub fn read_told<'a, F: Copy, V: Copy, P: Copy, M: Copy, S: Copy>(
                 let mut values = all_of(values);
                 match refused_place(option.words, &values) {
                     Some(place) => Ok(Err(invalid_value(option, values.swap_remove(place)))),
-                    None => Ok(Ok(Told::Said(Said::Values(key, values)))),
+                    None => Ok(Ok(ByKey::Parsed(Parsed::Values(key, values)))),
                 }
             }
             Err(refused) => Ok(Err(missing_value(options, index, refused)?)),
@@ -244,8 +245,8 @@ fn unknown_long<'a, F, V, P, M, S>(
     Ok(Mistake::UnknownOption { name, hint })
 }
 
-// The mistake that a short option, which was just read, is not declared. The rest of its cluster is
-// taken.
+// The mistake that a short option, which was just read, is not declared. This takes the rest of its
+// cluster.
 fn unknown_short<'a, F, V, P, M, S>(
     alloc: Global,
     parser: &mut Parser,
@@ -256,7 +257,7 @@ fn unknown_short<'a, F, V, P, M, S>(
         → IfOk result (λ mistake. IsMistake (declaration_of options.now) mistake
         (stops.unknown_option (table.short option) parser.old.tail)) }
 {
-    // A `=` is one of its characters.
+    // So a leading `=` stays part of the rest.
     parser.set_short_equals(false);
     let hint = match parser.optional_value() {
         Some(rest) => short_hint(alloc, options.options(), option, rest.as_bytes())?,
@@ -266,7 +267,7 @@ fn unknown_short<'a, F, V, P, M, S>(
     Ok(Mistake::UnknownOption { name, hint })
 }
 
-// Whether `count` positional arguments are as many as there may be.
+// Whether `count` positionals are as many as there may be.
 fn is_full(limit: Option<usize>, count: usize) -> bool
     ensures { IsTrue result ↔ (limit ≡ Some count) }
 {
@@ -276,7 +277,7 @@ fn is_full(limit: Option<usize>, count: usize) -> bool
     }
 }
 
-// What comes next in a line after `count` positional arguments, of which there may be `limit`.
+// Reads what comes next in a line after `count` positionals, of which there may be `limit`.
 pub fn read_next<'a, F, V, P, M, S>(
     alloc: Global,
     parser: &mut Parser,
@@ -320,20 +321,20 @@ pub fn read_next<'a, F, V, P, M, S>(
     }
 }
 
-// Adds what was read to a list.
-fn add(said: &mut Vec<Indexed>, item: Indexed) -> Result<(), AllocError>
-    ensures { OnOk result (map indexed_view said.new.items
-        ≡ map indexed_view said.old.items ++ indexed_view item ∷ []) }
+// Adds what was read to a list. It is a function of its own for its contract.
+fn add(parsed: &mut Vec<Indexed>, item: Indexed) -> Result<(), AllocError>
+    ensures { OnOk result (map indexed_view parsed.new.items
+        ≡ map indexed_view parsed.old.items ++ indexed_view item ∷ []) }
 {
-    Ok(said.push(item)?)
+    Ok(parsed.push(item)?)
 }
 
-// How many things a longer line may have before their list grows.
+// The most things that a list has room for before it grows.
 pub const FIRST_ROOM: usize = 16;
 
-// Reads a line into a list with room for `room` things from the start: what it means, whether or
-// not something is missing; nothing if no line begins so.
-fn read_line<'a, F, V, P, M, S>(
+// Reads a line by indices into a list that has room for `room` things from the start: what the line
+// means, even if something is missing; `None` if no line begins so. `read_keys` reads it by keys.
+fn read_indexed<'a, F, V, P, M, S>(
     alloc: Global,
     parser: &mut Parser,
     options: &Options<'a, F, V, P, M, S>,
@@ -345,19 +346,19 @@ fn read_line<'a, F, V, P, M, S>(
         → IfOk result (λ found. IsPart (declaration_of options.now) words found) }
 {
     let limit = options.most();
-    let mut said = Vec::with_capacity(alloc, room)?;
+    let mut parsed = Vec::with_capacity(alloc, room)?;
     let mut count = 0usize;
     loop {
         match read_next(alloc, parser, options, limit, count)? {
             Outcome::Option(index) => match read_option(alloc, parser, options, index)? {
-                Ok(option) => add(&mut said, option)?,
+                Ok(option) => add(&mut parsed, option)?,
                 Err(_) => return Ok(None),
             },
             Outcome::Positional(word) => {
-                add(&mut said, Indexed::Positional(word))?;
+                add(&mut parsed, Indexed::Positional(word))?;
                 count += 1;
             }
-            Outcome::End => return Ok(Some(said)),
+            Outcome::End => return Ok(Some(parsed)),
             Outcome::Mistake(_) => return Ok(None),
         }
     }
@@ -365,14 +366,14 @@ fn read_line<'a, F, V, P, M, S>(
 
 // ---- the end of a line
 
-// Whether an index is among these.
+// Whether this index is among these.
 fn is_among(index: usize, seen: &[usize]) -> bool
     ensures { result ≡ has index seen.now }
 {
     seen.contains(&index)
 }
 
-// The names of the first required option whose index is not among these. It is not inlined, since
+// The names of the first required option whose index is not among `seen`. It is not inlined, since
 // few programs have required options.
 #[inline(never)]
 fn first_unseen<'a, F, V, M, S>(
@@ -391,7 +392,7 @@ fn first_unseen<'a, F, V, M, S>(
     None
 }
 
-// The same of the options of a declaration.
+// The names of the first required option of a declaration whose index is not among `seen`.
 pub fn missing_option<'a, F, V, P, M, S>(
     options: &Options<'a, F, V, P, M, S>,
     seen: &[usize],
@@ -406,7 +407,7 @@ pub fn missing_option<'a, F, V, P, M, S>(
     first_unseen(options.options(), seen)
 }
 
-// Adds an index to a list.
+// Adds an index to a list. It is a function of its own for its contract.
 #[inline(always)]
 fn add_index(index: usize, seen: &mut Vec<usize>) -> Result<(), AllocError>
     ensures { OnOk result (seen.new.items ≡ seen.old.items ++ index ∷ []) }
@@ -414,7 +415,7 @@ fn add_index(index: usize, seen: &mut Vec<usize>) -> Result<(), AllocError>
     Ok(seen.push(index)?)
 }
 
-// Notes the index of an option that was read, if it is required.
+// Adds the index of an option that was read to `seen`, if the option is required.
 pub fn note<F, V, M, S>(
     options: &[Declared<'_, F, V, M, S>],
     index: usize,
@@ -429,19 +430,20 @@ pub fn note<F, V, M, S>(
     }
 }
 
-// A refused line. A call of this, or of what else is always inlined here, would be handed what was
-// read, which then stayed in memory and not in registers while the line is read.
+// Refuses a line. This function and the others here that are always inlined are so for speed: a
+// call would be handed what was read, which would then stay in memory and not in registers while
+// the line is read.
 #[inline(always)]
 fn refuse<'a, F, V, P: Copy, M, S>(
     options: &Options<'a, F, V, P, M, S>,
-    mut before: Vec<Said<F, V, P, M, S>>,
+    mut before: Vec<Parsed<F, V, P, M, S>>,
     mistake: Mistake<'a>,
 ) -> Line<'a, F, V, P, M, S>
-    ensures { (words : List (List ℕ)) (why : stops.Mistake) (l : List legal.Said)
+    ensures { (words : List (List ℕ)) (why : stops.Mistake) (l : List legal.Parsed)
         → IsMistake (declaration_of options.now) mistake.entry why
         → StopsAt (declaration_of options.now) words l why
-        → first_asked (declaration_of options.now).options (asking.said_before why l) ≡ None
-        → AreSaid (options_of options.now) (asking.said_before why l) before.items
+        → first_asked (declaration_of options.now).options (asking.parsed_before why l) ≡ None
+        → AreParsedAs (options_of options.now) (asking.parsed_before why l) before.items
         → AllFirst (positionals_of options.now) (positional_keys before.items)
         → IsLineRead options.now words result }
 {
@@ -454,50 +456,50 @@ fn refuse<'a, F, V, P: Copy, M, S>(
     })
 }
 
-// What was read before a mistake, where this was read up to it: without the option that was given a
-// value and takes none, if that is the mistake.
-pub fn said_before<F: Drop, V: Drop, P: Drop, M: Drop, S: Drop>(
-    mut said: Vec<Said<F, V, P, M, S>>,
+// What the line means before a mistake, where all of `parsed` was read: without the last option, if
+// the mistake is that it has an unexpected value.
+pub fn parsed_before<F: Drop, V: Drop, P: Drop, M: Drop, S: Drop>(
+    mut parsed: Vec<Parsed<F, V, P, M, S>>,
     mistake: &Mistake<'_>,
-) -> Vec<Said<F, V, P, M, S>>
-    ensures same { (options : List (Declared F V M S)) (l : List legal.Said)
-        → AreSaid options l said.items
-        → AreSaid options (before_mistake mistake.now l) result.items }
+) -> Vec<Parsed<F, V, P, M, S>>
+    ensures same { (options : List (Declared F V M S)) (l : List legal.Parsed)
+        → AreParsedAs options l parsed.items
+        → AreParsedAs options (before_mistake mistake.now l) result.items }
     ensures keys { (positionals : List (Positional P))
-        → AllFirst positionals (positional_keys said.items)
+        → AllFirst positionals (positional_keys parsed.items)
         → AllFirst positionals (positional_keys result.items) }
 {
     if let Mistake::UnexpectedValue { .. } = mistake {
-        let count = said.len().saturating_sub(1);
-        said.truncate(count);
+        let count = parsed.len().saturating_sub(1);
+        parsed.truncate(count);
     }
-    said
+    parsed
 }
 
-// A line that stops at a mistake, where all of this was read before it.
+// Refuses a line that stops at a mistake, where all of `parsed` was read.
 #[inline(always)]
 fn stop<'a, F: Drop, V: Drop, P: Copy, M: Drop, S: Drop>(
     options: &Options<'a, F, V, P, M, S>,
-    said: Vec<Said<F, V, P, M, S>>,
+    parsed: Vec<Parsed<F, V, P, M, S>>,
     mistake: Mistake<'a>,
 ) -> Line<'a, F, V, P, M, S>
-    ensures { (words : List (List ℕ)) (why : stops.Mistake) (l : List legal.Said)
+    ensures { (words : List (List ℕ)) (why : stops.Mistake) (l : List legal.Parsed)
         → IsMistake (declaration_of options.now) mistake.entry why
         → StopsAt (declaration_of options.now) words l why
         → first_asked (declaration_of options.now).options l ≡ None
-        → AreSaid (options_of options.now) l said.items
-        → AllFirst (positionals_of options.now) (positional_keys said.items)
+        → AreParsedAs (options_of options.now) l parsed.items
+        → AllFirst (positionals_of options.now) (positional_keys parsed.items)
         → IsLineRead options.now words result }
 {
-    let before = said_before(said, &mistake);
+    let before = parsed_before(parsed, &mistake);
     refuse(options, before, mistake)
 }
 
-// The line that asks for this by the option that was read last, unless a value is joined to it.
+// Ends at the option that was read last, which asks for this. A value joined to it is a mistake.
 fn ask<'a, F, V, P, M, S>(
     parser: &mut Parser,
     options: &Options<'a, F, V, P, M, S>,
-    said: Vec<Said<F, V, P, M, S>>,
+    parsed: Vec<Parsed<F, V, P, M, S>>,
     asked: Asked<'a>,
 ) -> Result<Line<'a, F, V, P, M, S>, AllocError>
 where
@@ -506,13 +508,13 @@ where
     P: Copy,
     M: Drop,
     S: Drop,
-    ensures { (words : List (List ℕ)) (l : List legal.Said) (s : legal.Said)
+    ensures { (words : List (List ℕ)) (l : List legal.Parsed) (s : legal.Parsed)
         → ReadsUpTo (declaration_of options.now)
         (start (declaration_of options.now).short_equals words) (l ++ s ∷ []) parser.old
         → first_asked (declaration_of options.now).options l ≡ None
         → asked_by (declaration_of options.now).options s ≡ Some (asked_view asked.entry)
-        → AreSaid (options_of options.now) l said.items
-        → AllFirst (positionals_of options.now) (positional_keys said.items)
+        → AreParsedAs (options_of options.now) l parsed.items
+        → AllFirst (positionals_of options.now) (positional_keys parsed.items)
         → are_accepted (declaration_of options.now).options (l ++ s ∷ []) ≡ true
         → IfOk result (λ line. IsLineRead options.now words line) }
 {
@@ -520,7 +522,7 @@ where
         Ok(_) => Ok(Line::Asked(asked)),
         Err(refused) => match refused {
             Refusal::UnexpectedValue { option, value } => {
-                Ok(refuse(options, said, Mistake::UnexpectedValue { option, value }))
+                Ok(refuse(options, parsed, Mistake::UnexpectedValue { option, value }))
             }
             Refusal::OutOfMemory => Err(AllocError),
             Refusal::MissingValue(_) => unreachable!(),
@@ -528,40 +530,40 @@ where
     }
 }
 
-// A line that was read to its end, where something may be missing or a word may be in no list.
+// Ends a line where something may be missing, or a word may not be in its list.
 #[inline(always)]
 fn end_checked<'a, F: Drop, V: Drop, P: Copy, M: Drop, S: Drop>(
     options: &Options<'a, F, V, P, M, S>,
-    mut said: Vec<Said<F, V, P, M, S>>,
+    mut parsed: Vec<Parsed<F, V, P, M, S>>,
     count: usize,
     seen: &[usize],
 ) -> Result<Line<'a, F, V, P, M, S>, AllocError>
-    ensures { (words : List (List ℕ)) (l : List legal.Said) (u v : UnreadLine)
+    ensures { (words : List (List ℕ)) (l : List legal.Parsed) (u v : UnreadLine)
         → ReadsUpTo (declaration_of options.now)
         (start (declaration_of options.now).short_equals words) l u → Next u steps.end v
         → count ≡ positional_count l → AreSeen (declaration_of options.now).options l seen.now
         → first_asked (declaration_of options.now).options l ≡ None
-        → AreSaid (options_of options.now) l said.items
-        → AllFirst (positionals_of options.now) (positional_keys said.items)
+        → AreParsedAs (options_of options.now) l parsed.items
+        → AllFirst (positionals_of options.now) (positional_keys parsed.items)
         → are_accepted (declaration_of options.now).options l ≡ true
         → IfOk result (λ line. IsLineRead options.now words line) }
 {
     if count < options.least() {
         let placeholder = argument_placeholder(options.positionals(), count);
-        return Ok(stop(options, said, Mistake::MissingArgument(placeholder)));
+        return Ok(stop(options, parsed, Mistake::MissingArgument(placeholder)));
     }
-    if let Some(mistake) = invalid_argument(options, &said)? {
-        return Ok(stop(options, said, mistake));
+    if let Some(mistake) = invalid_argument(options, &parsed)? {
+        return Ok(stop(options, parsed, mistake));
     }
     if let Some(names) = missing_option(options, seen) {
-        return Ok(stop(options, said, Mistake::MissingOption(names)));
+        return Ok(stop(options, parsed, Mistake::MissingOption(names)));
     }
-    give_keys(options.positionals(), &mut said);
-    Ok(Line::Said(said))
+    give_keys(options.positionals(), &mut parsed);
+    Ok(Line::Parsed(parsed))
 }
 
-// Whether nothing can be missing from a line with `count` positional arguments, and no word is to be
-// looked up in a list.
+// Whether nothing can be missing from a line with `count` positionals, and no word has to be in a
+// list.
 fn is_complete<F, V, P, M, S>(options: &Options<'_, F, V, P, M, S>, count: usize) -> bool
     ensures { IsTrue result ↔ (least (declaration_of options.now).positionals ≤ count)
         × (list_any (λ p. has_list p) (positionals_of options.now) ≡ false)
@@ -576,32 +578,32 @@ fn is_complete<F, V, P, M, S>(options: &Options<'_, F, V, P, M, S>, count: usize
     !options.has_required()
 }
 
-// A line that was read to its end.
+// Ends a line that was read to its end.
 fn end<'a, F: Drop, V: Drop, P: Copy, M: Drop, S: Drop>(
     options: &Options<'a, F, V, P, M, S>,
-    mut said: Vec<Said<F, V, P, M, S>>,
+    mut parsed: Vec<Parsed<F, V, P, M, S>>,
     count: usize,
     seen: &[usize],
 ) -> Result<Line<'a, F, V, P, M, S>, AllocError>
-    ensures { (words : List (List ℕ)) (l : List legal.Said) (u v : UnreadLine)
+    ensures { (words : List (List ℕ)) (l : List legal.Parsed) (u v : UnreadLine)
         → ReadsUpTo (declaration_of options.now)
         (start (declaration_of options.now).short_equals words) l u → Next u steps.end v
         → count ≡ positional_count l → AreSeen (declaration_of options.now).options l seen.now
         → first_asked (declaration_of options.now).options l ≡ None
-        → AreSaid (options_of options.now) l said.items
-        → AllFirst (positionals_of options.now) (positional_keys said.items)
+        → AreParsedAs (options_of options.now) l parsed.items
+        → AllFirst (positionals_of options.now) (positional_keys parsed.items)
         → are_accepted (declaration_of options.now).options l ≡ true
         → IfOk result (λ line. IsLineRead options.now words line) }
 {
     if is_complete(options, count) {
-        give_keys(options.positionals(), &mut said);
-        Ok(Line::Said(said))
+        give_keys(options.positionals(), &mut parsed);
+        Ok(Line::Parsed(parsed))
     } else {
-        end_checked(options, said, count, seen)
+        end_checked(options, parsed, count, seen)
     }
 }
 
-// Reads a line by the keys of its options into a list with room for `room` things from the start.
+// Reads a line by keys into a list that has room for `room` things from the start.
 fn read_keys<'a, F: Copy, V: Copy, P: Copy, M: Copy, S: Copy>(
     alloc: Global,
     parser: &mut Parser,
@@ -614,26 +616,26 @@ fn read_keys<'a, F: Copy, V: Copy, P: Copy, M: Copy, S: Copy>(
         → IfOk result (λ line. IsLineRead options.now words line) }
 {
     let limit = options.most();
-    let mut said = Vec::with_capacity(alloc, room)?;
+    let mut parsed = Vec::with_capacity(alloc, room)?;
     let mut seen = Vec::new(alloc);
     let mut count = 0usize;
     loop {
         match read_next(alloc, parser, options, limit, count)? {
-            Outcome::Option(index) => match read_told(alloc, parser, options, index)? {
-                Ok(Told::Said(own)) => {
-                    said.push(own)?;
+            Outcome::Option(index) => match read_by_key(alloc, parser, options, index)? {
+                Ok(ByKey::Parsed(own)) => {
+                    parsed.push(own)?;
                     note(options.options(), index, &mut seen)?;
                 }
-                Ok(Told::Asked(asked)) => return ask(parser, options, said, asked),
-                Err(mistake) => return Ok(stop(options, said, mistake)),
+                Ok(ByKey::Asked(asked)) => return ask(parser, options, parsed, asked),
+                Err(mistake) => return Ok(stop(options, parsed, mistake)),
             },
             Outcome::Positional(word) => {
                 let key = first_key(options.positionals());
-                said.push(Said::Positional(key, word))?;
+                parsed.push(Parsed::Positional(key, word))?;
                 count += 1;
             }
-            Outcome::End => return end(options, said, count, &seen),
-            Outcome::Mistake(mistake) => return Ok(stop(options, said, mistake)),
+            Outcome::End => return end(options, parsed, count, &seen),
+            Outcome::Mistake(mistake) => return Ok(stop(options, parsed, mistake)),
         }
     }
 }
@@ -643,7 +645,8 @@ impl<F, V, P, M, S> Options<'_, F, V, P, M, S> {
     ghost use Rattle.lexopt_options.specs.Declarations.{declaration_of};
     ghost use Rattle.lexopt_options.specs.Fronts.{IsPart};
 
-    // What words mean, whether or not something is missing; nothing if no line begins so.
+    // What words mean, by indices, even if something is missing; `None` if no line begins with
+    // them.
     pub(crate) fn read_part(
         &self,
         alloc: Global,
@@ -653,7 +656,7 @@ impl<F, V, P, M, S> Options<'_, F, V, P, M, S> {
     {
         let room = words.len().min(FIRST_ROOM);
         let mut parser = self.parser_of(words);
-        read_line(alloc, &mut parser, self, room)
+        read_indexed(alloc, &mut parser, self, room)
     }
 }
 
@@ -663,7 +666,7 @@ impl<'a, F, V, P, M, S> Options<'a, F, V, P, M, S> {
     ghost use Rattle.lexopt_declaration.specs.Lookups.{help_names};
     ghost use Rattle.lexopt_options.specs.Declarations.{declaration_of, options_of};
 
-    // A parser of these words, of which none is read.
+    // A parser of these words, none of which is read.
     pub(crate) fn parser_of(&self, words: Vec<OsString>) -> Parser
         ensures { result ≡ start (declaration_of self.now).short_equals words.items }
     {
@@ -683,35 +686,55 @@ impl<'a, F, V, P, M, S> Options<'a, F, V, P, M, S> {
 impl<'a, F: Copy, V: Copy, P: Copy, M: Copy, S: Copy> Options<'a, F, V, P, M, S> {
     ghost use Rattle.std.specs.Prelude.{◌≡◌, ℕ, List, IfOk, map};
     ghost use Rattle.lexopt_options_spec.specs.Legal as legal;
-    ghost use Rattle.lexopt_options_spec.specs.Legal.{Says};
+    ghost use Rattle.lexopt_options_spec.specs.Legal.{Means};
     ghost use Rattle.lexopt_options.specs.Declarations.{declaration_of};
     ghost use Rattle.lexopt_options.specs.Lines.{IsLineOf, IsLineRead};
 
-    /// Reads a whole line, without the name of the program.
+    /// Reads a whole line.
     ///
-    /// Under options `v|verbose`, a flag with the key `Verbose`, and `o|output` of one value with
-    /// the key `Output`, and any number of positional arguments with the key `File`, the words
-    /// `-vo=x --output y -- file` mean `Flag(Verbose)`, `Value(Output, x)`, `Value(Output, y)` and
-    /// `Positional(File, file)`.
+    /// The words are without the name of the program. This call consumes them. The forms are those
+    /// that lexopt documents: `-o value`, `-ovalue`, `-o=value`, `--name value`, `--name=value`,
+    /// and flags in a cluster; `docs/behaviour.md` has them all. If an option that asks for the
+    /// help or the version occurs before any mistake, the line is [`Line::Asked`], whatever comes
+    /// after it. A refusal has the first mistake, and what the line means before it.
     ///
-    /// If an option that asks for the help or the version occurs before any mistake, the line is
-    /// [`Line::Asked`], whatever comes after it. A refusal has the first mistake, and what was read
-    /// before it.
+    /// # Errors
     ///
-    /// The only error is that memory ran out.
+    /// Returns `AllocError` if an allocation fails. A mistake is [`Line::Refused`].
+    ///
+    /// # Examples
+    ///
+    /// With the declaration of [`declare!`](crate::declare):
+    ///
+    /// ```rust
+    /// // The words `-vo=x --mode fast a -- -b`.
+    /// match options.read(alloc, words)? {
+    ///     Line::Parsed(parsed) => {
+    ///         // Flag(Verbose), Value(Output, "x"), Value(Mode, "fast"),
+    ///         // Positional(File, "a"), Positional(File, "-b")
+    ///     }
+    ///     Line::Asked(Asked::Help) => rt.print(options.help(alloc, WIDTH)?)?,
+    ///     Line::Asked(Asked::Version(version)) => rt.println(version)?,
+    ///     Line::Refused(refused) => {
+    ///         let _ = eprintln!(rt; "{refused}");
+    ///     }
+    /// }
+    /// ```
     pub fn read(
         &self,
         alloc: Global,
         words: Vec<OsString>,
     ) -> Result<Line<'a, F, V, P, M, S>, AllocError>
-        // The list is the one that the words legally spell, by declared options alone, with each
-        // that is required, with as many positional arguments as are declared, and with values and
-        // words that these accept; each option by its key; and they ask for nothing. Or they ask for the help or the version before any mistake. Or their reading
-        // comes to this mistake, before which this was read and nothing was asked for.
+        // The list is the one that the words legally spell, by the keys: declared options, each
+        // required one among them, and a number of positionals that the declaration allows, all
+        // with values and words that they accept; and it asks for nothing. Or the words ask for the
+        // help or the version before any mistake. Or their reading stops at this mistake, before
+        // which this was read and nothing was asked for.
         ensures line { IfOk result (λ line. IsLineRead self.now words.items line) }
 
-        // If the words legally spell a list, the line is of that list: it is not refused.
-        ensures answered { (l : List legal.Said) → Says (declaration_of self.now) words.items l
+        // If the words legally spell such a list, this is that list or what it asks for; the line
+        // is not refused.
+        ensures answered { (l : List legal.Parsed) → Means (declaration_of self.now) words.items l
             → IfOk result (λ line. IsLineOf self.now l line) }
     {
         let room = words.len().min(FIRST_ROOM);

@@ -1,31 +1,38 @@
-//! What a line comes to, and a line that was refused.
+//! The result of reading a line, and a line that was refused. The file of this name in
+//! `lexopt_commands` has the same for a line with commands.
 ghost use Rattle.std.specs.Fmt.{WritesOnOk};
 ghost use Rattle.lexopt_options.specs.Messages.{help_line};
 
 use crate::mistake::Mistake;
-use crate::said::{Asked, Said};
+use crate::parsed::{Asked, Parsed};
 use lexopt_declaration::declaration::Names;
 use std::convert::Infallible;
 use std::fmt;
 use std::fmt::Debug;
 
-/// The status with which a program ends after a line that it refuses.
+/// The status with which a program exits after it refused its command line.
 pub const USAGE_ERROR: u8 = 2;
 
-/// A line that was refused.
+/// A line that was refused. `Display` writes what to print, without a line feed at the end:
+///
+/// ```text
+/// pack: invalid option '--verbsoe'; did you mean '--verbose'?
+/// Try 'pack --help' for more information.
+/// ```
 #[derive(Debug, Drop)]
 pub struct Refused<'a, F, V = Infallible, P = Infallible, M = Infallible, S = Infallible> {
     /// The name of the program.
     pub program: &'a str,
-    /// The option that asks for the help, if one is declared.
+    /// The names of the first option that asks for the help, if one is declared.
     pub help: Option<Names<'a>>,
-    /// What was read before the mistake.
-    pub before: Vec<Said<F, V, P, M, S>>,
-    /// What is wrong.
+    /// What the line means before the mistake. An option with an unexpected or an invalid value is
+    /// not part of it.
+    pub before: Vec<Parsed<F, V, P, M, S>>,
+    /// The mistake.
     pub mistake: Mistake<'a>,
 }
 
-/// Writes on a line where help is, if an option for it is declared.
+/// Writes a line feed, and where the help is, if an option for it is declared.
 pub fn write_help<W: fmt::Write>(
     program: &str,
     help: Option<Names<'_>>,
@@ -46,8 +53,8 @@ impl<F, V, P, M, S> fmt::Display for Refused<'_, F, V, P, M, S> {
     ghost output = { λ refused. Some (refusal_text refused.program.now refused.help
         (message refused.mistake)) };
 
-    /// Writes the name of the program and the mistake, as GNU programs do, and on a second line
-    /// where help is, if an option for it is declared.
+    /// Writes the name of the program and the mistake, as GNU programs do; and on a second line
+    /// where the help is, if an option for it is declared.
     fn fmt<W: fmt::Write>(&self, f: &mut fmt::Formatter<W>) -> fmt::Result {
         let program = self.program;
         let mistake = &self.mistake;
@@ -64,13 +71,13 @@ impl<
     S: Debug + Drop,
 > std::error::Error for Refused<'_, F, V, P, M, S> {}
 
-/// What a line comes to.
+/// The result of reading a line.
 #[derive(Debug, Drop)]
 pub enum Line<'a, F, V = Infallible, P = Infallible, M = Infallible, S = Infallible> {
-    /// It is legal, and this is what it means.
-    Said(Vec<Said<F, V, P, M, S>>),
-    /// It asks for the help or the version before any mistake.
+    /// The line is legal. This is what it means, in order.
+    Parsed(Vec<Parsed<F, V, P, M, S>>),
+    /// The line asks for the help or the version before any mistake.
     Asked(Asked<'a>),
-    /// It has a mistake.
+    /// The line has a mistake.
     Refused(Refused<'a, F, V, P, M, S>),
 }

@@ -1,4 +1,4 @@
-//! What a program is asked for: by its user, or by a shell.
+//! What a program is asked for, by its user or by a shell.
 ghost use Rattle.std.specs.Prelude.{◌≢◌, [], Some};
 ghost use Rattle.lexopt_options.specs.Requests.{IsCompletionRequest, IsRequest};
 
@@ -6,20 +6,22 @@ use lexopt_declaration::shell::{Shell, ShellRequest};
 use lexopt_words::os_string::OsString;
 use std::alloc::Global;
 
-/// What a program is asked for.
+/// What a program is asked for, by its user or by a shell.
 #[derive(Debug, Drop)]
 pub enum Request {
-    /// To do what this line means: the words, without the name of the program.
+    /// Do what this line means: its words, without the name of the program.
     Line(Vec<OsString>),
-    /// What can come where a word is typed: the words before it, and what was typed of it.
+    /// Print what can come where a word is typed. These are the words before it, without the name
+    /// of the program, and what was typed of it.
     Completion(Vec<OsString>, OsString),
-    /// The script by which this shell completes lines.
+    /// Print the script by which this shell completes lines.
     Script(Shell),
-    /// Something that is not known.
+    /// The variable by which shells ask has a value that is not known.
     Unknown,
 }
 
-// What can come where the last of these words is typed; the empty word, if there is none.
+// Asks what can come where the last of these words is typed; where nothing is typed if there is
+// none.
 fn completion_of(alloc: Global, mut words: Vec<OsString>) -> Request
     ensures { IsCompletionRequest words.items result }
 {
@@ -29,7 +31,7 @@ fn completion_of(alloc: Global, mut words: Vec<OsString>) -> Request
     }
 }
 
-// What is asked for by this value of the variable, which is not empty, and these words.
+// The request by this value of the variable, which is not empty, and these words.
 fn asked_by(alloc: Global, value: &[u8], words: Vec<OsString>) -> Request
     requires { value.now ≢ [] }
     ensures { IsRequest (Some value.now) words.items result }
@@ -45,11 +47,25 @@ impl Request {
     ghost use Rattle.std.specs.Prelude.{option_map};
     ghost use Rattle.lexopt_options.specs.Requests.{IsRequest};
 
-    /// What is asked for where this is the value of the variable by which shells ask, if it is set,
-    /// and these are the words that the program was called with, without its name.
+    /// Returns what a program is asked for, by the value of the variable by which shells ask and by
+    /// the words of the command line.
     ///
-    /// If it is not set, or empty, these are the words of a line. A shell that asks for what can come
-    /// hands over the words before the one that is typed, and then what was typed of it.
+    /// `value` is `None` if the variable is not set. The words are without the name of the program,
+    /// and are moved into the request.
+    ///
+    /// - `None` or the empty value: [`Request::Line`] of the words.
+    /// - `bash_source`, `zsh_source`, `fish_source`: [`Request::Script`], whatever the words are.
+    /// - `bash_complete`, `zsh_complete`, `fish_complete`: [`Request::Completion`], where the last
+    ///   word is what was typed.
+    /// - Any other: [`Request::Unknown`].
+    ///
+    /// # Examples
+    ///
+    /// ```rust
+    /// // The words `-v --o`: `--o` was typed after `-v`.
+    /// let request = Request::new(alloc, Some(b"bash_complete"), words);
+    /// let answer = options.answer_request(alloc, request, WIDTH)?;
+    /// ```
     pub fn new(alloc: Global, value: Option<&[u8]>, words: Vec<OsString>) -> Request
         ensures { IsRequest (option_map (λ v. v.now) value.entry) words.items result }
     {

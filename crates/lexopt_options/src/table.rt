@@ -1,4 +1,4 @@
-//! The table of declared options, by which the line is read.
+//! The table of the declared options, by which items are read and spelled.
 ghost use Rattle.std.specs.Prelude.{◌≡◌, IfOk, OnOk};
 ghost use Rattle.lexopt_options_spec.specs.Declaration as spec;
 ghost use Rattle.lexopt_items.specs.Items.{table_view};
@@ -11,7 +11,7 @@ use lexopt_declaration::declaration::{Declared, Kind};
 use lexopt_items::items::Table;
 use std::alloc::{AllocError, Global};
 
-// Adds the names of an option to these.
+// Adds the names of an option to these lists.
 fn add_names<F, V, M, S>(
     alloc: Global,
     option: &Declared<'_, F, V, M, S>,
@@ -30,7 +30,7 @@ fn add_names<F, V, M, S>(
     Ok(())
 }
 
-// Adds an option to the table.
+// Adds an option to the table. A flag is in no list of it.
 fn add_option<F, V, M, S>(
     alloc: Global,
     option: &Declared<'_, F, V, M, S>,
@@ -58,9 +58,19 @@ fn add_option<F, V, M, S>(
 }
 
 impl<F, V, P, M, S> Options<'_, F, V, P, M, S> {
-    /// The table that `read_items` takes: which of the options have values, and how many.
+    /// Returns the table of the options, by which `read_items` and `spell` know how many values
+    /// each has.
     ///
-    /// The only error is that memory ran out.
+    /// # Errors
+    ///
+    /// Returns `AllocError` if an allocation fails.
+    ///
+    /// # Examples
+    ///
+    /// ```rust
+    /// let table = options.table(alloc)?;
+    /// let items = read_items(alloc, words, options.has_short_equals(), &table)?;
+    /// ```
     pub fn table(&self, alloc: Global) -> Result<Table, AllocError>
         ensures { IfOk result (λ made.
             table_view made ≡ spec.table (declaration_of self.now).options) }

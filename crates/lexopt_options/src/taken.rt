@@ -1,4 +1,4 @@
-//! Which words the positional arguments of a line accept, and to which a word can belong.
+//! Which words the positionals of a line accept, and which positionals a word can belong to.
 ghost use Rattle.std.specs.Prelude.{◌≡◌, ◌≤◌, ◌↔◌, ◌+◌, ◌-◌, ℕ, IfOk, IsTrue, List, Some, false, filter, length};
 ghost use Rattle.std.specs.Prelude.{is_none, map, slice_get, true};
 ghost use Rattle.std.specs.List.{list_any};
@@ -12,7 +12,7 @@ ghost use Rattle.lexopt_options_spec.proofs.Taken.{CanBeTaken};
 ghost use Rattle.lexopt_declaration.specs.Models.{positional_view};
 ghost use Rattle.lexopt_options_spec.specs.Stops as stops;
 ghost use Rattle.lexopt_options.specs.Declarations.{declaration_of};
-ghost use Rattle.lexopt_options.specs.Keys.{said_words};
+ghost use Rattle.lexopt_options.specs.Keys.{parsed_words};
 ghost use Rattle.lexopt_options.specs.Mistakes.{IsMistake};
 ghost use Rattle.lexopt_options.specs.Taken as taken;
 ghost use Rattle.lexopt_options.specs.Taken.{IsInvalid, IsRefusal, IsRefusalAt};
@@ -22,14 +22,14 @@ use crate::indexed::Indexed;
 use crate::listed::{accepts, is_listed};
 use crate::mistake::Mistake;
 use crate::options::Options;
+use crate::parsed::Parsed;
 use crate::places::{count_of, place_of, spare_of};
-use crate::said::Said;
 use lexopt_declaration::declaration::{Positional, Words};
 use lexopt_declaration::positionals::{least_of, most_of};
 use lexopt_words::os_string::OsString;
 use std::alloc::{AllocError, Global};
 
-// Whether this positional argument has a list.
+// Whether this positional has a list.
 fn has_list<P>(positional: &Positional<'_, P>) -> bool
     ensures { result ≡ taken.has_list positional.now }
 {
@@ -39,7 +39,7 @@ fn has_list<P>(positional: &Positional<'_, P>) -> bool
     }
 }
 
-/// Whether one of these has a list.
+/// Whether one of these positionals has a list.
 pub fn any_has_list<P>(positionals: &[Positional<'_, P>]) -> bool
     ensures { result ≡ list_any (λ p. taken.has_list p) positionals.now }
 {
@@ -48,7 +48,7 @@ pub fn any_has_list<P>(positionals: &[Positional<'_, P>]) -> bool
 
 // ---- the end of a line
 
-// The mistake that a positional argument does not accept a word, if it does not.
+// The mistake that a positional does not accept a word; `None` if it does.
 fn refusal<'a, P>(
     positional: &'a Positional<'a, P>,
     word: &OsString,
@@ -70,7 +70,7 @@ fn refusal<'a, P>(
     }
 }
 
-// The same of the positional argument of this index.
+// The mistake that the positional at this index does not accept a word; `None` if it does.
 fn refusal_at<'a, P>(
     positionals: &'a [Positional<'a, P>],
     index: usize,
@@ -84,23 +84,23 @@ fn refusal_at<'a, P>(
     }
 }
 
-// The mistake of the first of these words that its positional argument does not accept, where there
-// are `spare` words more than are required.
+// The mistake of the first of these words that its positional does not accept, where there are
+// `spare` more words than are required.
 #[inline(always)]
 fn first_refusal<'a, F, V, P, M, S>(
     positionals: &'a [Positional<'a, P>],
-    said: &[Said<F, V, P, M, S>],
+    parsed: &[Parsed<F, V, P, M, S>],
     spare: usize,
 ) -> Result<Option<Mistake<'a>>, AllocError>
     ensures { let ps = map positional_view positionals.now in IfOk result (λ found. MatchOption found
-        (refused_word ps (owners 0 (greedy ps spare)) (said_words said.now) ≡ None)
+        (refused_word ps (owners 0 (greedy ps spare)) (parsed_words parsed.now) ≡ None)
         (λ mistake. (i : ℕ) × (word : List ℕ)
-        × (refused_word ps (owners 0 (greedy ps spare)) (said_words said.now) ≡ Some (i, word))
+        × (refused_word ps (owners 0 (greedy ps spare)) (parsed_words parsed.now) ≡ Some (i, word))
         × IsInvalid positionals.now i word mistake)) }
 {
     let mut index = 0usize;
-    for own in said {
-        if let Said::Positional(_, word) = own {
+    for own in parsed {
+        if let Parsed::Positional(_, word) = own {
             if let Some(place) = place_of(positionals, spare, index) {
                 if let Some(mistake) = refusal_at(positionals, place, word)? {
                     return Ok(Some(mistake));
@@ -112,45 +112,47 @@ fn first_refusal<'a, F, V, P, M, S>(
     Ok(None)
 }
 
-/// The mistake of the first of these words, at the end of a line, that its positional argument does
-/// not accept.
+/// Returns the mistake of the first word of a line that its positional does not accept; `None` if
+/// all words are accepted.
 ///
-/// The only error is that memory ran out.
+/// # Errors
+///
+/// Returns `AllocError` if an allocation fails.
 pub fn invalid_argument<'a, F, V, P, M, S>(
     options: &Options<'a, F, V, P, M, S>,
-    said: &[Said<F, V, P, M, S>],
+    parsed: &[Parsed<F, V, P, M, S>],
 ) -> Result<Option<Mistake<'a>>, AllocError>
     ensures { let ps = (declaration_of options.now).positionals in IfOk result (λ found.
-        IsWithin (length (said_words said.now)) (most ps)
-        → MatchOption found (AreTaken ps (said_words said.now))
-        (λ mistake. (i : ℕ) × (word : List ℕ) × IsNotTaken ps (said_words said.now) i word
+        IsWithin (length (parsed_words parsed.now)) (most ps)
+        → MatchOption found (AreTaken ps (parsed_words parsed.now))
+        (λ mistake. (i : ℕ) × (word : List ℕ) × IsNotTaken ps (parsed_words parsed.now) i word
         × IsMistake (declaration_of options.now) mistake (stops.invalid_argument i word))) }
 {
-    // Few programs have lists of words.
+    // Few programs have positionals with lists.
     if !options.has_lists() {
         return Ok(None);
     }
     let positionals = options.positionals();
-    first_refusal(positionals, said, spare_of(positionals, count_of(said)))
+    first_refusal(positionals, parsed, spare_of(positionals, count_of(parsed)))
 }
 
 // ---- where more words can come
 
-// Whether this is a positional argument.
+// Whether this is a positional.
 fn is_positional(own: &Indexed) -> bool
     ensures { result ≡ taken.is_positional own.now }
 {
     matches!(own, Indexed::Positional(_))
 }
 
-/// How many positional arguments are among these.
-pub fn word_count(said: &[Indexed]) -> usize
-    ensures { result ≡ length (filter (λ own. taken.is_positional own) said.now) }
+/// How many positionals are among these.
+pub fn word_count(parsed: &[Indexed]) -> usize
+    ensures { result ≡ length (filter (λ own. taken.is_positional own) parsed.now) }
 {
-    said.iter().filter(|own| is_positional(own)).count()
+    parsed.iter().filter(|own| is_positional(own)).count()
 }
 
-// Whether the positional argument of this index accepts a word.
+// Whether the positional at this index accepts a word.
 fn takes_at<P>(positionals: &[Positional<'_, P>], index: usize, word: &OsString) -> bool
     ensures { result ≡ takes_at (map positional_view positionals.now) index word.now }
 {
@@ -160,14 +162,14 @@ fn takes_at<P>(positionals: &[Positional<'_, P>], index: usize, word: &OsString)
     }
 }
 
-// Whether each of these words belongs to a positional argument that accepts it, where there are
-// `spare` words more than are required.
-fn are_taken<P>(positionals: &[Positional<'_, P>], said: &[Indexed], spare: usize) -> bool
+// Whether each of these words belongs to a positional that accepts it, where there are `spare` more
+// words than are required.
+fn are_taken<P>(positionals: &[Positional<'_, P>], parsed: &[Indexed], spare: usize) -> bool
     ensures { let ps = map positional_view positionals.now in result
-        ≡ is_none (refused_word ps (owners 0 (greedy ps spare)) (indexed_words said.now)) }
+        ≡ is_none (refused_word ps (owners 0 (greedy ps spare)) (indexed_words parsed.now)) }
 {
     let mut index = 0usize;
-    for own in said {
+    for own in parsed {
         if let Indexed::Positional(word) = own {
             if let Some(place) = place_of(positionals, spare, index) {
                 if !takes_at(positionals, place, word) {
@@ -180,8 +182,8 @@ fn are_taken<P>(positionals: &[Positional<'_, P>], said: &[Indexed], spare: usiz
     true
 }
 
-// How many words more than are required there are at most among which `count` words are the first,
-// so that each of these may belong to any positional argument that it can belong to.
+// The most words beyond the required ones that a line can have, but at most `count`: more of them
+// do not change what the first `count` words can belong to.
 fn most_spare<P>(positionals: &[Positional<'_, P>], count: usize) -> usize
     ensures { (spare : ℕ) → (spare ≤ result) ↔ ((spare ≤ count)
         × IsWithin (least (map positional_view positionals.now) + spare)
@@ -193,22 +195,22 @@ fn most_spare<P>(positionals: &[Positional<'_, P>], count: usize) -> usize
     }
 }
 
-/// Whether, with some more words after them, each of these words belongs to a positional argument
-/// that accepts it.
-pub fn can_be_taken<P>(positionals: &[Positional<'_, P>], said: &[Indexed]) -> bool
-    ensures { IsTrue result ↔ CanBeTaken (map positional_view positionals.now) (indexed_words said.now) }
+/// Whether each of these words can belong to a positional that accepts it, with some more words
+/// after them.
+pub fn can_be_taken<P>(positionals: &[Positional<'_, P>], parsed: &[Indexed]) -> bool
+    ensures { IsTrue result ↔ CanBeTaken (map positional_view positionals.now) (indexed_words parsed.now) }
 {
-    let count = word_count(said);
+    let count = word_count(parsed);
     for spare in spare_of(positionals, count)..=most_spare(positionals, count) {
-        if are_taken(positionals, said, spare) {
+        if are_taken(positionals, parsed, spare) {
             return true;
         }
     }
     false
 }
 
-// Whether the last of `count` words, with some more after them, can belong to the positional
-// argument of this index.
+// Whether the last of `count` words can belong to the positional at this index, with some more
+// words after it or none.
 fn can_own<P>(positionals: &[Positional<'_, P>], count: usize, index: usize) -> bool
     requires { 1 ≤ count }
     ensures { IsTrue result ↔ CanOwn (map positional_view positionals.now) (count - 1) index }
@@ -222,10 +224,12 @@ fn can_own<P>(positionals: &[Positional<'_, P>], count: usize, index: usize) -> 
     false
 }
 
-/// The indices of the positional arguments to which the last of `count` words can belong, with some
-/// more words after it or with none.
+/// Returns the indices of the positionals that the last of `count` words can belong to, with some
+/// more words after it or none.
 ///
-/// The only error is that memory ran out.
+/// # Errors
+///
+/// Returns `AllocError` if an allocation fails.
 pub fn owners_of<P>(
     alloc: Global,
     positionals: &[Positional<'_, P>],

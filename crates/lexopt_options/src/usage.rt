@@ -17,27 +17,44 @@ use std::alloc::{AllocError, AllocFailed};
 use std::fmt;
 use std::str::FromStr;
 
-/// A mistake that a program itself finds in what was read: the error of the functions that turn
-/// it into a value of the program's own. By `?` it takes an error of [`Options::parse_value`] and
-/// its like, of `ValueExt::parse`, of `push`, `collect` and `format!`, a text that was made by
-/// `format!`, and a text of the program's source: `Err("SOURCE and DEST are one file")?`.
+/// A mistake that a program itself finds in what was read, such as a number out of range.
 ///
-/// It writes what is wrong. [`Options::report`] writes the name of the program before it, and where
-/// help is after it.
+/// It is the error of functions that turn what was read into values of the program's own. `?`
+/// converts to it the errors of `ValueExt::parse`, `push`, `collect` and `format!`, and a text,
+/// whether from the source or made by `format!`.
+///
+/// `Display` writes what is wrong. What [`Options::report`] returns also has the name of the
+/// program, and where the help is.
+///
+/// # Examples
+///
+/// ```rust
+/// fn jobs_of<'a>(
+///     options: &Options<'a, Flag, Value, Word>,
+///     word: &OsString,
+/// ) -> Result<u32, UsageError<'a>> {
+///     let jobs: u32 = options.parse_value(Value::Jobs, word)?;
+///     if jobs < 1 {
+///         return Err(UsageError::from("at least one job is needed"));
+///     }
+///     Ok(jobs)
+/// }
+/// ```
 #[derive(Debug, Drop)]
 pub enum UsageError<'a> {
     /// A value could not be converted.
     Invalid {
-        /// The option, unless it is a value of a positional argument.
+        /// The names of the option that has the value; `None` if no option is named, as for a
+        /// positional.
         option: Option<Names<'a>>,
-        /// Why it could not be converted.
+        /// The reason.
         error: Error,
     },
-    /// This is wrong.
+    /// A message.
     Text(&'a str),
-    /// The same, in a text that was made.
+    /// A message that the program made, as by `format!`.
     Formatted(String),
-    /// Memory ran out.
+    /// An allocation failed.
     OutOfMemory,
 }
 
@@ -87,7 +104,7 @@ impl From<Error> for UsageError<'_> {
 
     ghost from_gives = { λ error usage. usage ≡ invalid None error };
 
-    /// A value that is not of an option.
+    /// Names no option. [`Error::OutOfMemory`] becomes [`UsageError::OutOfMemory`].
     fn from(error: Error) -> Self {
         invalid(None, error)
     }
@@ -115,12 +132,13 @@ impl<'a> From<&'a str> for UsageError<'a> {
     }
 }
 
-/// What is printed about a mistake that the program found.
+/// What to print about a mistake that the program found. `Display` writes it, without a line feed
+/// at the end.
 #[derive(Debug, Drop)]
 pub struct Report<'a> {
     /// The name of the program.
     pub program: &'a str,
-    /// The option that asks for the help, if one is declared.
+    /// The names of the first option that asks for the help, if one is declared.
     pub help: Option<Names<'a>>,
     /// The mistake.
     pub error: UsageError<'a>,
@@ -130,8 +148,8 @@ impl Report<'_> {
     ghost use Rattle.std.specs.Prelude.{◌≡◌};
     ghost use Rattle.lexopt_options.specs.Usage.{report_status};
 
-    /// The status with which the program ends after it: 1 after [`UsageError::OutOfMemory`], and
-    /// [`USAGE_ERROR`](crate::USAGE_ERROR) after any other.
+    /// Returns the status to exit with: 1 after [`UsageError::OutOfMemory`], otherwise
+    /// [`USAGE_ERROR`](crate::USAGE_ERROR).
     pub fn status(&self) -> u8
         ensures { result ≡ report_status self.now.error }
     {
@@ -148,8 +166,8 @@ impl fmt::Display for Report<'_> {
 
     ghost output = { λ report. Some (report_text report) };
 
-    /// Writes the name of the program and the mistake, and on a second line where help is, if an
-    /// option for it is declared and the mistake is not [`UsageError::OutOfMemory`].
+    /// Writes the name of the program and the mistake; and on a second line where the help is, if
+    /// an option for it is declared and the mistake is not [`UsageError::OutOfMemory`].
     fn fmt<W: fmt::Write>(&self, f: &mut fmt::Formatter<W>) -> fmt::Result {
         let program = self.program;
         let error = &self.error;
@@ -161,7 +179,7 @@ impl fmt::Display for Report<'_> {
     }
 }
 
-// A value that could not be converted, or that memory ran out.
+// The mistake for this error: a value of this option could not be converted, or memory ran out.
 fn invalid<'a>(option: Option<Names<'a>>, error: Error) -> UsageError<'a>
     ensures { result ≡ usage.invalid option.entry error }
 {
@@ -171,7 +189,7 @@ fn invalid<'a>(option: Option<Names<'a>>, error: Error) -> UsageError<'a>
     }
 }
 
-// What was converted, or the error that names the option.
+// What was converted, or the mistake, which names the option.
 fn name_error<'a, T>(
     option: Option<Names<'a>>,
     converted: Result<T, Error>,
@@ -184,7 +202,7 @@ fn name_error<'a, T>(
     }
 }
 
-// Writes that a value is invalid, and shows it if the error has it.
+// Writes that a value is invalid, and the value if the error has it.
 fn write_what<W: fmt::Write>(error: &Error, f: &mut fmt::Formatter<W>) -> fmt::Result
     ensures { WritesOnOk W.write_str_gives f.old result (what_message error.now) f.new }
 {
@@ -203,7 +221,7 @@ fn write_value<W: fmt::Write>(value: &[u8], f: &mut fmt::Formatter<W>) -> fmt::R
     write!(f, "invalid value {value}")
 }
 
-// Writes for which option a value is, if there is one.
+// Writes which option the value is for, if one is named.
 fn write_option<W: fmt::Write>(option: Option<Names<'_>>, f: &mut fmt::Formatter<W>) -> fmt::Result
     ensures { WritesOnOk W.write_str_gives f.old result (for_option option.entry) f.new }
 {
@@ -243,7 +261,7 @@ fn write_message<W: fmt::Write>(
 
 // ---- the option of a key
 
-// Whether this is the kind with this key.
+// Whether this is an option of one value with this key.
 fn is_value<F, V: PartialEq, M, S>(kind: &Kind<'_, F, V, M, S>, key: &V) -> bool
     ensures { result ≡ usage.is_value V.eq key.now kind.now }
 {
@@ -253,7 +271,7 @@ fn is_value<F, V: PartialEq, M, S>(kind: &Kind<'_, F, V, M, S>, key: &V) -> bool
     }
 }
 
-// Whether this is the kind with this key.
+// Whether this is an option with this key whose value may be left out.
 fn is_maybe<F, V, M: PartialEq, S>(kind: &Kind<'_, F, V, M, S>, key: &M) -> bool
     ensures { result ≡ usage.is_maybe M.eq key.now kind.now }
 {
@@ -263,7 +281,7 @@ fn is_maybe<F, V, M: PartialEq, S>(kind: &Kind<'_, F, V, M, S>, key: &M) -> bool
     }
 }
 
-// Whether this is the kind with this key.
+// Whether this is an option of several values with this key.
 fn is_values<F, V, M, S: PartialEq>(kind: &Kind<'_, F, V, M, S>, key: &S) -> bool
     ensures { result ≡ usage.is_values S.eq key.now kind.now }
 {
@@ -273,7 +291,7 @@ fn is_values<F, V, M, S: PartialEq>(kind: &Kind<'_, F, V, M, S>, key: &S) -> boo
     }
 }
 
-// The place of the first option with this key.
+// The index of the first option of one value with this key.
 fn place_of_value<F, V: PartialEq, M, S>(
     options: &[Declared<'_, F, V, M, S>],
     key: &V,
@@ -285,7 +303,7 @@ fn place_of_value<F, V: PartialEq, M, S>(
         .position(|option| is_value(&option.kind, key))
 }
 
-// The place of the first option with this key.
+// The index of the first option with this key whose value may be left out.
 fn place_of_maybe<F, V, M: PartialEq, S>(
     options: &[Declared<'_, F, V, M, S>],
     key: &M,
@@ -297,7 +315,7 @@ fn place_of_maybe<F, V, M: PartialEq, S>(
         .position(|option| is_maybe(&option.kind, key))
 }
 
-// The place of the first option with this key.
+// The index of the first option of several values with this key.
 fn place_of_values<F, V, M, S: PartialEq>(
     options: &[Declared<'_, F, V, M, S>],
     key: &S,
@@ -313,8 +331,25 @@ impl<'a, F, V: Copy + PartialEq, P, M, S> Options<'a, F, V, P, M, S> {
     ghost use Rattle.lexopt_options.specs.Declarations.{options_of};
     ghost use Rattle.lexopt_options.specs.Usage.{ConvertsFor, value_names};
 
-    /// The value that a word denotes, by its type's `FromStr`. The word is a value of the option
-    /// with this key. The error names the first option with it.
+    /// Converts a value of the option with this key, by the type's `FromStr`.
+    ///
+    /// # Errors
+    ///
+    /// - [`UsageError::Invalid`] if the word is not UTF-8 or `FromStr` fails. It has the names of
+    ///   the first declared option of one value with this key, if there is one.
+    /// - [`UsageError::OutOfMemory`] if an allocation fails.
+    ///
+    /// # Examples
+    ///
+    /// ```rust
+    /// Parsed::Value(Value::Jobs, word) => jobs = options.parse_value(Value::Jobs, &word)?,
+    /// ```
+    ///
+    /// If `jobs` is a `u32`, the message for the words `--jobs x` is
+    ///
+    /// ```text
+    /// invalid value "x" for '--jobs': invalid digit found in string
+    /// ```
     pub fn parse_value<T: FromStr>(&self, key: V, word: &OsString) -> Result<T, UsageError<'a>>
     where
         T::Err: Into<anyhow::Error>,
@@ -331,7 +366,20 @@ impl<'a, F, V, P, M: Copy + PartialEq, S> Options<'a, F, V, P, M, S> {
     ghost use Rattle.lexopt_options.specs.Declarations.{options_of};
     ghost use Rattle.lexopt_options.specs.Usage.{ConvertsFor, maybe_names};
 
-    /// The same for an option whose value may be left out.
+    /// Converts the value of an option whose value may be left out, as [`Options::parse_value`]
+    /// does.
+    ///
+    /// # Errors
+    ///
+    /// Returns the errors of [`Options::parse_value`], for the first such option with this key.
+    ///
+    /// # Examples
+    ///
+    /// ```rust
+    /// Parsed::Maybe(Maybe::Level, Some(word)) => {
+    ///     level = options.parse_maybe(Maybe::Level, &word)?;
+    /// }
+    /// ```
     pub fn parse_maybe<T: FromStr>(&self, key: M, word: &OsString) -> Result<T, UsageError<'a>>
     where
         T::Err: Into<anyhow::Error>,
@@ -348,7 +396,21 @@ impl<'a, F, V, P, M, S: Copy + PartialEq> Options<'a, F, V, P, M, S> {
     ghost use Rattle.lexopt_options.specs.Declarations.{options_of};
     ghost use Rattle.lexopt_options.specs.Usage.{ConvertsFor, values_names};
 
-    /// The same for one of an option's several values.
+    /// Converts one of the values of an option of several values, as [`Options::parse_value`] does.
+    ///
+    /// # Errors
+    ///
+    /// Returns the errors of [`Options::parse_value`], for the first such option with this key.
+    ///
+    /// # Examples
+    ///
+    /// ```rust
+    /// Parsed::Values(Values::Size, words) => {
+    ///     for word in &words {
+    ///         sizes.push(options.parse_values::<u64>(Values::Size, word)?)?;
+    ///     }
+    /// }
+    /// ```
     pub fn parse_values<T: FromStr>(&self, key: S, word: &OsString) -> Result<T, UsageError<'a>>
     where
         T::Err: Into<anyhow::Error>,
@@ -366,8 +428,25 @@ impl<'a, F, V, P, M, S> Options<'a, F, V, P, M, S> {
     ghost use Rattle.lexopt_declaration.specs.Lookups.{help_names};
     ghost use Rattle.lexopt_options.specs.Declarations.{declaration_of, options_of};
 
-    /// What to print about a mistake that the program found, before it ends with the status
-    /// [`USAGE_ERROR`](crate::USAGE_ERROR).
+    /// Returns what to print about a mistake that the program found, before it exits with
+    /// [`Report::status`].
+    ///
+    /// # Examples
+    ///
+    /// ```rust
+    /// Err(error) => {
+    ///     let report = options.report(error);
+    ///     let _ = eprintln!(rt; "{report}");
+    ///     return Ok(ExitCode::from(report.status()));
+    /// }
+    /// ```
+    ///
+    /// It prints, for example,
+    ///
+    /// ```text
+    /// example_copy: invalid value "x" for '--jobs': invalid digit found in string
+    /// Try 'example_copy --help' for more information.
+    /// ```
     pub fn report(&self, error: UsageError<'a>) -> Report<'a>
         ensures program { result.program.now ≡ (declaration_of self.now).program }
         ensures help { result.help ≡ help_names (options_of self.now) }

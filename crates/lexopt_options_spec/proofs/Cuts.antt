@@ -1,4 +1,4 @@
--- A line is read in the same way without words at its end that are left unread.
+-- A line is read in the same way if unread words at its end are left out.
 use Rattle.std.proofs.Common.{◌≡◌, ◌≢◌, ◌<◌, ℕ, suc, true, false, List, [], ◌∷◌, ◌++◌, length, take, Some, None, refl, sym, ap, subst, ◌∙◌, arith, inl, inr, append_assoc}
 use Rattle.std.proofs.lemmas.List.{take_all}
 use Rattle.lexopt_spec.specs.UnreadLine.{dash, no_tail, UnreadLine, pending, IsPlainFront, IsNormalIn}
@@ -11,11 +11,11 @@ use Rattle.lexopt_line_spec.specs.Readings.{ReadsFirst, ReadsItems, first_positi
 use Rattle.lexopt_line_spec.proofs.FullValues.{FullStep, joined_one, attached_first, words_alone, nothing_given, full_step}
 use Rattle.lexopt_line_spec.proofs.ItemsRead.{option_given}
 
--- the line with these words in place of its own
+-- the line with these words instead of its own
 abbrev pub with_words : List (List ℕ) → UnreadLine → UnreadLine
 with_words ws u = record u { words = ws }
 
--- what comes before these words, and what is true of the line without them
+-- the words before these, and what holds for the line without these
 pub record Cut (u : UnreadLine) (tail : List (List ℕ)) (P : UnreadLine → Type 0) : Type 0 where
   pub before : List (List ℕ)
   pub words_are : u.words ≡ before ++ tail
@@ -88,9 +88,9 @@ step_cut u v r left tail is (equals_value value o joins on spelled r_is after) =
   words_are = sym (ap (λ (x : UnreadLine). x.words) after) ∙ is;
   holds = equals_value value o joins on spelled r_is (ap (with_words left) after);
 }
-step_cut u v r left tail is (next_in_cluster bytes goes_on not reads) =
+step_cut u v r left tail is (next_in_cluster bytes continues not reads) =
     let cut = short_cut bytes u v r left tail is reads in
-    record { before = cut.before; words_are = cut.words_are; holds = next_in_cluster bytes goes_on not cut.holds }
+    record { before = cut.before; words_are = cut.words_are; holds = next_in_cluster bytes continues not cut.holds }
 step_cut u v r left tail is (after_separator none ended reads) =
     let cut = positional_cut u v r left tail is reads in
     record { before = cut.before; words_are = cut.words_are; holds = after_separator none ended cut.holds }
@@ -136,7 +136,7 @@ front_cut ended words front left tail is = record { words_are = refl; plain = is
     longest [] none = λ h. h
     longest (w ∷ ws) none = none
 
--- all values that there are, asked for one more
+-- all values that there are, if one more is asked for
 pub record AllGiven (u : UnreadLine) (came : List (List ℕ)) (v : UnreadLine) : Type 0 where
   pub asked : ℕ
   pub few : length came < asked
@@ -199,7 +199,7 @@ full_cut u v came left tail is (nothing_given has none r_is after) = absurd (let
 
 -- ---- items
 
--- memory was enough
+-- memory did not run out
 pub enough : (P : UnreadLine → Reply → UnreadLine → Type 0) (u : UnreadLine) (r : Reply) (v : UnreadLine) → steps.Answers P u r v → r ≢ steps.no_memory → P u r v
 enough P u r v (inl step) other = step
 enough P u r v (inr refused) other = absurd (other refused.reply_is)

@@ -1,4 +1,4 @@
--- Options that pass the test can be declared together, and the other way round.
+-- Options pass the test if and only if they can be declared together.
 use Rattle.std.proofs.Common.{◌≡◌, ◌≢◌, ℕ, ◌+◌, ◌/◌, ◌%◌, Bool, true, false, not, nat_eq, ◌==◌, ◌||◌, ◌&&◌, List, [], ◌∷◌, ◌++◌, Option, Some, None, is_none, cond, encode_utf8, encode_utf8_all, refl, sym, ap, subst, ◌∙◌, arith, ⊎_elim}
 use Rattle.std.specs.List.{list_all, list_any, starts_with}
 use Rattle.std.specs.Str.{IsUtf8}
@@ -41,7 +41,7 @@ none_by_characters name utf8 none = false_from_ne_true (has replacement (lossy_c
     (λ is. true≢false (sym (subst (λ (l : List ℕ). has_replacement l ≡ true) utf8.1.1
     (has_bytes utf8.0 (subst (λ (l : List ℕ). has replacement l ≡ true) (characters_of name utf8) is))) ∙ none))
 
--- a byte that is not the first one of U+FFFD
+-- a byte that is not the first of U+FFFD
 passed : (b : ℕ) (more : List ℕ) → b ≢ 0xEF → has_replacement (b ∷ more) ≡ has_replacement more
 passed b more other = let e : nat_eq 0xEF b ≡ false = ne_eqb 0xEF b (λ is. other (sym is)) in rw e refl
 
@@ -183,9 +183,9 @@ option_good before o text none =
     let names = and_from _ _ (short_good o.short_name first.0) (long_good o.long_name text second.0) in
     (and_from _ _ (and_from _ _ names (placeholder_good o.kind o.placeholder third.0)) (words_good o.words fourth.0), fifth.0)
 
--- ---- options one after the other
+-- ---- options one after another
 
--- none of these options has a name of one before them
+-- no two of these options have a name in common
 abbrev shared : List Declared → List Declared → Bool
 shared before os = list_any (λ o. list_any (shares_name o) before) os
 

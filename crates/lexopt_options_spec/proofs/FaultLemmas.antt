@@ -18,13 +18,13 @@ fault_at before [] i d within = absurd (omega arith)
 fault_at before (o ∷ os) zero d within = ap (λ l. fault l o) (sym (append_nil before))
 fault_at before (o ∷ os) (suc i) d within = fault_at (before ++ o ∷ []) os i d (omega arith) ∙ ap (λ l. fault l (get_or os i d)) (append_assoc before (o ∷ []) (take i os))
 
--- one option more that can be declared
+-- one more option that can be declared
 pub sound_more : (os : List Declared) (i : ℕ) (d : Declared) → i < length os → list_all is_none (take i (faults [] os)) ≡ true → fault (take i os) (get_or os i d) ≡ None
     → list_all is_none (take (i + 1) (faults [] os)) ≡ true
 sound_more os i d within so none =
     list_all_more is_none (faults [] os) i None (omega (arith, faults_length [] os)) ∙ ap (λ b. b && is_none (get_or (faults [] os) i None)) so ∙ ap is_none (fault_at [] os i d within ∙ none)
 
--- all of them
+-- all options
 pub sound_all : (os : List Declared) (n : ℕ) → length os ≤ n → list_all is_none (take n (faults [] os)) ≡ true → is_sound os ≡ true
 sound_all os n all so = sym (ap (list_all is_none) (take_all n (faults [] os) (omega (arith, faults_length [] os)))) ∙ so
 

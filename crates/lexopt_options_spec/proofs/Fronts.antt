@@ -8,7 +8,7 @@ use Rattle.lexopt_spec.specs.Steps.{Reply, Next}
 use Rattle.lexopt_spec.specs.Runs.{next}
 use Rattle.lexopt_line_spec.specs.Table as spec
 use Rattle.lexopt_line_spec.specs.Table.{Item, Name, Table, kind}
-use Rattle.lexopt_line_spec.specs.Readings.{IsReading, item_after, items_said, option_reply, start}
+use Rattle.lexopt_line_spec.specs.Readings.{IsReading, item_after, items_of_replies, option_reply, start}
 use Rattle.lexopt_line_spec.specs.Speller.{IsOf}
 use Rattle.lexopt_line_spec.proofs.Existence.{only_one}
 use Rattle.lexopt_line_spec.proofs.Names.{shown_spells, spelled_shows}
@@ -18,7 +18,7 @@ use Rattle.lexopt_line_spec.proofs.ReadingSteps.{says_positional, reads_last, re
 use Rattle.lexopt_line_spec.proofs.RunAccounts.{step_line}
 use Rattle.lexopt_line_spec.proofs.WholeLines.{said_shows, shown_said}
 use Rattle.lexopt_options_spec.specs.Declaration.{Declaration, Declared, index_of, is_sound, table}
-use Rattle.lexopt_options_spec.specs.Legal.{Said, said_item, positional, positional_count, positional_words, occurs, most, IsWithin, SaysFront, Says, are_accepted, refused_value}
+use Rattle.lexopt_options_spec.specs.Legal.{Parsed, parsed_item, positional, positional_count, positional_words, occurs, most, IsWithin, MeansFront, Means, are_accepted, refused_value}
 use Rattle.lexopt_options_spec.specs.Places.{AreTaken, least}
 use Rattle.lexopt_options_spec.specs.Stops.{Mistake, ReadsUpTo, Stops, not_declared, value_of_flag, no_value, not_accepted, one_too_many, too_few, not_taken, not_complete, StopsAt, invalid_argument, invalid_value, missing_argument, missing_option}
 use Rattle.lexopt_options_spec.proofs.Sound.{whole_names}
@@ -34,160 +34,162 @@ item_of name (steps.maybe word ∷ replies) = refl
 item_of name (steps.items words ∷ replies) = refl
 item_of name (reply ∷ replies) = refl
 
-pub undeclared : (options : List Declared) (name : Name) (item : Item) → IsOf name item → index_of options name ≡ None → said_item options item ≡ None
+pub undeclared : (options : List Declared) (name : Name) (item : Item) → IsOf name item → index_of options name ≡ None → parsed_item options item ≡ None
 undeclared options name (spec.option other value) is none = ap (option_map (λ i. _)) (ap (index_of options) is ∙ none)
 undeclared options name (spec.many other values) is none = ap (option_map (λ i. _)) (ap (index_of options) is ∙ none)
 undeclared options name (spec.positional word) is none = absurd is
 
 -- ---- what is read is one list
 
-pub one_front : (d : Declaration) (words : List (List ℕ)) (l m : List Said) → SaysFront d words l → SaysFront d words m → l ≡ m
-one_front d words l m says other =
-    let same = only_one (table d.options) (start d.short_equals words) says.items other.items tt
-    (spelled_shows (table d.options) d.short_equals words says.items says.spelled) (spelled_shows (table d.options) d.short_equals words other.items other.spelled) in
-    same_somes l m (sym says.said ∙ ap (map (said_item d.options)) same ∙ other.said)
+pub one_front : (d : Declaration) (words : List (List ℕ)) (l m : List Parsed) → MeansFront d words l → MeansFront d words m → l ≡ m
+one_front d words l m means other =
+    let same = only_one (table d.options) (start d.short_equals words) means.items other.items tt
+    (spelled_shows (table d.options) d.short_equals words means.items means.spelled) (spelled_shows (table d.options) d.short_equals words other.items other.spelled) in
+    same_somes l m (sym means.parsed ∙ ap (map (parsed_item d.options)) same ∙ other.parsed)
 
--- what a reading that comes to the end means
-pub front_said : (d : Declaration) → is_sound d.options ≡ true → (words : List (List ℕ)) (items : List Item) (l : List Said) → IsReading (table d.options) (start d.short_equals words) steps.end items
-    → map (said_item d.options) items ≡ map (λ s. Some s) l → IsWithin (positional_count l) (most d.positionals) → SaysFront d words l
-front_said d sound words items l reading said within = record {
+-- what a reading that reaches the end means
+pub front_parsed : (d : Declaration) → is_sound d.options ≡ true → (words : List (List ℕ)) (items : List Item) (l : List Parsed) → IsReading (table d.options) (start d.short_equals words) steps.end items
+    → map (parsed_item d.options) items ≡ map (λ s. Some s) l → IsWithin (positional_count l) (most d.positionals) → MeansFront d words l
+front_parsed d sound words items l reading parsed within = record {
   items = items;
-  spelled = shown_spells (table d.options) d.short_equals words items (said_shows (table d.options) d.short_equals words items reading) (whole_names d.options sound items l said);
-  said = said;
+  spelled = shown_spells (table d.options) d.short_equals words items (said_shows (table d.options) d.short_equals words items reading) (whole_names d.options sound items l parsed);
+  parsed = parsed;
   within = within;
 }
 
--- ---- where a reading stops, nothing is read
+-- ---- words whose reading stops mean nothing
 
--- the reading of these words comes to this mistake, whether or not each option accepts the values before it
-pub record ComesTo (d : Declaration) (words : List (List ℕ)) (before : List Said) (mistake : Mistake) : Type 0 where
+-- the reading of these words stops at this mistake, even if an option does not accept a value
+-- before it
+pub record ComesTo (d : Declaration) (words : List (List ℕ)) (before : List Parsed) (mistake : Mistake) : Type 0 where
   pub there : UnreadLine
   pub read : ReadsUpTo d (start d.short_equals words) before there
   pub stops : Stops d before there mistake
 
-pub comes_to : {d : Declaration} {words : List (List ℕ)} {before : List Said} {mistake : Mistake} → StopsAt d words before mistake → ComesTo d words before mistake
+pub comes_to : {d : Declaration} {words : List (List ℕ)} {before : List Parsed} {mistake : Mistake} → StopsAt d words before mistake → ComesTo d words before mistake
 comes_to at = record { there = at.there; read = at.read; stops = at.stops }
 
--- every reading of the line that is left is the end of one of the whole, so it means what the words
+-- every reading of the unread line is the end of a reading of the whole, so it gives what the words
 -- spell
 record Ends (d : Declaration) (before : List Item) (spelled : List Item) (final : Reply) (m : List Item) : Type 0 where
   final_is : final ≡ steps.end
   items_are : spelled ≡ before ++ m
 
-ends : (d : Declaration) (words : List (List ℕ)) (before : List Said) (mistake : Mistake) (there : ComesTo d words before mistake) (l : List Said) (says : SaysFront d words l)
-    → (final : Reply) (m : List Item) → IsReading (table d.options) there.there final m → Ends d there.read.items says.items final m
-ends d words before mistake there l says final m reading =
+ends : (d : Declaration) (words : List (List ℕ)) (before : List Parsed) (mistake : Mistake) (there : ComesTo d words before mistake) (l : List Parsed) (means : MeansFront d words l)
+    → (final : Reply) (m : List Item) → IsReading (table d.options) there.there final m → Ends d there.read.items means.items final m
+ends d words before mistake there l means final m reading =
     let whole = says_items (table d.options) (start d.short_equals words) there.there there.read.items there.read.read final m reading in
-    let said = shown_said (table d.options) d.short_equals words says.items (there.read.items ++ m) final
-    (spelled_shows (table d.options) d.short_equals words says.items says.spelled) whole in
-    record { final_is = said.0; items_are = said.1 }
+    let parsed = shown_said (table d.options) d.short_equals words means.items (there.read.items ++ m) final
+    (spelled_shows (table d.options) d.short_equals words means.items means.spelled) whole in
+    record { final_is = parsed.0; items_are = parsed.1 }
 
-later : (d : Declaration) (words : List (List ℕ)) (before : List Said) (mistake : Mistake) (there : ComesTo d words before mistake) (l : List Said) (says : SaysFront d words l)
-    → (m : List Item) → says.items ≡ there.read.items ++ m → Later (said_item d.options) m before l
-later d words before mistake there l says m is =
-    split (said_item d.options) there.read.items m before l there.read.said (sym (ap (map (said_item d.options)) is) ∙ says.said)
+later : (d : Declaration) (words : List (List ℕ)) (before : List Parsed) (mistake : Mistake) (there : ComesTo d words before mistake) (l : List Parsed) (means : MeansFront d words l)
+    → (m : List Item) → means.items ≡ there.read.items ++ m → Later (parsed_item d.options) m before l
+later d words before mistake there l means m is =
+    split (parsed_item d.options) there.read.items m before l there.read.parsed (sym (ap (map (parsed_item d.options)) is) ∙ means.parsed)
 
 above : (n k : ℕ) (limit : Option ℕ) → limit ≡ Some n → IsWithin (n + suc k) limit → ⊥
 above n k None is within = let e : None ≡ Some n = is in cc
 above n k (Some m) is within = let e : m ≡ n = (let f : Some m ≡ Some n = is in cc) in omega arith
 
-stops_front : (d : Declaration) (words : List (List ℕ)) (before : List Said) (mistake other : Mistake) (there : ComesTo d words before mistake) → mistake ≡ other
+stops_front : (d : Declaration) (words : List (List ℕ)) (before : List Parsed) (mistake other : Mistake) (there : ComesTo d words before mistake) → mistake ≡ other
     → ((count : ℕ) → other ≡ missing_argument count → ⊥) → ((index : ℕ) → other ≡ missing_option index → ⊥) → ((index : ℕ) (value : List ℕ) → other ≡ invalid_value index value → ⊥)
-    → ((index : ℕ) (word : List ℕ) → other ≡ invalid_argument index word → ⊥) → Stops d before there.there other → (l : List Said) → SaysFront d words l → ⊥
-stops_front d words before mistake other there is not neither nor never (not_declared name v step none) l says =
+    → ((index : ℕ) (word : List ℕ) → other ≡ invalid_argument index word → ⊥) → Stops d before there.there other → (l : List Parsed) → MeansFront d words l → ⊥
+stops_front d words before mistake other there is not neither nor never (not_declared name v step none) l means =
     let t = table d.options in
     let r = option_reading t there.there v name (step_line next there.there (option_reply name) v there.read.line step) step in
-    let e = ends d words before mistake there l says r.0 (item_after name r.1 ∷ items_said r.1) r.2 in
-    let rest = later d words before mistake there l says (item_after name r.1 ∷ items_said r.1) e.items_are in
-    first_none (said_item d.options) (item_after name r.1) (items_said r.1) rest.later (undeclared d.options name (item_after name r.1) (item_of name r.1) none) rest.are
-stops_front d words before mistake other there is not neither nor never (value_of_flag option value v step) l says =
-    let e = ends d words before mistake there l says (steps.unexpected option value) _ (reads_last (table d.options) there.there v (steps.unexpected option value) tt step) in
+    let e = ends d words before mistake there l means r.0 (item_after name r.1 ∷ items_of_replies r.1) r.2 in
+    let rest = later d words before mistake there l means (item_after name r.1 ∷ items_of_replies r.1) e.items_are in
+    first_none (parsed_item d.options) (item_after name r.1) (items_of_replies r.1) rest.later (undeclared d.options name (item_after name r.1) (item_of name r.1) none) rest.are
+stops_front d words before mistake other there is not neither nor never (value_of_flag option value v step) l means =
+    let e = ends d words before mistake there l means (steps.unexpected option value) _ (reads_last (table d.options) there.there v (steps.unexpected option value) tt step) in
     let f : steps.unexpected option value ≡ steps.end = e.final_is in cc
-stops_front d words before mistake other there is not neither nor never (no_value name index option call v w step found due takes) l says =
-    let e = ends d words before mistake there l says (steps.missing (Some option)) _
+stops_front d words before mistake other there is not neither nor never (no_value name index option call v w step found due takes) l means =
+    let e = ends d words before mistake there l means (steps.missing (Some option)) _
     (reads_refused (table d.options) there.there v w name (kind (table d.options) name) call (steps.missing (Some option)) refl due tt step takes) in
     let f : steps.missing (Some option) ≡ steps.end = e.final_is in cc
-stops_front d words before mistake other there is not neither nor never (one_too_many word v step limit) l says =
+stops_front d words before mistake other there is not neither nor never (one_too_many word v step limit) l means =
     let t = table d.options in
     let r = some_reading t v (step_line next there.there (steps.positional word) v there.read.line step) in
-    let e = ends d words before mistake there l says r.0 _ (says_positional t there.there v word step r.0 r.1 r.2) in
-    let rest = later d words before mistake there l says (spec.positional word ∷ r.1) e.items_are in
-    let first = first_is (said_item d.options) (spec.positional word) (positional word) r.1 rest.later refl rest.are in
+    let e = ends d words before mistake there l means r.0 _ (says_positional t there.there v word step r.0 r.1 r.2) in
+    let rest = later d words before mistake there l means (spec.positional word ∷ r.1) e.items_are in
+    let first = first_is (parsed_item d.options) (spec.positional word) (positional word) r.1 rest.later refl rest.are in
     let count : positional_count l ≡ positional_count before + suc (positional_count first.0) =
     ap positional_count rest.all_are ∙ count_append before rest.later ∙ ap (λ m. positional_count before + positional_count m) first.1 ∙ ap (λ n. positional_count before + n) (omega arith) in
-    above (positional_count before) (positional_count first.0) (most d.positionals) limit (subst (λ n. IsWithin n (most d.positionals)) count says.within)
-stops_front d words before mistake other there is not neither nor never (not_accepted s index value v read option refused) l says = absurd (nor index value refl)
-stops_front d words before mistake other there is not neither nor never (too_few v step few) l says = absurd (not (positional_count before) refl)
-stops_front d words before mistake other there is not neither nor never (not_complete index v step enough taken first) l says = absurd (neither index refl)
-stops_front d words before mistake other there is not neither nor never (not_taken index word v step enough unfit) l says = absurd (never index word refl)
+    above (positional_count before) (positional_count first.0) (most d.positionals) limit (subst (λ n. IsWithin n (most d.positionals)) count means.within)
+stops_front d words before mistake other there is not neither nor never (not_accepted s index value v read option refused) l means = absurd (nor index value refl)
+stops_front d words before mistake other there is not neither nor never (too_few v step few) l means = absurd (not (positional_count before) refl)
+stops_front d words before mistake other there is not neither nor never (not_complete index v step enough taken first) l means = absurd (neither index refl)
+stops_front d words before mistake other there is not neither nor never (not_taken index word v step enough unfit) l means = absurd (never index word refl)
 
--- these words mean no front of a line, but where a positional or an option is missing, or a value or a word is not accepted
-pub no_front : (d : Declaration) (words : List (List ℕ)) (before : List Said) (mistake : Mistake) → ComesTo d words before mistake
+-- these words mean nothing, unless a positional or an option is missing, or a value or a word is
+-- not accepted
+pub no_front : (d : Declaration) (words : List (List ℕ)) (before : List Parsed) (mistake : Mistake) → ComesTo d words before mistake
     → ((count : ℕ) → mistake ≡ missing_argument count → ⊥) → ((index : ℕ) → mistake ≡ missing_option index → ⊥) → ((index : ℕ) (value : List ℕ) → mistake ≡ invalid_value index value → ⊥)
-    → ((index : ℕ) (word : List ℕ) → mistake ≡ invalid_argument index word → ⊥) → (l : List Said) → SaysFront d words l → ⊥
-no_front d words before mistake there not neither nor never l says = stops_front d words before mistake mistake there refl not neither nor never there.stops l says
+    → ((index : ℕ) (word : List ℕ) → mistake ≡ invalid_argument index word → ⊥) → (l : List Parsed) → MeansFront d words l → ⊥
+no_front d words before mistake there not neither nor never l means = stops_front d words before mistake mistake there refl not neither nor never there.stops l means
 
--- where something is missing, what was read is all that is read
-front_is : (d : Declaration) (words : List (List ℕ)) (before : List Said) (mistake : Mistake) (there : ComesTo d words before mistake) (v : UnreadLine) → Next there.there steps.end v
-    → (l : List Said) → SaysFront d words l → l ≡ before
-front_is d words before mistake there v step l says =
-    let e = ends d words before mistake there l says steps.end [] (reads_last (table d.options) there.there v steps.end tt step) in
-    let rest = later d words before mistake there l says [] e.items_are in
+-- if something is missing, what was read is all that the words mean
+front_is : (d : Declaration) (words : List (List ℕ)) (before : List Parsed) (mistake : Mistake) (there : ComesTo d words before mistake) (v : UnreadLine) → Next there.there steps.end v
+    → (l : List Parsed) → MeansFront d words l → l ≡ before
+front_is d words before mistake there v step l means =
+    let e = ends d words before mistake there l means steps.end [] (reads_last (table d.options) there.there v steps.end tt step) in
+    let rest = later d words before mistake there l means [] e.items_are in
     rest.all_are ∙ ap (λ m. before ++ m) (sym (same_somes [] rest.later rest.are)) ∙ append_nil before
   where
-    append_nil : (l : List Said) → l ++ [] ≡ l
+    append_nil : (l : List Parsed) → l ++ [] ≡ l
     append_nil [] = refl
     append_nil (s ∷ l) = ap (λ m. s ∷ m) (append_nil l)
 
--- among accepted ones no value is refused
-pub not_refused : (options : List Declared) (before : List Said) (s : Said) (rest : List Said) (value : List ℕ) → are_accepted options (before ++ s ∷ rest) ≡ true → refused_value options s ≡ Some value → ⊥
+-- if all values are accepted, none is refused
+pub not_refused : (options : List Declared) (before : List Parsed) (s : Parsed) (rest : List Parsed) (value : List ℕ) → are_accepted options (before ++ s ∷ rest) ≡ true → refused_value options s ≡ Some value → ⊥
 not_refused options [] s rest value accepted refused =
     let parts = and_parts (is_none (refused_value options s)) (are_accepted options rest) accepted in false≢true (sym (ap is_none refused) ∙ parts.0)
 not_refused options (b ∷ before) s rest value accepted refused =
     let parts = and_parts (is_none (refused_value options b)) (are_accepted options (before ++ s ∷ rest)) accepted in not_refused options before s rest value parts.1 refused
 
-stops_whole : (d : Declaration) (words : List (List ℕ)) (before : List Said) (mistake other : Mistake) (there : ComesTo d words before mistake) → mistake ≡ other
-    → Stops d before there.there other → (l : List Said) → Says d words l → ⊥
-stops_whole d words before mistake other there is (too_few v step few) l says =
-    let same = front_is d words before mistake there v step l says.front in
-    let enough : least d.positionals ≤ positional_count before = subst (λ m. least d.positionals ≤ positional_count m) same says.enough in
+stops_whole : (d : Declaration) (words : List (List ℕ)) (before : List Parsed) (mistake other : Mistake) (there : ComesTo d words before mistake) → mistake ≡ other
+    → Stops d before there.there other → (l : List Parsed) → Means d words l → ⊥
+stops_whole d words before mistake other there is (too_few v step few) l means =
+    let same = front_is d words before mistake there v step l means.front in
+    let enough : least d.positionals ≤ positional_count before = subst (λ m. least d.positionals ≤ positional_count m) same means.enough in
     omega arith
-stops_whole d words before mistake other there is (not_complete index v step enough taken first) l says =
-    let same = front_is d words before mistake there v step l says.front in
-    false≢true (sym first.absent ∙ ap (occurs index) (sym same) ∙ says.complete index first.here)
-stops_whole d words before mistake other there is (not_taken index word v step enough unfit) l says =
-    let same = front_is d words before mistake there v step l says.front in
-    not_both d.positionals (positional_words before) index word unfit (subst (λ m. AreTaken d.positionals (positional_words m)) same says.taken)
-stops_whole d words before mistake other there is (not_accepted s index value v read option refused) l says =
+stops_whole d words before mistake other there is (not_complete index v step enough taken first) l means =
+    let same = front_is d words before mistake there v step l means.front in
+    false≢true (sym first.absent ∙ ap (occurs index) (sym same) ∙ means.complete index first.here)
+stops_whole d words before mistake other there is (not_taken index word v step enough unfit) l means =
+    let same = front_is d words before mistake there v step l means.front in
+    not_both d.positionals (positional_words before) index word unfit (subst (λ m. AreTaken d.positionals (positional_words m)) same means.taken)
+stops_whole d words before mistake other there is (not_accepted s index value v read option refused) l means =
     let t = table d.options in
     let r = some_reading t v read.line in
-    let e = ends d words before mistake there l says.front r.0 (read.items ++ r.1) (says_items t there.there v read.items read.read r.0 r.1 r.2) in
-    let rest = later d words before mistake there l says.front (read.items ++ r.1) e.items_are in
-    let more = split (said_item d.options) read.items r.1 (s ∷ []) rest.later read.said rest.are in
-    let accepted : are_accepted d.options (before ++ s ∷ more.later) ≡ true = subst (λ m. are_accepted d.options m ≡ true) (rest.all_are ∙ ap (λ m. before ++ m) more.all_are) says.accepted in
+    let e = ends d words before mistake there l means.front r.0 (read.items ++ r.1) (says_items t there.there v read.items read.read r.0 r.1 r.2) in
+    let rest = later d words before mistake there l means.front (read.items ++ r.1) e.items_are in
+    let more = split (parsed_item d.options) read.items r.1 (s ∷ []) rest.later read.parsed rest.are in
+    let accepted : are_accepted d.options (before ++ s ∷ more.later) ≡ true = subst (λ m. are_accepted d.options m ≡ true) (rest.all_are ∙ ap (λ m. before ++ m) more.all_are) means.accepted in
     not_refused d.options before s more.later value accepted refused
-stops_whole d words before mistake other there is (not_declared name v step none) l says =
-    stops_front d words before mistake other there is (λ count same. cc) (λ index same. cc) (λ index value same. cc) (λ index word same. cc) (not_declared name v step none) l says.front
-stops_whole d words before mistake other there is (value_of_flag option value v step) l says =
-    stops_front d words before mistake other there is (λ count same. cc) (λ index same. cc) (λ index value same. cc) (λ index word same. cc) (value_of_flag option value v step) l says.front
-stops_whole d words before mistake other there is (no_value name index option call v w step found due takes) l says =
-    stops_front d words before mistake other there is (λ count same. cc) (λ index same. cc) (λ index value same. cc) (λ index word same. cc) (no_value name index option call v w step found due takes) l says.front
-stops_whole d words before mistake other there is (one_too_many word v step limit) l says =
-    stops_front d words before mistake other there is (λ count same. cc) (λ index same. cc) (λ index value same. cc) (λ index word same. cc) (one_too_many word v step limit) l says.front
+stops_whole d words before mistake other there is (not_declared name v step none) l means =
+    stops_front d words before mistake other there is (λ count same. cc) (λ index same. cc) (λ index value same. cc) (λ index word same. cc) (not_declared name v step none) l means.front
+stops_whole d words before mistake other there is (value_of_flag option value v step) l means =
+    stops_front d words before mistake other there is (λ count same. cc) (λ index same. cc) (λ index value same. cc) (λ index word same. cc) (value_of_flag option value v step) l means.front
+stops_whole d words before mistake other there is (no_value name index option call v w step found due takes) l means =
+    stops_front d words before mistake other there is (λ count same. cc) (λ index same. cc) (λ index value same. cc) (λ index word same. cc) (no_value name index option call v w step found due takes) l means.front
+stops_whole d words before mistake other there is (one_too_many word v step limit) l means =
+    stops_front d words before mistake other there is (λ count same. cc) (λ index same. cc) (λ index value same. cc) (λ index word same. cc) (one_too_many word v step limit) l means.front
 
--- nothing is read by words whose reading stops
-pub nothing_said : (d : Declaration) (words : List (List ℕ)) (before : List Said) (mistake : Mistake) → StopsAt d words before mistake → (l : List Said) → Says d words l → ⊥
-nothing_said d words before mistake at l says = let there = comes_to at in stops_whole d words before mistake mistake there refl there.stops l says
+-- words whose reading stops mean nothing
+pub nothing_parsed : (d : Declaration) (words : List (List ℕ)) (before : List Parsed) (mistake : Mistake) → StopsAt d words before mistake → (l : List Parsed) → Means d words l → ⊥
+nothing_parsed d words before mistake at l means = let there = comes_to at in stops_whole d words before mistake mistake there refl there.stops l means
 
 -- ---- what a front of a line means
 
--- what words mean begins with what was read of them
-pub front_later : (d : Declaration) (words : List (List ℕ)) (before : List Said) (there : UnreadLine) → ReadsUpTo d (start d.short_equals words) before there → (l : List Said) → SaysFront d words l
-    → (later : List Said) × (l ≡ before ++ later)
-front_later d words before there read l says =
+-- what words mean begins with what was read
+pub front_later : (d : Declaration) (words : List (List ℕ)) (before : List Parsed) (there : UnreadLine) → ReadsUpTo d (start d.short_equals words) before there → (l : List Parsed) → MeansFront d words l
+    → (later : List Parsed) × (l ≡ before ++ later)
+front_later d words before there read l means =
     let r = some_reading (table d.options) there read.line in
-    let said = shown_said (table d.options) d.short_equals words says.items (read.items ++ r.1) r.0
-    (spelled_shows (table d.options) d.short_equals words says.items says.spelled)
+    let parsed = shown_said (table d.options) d.short_equals words means.items (read.items ++ r.1) r.0
+    (spelled_shows (table d.options) d.short_equals words means.items means.spelled)
     (says_items (table d.options) (start d.short_equals words) there read.items read.read r.0 r.1 r.2) in
-    let rest = split (said_item d.options) read.items r.1 before l read.said (sym (ap (map (said_item d.options)) said.1) ∙ says.said) in
+    let rest = split (parsed_item d.options) read.items r.1 before l read.parsed (sym (ap (map (parsed_item d.options)) parsed.1) ∙ means.parsed) in
     (rest.later, rest.all_are)

@@ -53,7 +53,7 @@ with_both k c name value =
 
 -- ---- what an option can spell
 
--- the items that an option of this kind spells, with this for its value
+-- the items that an option of this kind spells, with this value
 abbrev OneOf : Kind → Name → List ℕ → Item → Type 0
 OneOf flag name value item = item ≡ option name None
 OneOf one name value item = item ≡ option name (Some value)
@@ -137,31 +137,31 @@ module _ (o : Declared) where
 
   -- ---- where each form occurs
 
-  abbrev Stands : List ℕ → Type 0
-  Stands text = (before : List ℕ) × (after : List ℕ) × (label o ≡ before ++ text ++ after)
+  abbrev Occurs : List ℕ → Type 0
+  Occurs text = (before : List ℕ) × (after : List ℕ) × (label o ≡ before ++ text ++ after)
 
-  short_stands : (c : ℕ) (k : Kind) → o.short_name ≡ Some c → o.kind ≡ k → Stands (short_text k c o.long_name o.placeholder)
-  short_stands c k named is = subst (λ (x : Kind). Stands (short_text x c o.long_name o.placeholder)) is (by o.long_name refl)
+  short_occurs : (c : ℕ) (k : Kind) → o.short_name ≡ Some c → o.kind ≡ k → Occurs (short_text k c o.long_name o.placeholder)
+  short_occurs c k named is = subst (λ (x : Kind). Occurs (short_text x c o.long_name o.placeholder)) is (by o.long_name refl)
     where
-      by : (other : Option (List ℕ)) → o.long_name ≡ other → Stands (short_shown c)
+      by : (other : Option (List ℕ)) → o.long_name ≡ other → Occurs (short_shown c)
       by None none = ([], [], is_short c named none ∙ sym (append-nil (short_shown c)))
       by (Some name) long_named = ([], codes ", " ++ long_shown name, is_both c name named long_named ∙ append_assoc (short_shown c) (codes ", ") (long_shown name))
 
-  long_stands : (name : List ℕ) (k : Kind) → o.long_name ≡ Some name → o.kind ≡ k → Stands (long_text k name o.placeholder)
-  long_stands name k named is = subst (λ (x : Kind). Stands (long_text x name o.placeholder)) is (by o.short_name refl)
+  long_stands : (name : List ℕ) (k : Kind) → o.long_name ≡ Some name → o.kind ≡ k → Occurs (long_text k name o.placeholder)
+  long_stands name k named is = subst (λ (x : Kind). Occurs (long_text x name o.placeholder)) is (by o.short_name refl)
     where
-      by : (other : Option ℕ) → o.short_name ≡ other → Stands (long_shown name)
+      by : (other : Option ℕ) → o.short_name ≡ other → Occurs (long_shown name)
       by None none = (codes "    ", [], is_long name none named ∙ sym (append-nil (codes "    " ++ long_shown name)))
       by (Some c) short_named = (short_shown c ++ codes ", ", [], is_both c name short_named named ∙ sym (append-nil (short_shown c ++ codes ", " ++ long_shown name)))
 
-  pub form_stands : (shown : List ℕ) (words : List (List ℕ)) (item : Item) → LabelForm o shown words item → Stands shown
-  form_stands shown words item (short_flag c named is) = short_stands c flag named is
-  form_stands shown words item (short_one c named is) = short_stands c one named is
-  form_stands shown words item (short_optional c named is) = short_stands c optional named is
-  form_stands shown words item (short_optional_value c named is) = short_stands c optional named is
-  form_stands shown words item (short_several c named is) = short_stands c several named is
-  form_stands shown words item (long_flag name named is) = long_stands name flag named is
-  form_stands shown words item (long_one name named is) = long_stands name one named is
-  form_stands shown words item (long_optional name named is) = long_stands name optional named is
-  form_stands shown words item (long_optional_value name named is) = long_stands name optional named is
-  form_stands shown words item (long_several name named is) = long_stands name several named is
+  pub form_occurs : (shown : List ℕ) (words : List (List ℕ)) (item : Item) → LabelForm o shown words item → Occurs shown
+  form_occurs shown words item (short_flag c named is) = short_occurs c flag named is
+  form_occurs shown words item (short_one c named is) = short_occurs c one named is
+  form_occurs shown words item (short_optional c named is) = short_occurs c optional named is
+  form_occurs shown words item (short_optional_value c named is) = short_occurs c optional named is
+  form_occurs shown words item (short_several c named is) = short_occurs c several named is
+  form_occurs shown words item (long_flag name named is) = long_stands name flag named is
+  form_occurs shown words item (long_one name named is) = long_stands name one named is
+  form_occurs shown words item (long_optional name named is) = long_stands name optional named is
+  form_occurs shown words item (long_optional_value name named is) = long_stands name optional named is
+  form_occurs shown words item (long_several name named is) = long_stands name several named is

@@ -1,4 +1,4 @@
--- Each form that a label shows is spelled.
+-- Words spell each form that a label shows.
 use Rattle.std.proofs.Common.{◌≡◌, ◌≢◌, ℕ, ◌==◌, not, Bool, true, false, cond, List, [], ◌∷◌, ◌++◌, Option, Some, None, encode_utf8, refl, sym, ap, subst, ◌∙◌, inl, inr, true≢false}
 use Rattle.std.proofs.lemmas.Bool.{eq-eqb, and_parts}
 use Rattle.std.specs.Prelude.{Contains, is_none}
@@ -15,7 +15,7 @@ use Rattle.lexopt_options_spec.specs.Declaration.{Declared, is_long, is_short, t
 use Rattle.lexopt_options_spec.specs.Help.{LabelForm, short_flag, short_one, short_optional, short_optional_value, short_several, long_flag, long_one, long_optional, long_optional_value, long_several, short_word, HasTextNames}
 use Rattle.lexopt_options_spec.proofs.Tables.{IsIn, contains_in, kind_of_name, pointwise_refl}
 
--- ---- what soundness means for one option
+-- ---- what a sound declaration means for one option
 
 -- nothing is wrong with the option
 record IsFine (o : Declared) : Type 0 where
@@ -55,7 +55,7 @@ no_equals_in : (name : List ℕ) → long_fault (Some name) ≡ None → ¬ Cont
 no_equals_in [] fine = absurd (some_name [] fine refl)
 no_equals_in (b ∷ bs) fine = no_equals (b ∷ bs) (free (has equals (b ∷ bs)) _ fine)
 
--- what can be a placeholder
+-- a text that can be a placeholder
 record IsValue (value : List ℕ) : Type 0 where
   some : value ≢ []
   no_option : ¬ BeginsWith dash value
@@ -83,20 +83,20 @@ value_of several value fine some = is_value value (passes (is_placeholder value)
 one_plain : (word : List ℕ) → IsPlain false word → All (IsPlain false) (word ∷ [])
 one_plain word plain = All-cons (IsPlain false) word [] plain (All-nil (IsPlain false))
 
--- ---- one option alone on a line
+-- ---- a line with only one option
 
 -- a character, with these bytes after it in its word
-short_said : (t : Table) (e : Bool) (c : ℕ) (value : List ℕ) (others : List (List ℕ)) (after : After) (item : Item) → IsScalar c → c ≢ dash → IsAfterLast e value after
+short_parsed : (t : Table) (e : Bool) (c : ℕ) (value : List ℕ) (others : List (List ℕ)) (after : After) (item : Item) → IsScalar c → c ≢ dash → IsAfterLast e value after
     → Completes (kind t (short c)) (short c) after others item [] → Spells t e (short_word c value ∷ others) (item ∷ [])
-short_said t e c value others after item scalar other behind done =
+short_parsed t e c value others after item scalar other behind done =
     group (short_word c value ∷ others) [] (item ∷ []) []
     (cluster (encode_utf8 c ++ value) others refl (λ begins. other (dash_first c value begins)) (last_option c (encode_utf8 c) value after item (scalar, refl) behind done))
     no_words
 
 -- a name, with this after it in its word
-long_said : (t : Table) (e : Bool) (name text : List ℕ) (after : After) (item : Item) → IsUtf8 name → ¬ Contains name equals → IsLong text name after
+long_parsed : (t : Table) (e : Bool) (name text : List ℕ) (after : After) (item : Item) → IsUtf8 name → ¬ Contains name equals → IsLong text name after
     → Completes (kind t (long name)) (long name) after [] item [] → Spells t e ((dash ∷ dash ∷ text) ∷ []) (item ∷ [])
-long_said t e name text after item utf8 clean behind done =
+long_parsed t e name text after item utf8 clean behind done =
     group ((dash ∷ dash ∷ text) ∷ []) [] (item ∷ []) [] (long_option text name name after item [] refl behind clean (utf8, refl) done refl) no_words
 
 -- ---- the forms
@@ -114,18 +114,18 @@ module _ (options : List Declared) (o : Declared) (e : Bool) (sound : is_sound o
   value : (k : Kind) → o.kind ≡ k → k ≢ flag → IsValue o.placeholder
   value k is some = value_of o.kind o.placeholder fine.value_fine (λ none. some (sym is ∙ none))
 
-  -- a short name, with what completes it
+  -- a character, and what comes after it
   short_form : (c : ℕ) (k : Kind) (bytes : List ℕ) (others : List (List ℕ)) (after : After) (item : Item) → o.short_name ≡ Some c → o.kind ≡ k → IsAfterLast e bytes after
       → Completes k (short c) after others item [] → Spells (table options) e (short_word c bytes ∷ others) (item ∷ [])
   short_form c k bytes others after item named is behind done =
-      short_said (table options) e c bytes others after item (texts.short_scalar c named) (no_dash c (sym (ap short_fault named) ∙ fine.short_fine)) behind
+      short_parsed (table options) e c bytes others after item (texts.short_scalar c named) (no_dash c (sym (ap short_fault named) ∙ fine.short_fine)) behind
       (subst (λ (x : Kind). Completes x (short c) after others item []) (sym (short_kind c k named is)) done)
 
-  -- the same with a long name
+  -- a long name, and what comes after it
   long_form : (name : List ℕ) (k : Kind) (text : List ℕ) (after : After) (item : Item) → o.long_name ≡ Some name → o.kind ≡ k → IsLong text name after
       → Completes k (long name) after [] item [] → Spells (table options) e ((dash ∷ dash ∷ text) ∷ []) (item ∷ [])
   long_form name k text after item named is behind done =
-      long_said (table options) e name text after item (texts.long_text name named) (no_equals_in name (sym (ap long_fault named) ∙ fine.long_fine)) behind
+      long_parsed (table options) e name text after item (texts.long_text name named) (no_equals_in name (sym (ap long_fault named) ∙ fine.long_fine)) behind
       (subst (λ (x : Kind). Completes x (long name) after [] item []) (sym (long_kind name k named is)) done)
 
   alone : (name : List ℕ) → o.long_name ≡ Some name → IsLong name name nothing

@@ -1,4 +1,4 @@
--- What becomes of the last word of a line, if it is not an option.
+-- What the last word of a line is, if it is not an option.
 use Rattle.std.proofs.Common.{◌≡◌, ℕ, suc, Bool, false, List, [], ◌∷◌, ◌++◌, Some, None, refl, sym, ap, subst, ◌∙◌, arith, append_assoc}
 use Rattle.std.specs.List.{All}
 use Rattle.std.proofs.lemmas.List.{append-nil}
@@ -9,7 +9,7 @@ use Rattle.lexopt_line_spec.specs.Spelling.{Letters, After, Completes, no_value,
 use Rattle.lexopt_options_spec.proofs.Lists.{first_same}
 use Rattle.lexopt_options_spec.proofs.OpenLines.{OpenLine, nothing_yet, word_first, group_first, group_more, group_cut}
 
--- ---- lists that end alike
+-- ---- lists with the same last element
 
 pub no_last : {X : Type 0} (l : List X) (x : X) → [] ≡ l ++ x ∷ [] → ⊥
 no_last [] x is = let e : [] ≡ x ∷ [] = is in cc
@@ -24,7 +24,7 @@ same_last (a ∷ l) (b ∷ m) x y is =
     let q = same_last l m x y p.1 in
     (ap (λ z. z ∷ l) p.0 ∙ ap (λ zs. b ∷ zs) q.0, q.1)
 
--- a list has a last element or none
+-- a list is empty or has a last element
 pub data Ending {X : Type 0} (l : List X) : Type 0 where
   has_none : l ≡ [] → Ending l
   has_last : (front : List X) (x : X) → l ≡ front ++ x ∷ [] → Ending l
@@ -43,8 +43,8 @@ last_of_all P (y ∷ l) all x is holds = last_of_all P l (l ++ x ∷ []) x refl 
 
 -- ---- what takes the last word
 
--- these words, with p after them, are these items: p is the value of an option, as any word would
--- be; or it is a positional; or it is one of several values
+-- these words and then p spell these items: p is the value of an option, as any word would be; or
+-- it is a positional; or it is one of several values
 pub data Takes (Spell : List (List ℕ) → List Item → Type 0) (words : List (List ℕ)) (p : List ℕ) (items : List Item) : Type 0 where
   due : (front : List Item) (name : Name) → items ≡ front ++ option name (Some p) ∷ []
       → ((q : List ℕ) → Spell (words ++ q ∷ []) (front ++ option name (Some q) ∷ [])) → Takes Spell words p items
@@ -123,23 +123,23 @@ group_last letters t short_equals (w ∷ ws) p items never (spelling.long_option
         (λ q. spelling.long_option text bytes name after (option (long name) (Some q)) (ws ++ q ∷ []) (first q) is none named (g q) refl)
     only (several_values values plain i) = among [] (long name) values plain (items_are ∙ ap (λ x. x ∷ []) i)
 
--- ---- the last word of a line with no separator
+-- ---- the last word of a line without a separator
 
-nothing_said : (letters : Letters) (t : Table) (short_equals : Bool) (words : List (List ℕ)) (items : List Item) → words ≡ [] → OpenLine letters t short_equals words items → items ≡ []
-nothing_said letters t short_equals words items is nothing_yet = refl
-nothing_said letters t short_equals words items is (word_first w ws others plain opens) = absurd (let e : w ∷ ws ≡ [] = is in cc)
-nothing_said letters t short_equals words items is (group_first ws left front others (cluster bytes more are other spelled) opens) =
+nothing_parsed : (letters : Letters) (t : Table) (short_equals : Bool) (words : List (List ℕ)) (items : List Item) → words ≡ [] → OpenLine letters t short_equals words items → items ≡ []
+nothing_parsed letters t short_equals words items is nothing_yet = refl
+nothing_parsed letters t short_equals words items is (word_first w ws others plain opens) = absurd (let e : w ∷ ws ≡ [] = is in cc)
+nothing_parsed letters t short_equals words items is (group_first ws left front others (cluster bytes more are other spelled) opens) =
     absurd (let e : (dash ∷ bytes) ∷ more ≡ [] = sym are ∙ is in cc)
-nothing_said letters t short_equals words items is (group_first ws left front others (spelling.long_option text bytes name after item more are is_long none named completes items_are) opens) =
+nothing_parsed letters t short_equals words items is (group_first ws left front others (spelling.long_option text bytes name after item more are is_long none named completes items_are) opens) =
     absurd (let e : (dash ∷ dash ∷ text) ∷ more ≡ [] = sym are ∙ is in cc)
 
--- a word alone that is not an option
+-- a single word that is not an option
 lone : (letters : Letters) (t : Table) (short_equals : Bool) (words : List (List ℕ)) (p : List ℕ) (items : List Item) → IsNoOption letters t short_equals p → words ≡ p ∷ []
     → OpenLine letters t short_equals words items → IsPlain false p × (items ≡ positional p ∷ [])
 lone letters t short_equals words p items never is nothing_yet = absurd (let e : [] ≡ p ∷ [] = is in cc)
 lone letters t short_equals words p items never is (word_first w ws others plain opens) =
     let e = first_same w p ws [] is in
-    (subst (IsPlain false) e.0 plain, ap (λ x. positional x ∷ others) e.0 ∙ ap (λ l. positional p ∷ l) (nothing_said letters t short_equals ws others e.1 opens))
+    (subst (IsPlain false) e.0 plain, ap (λ x. positional x ∷ others) e.0 ∙ ap (λ l. positional p ∷ l) (nothing_parsed letters t short_equals ws others e.1 opens))
 lone letters t short_equals words p items never is (group_first ws left front others first opens) =
     absurd (never.none [] left front (subst (λ l. Group letters t short_equals l front left) is first))
 
@@ -168,15 +168,15 @@ taken letters t short_equals (v ∷ vs) all p items never is (group_first ws lef
     whole none takes = spelled takes
       where
         same : front ++ others ≡ front
-        same = ap (λ l. front ++ l) (nothing_said letters t short_equals left others none opens) ∙ append-nil front
+        same = ap (λ l. front ++ l) (nothing_parsed letters t short_equals left others none opens) ∙ append-nil front
 
         group_alone : (ws : List (List ℕ)) (is : List Item) → Group letters t short_equals ws is [] → OpenLine letters t short_equals ws is
         group_alone ws is g = subst (OpenLine letters t short_equals ws) (append-nil is) (group_first ws [] is [] g nothing_yet)
 
         spelled : Takes (λ ws is. Group letters t short_equals ws is []) (v ∷ vs) p front → Takes (OpenLine letters t short_equals) (v ∷ vs) p (front ++ others)
-        spelled (due said name are g) = due said name (same ∙ are) (λ q. group_alone ((v ∷ vs) ++ q ∷ []) (said ++ option name (Some q) ∷ []) (g q))
-        spelled (alone said plain are g) = alone said plain (same ∙ are) (group_alone (v ∷ vs) said g)
-        spelled (among said name values plain are) = among said name values plain (same ∙ are)
+        spelled (due parsed name are g) = due parsed name (same ∙ are) (λ q. group_alone ((v ∷ vs) ++ q ∷ []) (parsed ++ option name (Some q) ∷ []) (g q))
+        spelled (alone parsed plain are g) = alone parsed plain (same ∙ are) (group_alone (v ∷ vs) parsed g)
+        spelled (among parsed name values plain are) = among parsed name values plain (same ∙ are)
 
     -- the word comes after those that the option takes
     later : (rest : List (List ℕ)) (x : List ℕ) → ((r : List (List ℕ)) → left ≡ r ++ p ∷ [] → Takes (OpenLine letters t short_equals) r p others) → left ≡ rest ++ x ∷ [] → Takes (OpenLine letters t short_equals) (v ∷ vs) p (front ++ others)
@@ -202,13 +202,13 @@ taken letters t short_equals (v ∷ vs) all p items never is (group_first ws lef
         at (y ∷ ys) some = more (again rest last_is)
           where
             more : Takes (OpenLine letters t short_equals) rest p others → Takes (OpenLine letters t short_equals) (v ∷ vs) p (front ++ others)
-            more (due said name are g) = due (front ++ said) name (ap (λ l. front ++ l) are ∙ sym (append_assoc front said (option name (Some p) ∷ [])))
-                (λ q. subst (OpenLine letters t short_equals ((v ∷ vs) ++ q ∷ [])) (sym (append_assoc front said (option name (Some q) ∷ [])))
-                (group_first ((v ∷ vs) ++ q ∷ []) (rest ++ q ∷ []) front (said ++ option name (Some q) ∷ [])
+            more (due parsed name are g) = due (front ++ parsed) name (ap (λ l. front ++ l) are ∙ sym (append_assoc front parsed (option name (Some p) ∷ [])))
+                (λ q. subst (OpenLine letters t short_equals ((v ∷ vs) ++ q ∷ [])) (sym (append_assoc front parsed (option name (Some q) ∷ [])))
+                (group_first ((v ∷ vs) ++ q ∷ []) (rest ++ q ∷ []) front (parsed ++ option name (Some q) ∷ [])
                 (group_more letters t short_equals (v ∷ vs) front rest (q ∷ []) (λ none. absurd (let e : y ∷ ys ≡ [] = some ∙ none in cc)) grouped) (g q)))
-            more (alone said plain are g) = alone (front ++ said) plain (ap (λ l. front ++ l) are ∙ sym (append_assoc front said (positional p ∷ [])))
-                (group_first (v ∷ vs) rest front said grouped g)
-            more (among said name values plain are) = among (front ++ said) name values plain (ap (λ l. front ++ l) are ∙ sym (append_assoc front said (many name values ∷ [])))
+            more (alone parsed plain are g) = alone (front ++ parsed) plain (ap (λ l. front ++ l) are ∙ sym (append_assoc front parsed (positional p ∷ [])))
+                (group_first (v ∷ vs) rest front parsed grouped g)
+            more (among parsed name values plain are) = among (front ++ parsed) name values plain (ap (λ l. front ++ l) are ∙ sym (append_assoc front parsed (many name values ∷ [])))
 
     go : ((r : List (List ℕ)) → left ≡ r ++ p ∷ [] → Takes (OpenLine letters t short_equals) r p others) → Ending left → Takes (OpenLine letters t short_equals) (v ∷ vs) p (front ++ others)
     go again (has_none none) = whole none (group_last letters t short_equals (v ∷ vs) p front never (subst (λ ws. Group letters t short_equals ws front []) is (subst (Group letters t short_equals ws front) none first)))

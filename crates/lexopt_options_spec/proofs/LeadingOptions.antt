@@ -1,4 +1,4 @@
--- What is read of a line up to its first positional.
+-- What is read of the leading options of a line.
 use Rattle.std.proofs.Common.{◌≡◌, ℕ, Bool, true, false, List, [], ◌∷◌, ◌++◌, map, Some, refl, sym, ap, subst, ◌∙◌, inl, append_assoc}
 use Rattle.std.proofs.lemmas.List.{append_cancel_right}
 use Rattle.lexopt_spec.specs.UnreadLine.{dash, no_tail, UnreadLine}
@@ -14,7 +14,7 @@ use Rattle.lexopt_line_spec.proofs.ReadingSteps.{says_positional, reads_last}
 use Rattle.lexopt_line_spec.proofs.WholeLines.{said_shows}
 use Rattle.lexopt_options_spec.specs.Declaration.{Declaration, is_sound, table}
 use Rattle.lexopt_options_spec.specs.Leading.{IsSplit}
-use Rattle.lexopt_options_spec.specs.Legal.{Said, positional, positional_count, said_item}
+use Rattle.lexopt_options_spec.specs.Legal.{Parsed, positional, positional_count, parsed_item}
 use Rattle.lexopt_options_spec.specs.Stops.{ReadsUpTo}
 use Rattle.lexopt_options_spec.proofs.Cuts.{enough, items_cut, step_cut, with_words}
 use Rattle.lexopt_options_spec.proofs.Lists.{joined}
@@ -24,12 +24,12 @@ pub append_nil : {X : Type 0} (l : List X) → l ++ [] ≡ l
 append_nil [] = refl
 append_nil (x ∷ l) = ap (λ m. x ∷ m) (append_nil l)
 
--- where no word is left, the line ends
+-- if no word is left, the line ends
 ends_here : (u : UnreadLine) (ended : Bool) → u.ended ≡ ended → u.tail ≡ no_tail → u.words ≡ [] → NextStep u steps.end u
 ends_here u true is none empty = after_separator none is (no_word_left empty refl refl)
 ends_here u false is none empty = next_word none is (no_word empty refl refl)
 
--- a positional is the next word, or the next one after the separator
+-- the next word is a positional, or the one after the separator is
 pub record WordRead (u : UnreadLine) (word : List ℕ) (w : UnreadLine) : Type 0 where
   pub before : List (List ℕ)
   pub words_are : u.words ≡ before ++ word ∷ w.words
@@ -43,7 +43,7 @@ word_is w word is = cc
 pub word_read : (u w : UnreadLine) (word : List ℕ) → NextStep u (steps.positional word) w → WordRead u word w
 word_read u w word (joined_value value o joins spelled r_is after) = absurd (let e : steps.positional word ≡ steps.unexpected o value = r_is in cc)
 word_read u w word (equals_value value o joins on spelled r_is after) = absurd (let e : steps.positional word ≡ steps.unexpected o value = r_is in cc)
-word_read u w word (next_in_cluster bytes goes_on not reads) = absurd (let e : steps.positional word ≡ steps.short _ = reads.reply_is in cc)
+word_read u w word (next_in_cluster bytes continues not reads) = absurd (let e : steps.positional word ≡ steps.short _ = reads.reply_is in cc)
 word_read u w word (after_separator none ended (no_word_left empty r_is after)) = absurd (let e : steps.positional word ≡ steps.end = r_is in cc)
 word_read u w word (after_separator none ended (word_left x ws some r_is after)) = record {
   before = [];
@@ -71,31 +71,31 @@ word_read u w word (next_word none not (reads_positional x ws some plain r_is af
   none = ap (λ (v : UnreadLine). v.tail) after ∙ none;
 }
 
--- words whose reading comes to the end spell what was read
-reading_spells : (d : Declaration) → is_sound d.options ≡ true → (words : List (List ℕ)) (items : List Item) (l : List Said) → IsReading (table d.options) (start d.short_equals words) steps.end items
-    → map (said_item d.options) items ≡ map (λ s. Some s) l → Spells (table d.options) d.short_equals words items
-reading_spells d sound words items l reading said =
-    shown_spells (table d.options) d.short_equals words items (said_shows (table d.options) d.short_equals words items reading) (whole_names d.options sound items l said)
+-- words whose reading reaches the end spell what was read
+reading_spells : (d : Declaration) → is_sound d.options ≡ true → (words : List (List ℕ)) (items : List Item) (l : List Parsed) → IsReading (table d.options) (start d.short_equals words) steps.end items
+    → map (parsed_item d.options) items ≡ map (λ s. Some s) l → Spells (table d.options) d.short_equals words items
+reading_spells d sound words items l reading parsed =
+    shown_spells (table d.options) d.short_equals words items (said_shows (table d.options) d.short_equals words items reading) (whole_names d.options sound items l parsed)
 
 ends_reading : (t : Table) (u v w : UnreadLine) (items : List Item) → ReadsItems t u items v → NextStep v steps.end w → IsReading t u steps.end items
 ends_reading t u v w items reads step =
     subst (IsReading t u steps.end) (append_nil items) (says_items t u v items reads steps.end [] (reads_last t v w steps.end tt (inl step)))
 
--- the line was read up to its end
-pub leading_whole : (d : Declaration) → is_sound d.options ≡ true → (words : List (List ℕ)) (l : List Said) (u v : UnreadLine) → ReadsUpTo d (start d.short_equals words) l u → positional_count l ≡ 0 → Next u steps.end v
+-- the line is read up to its end
+pub leading_whole : (d : Declaration) → is_sound d.options ≡ true → (words : List (List ℕ)) (l : List Parsed) (u v : UnreadLine) → ReadsUpTo d (start d.short_equals words) l u → positional_count l ≡ 0 → Next u steps.end v
     → IsSplit d words l []
 leading_whole d sound words l u v read none step = record {
   front = words;
   words_are = sym (append_nil words);
   items = read.items;
-  spelled = reading_spells d sound words read.items l (ends_reading (table d.options) (start d.short_equals words) u v read.items read.read (enough NextStep u steps.end v step (λ no. cc))) read.said;
-  said = read.said;
+  spelled = reading_spells d sound words read.items l (ends_reading (table d.options) (start d.short_equals words) u v read.items read.read (enough NextStep u steps.end v step (λ no. cc))) read.parsed;
+  parsed = read.parsed;
   alone = none;
   begins = λ word more is. absurd (let e : [] ≡ word ∷ more = is in cc);
 }
 
--- it was read up to a positional
-pub leading_front : (d : Declaration) → is_sound d.options ≡ true → (words : List (List ℕ)) (l : List Said) (u w : UnreadLine) (word : List ℕ) → ReadsUpTo d (start d.short_equals words) l u → positional_count l ≡ 0
+-- the line is read up to a positional
+pub leading_front : (d : Declaration) → is_sound d.options ≡ true → (words : List (List ℕ)) (l : List Parsed) (u w : UnreadLine) (word : List ℕ) → ReadsUpTo d (start d.short_equals words) l u → positional_count l ≡ 0
     → Next u (steps.positional word) w → IsSplit d words l (word ∷ w.words)
 leading_front d sound words l u w word read none next =
     let t = table d.options in
@@ -110,13 +110,13 @@ leading_front d sound words l u w word read none next =
     (reads_last t (with_words [] w) (with_words [] w) steps.end tt (inl (ends_here (with_words [] w) w.ended refl at.none refl))) in
     let reading = says_items t (start d.short_equals whole.before) (with_words reads.before u) read.items whole.holds steps.end (spec.positional word ∷ []) last in
     let spelled = reading_spells d sound whole.before (read.items ++ spec.positional word ∷ []) (l ++ positional word ∷ []) reading
-    (joined (said_item d.options) read.items l (spec.positional word) (positional word) read.said refl) in
+    (joined (parsed_item d.options) read.items l (spec.positional word) (positional word) read.parsed refl) in
     record {
       front = front.before;
       words_are = front.words_are;
       items = read.items;
-      spelled = reading_spells d sound front.before read.items l (ends_reading t (start d.short_equals front.before) (with_words at.before u) at.after read.items front.holds at.ends) read.said;
-      said = read.said;
+      spelled = reading_spells d sound front.before read.items l (ends_reading t (start d.short_equals front.before) (with_words at.before u) at.after read.items front.holds at.ends) read.parsed;
+      parsed = read.parsed;
       alone = none;
       begins = λ other more is. subst (λ x. Spells t d.short_equals (front.before ++ x ∷ []) (read.items ++ spec.positional x ∷ [])) (first_is word other w.words more is)
           (subst (λ ws. Spells t d.short_equals ws (read.items ++ spec.positional word ∷ [])) one spelled);

@@ -15,7 +15,7 @@ pub mod Distance
 pub mod Nearest
 pub mod OpenLines
 pub mod LastWords
-pub mod Stands
+pub mod Occurs
 pub mod OpenWords
 pub mod Offered
 pub mod Tables

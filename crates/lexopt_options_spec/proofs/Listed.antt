@@ -8,13 +8,13 @@ use Rattle.std.proofs.lemmas.Option.{slice_get_cases}
 use Rattle.lexopt_spec.specs.UnreadLine.{dash, equals, BeginsWith}
 use Rattle.lexopt_line_spec.specs.Table.{Name}
 use Rattle.lexopt_options_spec.specs.Declaration.{Declared, Reason, Words, accepts, files, directories, text, listed, bad_list, fault, faults, has_name, index_of, is_blank_or_control, is_listable, is_placeholder, is_sound, list_fault, long_fault, placeholder_fault, short_fault}
-use Rattle.lexopt_options_spec.specs.Legal.{Said, option, several, accepts_at, are_accepted, refused_value}
+use Rattle.lexopt_options_spec.specs.Legal.{Parsed, option, several, accepts_at, are_accepted, refused_value}
 use Rattle.lexopt_options_spec.proofs.Sound.{neither, no_fault}
 use Rattle.lexopt_options_spec.proofs.Tables.{pointwise_refl}
 
 -- ---- a value for each option
 
--- the first of the list, or the empty word
+-- the first word of the list, or the empty word
 abbrev pub value_for : Words → List ℕ
 value_for files = []
 value_for directories = []
@@ -50,7 +50,7 @@ value_plain (listed (value ∷ values)) none begins =
     let parts = and_parts (is_listable value) (list_all is_listable values) all in
     not_dashed value parts.0 begins
 
--- ---- of options that can be declared
+-- ---- options that can be declared
 
 list_after : (before os : List Declared) (i : ℕ) (o : Declared) → list_all is_none (faults before os) ≡ true → slice_get os i ≡ Some o → list_fault o.words ≡ None
 list_after before [] i o sound at = absurd (let e : None ≡ Some o = at in cc)
@@ -68,7 +68,7 @@ list_after before (p ∷ os) (suc i) o sound at =
 pub list_good : (options : List Declared) (i : ℕ) (o : Declared) → is_sound options ≡ true → slice_get options i ≡ Some o → list_fault o.words ≡ None
 list_good options i o sound at = list_after [] options i o sound at
 
--- the option of an index
+-- the option at an index
 pub option_there : (options : List Declared) (name : Name) (i : ℕ) → index_of options name ≡ Some i → (o : Declared) × (slice_get options i ≡ Some o)
 option_there options name i found = ⊎_elim
     (λ here. (here.0, here.2))
@@ -94,13 +94,13 @@ one_accepted options i value is = ap (λ (b : Bool). cond b None (Some value)) i
 pub single_accepted : (options : List Declared) (i : ℕ) (value : List ℕ) → accepts_at options i value ≡ true → refused_value options (several i (value ∷ [])) ≡ None
 single_accepted options i value is = ap (λ (b : Bool). option_and_then (λ n. slice_get (value ∷ []) n) (position (λ (w : List ℕ). not b) (value ∷ []))) is
 
-pub accepted_append : (options : List Declared) (l m : List Said) → are_accepted options l ≡ true → are_accepted options m ≡ true → are_accepted options (l ++ m) ≡ true
+pub accepted_append : (options : List Declared) (l m : List Parsed) → are_accepted options l ≡ true → are_accepted options m ≡ true → are_accepted options (l ++ m) ≡ true
 accepted_append options [] m is other = other
 accepted_append options (s ∷ l) m is other =
     let parts = and_parts (is_none (refused_value options s)) (are_accepted options l) is in
     and_from _ _ parts.0 (accepted_append options l m parts.1 other)
 
-pub accepted_front : (options : List Declared) (l m : List Said) → are_accepted options (l ++ m) ≡ true → are_accepted options l ≡ true
+pub accepted_front : (options : List Declared) (l m : List Parsed) → are_accepted options (l ++ m) ≡ true → are_accepted options l ≡ true
 accepted_front options [] m is = refl
 accepted_front options (s ∷ l) m is =
     let parts = and_parts (is_none (refused_value options s)) (are_accepted options (l ++ m)) is in

@@ -1,6 +1,6 @@
 -- Lists of what is read.
 use Rattle.std.proofs.Common.{◌≡◌, ◌+◌, List, [], ◌∷◌, ◌++◌, map, Option, Some, None, refl, sym, ap, ◌∙◌, arith}
-use Rattle.lexopt_options_spec.specs.Legal.{Said, positional_count}
+use Rattle.lexopt_options_spec.specs.Legal.{Parsed, positional_count}
 
 some_same : {X : Type 0} (x y : X) → Some x ≡ Some y → x ≡ y
 some_same x y is = cc
@@ -8,7 +8,7 @@ some_same x y is = cc
 pub first_same : {X : Type 0} (x y : X) (xs ys : List X) → x ∷ xs ≡ y ∷ ys → (x ≡ y) × (xs ≡ ys)
 first_same x y xs ys is = (cc, cc)
 
--- what all are, each is
+-- if all elements are the same, each is
 pub same_somes : {X : Type 0} (l m : List X) → map (λ x. Some x) l ≡ map (λ x. Some x) m → l ≡ m
 same_somes [] [] is = refl
 same_somes {X} [] (y ∷ ys) is = let e : [] ≡ Some y ∷ map (λ x. Some x) ys = is in cc
@@ -18,7 +18,7 @@ same_somes (x ∷ xs) (y ∷ ys) is =
     let one = some_same x y parts.0 in
     ap (λ z. z ∷ xs) one ∙ ap (λ zs. y ∷ zs) (same_somes xs ys parts.1)
 
--- a list whose front is known
+-- a list whose first elements are known
 pub record Later {X Y : Type 0} (f : X → Option Y) (ys : List X) (before all : List Y) : Type 0 where
   pub later : List Y
   pub all_are : all ≡ before ++ later
@@ -41,7 +41,7 @@ split f (x ∷ xs) ys (b ∷ bs) (a ∷ all) is whole =
       are = rest.are;
     }
 
--- one more at the end
+-- one more element at the end
 pub joined : {X Y : Type 0} (f : X → Option Y) (xs : List X) (ys : List Y) (x : X) (y : Y) → map f xs ≡ map (λ y. Some y) ys → f x ≡ Some y
     → map f (xs ++ x ∷ []) ≡ map (λ y. Some y) (ys ++ y ∷ [])
 joined f [] [] x y is one = ap (λ z. z ∷ []) one
@@ -51,14 +51,14 @@ joined f (a ∷ xs) (b ∷ bs) x y is one =
     let p = first_same (f a) (Some b) (map f xs) (map (λ y. Some y) bs) is in
     ap (λ z. z ∷ map f (xs ++ x ∷ [])) p.0 ∙ ap (λ l. Some b ∷ l) (joined f xs bs x y p.1 one)
 
--- no list has this first
+-- there is no list with this first element
 pub first_none : {X Y : Type 0} (f : X → Option Y) (x : X) (xs : List X) (l : List Y) → f x ≡ None → map f (x ∷ xs) ≡ map (λ y. Some y) l → ⊥
 first_none f x xs [] none is = let e : f x ∷ map f xs ≡ [] = is in cc
 first_none f x xs (y ∷ l) none is =
     let p = first_same (f x) (Some y) (map f xs) (map (λ y. Some y) l) is in
     let e : None ≡ Some y = sym none ∙ p.0 in cc
 
--- the first of such a list
+-- the first element of such a list
 pub first_is : {X Y : Type 0} (f : X → Option Y) (x : X) (y : Y) (xs : List X) (l : List Y) → f x ≡ Some y → map f (x ∷ xs) ≡ map (λ y. Some y) l
     → (m : List Y) × (l ≡ y ∷ m)
 first_is f x y xs [] some is = absurd (let e : f x ∷ map f xs ≡ [] = is in cc)
@@ -70,6 +70,6 @@ pub map_at : {X Y : Type 0} (f : X → Y) (xs : List X) (x : X) → map f (xs ++
 map_at f [] x = refl
 map_at f (y ∷ xs) x = ap (λ l. f y ∷ l) (map_at f xs x)
 
-pub count_append : (l m : List Said) → positional_count (l ++ m) ≡ positional_count l + positional_count m
+pub count_append : (l m : List Parsed) → positional_count (l ++ m) ≡ positional_count l + positional_count m
 count_append [] m = omega arith
 count_append (s ∷ l) m = let rest = count_append l m in omega arith

@@ -1,4 +1,4 @@
--- What is read of a line is read of it with more words at its end too.
+-- What is read of a line is also read of it with more words at its end.
 use Rattle.std.proofs.Common.{◌≡◌, ◌≢◌, ℕ, true, List, [], ◌∷◌, ◌++◌, refl, sym, ap, subst, ◌∙◌, inl, append_assoc}
 use Rattle.lexopt_spec.specs.UnreadLine.{UnreadLine, IsPlainFront, IsNormalIn}
 use Rattle.lexopt_spec.specs.Steps as steps
@@ -32,7 +32,7 @@ word_longer tail u v r more (reads_positional w ws some plain r_is after) = read
 pub step_longer : (tail : List (List ℕ)) (u v : UnreadLine) (r : Reply) → r ≢ steps.end → NextStep u r v → NextStep (longer tail u) r (longer tail v)
 step_longer tail u v r more (joined_value value o joins spelled r_is after) = joined_value value o joins spelled r_is (ap (longer tail) after)
 step_longer tail u v r more (equals_value value o joins on spelled r_is after) = equals_value value o joins on spelled r_is (ap (longer tail) after)
-step_longer tail u v r more (next_in_cluster bytes goes_on not reads) = next_in_cluster bytes goes_on not (short_longer tail bytes u v r reads)
+step_longer tail u v r more (next_in_cluster bytes continues not reads) = next_in_cluster bytes continues not (short_longer tail bytes u v r reads)
 step_longer tail u v r more (after_separator none ended reads) = after_separator none ended (positional_longer tail u v r more reads)
 step_longer tail u v r more (next_word none not reads) = next_word none not (word_longer tail u v r more reads)
 

@@ -1,4 +1,4 @@
--- One option at most is the nearest.
+-- At most one option is the nearest.
 use Rattle.std.proofs.Common.{◌≡◌, ℕ, ◌<◌, List, Option, Some, None, refl, ap, subst, arith, ⊎_elim}
 use Rattle.std.specs.Str.{chars}
 use Rattle.std.proofs.lemmas.Bool.{cases_order}

@@ -8,10 +8,10 @@ use Rattle.std.proofs.lemmas.Bool.{false≢true, eqb-true, eq-eqb, lt-ltb}
 use Rattle.std.proofs.lemmas.List.Elements.{Contains-append_left, Contains-append_right, Contains-append_cases}
 use Rattle.lexopt_line_spec.specs.Table.{Name, short, long}
 use Rattle.lexopt_options_spec.specs.Declaration.{Declaration, Declared, has_name, is_short, is_long, index_of, is_sound}
-use Rattle.lexopt_options_spec.specs.Legal.{Said, are_accepted, positional_words}
-use Rattle.lexopt_options_spec.specs.Completion.{spelling, names_of, spellings, AreText, IsOpen, CanStand}
+use Rattle.lexopt_options_spec.specs.Legal.{Parsed, are_accepted, positional_words}
+use Rattle.lexopt_options_spec.specs.Completion.{spelling, names_of, spellings, AreText, IsOpen, CanOccur}
 use Rattle.lexopt_options_spec.proofs.Sound.{found, either}
-use Rattle.lexopt_options_spec.proofs.Stands.{AreNamed, can_stand}
+use Rattle.lexopt_options_spec.proofs.Occurs.{AreNamed, can_occur}
 use Rattle.lexopt_options_spec.proofs.Taken.{AreFilled}
 
 pub cons_cases : {X : Type 0} (x : X) (xs : List X) (s : X) → Contains (x ∷ xs) s → (x ≡ s) ⊎ Contains xs s
@@ -29,7 +29,7 @@ none s (k, within, is) = omega (arith, within)
 
 -- ---- a name and its spelling
 
--- the names of an option that has these
+-- the names of an option, by its character and its long name
 from_names : Option ℕ → Option (List ℕ) → List Name
 from_names s l = map short (option_to_list s) ++ map long (option_to_list l)
 
@@ -56,7 +56,7 @@ is_among name (o ∷ os) is = either (has_name name o) (list_any (has_name name)
     (λ one. Contains-append_left (map spelling (names_of o)) (spellings os) (spelling name) (one_has name o one))
     (λ other. Contains-append_right (map spelling (names_of o)) (spellings os) (spelling name) (is_among name os other))
 
--- a spelling is that of some name
+-- s is the spelling of a name of one of these options
 pub record IsNamed (os : List Declared) (s : List ℕ) : Type 0 where
   pub name : Name
   pub is : s ≡ spelling name
@@ -96,7 +96,7 @@ named (o ∷ os) s has = ⊎_elim
     (λ other. let n = named os s other in record { name = n.name; is = n.is; among = ap (λ b. has_name n.name o || b) n.among ∙ or_right (has_name n.name o) })
     (Contains-append_cases (map spelling (names_of o)) (spellings os) s has)
 
--- ---- those that begin with something
+-- ---- spellings that begin with something
 
 pub kept : (p : List ℕ → Bool) (xs : List (List ℕ)) (s : List ℕ) → Contains (filter p xs) s → Contains xs s × (p s ≡ true)
 kept p [] s has = absurd (none s has)
@@ -133,14 +133,14 @@ any_within p (o ∷ os) is = go (p o) is (any_within p os)
 an_index : (name : Name) (os : List Declared) → list_any (has_name name) os ≡ true → (i : ℕ) × (index_of os name ≡ Some i)
 an_index name os is = (position_or_len (has_name name) os, ap (λ (b : Bool). if b then Some (position_or_len (has_name name) os) else None) (lt-ltb _ _ (any_within (has_name name) os is)))
 
-pub offered_stands : (d : Declaration) (words : List (List ℕ)) (l : List Said) (s : List ℕ) → is_sound d.options ≡ true → AreText d.options → AreNamed d.options → IsOpen d words l
+pub offered_occurs : (d : Declaration) (words : List (List ℕ)) (l : List Parsed) (s : List ℕ) → is_sound d.options ≡ true → AreText d.options → AreNamed d.options → IsOpen d words l
     → are_accepted d.options l ≡ true → AreFilled d.positionals (positional_words l) → Contains (spellings d.options) s
-    → CanStand d words s
-offered_stands d words l s sound text names is accepted filled has =
+    → CanOccur d words s
+offered_occurs d words l s sound text names is accepted filled has =
     let n = named d.options s has in
     let i = an_index n.name d.options n.among in
-    subst (CanStand d words) (sym n.is) (can_stand d words l n.name i.0 sound text names is accepted filled i.1 (text n.name n.among))
+    subst (CanOccur d words) (sym n.is) (can_occur d words l n.name i.0 sound text names is accepted filled i.1 (text n.name n.among))
 
-pub stands_offered : (d : Declaration) (words : List (List ℕ)) (s : List ℕ) → CanStand d words s → Contains (spellings d.options) s
-stands_offered d words s stands =
-    subst (Contains (spellings d.options)) (sym stands.spelled) (is_among stands.name d.options (found (has_name stands.name) d.options stands.index stands.declared))
+pub occurs_offered : (d : Declaration) (words : List (List ℕ)) (s : List ℕ) → CanOccur d words s → Contains (spellings d.options) s
+occurs_offered d words s possible =
+    subst (Contains (spellings d.options)) (sym possible.spelled) (is_among possible.name d.options (found (has_name possible.name) d.options possible.index possible.declared))

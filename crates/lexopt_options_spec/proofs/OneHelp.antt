@@ -7,13 +7,13 @@ use Rattle.std.proofs.Math.Seq.{take-append_seam}
 use Rattle.std.specs.Prelude.{Contains}
 use Rattle.std.specs.List.{AllZip, concat, flat_map, sum_by}
 use Rattle.lexopt_options_spec.specs.Declaration.{Declared, Declaration, Positional}
-use Rattle.lexopt_options_spec.specs.Help.{told_of, columns, help_column, blanks, Line, line_columns, Fits, AllFit, AreFull, Wraps, below, gap, entry, label, words_of, IsEntry, IsUsage, IsParagraph, IsHelp, usage_words, usage_column, paragraph, described, visible, set_apart, line_feed}
+use Rattle.lexopt_options_spec.specs.Help.{with_list, columns, help_column, blanks, Line, line_columns, Fits, AllFit, AreFull, Wraps, below, gap, entry, label, words_of, IsEntry, IsUsage, IsParagraph, IsHelp, usage_words, usage_column, paragraph, described, visible, set_apart, line_feed}
 use Rattle.lexopt_options_spec.proofs.Wrapping.{some_wrapping}
 
 abbrev words_in : List Line → List (List ℕ)
 words_in lines = flat_map (λ (line : Line). line) lines
 
--- a longer line is no narrower
+-- a longer line has at least as many columns
 wider : (front more : Line) → line_columns front ≤ line_columns (front ++ more)
 wider front more =
     let s : sum_by columns (front ++ more) ≡ sum_by columns front + sum_by columns more = sum_by-append columns front more in
@@ -43,7 +43,7 @@ full_tail : (limit : ℕ) (l : Line) (ls : List Line) → AreFull limit (l ∷ l
 full_tail limit l [] full = tt
 full_tail limit l (m ∷ ms) full = full.1
 
--- where both begin the same words, a line that is full is no shorter than one that fits
+-- if both begin with the same words, a full line has at least as many words as one that fits
 not_shorter : (limit : ℕ) (l : Line) (ls : List Line) (m : Line) (others : List (List ℕ)) → AllFit limit (l ∷ ls) → AreFull limit (l ∷ ls) → Fits limit m → l ++ words_in ls ≡ m ++ others → length l < length m → ⊥
 not_shorter limit l [] m others fit full fits same shorter =
     let a : length (l ++ []) ≡ length l + length {A = List ℕ} [] = length-append l [] in
@@ -82,7 +82,7 @@ one_entry width shown help s t a b =
 one_paragraph : (width : ℕ) (content s t : List ℕ) → IsParagraph width content s → IsParagraph width content t → s ≡ t
 one_paragraph width content s t a b = a.written ∙ ap paragraph (same_lines width (words_of content) a.lines b.lines a.wrapped b.wrapped) ∙ sym b.written
 
--- where each has one text, so have all
+-- if each has only one text, all have only one
 same_texts : {X : Type 0} (Is : X → List ℕ → Type 0) → ((x : X) (s t : List ℕ) → Is x s → Is x t → s ≡ t) → (xs : List X) (ss ts : List (List ℕ)) → AllZip Is xs ss → AllZip Is xs ts → ss ≡ ts
 same_texts Is one [] [] [] a b = refl
 same_texts Is one [] [] (t ∷ ts) a b = absurd b
@@ -95,8 +95,8 @@ pub one_help : (d : Declaration) (width : ℕ) (s t : List ℕ) → IsHelp d wid
 one_help d width s t a b =
     let usage = one_usage d width a.usage b.usage a.usage_first b.usage_first in
     let about = one_paragraph width d.about a.about b.about a.about_next b.about_next in
-    let positionals = same_texts (λ (p : Positional). IsEntry width p.placeholder (told_of p.help p.words)) (λ p. one_entry width p.placeholder (told_of p.help p.words)) (described d.positionals) a.positionals b.positionals a.each_positional b.each_positional in
-    let options = same_texts (λ (o : Declared). IsEntry width (label o) (told_of o.help o.words)) (λ o. one_entry width (label o) (told_of o.help o.words)) (visible d.options) a.options b.options a.each_option b.each_option in
+    let positionals = same_texts (λ (p : Positional). IsEntry width p.placeholder (with_list p.help p.words)) (λ p. one_entry width p.placeholder (with_list p.help p.words)) (described d.positionals) a.positionals b.positionals a.each_positional b.each_positional in
+    let options = same_texts (λ (o : Declared). IsEntry width (label o) (with_list o.help o.words)) (λ o. one_entry width (label o) (with_list o.help o.words)) (visible d.options) a.options b.options a.each_option b.each_option in
     let epilogue = same_texts (IsParagraph width) (one_paragraph width) d.epilogue a.epilogue b.epilogue a.each_paragraph b.each_paragraph in
     cc (a.written, b.written)
 
@@ -117,7 +117,7 @@ some_paragraph width content =
     let w = some_wrapping width (words_of content) in
     (paragraph w.0, record { lines = w.0; wrapped = w.1; written = refl })
 
--- where each has a text, so have all
+-- if each has a text, all have one
 some_texts : {X : Type 0} (Is : X → List ℕ → Type 0) → ((x : X) → (text : List ℕ) × Is x text) → (xs : List X) → (texts : List (List ℕ)) × AllZip Is xs texts
 some_texts Is some [] = ([], tt)
 some_texts Is some (x ∷ xs) =
@@ -129,8 +129,8 @@ pub some_help : (d : Declaration) (width : ℕ) → (text : List ℕ) × IsHelp 
 some_help d width =
     let u = some_usage d width in
     let a = some_paragraph width d.about in
-    let ps = some_texts (λ (p : Positional). IsEntry width p.placeholder (told_of p.help p.words)) (λ p. some_entry width p.placeholder (told_of p.help p.words)) (described d.positionals) in
-    let os = some_texts (λ (o : Declared). IsEntry width (label o) (told_of o.help o.words)) (λ o. some_entry width (label o) (told_of o.help o.words)) (visible d.options) in
+    let ps = some_texts (λ (p : Positional). IsEntry width p.placeholder (with_list p.help p.words)) (λ p. some_entry width p.placeholder (with_list p.help p.words)) (described d.positionals) in
+    let os = some_texts (λ (o : Declared). IsEntry width (label o) (with_list o.help o.words)) (λ o. some_entry width (label o) (with_list o.help o.words)) (visible d.options) in
     let es = some_texts (IsParagraph width) (some_paragraph width) d.epilogue in (
       u.0 ++ a.0 ++ set_apart (concat ps.0) ++ set_apart (concat os.0) ++ flat_map set_apart es.0,
       record {
@@ -166,7 +166,7 @@ narrow width column lines line within fit there = narrow_by width column (line_c
 pub narrow_entry : (width : ℕ) (shown help text : List ℕ) (e : IsEntry width shown help text) (line : Line) → Contains e.lines line → (help_column width + line_columns line ≤ width) ⊎ (length line ≡ 1)
 narrow_entry width shown help text e line there = narrow width (help_column width) e.lines line (omega arith) e.wrapped.fit there
 
--- where the width is less than the column, no line has two words
+-- if the width is less than the column, no line has two words
 no_room : (width column : ℕ) (line : Line) → width < column → 0 < length line → (line_columns line ≤ width - column) ⊎ (length line ≡ 1) → length line ≡ 1
 no_room width column line over some (inl narrow) = omega arith
 no_room width column line over some (inr one) = one

@@ -1,6 +1,6 @@
 -- Words have one list of leading options, and one rest.
 use Rattle.std.proofs.Common.{◌≡◌, ◌≢◌, ℕ, false, List, [], ◌∷◌, ◌++◌, map, Some, None, refl, sym, ap, subst, ◌∙◌, inl, inr, append_assoc, arith, true≢false}
-use Rattle.lexopt_spec.specs.UnreadLine.{dash, BeginsWith, IsPlain, TailStands, UnreadLine}
+use Rattle.lexopt_spec.specs.UnreadLine.{dash, BeginsWith, IsPlain, TailFits, UnreadLine}
 use Rattle.lexopt_spec.specs.Steps as steps
 use Rattle.lexopt_spec.specs.Steps.{Reply, Next, NextStep, ReadsPositional, no_word_left, word_left, ReadsWord, no_word, reads_separator, reads_long, reads_cluster, reads_positional, joined_value, equals_value, next_in_cluster, after_separator, next_word}
 use Rattle.lexopt_line_spec.specs.Table as spec
@@ -14,7 +14,7 @@ use Rattle.lexopt_line_spec.proofs.ReadingSteps.{says_positional}
 use Rattle.lexopt_line_spec.proofs.WholeLines.{shown_read}
 use Rattle.lexopt_options_spec.specs.Declaration.{Declaration, Declared, table}
 use Rattle.lexopt_options_spec.specs.Leading.{IsSplit}
-use Rattle.lexopt_options_spec.specs.Legal.{Said, positional, option, several, positional_count, said_item}
+use Rattle.lexopt_options_spec.specs.Legal.{Parsed, positional, option, several, positional_count, parsed_item}
 use Rattle.lexopt_options_spec.proofs.Cuts.{enough, items_cut}
 use Rattle.lexopt_options_spec.proofs.Lists.{first_same, same_somes}
 use Rattle.lexopt_options_spec.proofs.LeadingOptions.{append_nil, word_read}
@@ -29,7 +29,7 @@ AreOptions [] = Unit {0}
 AreOptions (spec.positional word ∷ items) = ⊥
 AreOptions (item ∷ items) = AreOptions items
 
--- no option is the first of these
+-- the first of these items, if there is one, is not an option
 abbrev pub HasNoOption : List Item → Type 0
 HasNoOption [] = Unit {0}
 HasNoOption (spec.positional word ∷ items) = Unit {0}
@@ -60,30 +60,30 @@ same_options (spec.many name values ∷ xs) (spec.many other more ∷ ys) a b ar
     let rest = same_options xs ys a b are too none nor parts.1 in
     (ap (λ x. x ∷ xs) parts.0 ∙ ap (λ l. spec.many other more ∷ l) rest.0, rest.1)
 
-pub options_alone : (options : List Declared) (items : List Item) (l : List Said) → map (said_item options) items ≡ map (λ s. Some s) l → positional_count l ≡ 0 → AreOptions items
+pub options_alone : (options : List Declared) (items : List Item) (l : List Parsed) → map (parsed_item options) items ≡ map (λ s. Some s) l → positional_count l ≡ 0 → AreOptions items
 options_alone options [] l are none = tt
-options_alone options (spec.positional word ∷ items) [] are none = absurd (let e : Some (positional word) ∷ map (said_item options) items ≡ [] = are in cc)
+options_alone options (spec.positional word ∷ items) [] are none = absurd (let e : Some (positional word) ∷ map (parsed_item options) items ≡ [] = are in cc)
 options_alone options (spec.positional word ∷ items) (option i value ∷ l) are none =
-    absurd (let e : Some (positional word) ≡ Some (option i value) = (first_same (Some (positional word)) (Some (option i value)) (map (said_item options) items) (map (λ s. Some s) l) are).0 in cc)
+    absurd (let e : Some (positional word) ≡ Some (option i value) = (first_same (Some (positional word)) (Some (option i value)) (map (parsed_item options) items) (map (λ s. Some s) l) are).0 in cc)
 options_alone options (spec.positional word ∷ items) (several i values ∷ l) are none =
-    absurd (let e : Some (positional word) ≡ Some (several i values) = (first_same (Some (positional word)) (Some (several i values)) (map (said_item options) items) (map (λ s. Some s) l) are).0 in cc)
+    absurd (let e : Some (positional word) ≡ Some (several i values) = (first_same (Some (positional word)) (Some (several i values)) (map (parsed_item options) items) (map (λ s. Some s) l) are).0 in cc)
 options_alone options (spec.positional word ∷ items) (positional other ∷ l) are none = absurd (omega (arith, none))
-options_alone options (spec.option name value ∷ items) [] are none = absurd (let e : said_item options (spec.option name value) ∷ map (said_item options) items ≡ [] = are in cc)
+options_alone options (spec.option name value ∷ items) [] are none = absurd (let e : parsed_item options (spec.option name value) ∷ map (parsed_item options) items ≡ [] = are in cc)
 options_alone options (spec.option name value ∷ items) (s ∷ l) are none =
-    options_alone options items l (first_same (said_item options (spec.option name value)) (Some s) (map (said_item options) items) (map (λ x. Some x) l) are).1 (rest_none s l none)
+    options_alone options items l (first_same (parsed_item options (spec.option name value)) (Some s) (map (parsed_item options) items) (map (λ x. Some x) l) are).1 (rest_none s l none)
   where
-    rest_none : (s : Said) (l : List Said) → positional_count (s ∷ l) ≡ 0 → positional_count l ≡ 0
+    rest_none : (s : Parsed) (l : List Parsed) → positional_count (s ∷ l) ≡ 0 → positional_count l ≡ 0
     rest_none s l is = omega (arith, is)
-options_alone options (spec.many name values ∷ items) [] are none = absurd (let e : said_item options (spec.many name values) ∷ map (said_item options) items ≡ [] = are in cc)
+options_alone options (spec.many name values ∷ items) [] are none = absurd (let e : parsed_item options (spec.many name values) ∷ map (parsed_item options) items ≡ [] = are in cc)
 options_alone options (spec.many name values ∷ items) (s ∷ l) are none =
-    options_alone options items l (first_same (said_item options (spec.many name values)) (Some s) (map (said_item options) items) (map (λ x. Some x) l) are).1 (rest_none s l none)
+    options_alone options items l (first_same (parsed_item options (spec.many name values)) (Some s) (map (parsed_item options) items) (map (λ x. Some x) l) are).1 (rest_none s l none)
   where
-    rest_none : (s : Said) (l : List Said) → positional_count (s ∷ l) ≡ 0 → positional_count l ≡ 0
+    rest_none : (s : Parsed) (l : List Parsed) → positional_count (s ∷ l) ≡ 0 → positional_count l ≡ 0
     rest_none s l is = omega (arith, is)
 
 -- ---- the reading of a front
 
--- the last of these items
+-- the last of the items is read
 split_last : (t : Table) (u w : UnreadLine) (items : List Item) (item : Item) → ReadsItems t u (items ++ item ∷ []) w → (x : UnreadLine) × ReadsItems t u items x × ReadsFirst t x item w
 split_last t u w [] item (v, first, is) = (u, refl, subst (ReadsFirst t u item) (sym is) first)
 split_last t u w (i ∷ items) item (v, first, others) =
@@ -99,17 +99,17 @@ word_first t u w item word is (first_one name value v x k step takes) = absurd (
 word_first t u w item word is (first_optional name value v x k step takes) = absurd (let e : spec.option name value ≡ spec.positional word = is in cc)
 word_first t u w item word is (first_several name n values v x k step few takes) = absurd (let e : spec.many name values ≡ spec.positional word = is in cc)
 
--- after it no word is left, where it was the last of the line
+-- `--` is not a plain word before the separator
 separator_plain : (word : List ℕ) → word ≡ dash ∷ dash ∷ [] → IsPlain false word → ⊥
 separator_plain word is (inl ended) = true≢false (sym ended)
 separator_plain word is (inr (inl alone)) = let e : dash ∷ dash ∷ [] ≡ dash ∷ [] = sym is ∙ alone in cc
 separator_plain word is (inr (inr other)) = other (subst (BeginsWith dash) (sym is) refl)
 
--- a positional was read that is not the separator, or after it
+-- a positional that is read before the separator is a plain word
 word_open : (u w : UnreadLine) (word : List ℕ) → w.ended ≡ false → NextStep u (steps.positional word) w → IsPlain false word
 word_open u w word is_open (joined_value value o joins spelled r_is after) = absurd (let e : steps.positional word ≡ steps.unexpected o value = r_is in cc)
 word_open u w word is_open (equals_value value o joins on spelled r_is after) = absurd (let e : steps.positional word ≡ steps.unexpected o value = r_is in cc)
-word_open u w word is_open (next_in_cluster bytes goes_on not reads) = absurd (let e : steps.positional word ≡ steps.short _ = reads.reply_is in cc)
+word_open u w word is_open (next_in_cluster bytes continues not reads) = absurd (let e : steps.positional word ≡ steps.short _ = reads.reply_is in cc)
 word_open u w word is_open (after_separator none ended (no_word_left empty r_is after)) = absurd (let e : steps.positional word ≡ steps.end = r_is in cc)
 word_open u w word is_open (after_separator none ended (word_left x ws some r_is after)) = absurd (true≢false (sym ended ∙ sym (ap (λ (v : UnreadLine). v.ended) after) ∙ is_open))
 word_open u w word is_open (next_word none not (no_word empty r_is after)) = absurd (let e : steps.positional word ≡ steps.end = r_is in cc)
@@ -134,11 +134,11 @@ last_word (b ∷ before) (f ∷ front) x y is = last_word before front x y (rest
     rest : (b f : List ℕ) (xs ys : List (List ℕ)) → b ∷ xs ≡ f ∷ ys → xs ≡ ys
     rest b f xs ys is = cc
 
--- where the line ends, no word is left but the separator
+-- where the line ends, at most the separator is left
 end_words : (z v : UnreadLine) → NextStep z steps.end v → (P : Type 0) → (z.words ≡ [] → P) → (z.words ≡ (dash ∷ dash ∷ []) ∷ [] → z.ended ≡ false → P) → P
 end_words z v (joined_value value o joins spelled r_is after) P none one = absurd (let e : steps.end ≡ steps.unexpected o value = r_is in cc)
 end_words z v (equals_value value o joins on spelled r_is after) P none one = absurd (let e : steps.end ≡ steps.unexpected o value = r_is in cc)
-end_words z v (next_in_cluster bytes goes_on not reads) P none one = absurd (let e : steps.end ≡ steps.short _ = reads.reply_is in cc)
+end_words z v (next_in_cluster bytes continues not reads) P none one = absurd (let e : steps.end ≡ steps.short _ = reads.reply_is in cc)
 end_words z v (after_separator no_more ended (no_word_left empty r_is after)) P none one = none empty
 end_words z v (after_separator no_more ended (word_left x ws some r_is after)) P none one = absurd (let e : steps.end ≡ steps.positional x = r_is in cc)
 end_words z v (next_word no_more not (no_word empty r_is after)) P none one = none empty
@@ -163,23 +163,23 @@ some_word x z word step none = let read = word_read x z word step in no_words re
     no_words [] after is = let e : word ∷ after ≡ [] = is in cc
     no_words (w ∷ before) after is = let e : w ∷ (before ++ word ∷ after) ≡ [] = is in cc
 
-pub leading_read : (d : Declaration) (words : List (List ℕ)) (l : List Said) (rest : List (List ℕ)) (says : IsSplit d words l rest) (word : List ℕ) (more : List (List ℕ)) → rest ≡ word ∷ more
-    → LeadingRead d words says.items word more
-leading_read d words l rest says word more is =
+pub leading_read : (d : Declaration) (words : List (List ℕ)) (l : List Parsed) (rest : List (List ℕ)) (means : IsSplit d words l rest) (word : List ℕ) (more : List (List ℕ)) → rest ≡ word ∷ more
+    → LeadingRead d words means.items word more
+leading_read d words l rest means word more is =
     let t = table d.options in
     let e = d.short_equals in
-    let short = says.front ++ word ∷ [] in
-    let reading = shown_read t e short (says.items ++ spec.positional word ∷ []) (spelled_shows t e short (says.items ++ spec.positional word ∷ []) (says.begins word more is)) in
-    let all = all_read t (start e short) (says.items ++ spec.positional word ∷ []) reading in
-    let parts = split_last t (start e short) all.there says.items (spec.positional word) all.reads in
+    let short = means.front ++ word ∷ [] in
+    let reading = shown_read t e short (means.items ++ spec.positional word ∷ []) (spelled_shows t e short (means.items ++ spec.positional word ∷ []) (means.begins word more is)) in
+    let all = all_read t (start e short) (means.items ++ spec.positional word ∷ []) reading in
+    let parts = split_last t (start e short) all.there means.items (spec.positional word) all.reads in
     let step = word_first t parts.0 all.there (spec.positional word) word refl parts.2 in
-    let cut = items_cut t (start e short) all.there (says.items ++ spec.positional word ∷ []) [] all.there.words refl all.reads in
+    let cut = items_cut t (start e short) all.there (means.items ++ spec.positional word ∷ []) [] all.there.words refl all.reads in
     let none : all.there.words ≡ [] = end_words all.there reading.after all.ends (all.there.words ≡ []) (λ empty. empty)
-    (λ one is_open. absurd (separator_plain word (sym (last_word cut.before says.front (dash ∷ dash ∷ []) word (ap (λ l. cut.before ++ l) (sym one) ∙ sym cut.words_are))) (word_open parts.0 all.there word is_open step))) in
-    let whole : short ++ more ≡ words = append_assoc says.front (word ∷ []) more ∙ ap (λ l. says.front ++ l) (sym is) ∙ sym says.words_are in
+    (λ one is_open. absurd (separator_plain word (sym (last_word cut.before means.front (dash ∷ dash ∷ []) word (ap (λ l. cut.before ++ l) (sym one) ∙ sym cut.words_are))) (word_open parts.0 all.there word is_open step))) in
+    let whole : short ++ more ≡ words = append_assoc means.front (word ∷ []) more ∙ ap (λ l. means.front ++ l) (sym is) ∙ sym means.words_are in
     record {
       there = longer more parts.0;
-      reads = subst (λ ws. ReadsItems t (start e ws) says.items (longer more parts.0)) whole (items_longer t more (start e short) parts.0 says.items (some_word parts.0 all.there word step) parts.1);
+      reads = subst (λ ws. ReadsItems t (start e ws) means.items (longer more parts.0)) whole (items_longer t more (start e short) parts.0 means.items (some_word parts.0 all.there word step) parts.1);
       after = longer more all.there;
       step = step_longer more parts.0 all.there (steps.positional word) (λ same. cc) step;
       left = ap (λ l. l ++ more) none;
@@ -191,21 +191,21 @@ pub data RestRead (d : Declaration) (words : List (List ℕ)) (items : List Item
   at_word : (word : List ℕ) (more : List (List ℕ)) (final : Reply) (m : List Item) → LeadingRead d words items word more
       → IsReading (table d.options) (start d.short_equals words) final (items ++ spec.positional word ∷ m) → RestRead d words items (word ∷ more) final (spec.positional word ∷ m)
 
-pub rest_read : (d : Declaration) (words : List (List ℕ)) (l : List Said) (rest : List (List ℕ)) (says : IsSplit d words l rest) (others : List (List ℕ)) → rest ≡ others
-    → (final : Reply) × (a : List Item) × RestRead d words says.items others final a
-rest_read d words l rest says [] is =
-    let whole : says.front ≡ words = sym (append_nil says.front) ∙ ap (λ m. says.front ++ m) (sym is) ∙ sym says.words_are in
-    let reading = shown_read (table d.options) d.short_equals says.front says.items (spelled_shows (table d.options) d.short_equals says.front says.items says.spelled) in
-    (steps.end, [], at_end (subst (λ ws. IsReading (table d.options) (start d.short_equals ws) steps.end (says.items ++ [])) whole (subst (IsReading (table d.options) (start d.short_equals says.front) steps.end) (sym (append_nil says.items)) reading)))
-rest_read d words l rest says (word ∷ more) is =
+pub rest_read : (d : Declaration) (words : List (List ℕ)) (l : List Parsed) (rest : List (List ℕ)) (means : IsSplit d words l rest) (others : List (List ℕ)) → rest ≡ others
+    → (final : Reply) × (a : List Item) × RestRead d words means.items others final a
+rest_read d words l rest means [] is =
+    let whole : means.front ≡ words = sym (append_nil means.front) ∙ ap (λ m. means.front ++ m) (sym is) ∙ sym means.words_are in
+    let reading = shown_read (table d.options) d.short_equals means.front means.items (spelled_shows (table d.options) d.short_equals means.front means.items means.spelled) in
+    (steps.end, [], at_end (subst (λ ws. IsReading (table d.options) (start d.short_equals ws) steps.end (means.items ++ [])) whole (subst (IsReading (table d.options) (start d.short_equals means.front) steps.end) (sym (append_nil means.items)) reading)))
+rest_read d words l rest means (word ∷ more) is =
     let t = table d.options in
-    let read = leading_read d words l rest says word more is in
+    let read = leading_read d words l rest means word more is in
     let after = word_read read.there read.after word read.step in
-    let later = some_reading t read.after (subst (λ tail. TailStands tail read.after.last read.after.ended) (sym after.none) tt) in (
+    let later = some_reading t read.after (subst (λ tail. TailFits tail read.after.last read.after.ended) (sym after.none) tt) in (
       later.0,
       spec.positional word ∷ later.1,
       at_word word more later.0 later.1 read
-          (says_items t (start d.short_equals words) read.there says.items read.reads later.0 (spec.positional word ∷ later.1) (says_positional t read.there read.after word (inl read.step) later.0 later.1 later.2)),
+          (says_items t (start d.short_equals words) read.there means.items read.reads later.0 (spec.positional word ∷ later.1) (says_positional t read.there read.after word (inl read.step) later.0 later.1 later.2)),
     )
 
 pub reading_of : {d : Declaration} {words : List (List ℕ)} {items : List Item} {rest : List (List ℕ)} {final : Reply} {a : List Item} → RestRead d words items rest final a
@@ -227,14 +227,14 @@ one_rest d words items rest others final other a b (at_word word more final2 m r
     word_is x y is = cc
 
 -- the words have one list and one rest
-pub one_leading : (d : Declaration) (words : List (List ℕ)) (l m : List Said) (rest others : List (List ℕ)) → IsSplit d words l rest → IsSplit d words m others → (l ≡ m) × (rest ≡ others)
-one_leading d words l m rest others says too =
-    let one = rest_read d words l rest says rest refl in
+pub one_leading : (d : Declaration) (words : List (List ℕ)) (l m : List Parsed) (rest others : List (List ℕ)) → IsSplit d words l rest → IsSplit d words m others → (l ≡ m) × (rest ≡ others)
+one_leading d words l m rest others means too =
+    let one = rest_read d words l rest means rest refl in
     let two = rest_read d words m others too others refl in
     let first = reading_of one.2 in
     let second = reading_of two.2 in
-    let same = no_other_reading (table d.options) (start d.short_equals words) one.0 two.0 (says.items ++ one.1) (too.items ++ two.1) first.0 second.0 in
-    let items = same_options says.items too.items one.1 two.1 (options_alone d.options says.items l says.said says.alone) (options_alone d.options too.items m too.said too.alone) first.1 second.1 same.1 in (
-      same_somes l m (sym says.said ∙ ap (map (said_item d.options)) items.0 ∙ too.said),
+    let same = no_other_reading (table d.options) (start d.short_equals words) one.0 two.0 (means.items ++ one.1) (too.items ++ two.1) first.0 second.0 in
+    let items = same_options means.items too.items one.1 two.1 (options_alone d.options means.items l means.parsed means.alone) (options_alone d.options too.items m too.parsed too.alone) first.1 second.1 same.1 in (
+      same_somes l m (sym means.parsed ∙ ap (map (parsed_item d.options)) items.0 ∙ too.parsed),
       one_rest d words too.items rest others one.0 two.0 one.1 two.1 (subst (λ is. RestRead d words is rest one.0 one.1) items.0 one.2) two.2 items.1,
     )

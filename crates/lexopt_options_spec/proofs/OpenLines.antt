@@ -1,4 +1,4 @@
--- Lines that can go on with an option.
+-- Lines after which an option can come.
 use Rattle.std.proofs.Common.{◌≡◌, ℕ, Bool, false, List, [], ◌∷◌, ◌++◌, map, refl, sym, ap, subst, ◌∙◌, append_assoc}
 use Rattle.lexopt_spec.specs.UnreadLine.{dash, IsPlain, IsNormalIn, IsPlainFront}
 use Rattle.lexopt_line_spec.specs.Table.{Name, short, long, Item, positional, Kind, flag, one, optional, several, kind, Table}
@@ -9,7 +9,7 @@ use Rattle.lexopt_line_spec.specs.Spelling.{Letters, After, nothing, Completes, 
 abbrev pub dashes : List ℕ
 dashes = dash ∷ dash ∷ []
 
--- words that spell these items, with no separator among them
+-- words that spell these items, without a separator
 pub data OpenLine (letters : Letters) (t : Table) (short_equals : Bool) : List (List ℕ) → List Item → Type 0 where
   nothing_yet : OpenLine letters t short_equals [] []
   word_first : (w : List ℕ) (words : List (List ℕ)) (items : List Item) → IsPlain false w → OpenLine letters t short_equals words items
@@ -17,7 +17,7 @@ pub data OpenLine (letters : Letters) (t : Table) (short_equals : Bool) : List (
   group_first : (words left : List (List ℕ)) (front items : List Item) → Group letters t short_equals words front left → OpenLine letters t short_equals left items
       → OpenLine letters t short_equals words (front ++ items)
 
--- ---- more words after it
+-- ---- more words after the line
 
 same_more : (l m more : List (List ℕ)) → l ≡ m → l ++ more ≡ m ++ more
 same_more l m more is = ap (λ x. x ++ more) is
@@ -61,15 +61,15 @@ group_more letters t short_equals words items left more calm (spelling.long_opti
     spelling.long_option text bytes name after item (others ++ more) (same_more words ((dash ∷ dash ∷ text) ∷ others) more are) is none named
     (completes_more (kind t (long name)) (long name) after others left item more calm completes) items_are
 
--- a line goes on after it
-pub goes_on : (letters : Letters) (t : Table) (short_equals : Bool) (words more : List (List ℕ)) (front items : List Item) → ¬ IsNormalIn false more → OpenLine letters t short_equals words front
+-- more words come after the line
+pub continues : (letters : Letters) (t : Table) (short_equals : Bool) (words more : List (List ℕ)) (front items : List Item) → ¬ IsNormalIn false more → OpenLine letters t short_equals words front
     → Line letters t short_equals more items → Line letters t short_equals (words ++ more) (front ++ items)
-goes_on letters t short_equals words more front items calm nothing_yet line = line
-goes_on letters t short_equals words more front items calm (word_first w ws others plain opens) line =
-    plain_word w (ws ++ more) (others ++ items) plain (goes_on letters t short_equals ws more others items calm opens line)
-goes_on letters t short_equals words more all items calm (group_first ws left front others first opens) line =
+continues letters t short_equals words more front items calm nothing_yet line = line
+continues letters t short_equals words more front items calm (word_first w ws others plain opens) line =
+    plain_word w (ws ++ more) (others ++ items) plain (continues letters t short_equals ws more others items calm opens line)
+continues letters t short_equals words more all items calm (group_first ws left front others first opens) line =
     subst (Line letters t short_equals (ws ++ more)) (sym (append_assoc front others items))
-    (group (ws ++ more) (left ++ more) front (others ++ items) (group_more letters t short_equals ws front left more (λ none. calm) first) (goes_on letters t short_equals left more others items calm opens line))
+    (group (ws ++ more) (left ++ more) front (others ++ items) (group_more letters t short_equals ws front left more (λ none. calm) first) (continues letters t short_equals left more others items calm opens line))
 
 -- ---- a line up to its separator
 
@@ -78,7 +78,7 @@ pub data Parts (letters : Letters) (t : Table) (short_equals : Bool) (words : Li
   up_to_separator : (before rest : List (List ℕ)) (front : List Item) → words ≡ before ++ dashes ∷ rest → items ≡ front ++ map positional rest → OpenLine letters t short_equals before front
       → Parts letters t short_equals words items
 
--- what comes before words at the end
+-- the words before those at the end
 pub record Cut (words tail : List (List ℕ)) (P : List (List ℕ) → Type 0) : Type 0 where
   pub before : List (List ℕ)
   pub words_are : words ≡ before ++ tail
@@ -148,8 +148,8 @@ parts letters t short_equals words items (group ws left front others first line)
   where
     more : Parts letters t short_equals left others → Parts letters t short_equals ws (front ++ others)
     more (open_to_the_end opens) = open_to_the_end (group_first ws left front others first opens)
-    more (up_to_separator before rest said are items_are opens) =
+    more (up_to_separator before rest parsed are items_are opens) =
         let cut = group_cut letters t short_equals ws front before (dashes ∷ rest) (subst (Group letters t short_equals ws front) are first) in
-        up_to_separator cut.before rest (front ++ said) cut.words_are (ap (λ l. front ++ l) items_are ∙ sym (append_assoc front said (map positional rest)))
-        (group_first cut.before before front said cut.holds opens)
+        up_to_separator cut.before rest (front ++ parsed) cut.words_are (ap (λ l. front ++ l) items_are ∙ sym (append_assoc front parsed (map positional rest)))
+        (group_first cut.before before front parsed cut.holds opens)
 parts letters t short_equals words items (separator ws) = up_to_separator [] ws [] refl refl nothing_yet

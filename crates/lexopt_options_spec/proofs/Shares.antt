@@ -1,4 +1,4 @@
--- Which words belong to which positional.
+-- How many words belong to each positional.
 use Rattle.std.proofs.Common.{◌≡◌, ◌≤◌, ◌+◌, ◌-◌, ◌==◌, ◌||◌, ℕ, zero, suc, Bool, true, false, List, [], ◌∷◌, length, take, min, max, Option, Some, None, if◌then◌else◌, refl, sym, ap, subst, ◌∙◌, arith}
 use Rattle.std.proofs.lemmas.Bool.{eqb-true, false≢true}
 use Rattle.std.proofs.lemmas.List.Sums.{sum_by-cons}
@@ -10,14 +10,14 @@ use Rattle.lexopt_options_spec.specs.Places.{AreFirst, ArePlaces, AreShares, Can
 
 -- ---- to each as many as can
 
--- of this many words more than have to occur, this many belong to it, where it is the first
+-- how many of the words that are not required belong to the first positional
 abbrev pub extra : Count → ℕ → ℕ
 extra once spare = 0
 extra at_most_once spare = min 1 spare
 extra any_number spare = spare
 extra at_least_once spare = spare
 
--- the shares, if there are this many words more than have to occur
+-- the shares, where this many words are not required
 abbrev pub greedy : List Positional → ℕ → List ℕ
 greedy [] spare = []
 greedy (p ∷ ps) spare = (needs p.count + extra p.count spare) ∷ greedy ps (spare - extra p.count spare)
@@ -69,7 +69,7 @@ rest_fits p ps spare within =
     go at_least_once true within small = tt
     go at_least_once false within small = omega arith
 
--- ---- there are shares
+-- ---- there is a list of shares
 
 none_spare : (ps : List Positional) (spare : ℕ) → spare ≡ 0 → NoneSpare ps (greedy ps spare)
 none_spare [] spare none = tt
@@ -107,7 +107,7 @@ all_taken (p ∷ ps) spare within =
     let small = extra_small p.count spare in
     omega (arith, first, rest, many, small)
 
--- where there is room for one more, no word is left
+-- if one more word could belong to it, none is left
 no_more : (c : Count) (spare : ℕ) → has_room c (needs c + extra c spare) ≡ true → spare - extra c spare ≡ 0
 no_more once spare room = absurd (false≢true room)
 no_more at_most_once spare room = let none = eqb-true (0 + min 1 spare) 0 room in omega (arith, none)
@@ -127,7 +127,7 @@ some_shares ps n enough within =
     let is : least ps + (n - least ps) ≡ n = omega arith in
     (greedy ps (n - least ps), subst (λ m. AreShares ps m (greedy ps (n - least ps))) is (greedy_are_shares ps (n - least ps) (subst (λ m. IsWithin m (most ps)) (sym is) within)))
 
--- ---- there are no others
+-- ---- there is no other list of shares
 
 none_total : (ps : List Positional) (shares : List ℕ) → NoneSpare ps shares → total shares ≡ least ps
 none_total [] [] none = refl
@@ -157,7 +157,7 @@ least_total (p ∷ ps) (n ∷ shares) each =
     let one = takes_enough p.count n each.0 in
     omega (arith, first, rest, many, one)
 
--- as many words belong to the first as in the greedy list
+-- as many words belong to the first positional as in the list above
 first_is : (c : Count) (n others least_others spare : ℕ) → CanTake c n → (has_room c n ≡ true → others ≡ least_others) → n + others ≡ needs c + least_others + spare → least_others ≤ others
     → n ≡ needs c + extra c spare
 first_is once n others least_others spare can room all enough = omega arith
@@ -186,7 +186,7 @@ are_greedy (p ∷ ps) spare (n ∷ shares) each all first =
 pub shares_are_greedy : (ps : List Positional) (spare : ℕ) (shares : List ℕ) → AreShares ps (least ps + spare) shares → shares ≡ greedy ps spare
 shares_are_greedy ps spare shares are = are_greedy ps spare shares are.each are.all are.first
 
--- there are at least as many words as have to occur
+-- there are at least as many words as are required
 pub shares_enough : (ps : List Positional) (n : ℕ) (shares : List ℕ) → AreShares ps n shares → least ps ≤ n
 shares_enough ps n shares are = subst (λ m. least ps ≤ m) are.all (least_total ps shares are.each)
 

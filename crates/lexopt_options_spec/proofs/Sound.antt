@@ -1,4 +1,4 @@
--- What holds of the names of options that can be declared together.
+-- The names of options that can be declared together.
 use Rattle.std.proofs.Common.{◌≡◌, ◌≢◌, ℕ, Bool, true, false, ◌==◌, ◌||◌, ◌&&◌, List, [], ◌∷◌, ◌++◌, map, position, Option, Some, None, is_none, cond, refl, sym, subst, ◌∙◌}
 use Rattle.std.specs.List.{Contains, list_any, list_all}
 use Rattle.std.specs.Cmp.Lexicographic.{same_text}
@@ -12,7 +12,7 @@ use Rattle.lexopt_line_spec.specs.Table.{Name, short, long, Kind, Item}
 use Rattle.lexopt_line_spec.specs.Spelling.{IsWholeName, HaveWholeNames}
 use Rattle.lexopt_options_spec.specs.Declaration.{Declared, Reason, has, has_name, is_empty, is_short, is_long, index_of, short_fault, long_fault, or_else, fault, faults, is_sound}
 use Rattle.std.specs.Option.{option_map}
-use Rattle.lexopt_options_spec.specs.Legal.{Said, option, several, said_item}
+use Rattle.lexopt_options_spec.specs.Legal.{Parsed, option, several, parsed_item}
 
 -- a name that can be declared
 abbrev pub IsGoodName : Name → Type 0
@@ -85,11 +85,11 @@ found p (o ∷ os) i is =
     let at = position-Some p (o ∷ os) i o is in
     list_any_at p (o ∷ os) i o at.0 at.1
 
--- a name of one of them can be declared
+-- the names of these options can be declared
 pub good : (options : List Declared) (name : Name) (i : ℕ) → is_sound options ≡ true → index_of options name ≡ Some i → IsGoodName name
 good options name i sound is = good_after [] options name sound (found (has_name name) options i is)
 
--- ---- what is read names options that can be declared
+-- ---- what is read has names that can be declared
 
 whole : (name : Name) → IsGoodName name → IsWholeName name
 whole (short c) is = is.1
@@ -102,17 +102,17 @@ known f (Some x) y is = (x, refl)
 head_is : {X : Type 0} (x y : X) (xs ys : List X) → x ∷ xs ≡ y ∷ ys → (x ≡ y) × (xs ≡ ys)
 head_is x y xs ys is = (cc, cc)
 
-pub whole_names : (options : List Declared) → is_sound options ≡ true → (items : List Item) (l : List Said) → map (said_item options) items ≡ map (λ s. Some s) l → HaveWholeNames items
+pub whole_names : (options : List Declared) → is_sound options ≡ true → (items : List Item) (l : List Parsed) → map (parsed_item options) items ≡ map (λ s. Some s) l → HaveWholeNames items
 whole_names options sound [] l is = tt
-whole_names options sound (item ∷ items) [] is = absurd (let e : said_item options item ∷ map (said_item options) items ≡ [] = is in cc)
+whole_names options sound (item ∷ items) [] is = absurd (let e : parsed_item options item ∷ map (parsed_item options) items ≡ [] = is in cc)
 whole_names options sound (spec.option name value ∷ items) (s ∷ l) is =
-    let parts = head_is _ (Some s) (map (said_item options) items) (map (λ s. Some s) l) is in
+    let parts = head_is _ (Some s) (map (parsed_item options) items) (map (λ s. Some s) l) is in
     let index = known (λ i. option i value) (index_of options name) s parts.0 in
     (whole name (good options name index.0 sound index.1), whole_names options sound items l parts.1)
 whole_names options sound (spec.many name values ∷ items) (s ∷ l) is =
-    let parts = head_is _ (Some s) (map (said_item options) items) (map (λ s. Some s) l) is in
+    let parts = head_is _ (Some s) (map (parsed_item options) items) (map (λ s. Some s) l) is in
     let index = known (λ i. several i values) (index_of options name) s parts.0 in
     (whole name (good options name index.0 sound index.1), whole_names options sound items l parts.1)
 whole_names options sound (spec.positional word ∷ items) (s ∷ l) is =
-    let parts = head_is _ (Some s) (map (said_item options) items) (map (λ s. Some s) l) is in
+    let parts = head_is _ (Some s) (map (parsed_item options) items) (map (λ s. Some s) l) is in
     whole_names options sound items l parts.1

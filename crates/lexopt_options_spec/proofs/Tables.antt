@@ -1,4 +1,4 @@
--- In the table of a sound declaration each option has its own kind.
+-- In the table of a sound declaration, each option has its own kind.
 use Rattle.std.specs.List.{position_or_len}
 use Rattle.std.proofs.lemmas.Bool.{lt-ltb}
 use Rattle.std.proofs.Common.{position, nat_lt, not, ◌+◌, length, length-append, if◌then◌else◌, ◌≡◌, ◌⊎◌, ℕ, ◌==◌, ◌||◌, ◌&&◌, suc, zero, Bool, true, false, cond, List, [], ◌∷◌, ◌++◌, Option, Some, None, refl, sym, ap, subst, ◌∙◌, arith, inl, inr, true≢false}
@@ -34,7 +34,7 @@ and_false false = refl
 
 -- ---- the lists of the table
 
--- both kinds are the same one, and one that has values
+-- both kinds are the same, and not that of flags
 abbrev is_kind : Kind → Kind → Bool
 is_kind one one = true
 is_kind optional optional = true
@@ -84,7 +84,7 @@ any_long name several flag n = refl
 any_long name several one n = refl
 any_long name several optional n = refl
 
--- the lists of a kind hold a name that an option of the kind has, and no other
+-- the lists of a kind have a name if and only if an option of the kind has it
 holds_any : (k : Kind) (name : Name) (options : List Declared) → holds k options name ≡ list_any (is_held k name) options
 holds_any k (short c) [] = refl
 holds_any k (long name) [] = refl
@@ -97,7 +97,7 @@ holds_any k (long name) (o ∷ os) =
     ∙ ap (λ x. x || list_any (λ m. pointwise ◌==◌ m name) (longs_of k os)) (any_long name k o.kind o.long_name)
     ∙ ap (λ x. (is_kind k o.kind && is_long name o.long_name) || x) (holds_any k (long name) os)
 
--- ---- no two options have one name
+-- ---- no two options have a name in common
 
 pub pointwise_refl : (xs : List ℕ) → pointwise ◌==◌ xs xs ≡ true
 pointwise_refl [] = refl
@@ -116,7 +116,7 @@ both_long name (Some d) (Some x) e f =
     let Q : List ℕ → Type 0 = λ l. pointwise ◌==◌ name l ≡ true in
     subst P (sym (same_text x name (sym f))) (subst Q (sym (same_text d name (sym e))) (pointwise_refl name))
 
--- two options that have one name share it
+-- two options that have the same name share it
 shared : (name : Name) (o p : Declared) → has_name name o ≡ true → has_name name p ≡ true → shares_name o p ≡ true
 shared (short c) o p e f = ap (λ b. b || shares_long p.long_name o.long_name) (both_short c o.short_name p.short_name e f)
 shared (long name) o p e f = ap (λ b. shares_short p.short_name o.short_name || b) (both_long name o.long_name p.long_name e f) ∙ or_right (shares_short p.short_name o.short_name)
@@ -137,7 +137,7 @@ not_shared None None (Some r) i true e = sym e
 not_shared None (Some r) h i true e = sym e
 not_shared (Some r) g h i true e = sym e
 
--- an option that can be declared has no name of one before it
+-- an option that can be declared has no name of an option before it
 new_names : (name : Name) (before : List Declared) (o : Declared) → is_none (fault before o) ≡ true → list_any (has_name name) before ≡ true → has_name name o ≡ false
 new_names name before o sound there =
     elim (has_name name o) as (λ v. has_name name o ≡ v → v ≡ false) [
@@ -151,7 +151,7 @@ any_more p before o e = list_any-append p before (o ∷ []) ∙ ap (λ b. b || (
 any_last : (p : Declared → Bool) (before : List Declared) (o : Declared) → p o ≡ true → list_any p (before ++ o ∷ []) ≡ true
 any_last p before o e = list_any-append p before (o ∷ []) ∙ ap (λ b. list_any p before || (b || false)) e ∙ or_right (list_any p before)
 
--- nor have any after it
+-- and none of an option after it
 none_after : (name : Name) (before os : List Declared) → list_all is_none (faults before os) ≡ true → list_any (has_name name) before ≡ true → list_any (has_name name) os ≡ false
 none_after name before [] sound there = refl
 none_after name before (o ∷ os) sound there =
@@ -166,7 +166,7 @@ none_held k name (o ∷ os) e =
     ap (λ b. (is_kind k o.kind && b) || list_any (is_held k name) os) parts.0
     ∙ elim (is_kind k o.kind) as (λ v. ((v && false) || list_any (is_held k name) os) ≡ false) [ true ↦ none_held k name os parts.1 | false ↦ none_held k name os parts.1 ]
 
--- ---- an option of a list
+-- ---- the option with a name
 
 abbrev pub IsIn : Declared → List Declared → Type 0
 IsIn o [] = ⊥
@@ -177,7 +177,7 @@ any_of p [] o here e = absurd here
 any_of p (q ∷ os) o (inl is) e = ap (λ (x : Declared). p x || list_any p os) is ∙ ap (λ b. b || list_any p os) e
 any_of p (q ∷ os) o (inr more) e = ap (λ b. p q || b) (any_of p os o more e) ∙ or_right (p q)
 
--- the one option that has this name decides
+-- the only option with this name decides
 held_by : (k : Kind) (name : Name) (before os : List Declared) (o : Declared) → list_all is_none (faults before os) ≡ true → IsIn o os → has_name name o ≡ true → list_any (is_held k name) os ≡ is_kind k o.kind
 held_by k name before [] o sound here has = absurd here
 held_by k name before (q ∷ os) o sound (inl is) has =
@@ -204,7 +204,7 @@ chosen one = refl
 chosen optional = refl
 chosen several = refl
 
--- by the table an option's name has the option's kind
+-- in the table, the name of an option has the option's kind
 pub kind_of_name : (options : List Declared) (o : Declared) → is_sound options ≡ true → Contains options o → (name : Name) → has_name name o ≡ true → kind (table options) name ≡ o.kind
 unfolding kind
 kind_of_name options o sound there name has =
@@ -214,9 +214,9 @@ kind_of_name options o sound there name has =
     ∙ ap (λ b. cond (is_kind one o.kind) one (cond (is_kind optional o.kind) optional (cond b several flag))) (held several)
     ∙ chosen o.kind
 
--- ---- the place of a name
+-- ---- the index of a name
 
--- none before an option that can be declared has a name of it
+-- no option before one that can be declared has a name of it
 pub none_before : (name : Name) (before : List Declared) (o : Declared) → is_none (fault before o) ≡ true → has_name name o ≡ true → list_any (has_name name) before ≡ false
 none_before name before o sound has =
     elim (list_any (has_name name) before) as (λ v. list_any (has_name name) before ≡ v → v ≡ false) [

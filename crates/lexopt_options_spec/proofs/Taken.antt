@@ -6,21 +6,21 @@ use Rattle.std.specs.List.{sum_by}
 use Rattle.std.specs.Option.{option_map}
 use Rattle.lexopt_options_spec.specs.Completion.{CanOwn}
 use Rattle.lexopt_options_spec.specs.Declaration.{Count, Positional, once, at_most_once, any_number, at_least_once, are_listable, list_fault}
-use Rattle.lexopt_options_spec.specs.Legal.{IsWithin, Said, option, several, positional, most, positional_count, positional_words}
+use Rattle.lexopt_options_spec.specs.Legal.{IsWithin, Parsed, option, several, positional, most, positional_count, positional_words}
 use Rattle.lexopt_options_spec.specs.Places.{AreShares, AreTaken, ArePlaces, IsNotTaken, least, needs, owners, refused_word, takes_at}
 use Rattle.lexopt_options_spec.proofs.Listed.{value_fits, value_for}
 use Rattle.lexopt_options_spec.proofs.Shares.{extra, greedy, greedy_are_shares, least_fits, one_places, shares_are_greedy, some_places}
 use Rattle.lexopt_options_spec.proofs.Sound.{no_fault}
 
--- ---- the words of what is read
+-- ---- the words of the positionals that are read
 
-pub words_count : (l : List Said) → length (positional_words l) ≡ positional_count l
+pub words_count : (l : List Parsed) → length (positional_words l) ≡ positional_count l
 words_count [] = refl
 words_count (option i v ∷ l) = let rest = words_count l in omega (arith, rest)
 words_count (several i vs ∷ l) = let rest = words_count l in omega (arith, rest)
 words_count (positional w ∷ l) = let rest = words_count l in omega (arith, rest)
 
-pub words_append : (l m : List Said) → positional_words (l ++ m) ≡ positional_words l ++ positional_words m
+pub words_append : (l m : List Parsed) → positional_words (l ++ m) ≡ positional_words l ++ positional_words m
 words_append [] m = refl
 words_append (option i v ∷ l) m = words_append l m
 words_append (several i vs ∷ l) m = words_append l m
@@ -30,7 +30,7 @@ pub words_same : (words : List (List ℕ)) → positional_words (map positional 
 words_same [] = refl
 words_same (w ∷ ws) = ap (λ l. w ∷ l) (words_same ws)
 
--- ---- either all are accepted, or one is the first that is not
+-- ---- all words are accepted, or one is the first that is not
 
 some_pair : (p q : ℕ × List ℕ) → Some p ≡ Some q → (p.0 ≡ q.0) × (p.1 ≡ q.1)
 some_pair p q same = let e : p ≡ q = ap (λ o. unwrap_or o p) same in (ap (λ (r : ℕ × List ℕ). r.0) e, ap (λ (r : ℕ × List ℕ). r.1) e)
@@ -55,7 +55,7 @@ taken_or_not ps words within = let some = some_places ps (length words) within i
     go places are None is = inl (record { places = places; are_places = are; none = is })
     go places are (Some found) is = inr (found.0, found.1, record { places = places; are_places = are; refused = is })
 
--- ---- where more words come after them
+-- ---- with more words after them
 
 -- with some more words, each of these belongs to a positional that accepts it
 pub record CanBeTaken (ps : List Positional) (words : List (List ℕ)) : Type 0 where
@@ -102,9 +102,9 @@ refused_take ps (i ∷ places) (w ∷ words) zero small = absurd (omega (arith, 
 refused_take ps (i ∷ places) (w ∷ words) (suc n) small =
     ap (λ o. cond (takes_at ps i w) o (Some (i, w))) (refused_take ps places words n (omega (arith, small)))
 
--- ---- words for the places that are left
+-- ---- words for the remaining places
 
--- a word that the positional of this index accepts
+-- a word that the positional at this index accepts
 sample : List Positional → ℕ → List ℕ
 sample ps i = unwrap_or (option_map (λ p. value_for p.words) (slice_get ps i)) []
 
@@ -116,7 +116,7 @@ sample_fits (p ∷ ps) zero good =
 sample_fits (p ∷ ps) (suc i) good =
     let parts = and_parts (is_none (list_fault p.words)) (are_listable ps) good in sample_fits ps i parts.1
 
--- for each place that has no word
+-- such a word for each place that has no word
 fill : List Positional → List ℕ → List (List ℕ) → List (List ℕ)
 fill ps [] words = []
 fill ps (i ∷ places) [] = sample ps i ∷ fill ps places []
@@ -160,7 +160,7 @@ take_all (suc n) [] small = refl
 take_all zero (x ∷ l) small = absurd (omega (arith, small))
 take_all (suc n) (x ∷ l) small = ap (λ m. x ∷ m) (take_all n l (omega (arith, small)))
 
--- the more words of a line that is legal
+-- the words that make a line legal
 pub record AreFilled (ps : List Positional) (words : List (List ℕ)) : Type 0 where
   pub more : List (List ℕ)
   pub enough : least ps ≤ length (words ++ more)
@@ -198,7 +198,7 @@ filled ps words good can =
       };
     }
 
--- ---- how many words have to be looked at
+-- ---- how many more words are enough
 
 take_replicate : (k n i : ℕ) (rest : List ℕ) → k ≤ n → take k (replicate n i ++ rest) ≡ replicate k i
 take_replicate zero n i rest small = refl
@@ -208,7 +208,7 @@ take_replicate (suc k) (suc n) i rest small = ap (λ l. i ∷ l) (take_replicate
 one_more : (k s i : ℕ) (rest : List ℕ) → suc k ≤ s → take (suc k) (replicate (0 + min 1 s) i ++ rest) ≡ i ∷ take k rest
 one_more k s i rest small = let one : 0 + min 1 s ≡ 1 = omega (arith, small) in ap (λ n. take (suc k) (replicate n i ++ rest)) one
 
--- the owners of the first words are the same, once there are as many words to spare
+-- the first k words belong to the same positionals whenever at least k words are not required
 same_owners : (ps : List Positional) (i k s t : ℕ) → k ≤ s → k ≤ t → take k (owners i (greedy ps s)) ≡ take k (owners i (greedy ps t))
 same_owners [] i k s t a b = refl
 same_owners (p ∷ ps) i zero s t a b = refl
@@ -229,7 +229,7 @@ take_take (suc k) zero l small = absurd (omega (arith, small))
 take_take (suc k) (suc n) [] small = refl
 take_take (suc k) (suc n) (x ∷ l) small = ap (λ m. x ∷ m) (take_take k n l (omega (arith, small)))
 
--- the first k words belong to the same positionals in a line with at most k words more than are required
+-- the first k words belong to the same positionals in a line where at most k words are not required
 pub record FewerPlaces (ps : List Positional) (k : ℕ) (places : List ℕ) : Type 0 where
   pub count : ℕ
   pub longer : k ≤ count
@@ -270,7 +270,7 @@ fewer_places ps k count places longer within are = ⊎_elim
               ∙ ap (λ l. take k l) (sym are.placed);
         }
 
--- such a line shows whether these words can be accepted
+-- such a line decides whether these words can be accepted
 pub taken_soon : (ps : List Positional) (words : List (List ℕ)) → CanBeTaken ps words → (fewer : CanBeTaken ps words) × (fewer.count ≤ length words + least ps)
 taken_soon ps words can =
     let few = fewer_places ps (length words) can.count can.places can.longer can.within can.are_places in (
@@ -291,7 +291,7 @@ slice_get_take n (suc k) [] small = refl
 slice_get_take zero (suc k) (x ∷ l) small = refl
 slice_get_take (suc n) (suc k) (x ∷ l) small = slice_get_take n k l (omega (arith, small))
 
--- and to which positional a word can belong
+-- and which positional a word can belong to
 pub owned_soon : (ps : List Positional) (n i : ℕ) → CanOwn ps n i → (fewer : CanOwn ps n i) × (fewer.count ≤ suc n + least ps)
 owned_soon ps n i can =
     let few = fewer_places ps (suc n) can.count can.places (let l = can.longer in omega (arith, l)) can.within can.are_places in (

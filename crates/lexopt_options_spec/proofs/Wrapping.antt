@@ -1,4 +1,4 @@
--- Words put on lines one after another.
+-- Words, put on lines one after another.
 use Rattle.std.proofs.Common.{◌≡◌, ◌≤◌, ◌<◌, ℕ, ◌+◌, ◌-◌, true, false, cond, nat_lt, List, [], ◌∷◌, ◌++◌, length, take, refl, sym, ap, subst, ◌∙◌, arith, inl, inr, append-nil, append_assoc, length-append, ltb-true, ltb-false, Bool, Bor, map, get_or}
 use Rattle.std.proofs.lemmas.List.{map-append, take_more, flat_map_more}
 use Rattle.std.proofs.lemmas.List.Elements.{filter-append}
@@ -43,7 +43,7 @@ below-last column (x ∷ xs) last more grown same =
     ap (λ l. line_text x ++ l) (further-last column xs last more grown same)
     ∙ sym (append_assoc (line_text x) (flat_map (λ (line : Line). (line_feed ∷ blanks column) ++ line_text line) (xs ++ last ∷ [])) more)
 
--- a line more
+-- one more line
 below-more : (column : ℕ) (front : List Line) (last : Line) → 0 < length front → below column (front ++ last ∷ []) ≡ below column front ++ ((line_feed ∷ blanks column) ++ line_text last)
 below-more column [] last some = absurd (omega arith)
 below-more column (x ∷ xs) last some =
@@ -52,7 +52,7 @@ below-more column (x ∷ xs) last some =
     ap (λ l. line_text x ++ l) (flat_map-append (λ (line : Line). (line_feed ∷ blanks column) ++ line_text line) xs (last ∷ []) ∙ ap (λ l. others ++ l) (append-nil (start ++ line_text last)))
     ∙ sym (append_assoc (line_text x) others (start ++ line_text last))
 
--- ---- lines that fit, and are full
+-- ---- lines that fit and are full
 
 AllFit-append : (limit : ℕ) (xs ys : List Line) → AllFit limit xs → AllFit limit ys → AllFit limit (xs ++ ys)
 AllFit-append limit [] ys f g = g
@@ -66,7 +66,7 @@ AllFit-last : (limit : ℕ) (xs : List Line) (y : Line) → AllFit limit (xs ++ 
 AllFit-last limit [] y f = f.0
 AllFit-last limit (x ∷ xs) y f = AllFit-last limit xs y f.1
 
--- a line that grows at its end begins as before
+-- a line that gets longer begins as before
 AreFull-grows : (limit : ℕ) (front : List Line) (last : Line) (word : List ℕ) → 0 < length last → AreFull limit (front ++ last ∷ []) → AreFull limit (front ++ (last ++ word ∷ []) ∷ [])
 AreFull-grows limit [] last word some full = tt
 AreFull-grows limit (x ∷ []) [] word some full = absurd (omega arith)
@@ -81,9 +81,9 @@ AreFull-more limit (x ∷ y ∷ more) last word none full = (full.0, AreFull-mor
 in_order-more : (front : List Line) (last : Line) → flat_map (λ (line : Line). line) (front ++ last ∷ []) ≡ flat_map (λ (line : Line). line) front ++ last
 in_order-more front last = flat_map-append (λ (line : Line). line) front (last ∷ []) ∙ ap (λ l. flat_map (λ (line : Line). line) front ++ l) (append-nil last)
 
--- ---- this many words are written
+-- ---- the words that are written
 
--- after these bytes the words are on lines, with this much room left on the last one
+-- after these bytes come the words, on lines, with this much room left on the last
 pub record Written (limit column : ℕ) (before : List ℕ) (words : List (List ℕ)) (room : ℕ) (text : List ℕ) : Type 0 where
   pub front : List Line
   pub last : Line
@@ -143,7 +143,7 @@ breaks_more limit column before words room text word w none =
           ∙ ap (λ l. before ++ l) (sym (below-more column (w.front ++ w.last ∷ []) (word ∷ []) (omega (arith, length-append w.front (w.last ∷ [])))));
     }
 
--- one word more, on the last line if there is room
+-- one more word, on the last line if it has room
 pub word_written : (limit column : ℕ) (before : List ℕ) (words : List (List ℕ)) (room : ℕ) (text word : List ℕ) → Written limit column before words room text
     → Written limit column before (words ++ word ∷ []) (cond (nat_lt (columns word) room) (room - (columns word + 1)) (limit - columns word))
     (text ++ cond (nat_lt (columns word) room) (blank ∷ word) (line_feed ∷ blanks column ++ word))
@@ -166,7 +166,7 @@ pub written_start : (limit column : ℕ) (before first : List ℕ) (needed room 
 written_start limit column before first needed room text e f g =
     written_as limit column before (first ∷ []) (first ∷ []) (limit - columns first) room (before ++ first) text (first_written limit column before first) refl (f ∙ ap (λ n. limit - n) e) g
 
--- after one word more
+-- one more word is written
 pub written_next : (limit column : ℕ) (before first : List ℕ) (others : List (Bor (List ℕ))) (i : ℕ) (d : Bor (List ℕ)) (room left : ℕ) (text t : List ℕ) → i < length others
     → Written limit column before (first ∷ map (λ (w : Bor (List ℕ)). w.now) (take i others)) room text
     → t ≡ text ++ cond (nat_lt (columns (get_or others i d).now) room) (blank ∷ (get_or others i d).now) (line_feed ∷ blanks column ++ (get_or others i d).now)
@@ -193,7 +193,7 @@ some_wrapping limit (word ∷ words) = all_written limit 0 [] (word ∷ []) word
 
 -- ---- texts one after another
 
--- these bytes, and then a text for each of these, put there in this way
+-- these bytes, and then a text for each of these, added in this way
 pub record Listed {X : Type 0} (Is : X → List ℕ → Type 0) (put : List ℕ → List ℕ) (before : List ℕ) (xs : List X) (text : List ℕ) : Type 0 where
   pub texts : List (List ℕ)
   pub each : AllZip Is xs texts
@@ -226,14 +226,14 @@ module _ {O X : Type 0} (view : O → X) (Is : X → List ℕ → Type 0) (put :
       ap (filter test) viewed_more ∙ filter-append test (map view (take i all)) (view (get_or all i d) ∷ [])
       ∙ ap (λ (c : Bool). filter test (map view (take i all)) ++ cond c (view (get_or all i d) ∷ []) []) is
 
-  -- after one more
+  -- one more
   pub listed_next : (t more : List ℕ) → Listed Is put before (map view (take i all)) text → Is (view (get_or all i d)) more → t ≡ text ++ put more
       → Listed Is put before (map view (take (i + 1) all)) t
   listed_next t more l is same =
       subst (λ (xs : List X). Listed Is put before xs t) (sym viewed_more)
       (subst (λ (bs : List ℕ). Listed Is put before (map view (take i all) ++ view (get_or all i d) ∷ []) bs) (sym same) (one_listed Is put before (map view (take i all)) text (view (get_or all i d)) more l is))
 
-  -- after one more that passes the test
+  -- one more that passes the test
   pub listed_kept : (test : X → Bool) (t more : List ℕ) → test (view (get_or all i d)) ≡ true → Listed Is put before (filter test (map view (take i all))) text → Is (view (get_or all i d)) more → t ≡ text ++ put more
       → Listed Is put before (filter test (map view (take (i + 1) all))) t
   listed_kept test t more passes l is same =
@@ -241,7 +241,7 @@ module _ {O X : Type 0} (view : O → X) (Is : X → List ℕ → Type 0) (put :
       (subst (λ (bs : List ℕ). Listed Is put before (filter test (map view (take i all)) ++ view (get_or all i d) ∷ []) bs) (sym same)
       (one_listed Is put before (filter test (map view (take i all))) text (view (get_or all i d)) more l is))
 
-  -- after one more that does not
+  -- one more that does not pass the test
   pub listed_left_out : (test : X → Bool) → test (view (get_or all i d)) ≡ false → Listed Is put before (filter test (map view (take i all))) text
       → Listed Is put before (filter test (map view (take (i + 1) all))) text
   listed_left_out test fails l =

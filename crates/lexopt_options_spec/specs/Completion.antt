@@ -11,49 +11,49 @@ use Rattle.lexopt_spec.specs.UnreadLine.{dash, BeginsWith}
 use Rattle.lexopt_line_spec.specs.Table.{Name, short, long}
 use Rattle.lexopt_options_spec.specs.Declaration.{Declaration, Declared, has_name, index_of}
 use Rattle.lexopt_options_spec.specs.Declaration.{Positional, Words, listed}
-use Rattle.lexopt_options_spec.specs.Legal.{IsWithin, Said, Says, SaysFront, most, option}
+use Rattle.lexopt_options_spec.specs.Legal.{IsWithin, Parsed, Means, MeansFront, most, option}
 use Rattle.lexopt_options_spec.specs.Legal.{positional, positional_count, several}
 use Rattle.lexopt_options_spec.specs.Places.{ArePlaces}
 
--- the word that is an option of this name, and nothing else
+-- the word that spells the option of this name, and nothing else
 abbrev pub spelling : Name → List ℕ
 spelling (short c) = dash ∷ encode_utf8 c
 spelling (long name) = dash ∷ dash ∷ name
 
--- what is read is the option of this index
-abbrev pub IsOption : ℕ → Said → Type 0
+-- what is read is the option at this index
+abbrev pub IsOption : ℕ → Parsed → Type 0
 IsOption i (option j value) = j ≡ i
 IsOption i (several j values) = j ≡ i
 IsOption i (positional word) = ⊥
 
--- after these words, s can come as the spelling of a declared option: the words mean something, and
--- with some words after s, they and s legally spell that, then this option, and then what may come
-pub record CanStand (d : Declaration) (words : List (List ℕ)) (s : List ℕ) : Type 0 where
+-- after these words, s can come as the spelling of a declared option: the words mean something; and
+-- with some words after s they legally spell that, then this option, and then anything
+pub record CanOccur (d : Declaration) (words : List (List ℕ)) (s : List ℕ) : Type 0 where
   pub name : Name
   pub index : ℕ
   pub declared : index_of d.options name ≡ Some index
   pub spelled : s ≡ spelling name
-  pub before : List Said
-  pub said : Said
-  pub later : List Said
+  pub before : List Parsed
+  pub parsed : Parsed
+  pub later : List Parsed
   pub rest : List (List ℕ)
-  pub is : IsOption index said
-  pub words_say : SaysFront d words before
-  pub line_says : Says d (words ++ s ∷ rest) (before ++ said ∷ later)
+  pub is : IsOption index parsed
+  pub words_say : MeansFront d words before
+  pub line_means : Means d (words ++ s ∷ rest) (before ++ parsed ∷ later)
 
--- after these words, s can come where this was typed so far, which is not damaged
+-- after these words, s can come where `typed` is typed, which is UTF-8
 pub record Completes (d : Declaration) (words : List (List ℕ)) (typed s : List ℕ) : Type 0 where
   pub text : IsUtf8 typed
   pub begins : starts_with nat_eq s typed ≡ true
-  pub stands : CanStand d words s
+  pub possible : CanOccur d words s
 
 -- ---- where an option can come
 
--- the words mean this, and a separator after them adds nothing: the separator is not among
--- them, and no value is due
-pub record IsOpen (d : Declaration) (words : List (List ℕ)) (l : List Said) : Type 0 where
-  pub front : SaysFront d words l
-  pub with_separator : SaysFront d (words ++ (dash ∷ dash ∷ []) ∷ []) l
+-- the words mean this, and mean the same with `--` after them: they have no separator, and no value
+-- is due
+pub record IsOpen (d : Declaration) (words : List (List ℕ)) (l : List Parsed) : Type 0 where
+  pub front : MeansFront d words l
+  pub with_separator : MeansFront d (words ++ (dash ∷ dash ∷ []) ∷ []) l
 
 -- the names of an option
 abbrev pub names_of : Declared → List Name
@@ -63,15 +63,15 @@ names_of o = map short (option_to_list o.short_name) ++ map long (option_to_list
 abbrev pub spellings : List Declared → List (List ℕ)
 spellings options = flat_map (λ o. map spelling (names_of o)) options
 
--- the spellings of an option, each with what the help tells of the option
+-- the spellings of an option, each with the help text of the option
 abbrev pub explained_by : Declared → List (List ℕ × List ℕ)
 explained_by o = map (λ n. (spelling n, o.help)) (names_of o)
 
--- the same of these options, in order
+-- the spellings of these options, each with its help text, in order
 abbrev pub explained : List Declared → List (List ℕ × List ℕ)
 explained options = flat_map explained_by options
 
--- a name is text, as each `char` and `&str` is
+-- a name is text, as a `char` or a `&str` is
 abbrev pub IsText : Name → Type 0
 IsText (short c) = IsScalar c
 IsText (long name) = IsUtf8 name
@@ -84,37 +84,37 @@ AreText options = (name : Name) → list_any (has_name name) options ≡ true �
 
 -- what a word is
 pub data Role : Type 0 where
-  -- a value of the option of this index
+  -- a value of the option at this index
   value : ℕ → Role
-  -- a positional, after this many of them
+  -- a positional, with this many before it
   argument : ℕ → Role
 
--- what the last word is, by the last of what is read, after these
-abbrev pub role_of : List Said → Said → Role
+-- what the last word is, where this is read last, after these
+abbrev pub role_of : List Parsed → Parsed → Role
 role_of before (option i v) = value i
 role_of before (several i values) = value i
 role_of before (positional word) = argument (positional_count before)
 
--- the empty word, which is not an option, would be this after these words; or nothing is read with
+-- what the empty word, which is not an option, is after these words; `None` if nothing is read with
 -- it
 abbrev pub IsPlainRole : Declaration → List (List ℕ) → Option Role → Type 0
 IsPlainRole d words None =
-    (before : List Said) (s : Said) → ¬ SaysFront d (words ++ [] ∷ []) (before ++ s ∷ [])
-IsPlainRole d words (Some role) = (before : List Said) × (s : Said)
-    × SaysFront d (words ++ [] ∷ []) (before ++ s ∷ []) × (role_of before s ≡ role)
+    (before : List Parsed) (s : Parsed) → ¬ MeansFront d (words ++ [] ∷ []) (before ++ s ∷ [])
+IsPlainRole d words (Some role) = (before : List Parsed) × (s : Parsed)
+    × MeansFront d (words ++ [] ∷ []) (before ++ s ∷ []) × (role_of before s ≡ role)
 
--- the word `--` would be this after these words, and not the separator; or nothing is read with it
--- that is not read without it
+-- what the word `--` is after these words, if it is not the separator; `None` if nothing more is
+-- read with it than without it
 abbrev pub IsDashedRole : Declaration → List (List ℕ) → Option Role → Type 0
-IsDashedRole d words None = (before : List Said) (s : Said)
-    → SaysFront d (words ++ (dash ∷ dash ∷ []) ∷ []) (before ++ s ∷ [])
-    → SaysFront d words (before ++ s ∷ [])
-IsDashedRole d words (Some role) = (before : List Said) × (s : Said)
-    × SaysFront d (words ++ (dash ∷ dash ∷ []) ∷ []) (before ++ s ∷ [])
-    × (¬ SaysFront d words (before ++ s ∷ [])) × (role_of before s ≡ role)
+IsDashedRole d words None = (before : List Parsed) (s : Parsed)
+    → MeansFront d (words ++ (dash ∷ dash ∷ []) ∷ []) (before ++ s ∷ [])
+    → MeansFront d words (before ++ s ∷ [])
+IsDashedRole d words (Some role) = (before : List Parsed) × (s : Parsed)
+    × MeansFront d (words ++ (dash ∷ dash ∷ []) ∷ []) (before ++ s ∷ [])
+    × (¬ MeansFront d words (before ++ s ∷ [])) × (role_of before s ≡ role)
 
--- A word that is not an option, and longer than what was typed of it, would be this: by the empty
--- word, or by `--` where a dash was typed first.
+-- What a word is that is not an option, and is longer than what was typed of it: what the empty
+-- word is, or `--` if a dash was typed first.
 pub record HasRole (d : Declaration) (words : List (List ℕ)) (typed : List ℕ) (role : Option Role)
     : Type 0 where
   pub plain : ¬ BeginsWith dash typed → IsPlainRole d words role
@@ -123,21 +123,21 @@ pub record HasRole (d : Declaration) (words : List (List ℕ)) (typed : List ℕ
 -- ---- a value in the word of its option
 
 -- the first value of what is read, if it is an option that has one
-abbrev pub value_of : Said → Option (List ℕ)
+abbrev pub value_of : Parsed → Option (List ℕ)
 value_of (option j v) = v
 value_of (several j []) = None
 value_of (several j (v ∷ vs)) = Some v
 value_of (positional word) = None
 
--- An option can come after these words, and what was typed means options, of which the last is the
--- option of this index. It has a value there, and this text comes before the value.
+-- An option can come after these words. What was typed means options, of which the last is the
+-- option at this index. That has a value, and this text comes before the value.
 pub record JoinsValue (d : Declaration) (words : List (List ℕ)) (typed : List ℕ) (index : ℕ)
     (before : List ℕ) : Type 0 where
-  pub said : List Said
-  pub is_open : IsOpen d words said
-  pub others : List Said
-  pub last : Said
-  pub word_says : SaysFront d (typed ∷ []) (others ++ last ∷ [])
+  pub parsed : List Parsed
+  pub is_open : IsOpen d words parsed
+  pub others : List Parsed
+  pub last : Parsed
+  pub word_means : MeansFront d (typed ∷ []) (others ++ last ∷ [])
   pub is : IsOption index last
   pub value : List ℕ
   pub has_value : value_of last ≡ Some value
@@ -149,14 +149,14 @@ pub record Joined : Type 0 where
   pub index : ℕ
   pub before : List ℕ
 
--- what was typed after these words has a value of this option in it; or it has none
+-- what was typed after these words has a value of this option in it; `None` if it has none
 abbrev pub IsJoined : Declaration → List (List ℕ) → List ℕ → Option Joined → Type 0
 IsJoined d words typed None = (i : ℕ) (before : List ℕ) → ¬ JoinsValue d words typed i before
 IsJoined d words typed (Some joined) = JoinsValue d words typed joined.index joined.before
 
--- ---- to which positional a word can belong
+-- ---- the positionals that a word can belong to
 
--- of some number of words, the one of index n belongs to the positional of index i
+-- of some number of words, the word at index n belongs to the positional at index i
 pub record CanOwn (ps : List Positional) (n i : ℕ) : Type 0 where
   pub count : ℕ
   pub longer : n < count
@@ -171,13 +171,14 @@ IsAscending [] = Unit {0}
 IsAscending (i ∷ []) = Unit {0}
 IsAscending (i ∷ j ∷ l) = (i < j) × IsAscending (j ∷ l)
 
--- the positionals of these indices are those to which the word of index n can belong
+-- these are the indices of the positionals that the word at index n can belong to
 pub record AreOwners (ps : List Positional) (n : ℕ) (owners : List ℕ) : Type 0 where
   pub sound : (i : ℕ) → Contains owners i → CanOwn ps n i
   pub complete : (i : ℕ) → CanOwn ps n i → Contains owners i
   pub in_order : IsAscending owners
 
--- the same, where the word has this role: none, if that is not to be a positional
+-- these are the indices of the positionals that a word with this role can belong to: none, if it is
+-- not a positional
 abbrev pub AreOwnersIn : List Positional → Option Role → List ℕ → Type 0
 AreOwnersIn ps (Some (argument n)) owners = AreOwners ps n owners
 AreOwnersIn ps role owners = owners ≡ []
@@ -200,19 +201,19 @@ values_at options None = []
 values_at options (Some (argument n)) = []
 values_at options (Some (value i)) = listed_by (slice_get options i)
 
--- the values in the list of the positional of this index
+-- the words in the list of the positional at this index
 abbrev pub words_at : List Positional → ℕ → List (List ℕ)
 words_at ps i = unwrap_or (option_map (λ p. list_of p.words) (slice_get ps i)) []
 
--- the words with a value of the list of that option in them, where this is typed
+-- the words that have a value in the list of that option, where its value is typed
 abbrev pub joined_at : List Declared → Option Joined → List (List ℕ)
 joined_at options None = []
 joined_at options (Some joined) =
     map (λ v. joined.before ++ v) (listed_by (slice_get options joined.index))
 
--- Where a word would have this role, or belong to one of the positionals of these indices, and a
--- value is typed in the word of its option, these values in lists can come, in order: those that
--- begin with what was typed; the last ones with their option before them.
+-- The values in lists that begin with what was typed, in order: of the option that a word is a
+-- value of, by its role; of the positionals at these indices; and of the option whose value is
+-- typed in the word, each with the option before it.
 abbrev pub offered_values : Declaration → List ℕ → Option Role → List ℕ → Option Joined → List (List ℕ)
 offered_values d typed role owners joined =
     filter (λ v. starts_with nat_eq v typed) (values_at d.options role)

@@ -1,4 +1,4 @@
--- Which options can be declared, as a test that a check computes on the options of a program.
+-- Which options can be declared, as a test that the prover computes for the options of a program.
 use Rattle.std.specs.Prelude.{ℕ, Bool, true, false, nat_eq, ◌==◌, ◌||◌, ◌&&◌, not, List, [], ◌∷◌}
 use Rattle.std.specs.Prelude.{Option, Some, None}
 use Rattle.std.specs.List.{list_all, list_any, starts_with}
@@ -9,35 +9,35 @@ use Rattle.lexopt_options_spec.specs.Declaration.{Declared, has, is_blank_or_con
 use Rattle.lexopt_options_spec.specs.Declaration.{is_listable, is_placeholder, shares_name}
 use Rattle.lexopt_options_spec.specs.Declaration.{Words, listed}
 
--- the bytes of U+FFFD are among these
+-- the bytes of U+FFFD are among these, one after another
 abbrev pub has_replacement : List ℕ → Bool
 has_replacement [] = false
 has_replacement (b ∷ bs) =
     starts_with nat_eq (b ∷ bs) (0xEF ∷ 0xBF ∷ 0xBD ∷ []) || has_replacement bs
 
--- a character that is there can be a name
+-- the character can be declared, if there is one
 abbrev pub is_good_short : Option ℕ → Bool
 is_good_short None = true
 is_good_short (Some c) = not (c == dash) && not (c == replacement) && not (is_blank_or_control c)
 
--- and a name that is there
+-- the name can be declared, if there is one
 abbrev pub is_good_long : Option (List ℕ) → Bool
 is_good_long None = true
 is_good_long (Some name) = not (is_empty name) && not (has equals name)
     && not (has_replacement name) && not (list_any is_blank_or_control name)
 
--- this can be the placeholder of the value of an option, if it has one
+-- the placeholder can be declared, if the option has values
 abbrev pub is_good_placeholder : Kind → List ℕ → Bool
 is_good_placeholder flag placeholder = true
 is_good_placeholder k placeholder = is_placeholder placeholder
 
--- and what its values may be
+-- the list can be declared, if there is one
 abbrev pub are_good_words : Words → Bool
 are_good_words (listed []) = false
 are_good_words (listed words) = list_all is_listable words
 are_good_words words = true
 
--- the option can be declared where no other is
+-- the option can be declared, if there is no other
 abbrev pub is_good : Declared → Bool
 is_good o = is_good_short o.short_name && is_good_long o.long_name
     && is_good_placeholder o.kind o.placeholder && are_good_words o.words

@@ -1,5 +1,5 @@
--- What a program declares: its options, in order, and its positional arguments.
--- The source is `docs/behaviour.md`. Names are without their dashes, texts are their UTF-8.
+-- What a program declares: its options and its positionals, in order. The source is
+-- `docs/behaviour.md`. Names are without their dashes, texts are their UTF-8.
 use Rattle.std.specs.Prelude.{◌≡◌, ℕ, Bool, true, false, ◌==◌, ◌||◌, ◌&&◌, not, List, [], ◌∷◌, ◌++◌}
 use Rattle.std.specs.Prelude.{Option, Some, None, is_none, position, slice_get, take, if◌then◌else◌}
 use Rattle.std.specs.Prelude.{filter, length, nat_lt}
@@ -10,55 +10,54 @@ use Rattle.lexopt_spec.specs.Pieces.{replacement, lossy_characters}
 use Rattle.lexopt_spec.specs.UnreadLine.{dash, equals}
 use Rattle.lexopt_line_spec.specs.Table.{Name, short, long, Kind, flag, one, optional, several, Table}
 
--- what an option asks for in place of the program's work
+-- what an option asks for instead of the program's work
 pub data Asked : Type 0 where
   for_help : Asked
-  -- for this text
+  -- the version, which is this text
   for_version : List ℕ → Asked
 
--- what the values of an option or the words of a positional may be, and what a shell completes them
--- by
+-- what the values of an option or the words of a positional may be, and how shells complete them
 pub data Words : Type 0 where
-  -- any; by the names of files
+  -- anything; shells complete the names of files
   files : Words
-  -- any; by the names of directories
+  -- anything; shells complete the names of directories
   directories : Words
-  -- any; by nothing
+  -- anything; shells complete nothing
   text : Words
-  -- these and no others; by these
+  -- what is in this list, and nothing else; shells complete it
   listed : List (List ℕ) → Words
 
--- a value or a word may be this
+-- this value or word is accepted
 abbrev pub accepts : Words → List ℕ → Bool
 accepts (listed words) value = list_any (λ w. pointwise ◌==◌ w value) words
 accepts words value = true
 
--- an option: with one name at least
+-- an option, with at least one name
 pub record Declared : Type 0 where
   pub short_name : Option ℕ
   pub long_name : Option (List ℕ)
   pub kind : Kind
-  -- the placeholder of its value in messages and in the help: empty if it is a flag
+  -- the placeholder of its value in messages and in the help; empty for a flag
   pub placeholder : List ℕ
-  -- what the help tells of it
+  -- its help text
   pub help : List ℕ
-  -- what it asks for, unless it is an option of the program's own
+  -- what it asks for, if anything
   pub asks : Option Asked
   -- the help leaves it out
   pub hidden : Bool
-  -- it has to occur
+  -- every legal line has it
   pub required : Bool
   -- what its values may be
   pub words : Words
 
--- how often a positional argument may occur
+-- how often a positional may occur
 pub data Count : Type 0 where
   once : Count
   at_most_once : Count
   any_number : Count
   at_least_once : Count
 
--- it cannot be left out
+-- it has to occur
 abbrev pub has_to_occur : Count → Bool
 has_to_occur once = true
 has_to_occur at_most_once = false
@@ -75,7 +74,8 @@ may_repeat at_least_once = true
 pub record Positional : Type 0 where
   pub placeholder : List ℕ
   pub count : Count
-  -- what the help tells of it: it has no entry if this has no word and it has no list
+  -- its help text; the help has no entry for a positional without a list whose help text has no
+  -- word
   pub help : List ℕ
   -- what its words may be
   pub words : Words
@@ -83,7 +83,7 @@ pub record Positional : Type 0 where
 pub record Declaration : Type 0 where
   -- the program's name
   pub program : List ℕ
-  -- what it does
+  -- what the program does
   pub about : List ℕ
   pub options : List Declared
   pub positionals : List Positional
@@ -107,13 +107,13 @@ abbrev pub has_name : Name → Declared → Bool
 has_name (short c) o = is_short c o.short_name
 has_name (long name) o = is_long name o.long_name
 
--- which option has this name, counted from 0: the first
+-- the index of the first option with this name, counted from 0
 abbrev pub index_of : List Declared → Name → Option ℕ
 index_of options name = position (has_name name) options
 
 -- ---- the table of the options
 
--- these, if both kinds are the same one, and one that has values
+-- this list, if both kinds are the same, and not that of flags
 abbrev pub if_kind : {X : Type 0} → Kind → Kind → List X → List X
 if_kind one one xs = xs
 if_kind optional optional xs = xs
@@ -124,11 +124,11 @@ if_kind k l xs = []
 abbrev pub shorts_of : Kind → List Declared → List ℕ
 shorts_of k options = flat_map (λ o. if_kind k o.kind (option_to_list o.short_name)) options
 
--- and the names
+-- the names of the options of this kind, in order
 abbrev pub longs_of : Kind → List Declared → List (List ℕ)
 longs_of k options = flat_map (λ o. if_kind k o.kind (option_to_list o.long_name)) options
 
--- the options that have values, by how many
+-- the table of the options: how many values each has
 abbrev pub table : List Declared → Table
 table options = record {
   shorts = shorts_of one options;
@@ -143,25 +143,27 @@ table options = record {
 
 -- why an option cannot be declared
 pub data Reason : Type 0 where
-  -- the character `-`: `--` is the separator, and `--name` a long option
+  -- the character is `-`: the word `--` is the separator, and `--name` is a long option
   dash_name : Reason
-  -- no name after the dashes
+  -- the name is empty
   empty_name : Reason
-  -- `--a=b` is `a` with a value
+  -- the name has `=` in it: the word `--a=b` is the option `a` with a value
   equals_in_name : Reason
-  -- U+FFFD shows damage in what was typed
+  -- the character or the name has U+FFFD, which represents damage in what was typed
   replacement_in_name : Reason
-  -- a shell parts words at a blank, and a terminal acts on a control character
+  -- the character or the name has a blank or a control character of ASCII: a shell separates words
+  -- at blanks, and a terminal acts on control characters
   blank_or_control_in_name : Reason
-  -- the placeholder of its value is empty, or begins with `-` or `=`: no such value could be there
+  -- the placeholder of its value is empty, or begins with `-` or `=`: a form that the help shows
+  -- could be illegal, or mean another value
   bad_placeholder : Reason
   -- the list of its values is empty, or one of them is empty, begins with `-` or `=`, or has a
   -- blank or a control character
   bad_list : Reason
-  -- an option before it has one of its names
+  -- an option before it has the same character or name
   same_name : Reason
 
--- a blank, or a control character of ASCII
+-- a blank or a control character of ASCII
 abbrev pub is_blank_or_control : ℕ → Bool
 is_blank_or_control b = nat_lt b 0x21 || b == 0x7F
 
@@ -194,7 +196,7 @@ placeholder_fault flag placeholder = None
 placeholder_fault k placeholder =
     if is_placeholder placeholder then None else Some bad_placeholder
 
--- this can be one of the values in a list
+-- this can be in a list
 abbrev pub is_listable : List ℕ → Bool
 is_listable value = is_placeholder value && not (list_any is_blank_or_control value)
 
@@ -203,7 +205,7 @@ list_fault (listed []) = Some bad_list
 list_fault (listed words) = if list_all is_listable words then None else Some bad_list
 list_fault words = None
 
--- the first of these reasons
+-- the first of these reasons, if there is one
 abbrev pub or_else : Option Reason → Option Reason → Option Reason
 or_else None other = other
 or_else (Some reason) other = Some reason
@@ -216,18 +218,18 @@ abbrev pub shares_long : Option (List ℕ) → Option (List ℕ) → Bool
 shares_long other None = false
 shares_long other (Some name) = is_long name other
 
--- the other option has a name of this one
+-- the other option has the character or the name of this one
 abbrev pub shares_name : Declared → Declared → Bool
 shares_name o other =
     shares_short other.short_name o.short_name || shares_long other.long_name o.long_name
 
--- why this option cannot be declared after those before it, if it cannot
+-- why this option cannot be declared after those before it
 abbrev pub fault : List Declared → Declared → Option Reason
 fault before o = or_else (short_fault o.short_name) (or_else (long_fault o.long_name)
     (or_else (placeholder_fault o.kind o.placeholder) (or_else (list_fault o.words)
     (if list_any (shares_name o) before then Some same_name else None))))
 
--- the same for each of these options, where others come before them
+-- why each of these options cannot be declared, where others come before them
 abbrev pub faults : List Declared → List Declared → List (Option Reason)
 faults before [] = []
 faults before (o ∷ os) = fault before o ∷ faults (before ++ o ∷ []) os
@@ -236,29 +238,30 @@ faults before (o ∷ os) = fault before o ∷ faults (before ++ o ∷ []) os
 abbrev pub is_sound : List Declared → Bool
 is_sound options = list_all is_none (faults [] options)
 
--- these positionals can be declared together: one of them at most may occur more than once
+-- these positionals can be declared together: at most one of them may occur more than once
 abbrev pub are_clear : List Positional → Bool
 are_clear [] = true
 are_clear (p ∷ ps) =
     if may_repeat p.count then not (list_any (λ q. may_repeat q.count) ps) else are_clear ps
 
--- the list of each of these positionals that has one can be declared
+-- the list of each of these positionals can be declared, if it has one
 abbrev pub are_listable : List Positional → Bool
 are_listable positionals = list_all (λ p. is_none (list_fault p.words)) positionals
 
--- this option, counted from 0, is the first that cannot be declared after those before it, and why
+-- the option at this index is the first that cannot be declared after those before it, for this
+-- reason
 pub record IsFirstFault (options : List Declared) (index : ℕ) (reason : Reason) : Type 0 where
   pub here : slice_get (faults [] options) index ≡ Some (Some reason)
   pub before : list_all is_none (take index (faults [] options)) ≡ true
 
--- this positional, counted from 0, is the second that may occur more than once
+-- the positional at this index is the second that may occur more than once
 pub record IsSecondRepeated (positionals : List Positional) (index : ℕ) : Type 0 where
   pub positional : Positional
   pub here : slice_get positionals index ≡ Some positional
   pub repeats : may_repeat positional.count ≡ true
   pub before : length (filter (λ p. may_repeat p.count) (take index positionals)) ≡ 1
 
--- this positional, counted from 0, is the first whose list cannot be declared
+-- the positional at this index is the first whose list cannot be declared
 pub record IsFirstBadList (positionals : List Positional) (index : ℕ) : Type 0 where
   pub positional : Positional
   pub here : slice_get positionals index ≡ Some positional

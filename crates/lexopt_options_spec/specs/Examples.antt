@@ -1,4 +1,4 @@
--- What the worked examples declare.
+-- The declarations of the worked examples.
 use Rattle.std.specs.Prelude.{ℕ, List, [], ◌∷◌, Option, None, Some, codes, false, true}
 use Rattle.lexopt_line_spec.specs.Table.{Kind, one}
 use Rattle.lexopt_options_spec.specs.Completion.{Joined}
@@ -54,7 +54,7 @@ listed_positionals = positional_of (codes "HOW") [] (listed (codes "fast" ∷ co
 abbrev pub lists : Declaration
 lists = declaration_of listed_options listed_positionals
 
--- the option of this index, with its value typed after this
+-- the option at this index, whose value is typed after this text
 abbrev pub joined_after : ℕ → List ℕ → Option Joined
 joined_after index before = Some (record { index = index; before = before })
 

@@ -1,6 +1,6 @@
--- The help of declared options: lines of words, labels, entries, the usage line, and the whole.
--- The source is `docs/behaviour.md`, after the GNU Coding Standards and what `ls --help` prints.
--- Texts are their UTF-8. Columns are counted from 0.
+-- The help of declared options: lines of words, labels, entries, the usage line, and the whole. The
+-- source is `docs/behaviour.md`, which follows the GNU Coding Standards and the output of
+-- `ls --help`. Texts are their UTF-8. Columns are counted from 0.
 use Rattle.std.specs.Prelude.{◌≡◌, ◌≤◌, ◌<◌, ◌⊎◌, ℕ, ◌+◌, ◌-◌, ◌/◌, min, nat_le, ◌==◌, not}
 use Rattle.std.specs.Prelude.{if◌then◌else◌, List, [], ◌∷◌, ◌++◌, length, take, filter, replicate}
 use Rattle.std.specs.Prelude.{codes, encode_utf8, map, Option, Some, None}
@@ -22,7 +22,7 @@ use Rattle.lexopt_options_spec.specs.Declaration.{Words, listed}
 unfoldable pub columns : List ℕ → ℕ
 columns text = length (grapheme_spans text)
 
--- the column where the help of an entry begins: 24, or a third of the width if that is less
+-- the column where the help text of an entry begins: 24, or a third of the width if that is less
 abbrev pub help_column : ℕ → ℕ
 help_column width = min 24 (width / 3)
 
@@ -37,27 +37,28 @@ line_feed = 0x0A
 
 -- ---- the label of an option
 
--- after a long name
+-- what comes after a long name
 abbrev pub after_long : Kind → List ℕ → List ℕ
 after_long flag value = []
 after_long one value = codes "=" ++ value
 after_long optional value = codes "[=" ++ value ++ codes "]"
 after_long several value = codes "=" ++ value ++ codes "..."
 
--- after a character, if there is no long name
+-- what comes after a character, if there is no long name
 abbrev pub after_short : Kind → List ℕ → List ℕ
 after_short flag value = []
 after_short one value = codes " " ++ value
 after_short optional value = codes "[" ++ value ++ codes "]"
 after_short several value = codes " " ++ value ++ codes "..."
 
--- after a character, if a long name follows: a value that may be left out is shown after either
--- name, since it is typed after each in another way, and any other value after the long name alone
+-- what comes after a character, if there is a long name: a value that may be left out is shown
+-- after both, since it is typed differently after each; any other value is shown after the long
+-- name only
 abbrev pub before_long : Kind → List ℕ → List ℕ
 before_long optional value = codes "[" ++ value ++ codes "]"
 before_long k value = []
 
--- a long name alone is put below the long names of other options
+-- the label; a long name alone is indented to the column of the long names of other options
 abbrev pub label_of : Option ℕ → Option (List ℕ) → Kind → List ℕ → List ℕ
 label_of None None k value = []
 label_of (Some c) None k value = codes "-" ++ encode_utf8 c ++ after_short k value
@@ -83,13 +84,13 @@ long_word_with name value = dash ∷ dash ∷ name ++ equals ∷ value
 abbrev pub in_brackets : List ℕ → List ℕ
 in_brackets text = codes "[" ++ text ++ codes "]"
 
--- this after a character, unless a long name follows: then the value is shown after that alone
+-- what comes after a character: this, unless there is a long name, after which the value is shown
 abbrev pub if_alone : Option (List ℕ) → List ℕ → List ℕ
 if_alone None text = text
 if_alone (Some name) text = []
 
--- a form that the label shows, with the placeholder for the value: the text that shows it, its
--- words, and the item that they are to spell
+-- a form that the label shows, with the placeholder for the value: the text of it in the label, its
+-- words, and the item that these spell
 pub data LabelForm (o : Declared) : List ℕ → List (List ℕ) → Item → Type 0 where
   -- `-v`
   short_flag : (c : ℕ) → o.short_name ≡ Some c → o.kind ≡ flag
@@ -131,47 +132,47 @@ pub data LabelForm (o : Declared) : List ℕ → List (List ℕ) → Item → Ty
       → LabelForm o (long_word_with name o.placeholder ++ codes "...")
       (long_word_with name o.placeholder ∷ []) (many (long name) (o.placeholder ∷ []))
 
--- by this name, with whatever comes after it, an option of this kind can spell this item
+-- an option of this kind can spell this item by this name, with something after it
 abbrev pub CanSay : Kind → Name → Item → Type 0
 CanSay k name item = (after : After) × (words : List (List ℕ)) × (left : List (List ℕ))
     × Completes k name after words item left
 
--- an item of an option that has no value, or this one alone
+-- the item has no value, or only this one
 abbrev pub HasOnly : List ℕ → Item → Type 0
 HasOnly value (option name None) = Unit {0}
 HasOnly value (option name (Some v)) = v ≡ value
 HasOnly value (many name values) = values ≡ value ∷ []
 HasOnly value (positional word) = ⊥
 
--- by this text the label shows all that the option can spell by this name, with the placeholder for
+-- this text of the label shows all that the option can spell by this name, with the placeholder for
 -- the value
 abbrev pub ShowsName : Declared → Name → List ℕ → Type 0
 ShowsName o name shown = (item : Item) → CanSay o.kind name item → HasOnly o.placeholder item
     → (words : List (List ℕ)) × LabelForm o shown words item
 
--- its names are texts, as a `char` and a `&str` are
+-- its names are text, as a `char` or a `&str` is
 pub record HasTextNames (o : Declared) : Type 0 where
   pub short_scalar : (c : ℕ) → o.short_name ≡ Some c → IsScalar c
   pub long_text : (name : List ℕ) → o.long_name ≡ Some name → IsUtf8 name
 
 -- ---- words on lines
 
--- what is between the blanks of a text
+-- the words of a text: what is between its blanks
 abbrev pub words_of : List ℕ → List (List ℕ)
 words_of text = filter (λ word. not (is_empty word)) (slice_split (λ b. b == blank) text)
 
--- words with a blank between each two
+-- a line: words with a blank between them
 abbrev pub Line : Type 0
 Line = List (List ℕ)
 
 abbrev pub line_text : Line → List ℕ
 line_text line = join_with_byte blank line
 
--- the columns of the words and of the blanks
+-- the columns of a line: those of its words and blanks
 abbrev pub line_columns : Line → ℕ
 line_columns line = sum_by columns line + (length line - 1)
 
--- it has words, and takes at most this many columns, or is one word, which cannot be broken
+-- the line has words, and takes at most this many columns, or is one word, which is never broken
 pub record Fits (limit : ℕ) (line : Line) : Type 0 where
   pub words : 0 < length line
   pub narrow : (line_columns line ≤ limit) ⊎ (length line ≡ 1)
@@ -180,42 +181,43 @@ abbrev pub AllFit : ℕ → List Line → Type 0
 AllFit limit [] = Unit {0}
 AllFit limit (line ∷ lines) = Fits limit line × AllFit limit lines
 
--- no line has room for the first word of the next one
+-- no line has room for the first word of the next line
 abbrev pub AreFull : ℕ → List Line → Type 0
 AreFull limit [] = Unit {0}
 AreFull limit (line ∷ []) = Unit {0}
 AreFull limit (line ∷ next ∷ lines) =
     (limit < line_columns (line ++ take 1 next)) × AreFull limit (next ∷ lines)
 
--- the lines, of at most this many columns, are these words in order
+-- the lines, of at most this many columns, have these words in order
 pub record Wraps (limit : ℕ) (words : List (List ℕ)) (lines : List Line) : Type 0 where
   pub in_order : flat_map (λ line. line) lines ≡ words
   pub fit : AllFit limit lines
   pub full : AreFull limit lines
 
--- lines one below another, each but the first after this many blanks
+-- the text of lines, where each but the first has this many blanks before it
 abbrev pub below : ℕ → List Line → List ℕ
 below column lines = join_by line_text (line_feed ∷ blanks column) lines
 
 -- ---- an entry
 
--- what comes between a label and its help, which begins at this column: on the same line, if the
--- label and the two blanks before it end two columns before that; else on the next one
+-- what comes between a label and its help text, which begins at this column: on the same line if
+-- the label, with the two blanks before it, ends at least two columns before that; otherwise on the
+-- next
 abbrev pub gap : ℕ → List ℕ → List ℕ
 gap column text =
     if nat_le (columns text + 4) column then blanks (column - (columns text + 2))
     else (line_feed ∷ blanks column)
 
--- what comes after a label: the lines of its help, if there are any
+-- what comes after a label: the lines of its help text, if there are any
 abbrev pub beside : ℕ → List ℕ → List Line → List ℕ
 beside column text [] = []
 beside column text (line ∷ lines) = gap column text ++ below column (line ∷ lines)
 
--- a label, and the lines of its help
+-- a label and the lines of its help text
 abbrev pub entry : ℕ → List ℕ → List Line → List ℕ
 entry column text lines = codes "  " ++ text ++ beside column text lines ++ line_feed ∷ []
 
--- the text is the entry of this label, with this help
+-- the text is the entry with this label and this help text
 pub record IsEntry (width : ℕ) (label help text : List ℕ) : Type 0 where
   pub lines : List Line
   pub wrapped : Wraps (width - help_column width) (words_of help) lines
@@ -227,19 +229,19 @@ pub record IsEntry (width : ℕ) (label help text : List ℕ) : Type 0 where
 abbrev pub visible : List Declared → List Declared
 visible options = filter (λ o. not o.hidden) options
 
--- those that may be left out, and those that are required
+-- the options that are not required, and those that are
 abbrev pub voluntary : List Declared → List Declared
 voluntary options = filter (λ o. not o.required) options
 
 abbrev pub demanded : List Declared → List Declared
 demanded options = filter (λ o. o.required) options
 
--- a mark for these options, if there are any
+-- `[OPTION]...`, if there are such options
 abbrev pub options_mark : List Declared → List (List ℕ)
 options_mark [] = []
 options_mark (o ∷ os) = codes "[OPTION]..." ∷ []
 
--- an option with its value: by its long name, or by its character if it has no long name
+-- an option with its value, by its long name, or by its character if it has no long name
 abbrev pub mark_of : Option ℕ → Option (List ℕ) → Kind → List ℕ → List ℕ
 mark_of None None k value = []
 mark_of (Some c) None k value = codes "-" ++ encode_utf8 c ++ after_short k value
@@ -257,13 +259,13 @@ counted at_least_once placeholder = placeholder ++ codes "..."
 abbrev pub positional_mark : Positional → List ℕ
 positional_mark p = counted p.count p.placeholder
 
--- the name of the program, and what it can be called with: a mark for the options that may be left
--- out, each that is required, and the positionals
+-- the words of the usage line: the name of the program, `[OPTION]...` for options that are not
+-- required, each required option, and the positionals
 abbrev pub usage_words : Declaration → List (List ℕ)
 usage_words d = d.program ∷ options_mark (voluntary (visible d.options))
     ++ map option_mark (demanded (visible d.options)) ++ map positional_mark d.positionals
 
--- the column where they begin
+-- the column where the words of the usage line begin
 abbrev pub usage_column : ℕ
 usage_column = 7
 
@@ -275,12 +277,12 @@ pub record IsUsage (width : ℕ) (d : Declaration) (text : List ℕ) : Type 0 wh
 
 -- ---- a paragraph
 
--- the lines, if there are any
+-- the text of a paragraph on these lines
 abbrev pub paragraph : List Line → List ℕ
 paragraph [] = []
 paragraph (line ∷ lines) = below 0 (line ∷ lines) ++ line_feed ∷ []
 
--- the text has the words of this content on lines
+-- the text has the words of this content, on lines
 pub record IsParagraph (width : ℕ) (content text : List ℕ) : Type 0 where
   pub lines : List Line
   pub wrapped : Wraps width (words_of content) lines
@@ -293,26 +295,26 @@ abbrev pub list_text : List (List ℕ) → List ℕ
 list_text [] = []
 list_text (value ∷ values) = value ++ flat_map (λ other. codes ", " ++ other) values
 
--- what the help tells of an option or a positional with this text: the values in its list too
-abbrev pub told_of : List ℕ → Words → List ℕ
-told_of [] (listed values) = codes "one of " ++ list_text values
-told_of help (listed values) = help ++ codes ": one of " ++ list_text values
-told_of help words = help
+-- the text of an entry: this help text, and the list if there is one
+abbrev pub with_list : List ℕ → Words → List ℕ
+with_list [] (listed values) = codes "one of " ++ list_text values
+with_list help (listed values) = help ++ codes ": one of " ++ list_text values
+with_list help words = help
 
 -- ---- the whole text
 
--- the positionals of which the help tells something
+-- the positionals that have an entry
 abbrev pub described : List Positional → List Positional
 described positionals =
-    filter (λ p. not (length (words_of (told_of p.help p.words)) == 0)) positionals
+    filter (λ p. not (length (words_of (with_list p.help p.words)) == 0)) positionals
 
--- a part of the help, after an empty line: nothing, if the part is empty
+-- a part of the help after an empty line; nothing if the part is empty
 abbrev pub set_apart : List ℕ → List ℕ
 set_apart [] = []
 set_apart (b ∷ bs) = line_feed ∷ b ∷ bs
 
--- the text is the help: the usage line, what the program does, one entry for each positional that
--- is described and for each option that is visible, and the paragraphs of the epilogue, in order
+-- the text is the help: the usage line; what the program does; an entry for each positional that
+-- has one, and for each option that is not hidden; and the paragraphs of the epilogue
 pub record IsHelp (d : Declaration) (width : ℕ) (text : List ℕ) : Type 0 where
   pub usage : List ℕ
   pub about : List ℕ
@@ -322,10 +324,10 @@ pub record IsHelp (d : Declaration) (width : ℕ) (text : List ℕ) : Type 0 whe
   pub usage_first : IsUsage width d usage
   pub about_next : IsParagraph width d.about about
   pub each_positional :
-      AllZip (λ p. IsEntry width p.placeholder (told_of p.help p.words)) (described d.positionals)
+      AllZip (λ p. IsEntry width p.placeholder (with_list p.help p.words)) (described d.positionals)
       positionals
   pub each_option :
-      AllZip (λ o. IsEntry width (label o) (told_of o.help o.words)) (visible d.options) options
+      AllZip (λ o. IsEntry width (label o) (with_list o.help o.words)) (visible d.options) options
   pub each_paragraph : AllZip (IsParagraph width) d.epilogue epilogue
   pub written : text ≡ usage ++ about ++ set_apart (concat positionals)
       ++ set_apart (concat options) ++ flat_map set_apart epilogue

@@ -1,4 +1,4 @@
--- Which words mean what, under a declaration: from items to words, with no call and no state.
+-- What words mean under a declaration: relations between words and items, without calls or state.
 -- The source is `docs/behaviour.md`.
 use Rattle.std.specs.Prelude.{◌≡◌, ◌≤◌, ◌+◌, ◌==◌, ℕ, Bool, true, false, List, [], ◌∷◌, length}
 use Rattle.std.specs.Prelude.{map, Option, Some, None, if◌then◌else◌, is_none, not}
@@ -13,34 +13,34 @@ use Rattle.lexopt_options_spec.specs.Declaration.{index_of, may_repeat, table}
 use Rattle.lexopt_options_spec.specs.Places.{AreTaken, least}
 
 -- what is read from a line, in order: an option by its index in the declaration, whichever of its
--- names was typed, with its value if it has one; an option of several values with all of them; or a
--- positional
-pub data Said : Type 0 where
-  option : ℕ → Option (List ℕ) → Said
-  several : ℕ → List (List ℕ) → Said
-  positional : List ℕ → Said
+-- names was typed, with its value if it has one; an option of several values, with all of them; or
+-- a positional
+pub data Parsed : Type 0 where
+  option : ℕ → Option (List ℕ) → Parsed
+  several : ℕ → List (List ℕ) → Parsed
+  positional : List ℕ → Parsed
 
--- an item with its option's index: none if no such option is declared
-abbrev pub said_item : List Declared → Item → Option Said
-said_item options (spec.option name value) =
+-- what is read for an item; `None` if the option is not declared
+abbrev pub parsed_item : List Declared → Item → Option Parsed
+parsed_item options (spec.option name value) =
     option_map (λ i. option i value) (index_of options name)
-said_item options (spec.many name values) =
+parsed_item options (spec.many name values) =
     option_map (λ i. several i values) (index_of options name)
-said_item options (spec.positional word) = Some (positional word)
+parsed_item options (spec.positional word) = Some (positional word)
 
 -- ---- how many positionals there are
 
-abbrev pub counts : Said → ℕ
+abbrev pub counts : Parsed → ℕ
 counts (option i value) = 0
 counts (several i values) = 0
 counts (positional word) = 1
 
--- how many of these are positionals
-abbrev pub positional_count : List Said → ℕ
+-- how many positionals are among these
+abbrev pub positional_count : List Parsed → ℕ
 positional_count [] = 0
 positional_count (s ∷ ss) = counts s + positional_count ss
 
--- at most this many positionals may occur: there is no limit if one of them may occur more than once
+-- how many positionals may occur; `None` if there is no limit, since one may occur more than once
 abbrev pub most : List Positional → Option ℕ
 most ps = if list_any (λ p. may_repeat p.count) ps then None else Some (length ps)
 
@@ -48,37 +48,37 @@ abbrev pub IsWithin : ℕ → Option ℕ → Type 0
 IsWithin n None = Unit {0}
 IsWithin n (Some limit) = n ≤ limit
 
--- their words, in order
-abbrev pub positional_words : List Said → List (List ℕ)
+-- the words of the positionals among these, in order
+abbrev pub positional_words : List Parsed → List (List ℕ)
 positional_words [] = []
 positional_words (positional word ∷ l) = word ∷ positional_words l
 positional_words (s ∷ l) = positional_words l
 
 -- ---- which options there are
 
--- what is read is the option of this index
-abbrev pub is_option : ℕ → Said → Bool
+-- this is the option at this index
+abbrev pub is_option : ℕ → Parsed → Bool
 is_option i (option j value) = j == i
 is_option i (several j values) = j == i
 is_option i (positional word) = false
 
--- the option of this index is among these
-abbrev pub occurs : ℕ → List Said → Bool
+-- the option at this index is among these
+abbrev pub occurs : ℕ → List Parsed → Bool
 occurs i l = list_any (is_option i) l
 
--- the option of this index has to occur
+-- the option at this index is required
 abbrev pub is_required : List Declared → ℕ → Bool
 is_required options i = unwrap_or (option_map (λ o. o.required) (slice_get options i)) false
 
 -- ---- which values are accepted
 
--- the option of this index, if there is one, accepts this as a value
+-- the option at this index, if there is one, accepts this value
 abbrev pub accepts_at : List Declared → ℕ → List ℕ → Bool
 accepts_at options i value =
     unwrap_or (option_map (λ o. accepts o.words value) (slice_get options i)) true
 
--- the first value that the option of an item does not accept, if there is one
-abbrev pub refused_value : List Declared → Said → Option (List ℕ)
+-- the first value that its option does not accept, if there is one
+abbrev pub refused_value : List Declared → Parsed → Option (List ℕ)
 refused_value options (option i None) = None
 refused_value options (option i (Some value)) =
     if accepts_at options i value then None else Some value
@@ -86,24 +86,24 @@ refused_value options (several i values) = option_and_then (λ n. slice_get valu
     (position (λ value. not (accepts_at options i value)) values)
 refused_value options (positional word) = None
 
--- each option accepts the values that it has here
-abbrev pub are_accepted : List Declared → List Said → Bool
+-- each option among these accepts its values
+abbrev pub are_accepted : List Declared → List Parsed → Bool
 are_accepted options l = list_all (λ s. is_none (refused_value options s)) l
 
 -- ---- a whole line
 
--- the words legally spell options that are declared, and no more positionals than are declared, and
--- this is what they mean
-pub record SaysFront (d : Declaration) (words : List (List ℕ)) (l : List Said) : Type 0 where
+-- the words legally spell declared options, and at most as many positionals as the declaration
+-- allows, and this is what they mean
+pub record MeansFront (d : Declaration) (words : List (List ℕ)) (l : List Parsed) : Type 0 where
   pub items : List Item
   pub spelled : Spells (table d.options) d.short_equals words items
-  pub said : map (said_item d.options) items ≡ map (λ s. Some s) l
+  pub parsed : map (parsed_item d.options) items ≡ map (λ s. Some s) l
   pub within : IsWithin (positional_count l) (most d.positionals)
 
--- and as many positionals as are declared, and each option that is required, with values and words
--- that the options and the positionals accept
-pub record Says (d : Declaration) (words : List (List ℕ)) (l : List Said) : Type 0 where
-  pub front : SaysFront d words l
+-- and at least as many positionals as the declaration requires, and each required option, with
+-- values and words that the options and the positionals accept
+pub record Means (d : Declaration) (words : List (List ℕ)) (l : List Parsed) : Type 0 where
+  pub front : MeansFront d words l
   pub enough : least d.positionals ≤ positional_count l
   pub complete : (i : ℕ) → is_required d.options i ≡ true → occurs i l ≡ true
   pub accepted : are_accepted d.options l ≡ true

@@ -1,11 +1,11 @@
-//! Worked examples of the help, computed by the definitions.
+//! Worked examples of the help, which the definitions compute.
 ghost use Rattle.std.specs.Prelude.{◌≡◌, ◌∷◌, ◌++◌, [], None, Some, codes, false, true};
 ghost use Rattle.lexopt_line_spec.specs.Table.{flag, one, optional, several};
 ghost use Rattle.lexopt_options_spec.specs.Declaration.{any_number, at_least_once, at_most_once};
 ghost use Rattle.lexopt_options_spec.specs.Declaration.{directories, files, listed, once};
 ghost use Rattle.lexopt_options_spec.specs.Help.{below, columns, described, help_column, label_of};
 ghost use Rattle.lexopt_options_spec.specs.Help.{line_feed, mark_of, option_mark, paragraph};
-ghost use Rattle.lexopt_options_spec.specs.Help.{set_apart, told_of, usage_words, words_of};
+ghost use Rattle.lexopt_options_spec.specs.Help.{set_apart, with_list, usage_words, words_of};
 ghost use Rattle.lexopt_options_spec.specs.Examples.{demanded_option, positional_of};
 
 /// The labels of options with one name and with both.
@@ -30,8 +30,8 @@ pub fn labels_look_so()
     ensures short_several { label_of (Some 0x77) None several (codes "PART") ≡ codes "-w PART..." }
 {}
 
-/// Words are what is between blanks. Lines begin at one column, which is the 24th at most.
-pub fn words_stand_in_columns()
+/// Words are what is between blanks. The help text of an entry begins at column 24 at most.
+pub fn words_are_in_columns()
     ensures words { words_of (codes " tell  more ") ≡ codes "tell" ∷ codes "more" ∷ [] }
     ensures none { words_of (codes "  ") ≡ [] }
     ensures lines { below 2 ((codes "tell" ∷ codes "me" ∷ []) ∷ (codes "more" ∷ []) ∷ [])
@@ -40,8 +40,8 @@ pub fn words_stand_in_columns()
     ensures narrow { help_column 40 ≡ 13 }
 {}
 
-/// The words of the usage line of a program with no options, of one with an option, and of one whose
-/// only option is hidden.
+/// The words of the usage line of a program without options, of one with an option, and of one
+/// whose only option is hidden.
 pub fn usage_lines_have_these_words()
     ensures positionals { usage_words (record {
       program = codes "pack";
@@ -91,8 +91,9 @@ pub fn usage_lines_have_these_words()
     }) ≡ codes "pack" ∷ [] }
 {}
 
-/// A required option is shown, by its long name or by its character; the mark is for the others
-/// alone. A hidden option is not shown. A positional that occurs at least once has dots after it.
+/// The usage line shows a required option by its long name or by its character; `[OPTION]...` is
+/// for the other options. It does not show hidden options. A positional that occurs at least once
+/// has dots after it.
 pub fn usage_lines_show_what_is_required()
     ensures long { option_mark (demanded_option (Some 0x75) (Some (codes "user")) one (codes "NAME"))
         ≡ codes "--user=NAME" }
@@ -132,7 +133,7 @@ pub fn usage_lines_show_what_is_required()
     }) ≡ codes "pack" ∷ [] }
 {}
 
-/// A positional is described if there is a word in its help, or if it has a list.
+/// A positional has an entry if its help text has a word, or if it has a list.
 pub fn positionals_are_described()
     ensures one_of_two { described (positional_of (codes "MODE") (codes " ") files
         ∷ positional_of (codes "FILE") (codes "to pack") files ∷ [])
@@ -141,31 +142,32 @@ pub fn positionals_are_described()
         ≡ positional_of (codes "MODE") [] (listed (codes "fast" ∷ [])) ∷ [] }
 {}
 
-/// The values in an option's list are told after its help, or alone if that is empty.
-pub fn lists_are_told_of()
-    ensures list { told_of (codes "how to pack") (listed (codes "fast" ∷ codes "slow" ∷ []))
+/// The list of an option comes after its help text, or alone if that is empty.
+pub fn lists_are_shown()
+    ensures list { with_list (codes "how to pack") (listed (codes "fast" ∷ codes "slow" ∷ []))
         ≡ codes "how to pack: one of fast, slow" }
-    ensures no_help { told_of [] (listed (codes "fast" ∷ codes "slow" ∷ []))
+    ensures no_help { with_list [] (listed (codes "fast" ∷ codes "slow" ∷ []))
         ≡ codes "one of fast, slow" }
-    ensures one_value { told_of [] (listed (codes "fast" ∷ [])) ≡ codes "one of fast" }
-    ensures no_list { told_of (codes "where to") directories ≡ codes "where to" }
+    ensures one_value { with_list [] (listed (codes "fast" ∷ [])) ≡ codes "one of fast" }
+    ensures no_list { with_list (codes "where to") directories ≡ codes "where to" }
 {}
 
-/// A paragraph is on lines of its own, if it has words.
+/// A paragraph with words has lines of its own.
 pub fn paragraphs_are_laid_out()
     ensures none { paragraph [] ≡ [] }
     ensures lines { paragraph ((codes "Packs" ∷ codes "all" ∷ []) ∷ (codes "files." ∷ []) ∷ [])
         ≡ codes "Packs all" ++ line_feed ∷ codes "files." ++ line_feed ∷ [] }
 {}
 
-/// A part of the help is after an empty line, and an empty part is nothing.
+/// A part of the help comes after an empty line; an empty part is nothing.
 pub fn parts_are_set_apart()
     ensures none { set_apart [] ≡ [] }
     ensures some { set_apart (codes "Packs." ++ line_feed ∷ [])
         ≡ line_feed ∷ codes "Packs." ++ line_feed ∷ [] }
 {}
 
-/// A cluster of several characters takes one column: `e` and an acute accent, in three bytes.
+/// A grapheme cluster of several characters takes one column: `e` and an acute accent, in three
+/// bytes.
 pub fn clusters_are_columns()
     ensures letters { columns (codes "FILE") ≡ 4 }
     ensures accent { columns (0x65 ∷ 0xCC ∷ 0x81 ∷ []) ≡ 1 }

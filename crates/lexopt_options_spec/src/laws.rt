@@ -1,4 +1,4 @@
-//! Laws of the definitions.
+//! Laws of these definitions, on which nothing depends. `lexopt_laws` has laws of reading lines.
 ghost use Rattle.std.specs.Prelude.{◌≡◌, ◌≤◌, ◌<◌, ◌⊎◌, ◌+◌, ◌∷◌, ◌++◌, [], Bool, Contains, List};
 ghost use Rattle.std.specs.Prelude.{ℕ, codes, length, true};
 ghost use Rattle.lexopt_line_spec.specs.Table.{Item, long, short};
@@ -12,8 +12,8 @@ ghost use Rattle.lexopt_options_spec.specs.Help.{columns, gap, help_column, labe
 ghost use Rattle.lexopt_options_spec.specs.Help.{line_feed};
 ghost use Rattle.lexopt_options_spec.specs.Help.{usage_column};
 
-/// The test that a check computes holds of the options that can be declared together, and of no
-/// others, if their names are text, as each `char` and `&str` is.
+/// The test that the prover computes holds for exactly the options that can be declared together,
+/// if their names are text, as each `char` and `&str` is.
 pub fn declarable_options_are_sound()
     ensures sound { (options : List Declared) → AreText options → can_be_declared options ≡ true
         → is_sound options ≡ true }
@@ -21,9 +21,9 @@ pub fn declarable_options_are_sound()
         → can_be_declared options ≡ true }
 {}
 
-/// What the help shows can be typed. Among options that can be declared together, each form that
-/// the label of one shows, with the placeholder for the value, is legal, whether `=` is a mark in
-/// clusters or not, and means that option, with the placeholder for its value.
+/// What the help shows can be typed. If the options can be declared together, each form that a
+/// label shows, with the placeholder as the value, is legal under either setting of `short_equals`,
+/// and means that option with the placeholder as its value.
 pub fn labels_are_spelled()
     ensures { (options : List Declared) (o : Declared) (short_equals : Bool)
         (shown : List ℕ) (words : List (List ℕ)) (item : Item)
@@ -31,16 +31,16 @@ pub fn labels_are_spelled()
         → LabelForm o shown words item → Spells (table options) short_equals words (item ∷ []) }
 {}
 
-/// The text by which a label shows a form is a part of the label.
-pub fn forms_stand_in_labels()
+/// The text by which a label shows a form is part of the label.
+pub fn labels_show_forms()
     ensures { (o : Declared) (shown : List ℕ) (words : List (List ℕ)) (item : Item)
         → LabelForm o shown words item
         → (before : List ℕ) × (after : List ℕ) × (label o ≡ before ++ shown ++ after) }
 {}
 
-/// A label shows the names of its option and nothing else: the character alone, the long name alone
-/// after four blanks, or both with a comma and a blank between them. By the text of each name it
-/// shows all that the option can spell by that name, with the placeholder for the value.
+/// A label shows the names of its option and nothing else: the character alone; the long name
+/// alone, after four blanks; or both, with a comma and a blank between them. The text for each name
+/// shows all that the option can spell by that name, with the placeholder as the value.
 pub fn labels_show_their_names()
     ensures short { (o : Declared) (c : ℕ) → o.short_name ≡ Some c → o.long_name ≡ None
         → ShowsName o (short c) (label o) }
@@ -53,7 +53,7 @@ pub fn labels_show_their_names()
         × (label o ≡ first ++ codes ", " ++ second) }
 {}
 
-/// At each width a declaration has exactly one usage line and exactly one help.
+/// For each width a declaration has exactly one usage line and exactly one help.
 pub fn each_declaration_has_one_help()
     ensures some_usage { (d : Declaration) (width : ℕ) → (text : List ℕ) × IsUsage width d text }
     ensures no_other_usage { (d : Declaration) (width : ℕ) (text other : List ℕ)
@@ -63,10 +63,10 @@ pub fn each_declaration_has_one_help()
         → IsHelp d width other → text ≡ other }
 {}
 
-/// Words on a line end within the width, unless they are one word. Those of the usage line begin at
-/// its column, those of a paragraph (what the program does, or a part of the epilogue) at column 0,
-/// and those of the help of an option or a positional at its column: beside the label, after two
-/// blanks at least, or below it. So it is if no line feed is among the words.
+/// The words on a line end within the width, unless they are one word. The words of the usage line
+/// begin at its column, those of a paragraph (what the program does, or a part of the epilogue) at
+/// column 0, and those of the help text of an option or a positional at its column: beside the
+/// label, after at least two blanks, or below it. This holds if no line feed is among the words.
 pub fn lines_are_in_columns()
     ensures usage { (width : ℕ) (d : Declaration) (text : List ℕ) (u : IsUsage width d text)
         (line : Line) → Contains u.lines line

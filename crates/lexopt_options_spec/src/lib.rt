@@ -1,10 +1,10 @@
-//! What the contracts of declared options cite: definitions over plain data, in `specs/`:
-//! declarations, which words mean what under one, where a reading stops, which option is nearest to
-//! a mistyped one, what can be completed, and what is in the help. `proofs/` has the lemmas that
-//! code cites.
+//! The definitions that the contracts of declared options cite, in `specs/`, over plain data:
+//! declarations, what words mean under them, where a reading stops, which option is nearest to a
+//! mistyped one, what can be completed, and what the help is. `proofs/` has the lemmas about them
+//! that other crates cite.
 //!
-//! The only code here are laws and worked examples of the definitions, on which nothing rests:
-//! functions with no body.
+//! The only functions here are laws and worked examples of the definitions. They have no body, and
+//! nothing depends on them.
 #![tactic(auto)]
 
 pub mod help_examples;

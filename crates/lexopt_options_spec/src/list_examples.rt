@@ -1,4 +1,4 @@
-//! Worked examples of lists of values, computed by the definitions.
+//! Worked examples of lists of values, which the definitions compute.
 ghost use Rattle.std.specs.Prelude.{◌≡◌, ◌∷◌, [], None, Some, codes, false, true};
 ghost use Rattle.lexopt_options_spec.specs.Completion.{argument, explained, offered_values, value};
 ghost use Rattle.lexopt_options_spec.specs.Declaration.{IsFirstBadList, accepts, are_listable};
@@ -9,7 +9,7 @@ ghost use Rattle.lexopt_options_spec.specs.Examples.{listed_positionals, lists};
 ghost use Rattle.lexopt_options_spec.specs.Examples.{positional_of};
 ghost use Rattle.lexopt_options_spec.specs.Places.{refused_word};
 
-/// A value in a list is accepted, and no other; without a list, any value is.
+/// With a list, exactly the values in it are accepted; without a list, all values are.
 pub fn values_are_accepted()
     ensures first { accepts (listed (codes "fast" ∷ codes "slow" ∷ [])) (codes "fast") ≡ true }
     ensures last { accepts (listed (codes "fast" ∷ codes "slow" ∷ [])) (codes "slow") ≡ true }
@@ -21,7 +21,7 @@ pub fn values_are_accepted()
     ensures text { accepts text [] ≡ true }
 {}
 
-/// These can be declared.
+/// Lists that can be declared.
 pub fn lists_are_declared()
     ensures one { list_fault (listed (codes "fast" ∷ [])) ≡ None }
     ensures same_twice { list_fault (listed (codes "fast" ∷ codes "fast" ∷ [])) ≡ None }
@@ -32,7 +32,7 @@ pub fn lists_are_declared()
     ensures text { list_fault text ≡ None }
 {}
 
-/// These cannot.
+/// Lists that cannot be declared.
 pub fn lists_are_refused()
     ensures none { list_fault (listed []) ≡ Some bad_list }
     ensures empty { list_fault (listed ([] ∷ [])) ≡ Some bad_list }
@@ -59,14 +59,14 @@ pub fn values_in_lists_are_offered()
     ensures nothing { offered_values lists [] None [] None ≡ [] }
 {}
 
-/// The spellings of options, each with the help of its option.
+/// The spellings of options, each with the help text of its option.
 pub fn spellings_are_explained()
     ensures all { explained explained_options ≡ (codes "-m", codes "how fast")
         ∷ (codes "--mode", codes "how fast") ∷ (codes "-m", codes "what else") ∷ [] }
     ensures none { explained [] ≡ [] }
 {}
 
-/// The words with a value of a list in them, after what was typed before it.
+/// The words that have a value in a list after what was typed before it.
 pub fn joined_values_are_offered()
     ensures all { offered_values lists (codes "--mode=") None [] (joined_after 1 (codes "--mode="))
         ≡ codes "--mode=fast" ∷ codes "--mode=slow" ∷ codes "--mode=slower" ∷ [] }
@@ -84,7 +84,7 @@ pub fn joined_values_are_offered()
         ≡ codes "tar" ∷ codes "-mfast" ∷ codes "-mslow" ∷ codes "-mslower" ∷ [] }
 {}
 
-/// The values in the lists of the positionals that a word can belong to.
+/// The words in the lists of the positionals that a word can belong to.
 pub fn words_in_lists_are_offered()
     ensures one { offered_values lists [] (Some (argument 0)) (0 ∷ []) None
         ≡ codes "fast" ∷ codes "slow" ∷ [] }
@@ -114,7 +114,7 @@ pub fn words_are_refused()
     ensures fewer { refused_word listed_positionals (0 ∷ 1 ∷ []) (codes "fast" ∷ []) ≡ None }
 {}
 
-/// The lists of these positionals can be declared, and of those one cannot.
+/// Positionals whose lists can be declared, and positionals one of whose lists cannot.
 pub fn lists_of_positionals_are_declared()
     ensures all { are_listable listed_positionals ≡ true }
     ensures none { are_listable (positional_of (codes "FILE") [] files ∷ []) ≡ true }
@@ -130,7 +130,7 @@ pub fn bad_lists_are_found()
         ∷ positional_of (codes "HOW") [] (listed (codes "-" ∷ [])) ∷ []) 1 }
 {}
 
-/// What is not.
+/// Positionals that are not the first whose list cannot be declared.
 pub fn no_other_list_is_bad()
     ensures not_one_that_can_be_declared { IsFirstBadList
         (positional_of (codes "HOW") [] (listed (codes "fast" ∷ [])) ∷ []) 0 → ⊥ }

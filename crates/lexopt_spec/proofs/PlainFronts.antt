@@ -44,9 +44,9 @@ pub front-none : (ended : Bool) (words : List (List ℕ)) → (IsNormalIn ended 
 front-none ended [] other = refl
 front-none ended (w ∷ ws) other = front-less ended w ws other
 
--- ---- the front is the longest of plain words
+-- ---- the front is the longest one of plain words
 
--- the words after the front
+-- the words are the front and the words after it
 front_parts : (ended : Bool) (words : List (List ℕ))
     → (after : List (List ℕ)) × (words ≡ plain_front ended words ++ after) × All (IsPlain ended) (plain_front ended words) × ¬ IsNormalIn ended after
 front_parts ended [] = ([], refl, All-nil (IsPlain ended), λ h. h)
@@ -71,7 +71,7 @@ front_parts ended (w ∷ ws) = elim (is_plain ended w) as
           )
     ] refl
 
--- and no other front is
+-- no other front is the longest
 front_is : (ended : Bool) (front after : List (List ℕ)) → All (IsPlain ended) front → (IsNormalIn ended after → ⊥) → plain_front ended (front ++ after) ≡ front
 front_is ended [] after plain other = front-none ended after other
 front_is ended (w ∷ ws) after plain other =

@@ -12,7 +12,7 @@ use Rattle.lexopt_spec.proofs.PlainFronts.{front-more, front-none}
 at_available : (u : UnreadLine) (p : Option (List ℕ × Bool)) → pending u ≡ p → values_left going_on u ≡ available_with p (plain_front u.ended u.words)
 at_available u p is = ap (λ f. available_with f (plain_front u.ended u.words)) is
 
--- what comes is the first of what was left
+-- the item is the first of the values that were left
 pub item_is_first : (stage : Stage) (u : UnreadLine) (item : Option (List ℕ)) (after : UnreadLine) (now : Stage)
     → ValueItem stage u item after now → values_left stage u ≡ cons_option item (values_left now after)
 item_is_first stage u item after now (gives_pending x true s p i a n) = rw (s, i, a, n) (at_available u (Some (x, true)) p)
@@ -23,7 +23,7 @@ item_is_first stage u item after now (gives_word w ws s p is plain i a n) =
 item_is_first stage u item after now (stops s p other i a n) = rw (s, i, a, n) (at_available u None p ∙ front-none u.ended u.words other)
 item_is_first stage u item after now (stopped s i a n) = rw (s, i, a, n) refl
 
--- once none came, none comes
+-- after `None`, the view is at its end
 pub none_ends : (stage : Stage) (u : UnreadLine) (after : UnreadLine) (now : Stage)
     → ValueItem stage u None after now → (after ≡ u) × (now ≡ at_end)
 none_ends stage u after now (gives_pending value by_equals s p i a n) = absurd (let e : None ≡ Some value = i in cc)
@@ -40,7 +40,7 @@ none_ever u item after now (stopped s i a n) = (i, a, n)
 
 -- ---- n items of a view of values
 
--- the line after the items, from the line after the first one
+-- the line after the items is the line after the first one, without the others
 after_first : (u : UnreadLine) (value : List ℕ) (by_equals : Bool) (n : ℕ) → pending u ≡ Some (value, by_equals)
     → without None n (record u { tail = no_tail }) ≡ without (pending u) (suc n) u
 after_first u value by_equals zero p = rw p refl
@@ -90,7 +90,7 @@ items_in_order (suc n) stage u came after now asked =
     let both = items_after n stage u item between next others came after step more.0 more.1 asked.6 in
     (both.0 ∙ ap (λ l. take (suc n) l) (sym (item_is_first stage u item between next step)), both.1)
 
--- so n items asked one by one are the call
+-- so n items, asked one by one, are those of the call
 pub values_by_items : (n : ℕ) (u after : UnreadLine) (came : List (List ℕ)) (now : Stage) → available u ≢ []
     → ValueItems n going_on u came after now → ValuesStep n u (items came) after
 values_by_items n u after came now some asked =
@@ -101,7 +101,7 @@ in_front : (item : Option (List ℕ)) (others more : List (List ℕ)) → cons_o
 in_front None others more = refl
 in_front (Some x) others more = refl
 
--- one item more
+-- one more item
 pub ValueItems-more : (n : ℕ) (stage : Stage) (u v w : UnreadLine) (came : List (List ℕ)) (then now : Stage) (item : Option (List ℕ))
     → ValueItems n stage u came v then → ValueItem then v item w now → ValueItems (suc n) stage u (came ++ cons_option item []) w now
 ValueItems-more zero stage u v w came then now item asked step = (
@@ -132,7 +132,7 @@ values_ended (suc k) n count stage u v came is asked =
     let more = ValueItems-more (k + n) stage u v v came at_end at_end None (values_ended k n (k + n) stage u v came refl asked) (stopped refl refl refl refl) in
     subst (λ m. ValueItems m stage u came v at_end) same (subst (λ l. ValueItems (suc (k + n)) stage u l v at_end) (append-nil came) more)
 
--- once none came, more may be asked, and none comes
+-- after `None`, asking for more items yields nothing
 pub values_no_more : (n count : ℕ) (stage : Stage) (u v w : UnreadLine) (came : List (List ℕ)) (then now : Stage) → n < count
     → ValueItems n stage u came v then → ValueItem then v None w now → ValueItems count stage u came w now
 values_no_more n count stage u v w came then now below asked step =
@@ -200,7 +200,7 @@ words_ended (suc k) n count u v came is none asked =
     let more = WordItems-more (k + n) u v v came None (words_ended k n (k + n) u v came refl none asked) (none, refl) in
     subst (λ m. WordItems m u came v) same (subst (λ l. WordItems (suc (k + n)) u l v) (append-nil came) more)
 
--- once none came, more may be asked, and none comes
+-- after `None`, asking for more items yields nothing
 pub words_no_more : (n count : ℕ) (u v w : UnreadLine) (came : List (List ℕ)) → n < count → WordItems n u came v → WordItem v None w → WordItems count u came w
 words_no_more n count u v w came below asked step =
     let more = count - suc n in
@@ -209,16 +209,16 @@ words_no_more n count u v w came below asked step =
     let none : w.words ≡ [] = ap (λ (l : UnreadLine). l.words) step.1 ∙ step.0 in
     words_ended more (suc n) count u w came all none one
 
--- ---- what an implementation does
+-- ---- the steps of an implementation
 
--- a normal word was taken
+-- the next word is plain, and is taken
 pub takes_normal : (stage : Stage) (u : UnreadLine) (item : Option (List ℕ)) (after : UnreadLine) → stage ≡ going_on → pending u ≡ None
     → IsNormalIn u.ended u.words → WordItem u item after → ValueItem stage u item after stage
 takes_normal stage u None after on p normal step = absurd (subst (IsNormalIn u.ended) step.0 normal)
 takes_normal stage u (Some w) after on p normal step =
     gives_word w after.words on p step.0 (subst (IsNormalIn u.ended) step.0 normal) refl step.1 on
 
--- the next word is not normal
+-- the next word is not plain, or there is none
 pub stops_there : (stage : Stage) (u : UnreadLine) → stage ≡ going_on → pending u ≡ None → (IsNormalIn u.ended u.words → ⊥)
     → ValueItem stage u None u at_end
 stops_there stage u on p other = stops on p other refl refl refl

@@ -1,4 +1,4 @@
--- The account of bytes: what becomes of each byte that a call reads.
+-- The account of bytes: each byte that a call reads is in one segment.
 -- The source is `docs/behaviour.md`.
 use Rattle.std.specs.Prelude.{ℕ, Bool, true, ◌==◌, ◌&&◌, List, [], ◌∷◌, ◌++◌, map, flat_map, Option}
 use Rattle.std.specs.Prelude.{Some, None, encode_utf8, if◌then◌else◌}
@@ -12,14 +12,14 @@ use Rattle.lexopt_spec.specs.Steps.{reads_long, reads_cluster, reads_positional,
 use Rattle.lexopt_spec.specs.Steps.{joined_value, equals_value, next_in_cluster, after_separator}
 use Rattle.lexopt_spec.specs.Steps.{next_word}
 
--- some bytes in a row, and what becomes of them
+-- successive bytes of the line, by what the reply has for them
 pub data Segment : Type 0 where
-  -- the same bytes are in the reply
+  -- the reply has the same bytes
   given : List ℕ → Segment
-  -- a dash of a cluster, the dashes of a long option, the `=` before a value, a separator: it
-  -- is in no reply
+  -- the dash of a cluster, the dashes of a long option, the `=` before a value, or the separator:
+  -- the reply does not have it
   mark : List ℕ → Segment
-  -- a damaged piece: the reply has U+FFFD
+  -- a damaged piece: the reply has U+FFFD for it
   damage : List ℕ → Segment
 
 abbrev pub segment_bytes : Segment → List ℕ
@@ -27,7 +27,7 @@ segment_bytes (given bytes) = bytes
 segment_bytes (mark bytes) = bytes
 segment_bytes (damage bytes) = bytes
 
--- all bytes that the segments name, in order
+-- all bytes of the segments, in order
 abbrev pub bytes_of : List Segment → List ℕ
 bytes_of segments = flat_map segment_bytes segments
 
@@ -36,7 +36,7 @@ tail_bytes no_tail = []
 tail_bytes (joined value) = value
 tail_bytes (rest bytes) = bytes
 
--- all bytes of a line that are still unread
+-- all unread bytes of a line: those of its tail, then its words
 abbrev pub flat : UnreadLine → List ℕ
 flat u = tail_bytes u.tail ++ concat u.words
 
@@ -55,7 +55,7 @@ name_end no_tail = []
 name_end (joined value) = mark (equals ∷ []) ∷ []
 name_end (rest bytes) = []
 
--- the `=` of a cluster that is dropped before the value that is pending
+-- the `=` of a cluster that is dropped before the pending value
 abbrev pub dropped_in : Bool → Tail → List Segment
 dropped_in short_equals no_tail = []
 dropped_in short_equals (joined value) = []
@@ -63,7 +63,7 @@ dropped_in short_equals (rest []) = []
 dropped_in short_equals (rest (b ∷ bs)) =
     if short_equals && b == equals then mark (equals ∷ []) ∷ [] else []
 
--- what the line hands out, where its items are asked
+-- the segments of a call that takes these items from the line
 abbrev pub handing : UnreadLine → List (List ℕ) → List Segment
 handing u [] = []
 handing u (item ∷ more) = dropped_in u.short_equals u.tail ++ (given item ∷ map given more)
@@ -98,7 +98,7 @@ next_account u reply after (next_in_cluster bytes is other reads) =
 next_account u reply after (after_separator is ended reads) = positional_account u reply after reads
 next_account u reply after (next_word is ended reads) = word_account u reply after reads
 
--- ---- what a reply hands out
+-- ---- the bytes of a reply
 
 -- the values and words of a reply, in order
 abbrev pub handed_items : Reply → List (List ℕ)
@@ -116,19 +116,19 @@ handed_items (missing option) = []
 handed_items (unexpected option value) = value ∷ []
 handed_items no_memory = []
 
--- the bytes of a reply that come from the line: those of a name that is repeated in an error do not
+-- the bytes of a reply that come from the line; a name that an error repeats does not
 abbrev pub bytes_handed_out : Reply → List ℕ
 bytes_handed_out (short c) = encode_utf8 c
 bytes_handed_out (long name) = name
 bytes_handed_out reply = concat (handed_items reply)
 
--- the reply names an option that was read
+-- the reply is an option that was read
 abbrev pub NamesOption : Reply → Type 0
 NamesOption (short c) = Unit {0}
 NamesOption (long name) = Unit {0}
 NamesOption reply = ⊥
 
--- the bytes that are handed out as they are, segment by segment
+-- the bytes of each given segment
 abbrev pub given_of : List Segment → List (List ℕ)
 given_of [] = []
 given_of (given bytes ∷ segments) = bytes ∷ given_of segments
@@ -140,6 +140,6 @@ segment_shown (given bytes) = bytes
 segment_shown (mark bytes) = []
 segment_shown (damage bytes) = encode_utf8 replacement
 
--- what of the segments is in replies
+-- the bytes that replies have for the segments
 abbrev pub shown_of : List Segment → List ℕ
 shown_of segments = flat_map segment_shown segments

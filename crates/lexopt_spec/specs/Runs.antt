@@ -1,5 +1,5 @@
--- Lists of calls on one line: one reply for each call, what becomes of each byte, and what is left
--- of a list that was cut short. The source is `docs/behaviour.md`.
+-- Lists of calls on one line: one reply for each call, the account of bytes, and the part of a list
+-- that was made before memory ran out. The source is `docs/behaviour.md`.
 use Rattle.std.specs.Prelude.{◌≡◌, ◌⊎◌, ℕ, Bool, List, [], ◌∷◌, ◌++◌, min}
 use Rattle.std.proofs.Common.{inl, inr}
 use Rattle.lexopt_spec.specs.UnreadLine.{UnreadLine}
@@ -12,15 +12,15 @@ pub data Call : Type 0 where
   next : Call
   value : Call
   optional : Call
-  -- a view, and how many items are asked of it
+  -- a call of a view, and the number of items that are asked of it
   values : ℕ → Call
   raw : ℕ → Call
   try_raw : ℕ → Call
-  -- `raw_args`, and its next word if it is this one
+  -- `raw_args`, and then the next word if it is this one
   raw_if : List ℕ → Call
   set_short_equals : Bool → Call
 
--- with enough memory, a call returns this
+-- with enough memory, a call at the line gives this reply, and leaves the second line
 abbrev pub StepWithMemory : Call → UnreadLine → Reply → UnreadLine → Type 0
 StepWithMemory next = NextStep
 StepWithMemory value = ValueStep
@@ -31,7 +31,7 @@ StepWithMemory (try_raw n) = TryRawStep n
 StepWithMemory (raw_if word) = RawStep (TakesWordIf word)
 StepWithMemory (set_short_equals on) = SetsShortEquals on
 
--- what a call returns at the line u, and the line after it
+-- a call at the line gives this reply, and leaves the second line
 abbrev pub Step : Call → UnreadLine → Reply → UnreadLine → Type 0
 Step call u reply after = Answers (StepWithMemory call) u reply after
 
@@ -50,7 +50,7 @@ short_equals_after on c = on
 
 -- ---- the account of bytes
 
--- the segments of what a call reads: every call but `next` hands out items alone
+-- the segments that a call reads; every call except `next` takes only items
 abbrev pub account_with_memory : (call : Call) (u : UnreadLine) (reply : Reply) (after : UnreadLine)
     → StepWithMemory call u reply after → List Segment
 account_with_memory next u reply after step = next_account u reply after step
@@ -81,9 +81,9 @@ abbrev pub AccountedRun : UnreadLine → List Call → List Reply → List Segme
 AccountedRun u calls replies account_of after = (run : Run u calls replies after)
     × (account_of ≡ segments u calls replies after run)
 
--- ---- where a list of calls was cut short
+-- ---- the part of a list that was made
 
--- the call with no more items asked than m
+-- the call, limited to at most `m` items
 abbrev pub up_to : ℕ → Call → Call
 up_to m next = next
 up_to m value = value
@@ -94,7 +94,7 @@ up_to m (try_raw n) = try_raw (min m n)
 up_to m (raw_if word) = raw_if word
 up_to m (set_short_equals on) = set_short_equals on
 
--- some prefix of the calls was made, and then perhaps the next one, with some of its items
+-- some prefix of the calls was made, and then perhaps the next call, with some of its items
 abbrev pub Part : UnreadLine → List Call → UnreadLine → Type 0
 Part u [] after = after ≡ u
 Part u (call ∷ calls) after =

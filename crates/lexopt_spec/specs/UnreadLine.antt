@@ -1,5 +1,6 @@
--- The unread line: what is left of a command line, as contracts see a parser.
--- The source is `docs/behaviour.md`. A word is a list of bytes, a name is the UTF-8 of its text.
+-- The unread line: the part of a command line that is still to be read. Contracts see a parser as
+-- its unread line. The source is `docs/behaviour.md`. A word is a list of bytes, and a name is the
+-- UTF-8 of its text.
 use Rattle.std.specs.Prelude.{◌≡◌, ◌≢◌, ℕ, Bool, true, false, ◌==◌, ◌&&◌, ◌||◌, not, ◌⊎◌, List, []}
 use Rattle.std.specs.Prelude.{◌∷◌, ◌++◌, Option, Some, None, encode_utf8, if◌then◌else◌}
 use Rattle.std.specs.List.{All}
@@ -11,15 +12,15 @@ dash = 0x2D
 abbrev pub equals : ℕ
 equals = 0x3D
 
--- what is left of the word that is being read
+-- the unread part of the word that is being read
 pub data Tail : Type 0 where
   no_tail : Tail
   -- the value of a long option, after its `=`
   joined : List ℕ → Tail
-  -- the characters of a cluster that are still unread: never empty
+  -- the unread bytes of a cluster: never empty
   rest : List ℕ → Tail
 
--- the option that was read last
+-- the option read last
 pub data LastOption : Type 0 where
   no_option : LastOption
   short_option : ℕ → LastOption
@@ -27,29 +28,29 @@ pub data LastOption : Type 0 where
 
 pub record UnreadLine : Type 0 where
   pub tail : Tail
-  -- the words that are still unread, in order
+  -- the unread words, in order
   pub words : List (List ℕ)
-  -- the separator `--` was read
+  -- the separator has been read
   pub ended : Bool
   pub last : LastOption
   -- in a cluster, `=` separates an option from its value
   pub short_equals : Bool
-  -- the binary name, if the line had one: no rule changes it
+  -- the binary name, if the line has one; no rule changes it
   pub bin_name : Option (List ℕ)
 
--- there is a tail only with a last option and never after the separator, and the rest of a cluster
--- is never empty
-abbrev pub TailStands : Tail → LastOption → Bool → Type 0
-TailStands no_tail last ended = Unit {0}
-TailStands (joined value) last ended = (last ≢ no_option) × (ended ≡ false)
-TailStands (rest bytes) last ended = (last ≢ no_option) × (ended ≡ false) × (bytes ≢ [])
+-- there is a tail only if there is a last option, and never after the separator; the rest of a
+-- cluster is never empty
+abbrev pub TailFits : Tail → LastOption → Bool → Type 0
+TailFits no_tail last ended = Unit {0}
+TailFits (joined value) last ended = (last ≢ no_option) × (ended ≡ false)
+TailFits (rest bytes) last ended = (last ≢ no_option) × (ended ≡ false) × (bytes ≢ [])
 
--- the lines that a parser can be are among these: it is one at the start, and every call leads from
--- one to one
+-- every line that a parser can have is one of these: it has one at the start, and every call leads
+-- from one to one
 abbrev pub IsLine : UnreadLine → Type 0
-IsLine u = TailStands u.tail u.last u.ended
+IsLine u = TailFits u.tail u.last u.ended
 
--- the line of these words, of which none was read
+-- the line of these words, of which none has been read
 abbrev pub fresh : List (List ℕ) → UnreadLine
 fresh words = record {
   tail = no_tail;
@@ -60,8 +61,7 @@ fresh words = record {
   bin_name = None;
 }
 
--- the same, where the first of the words, if there is one, is the binary name: damage in it is
--- shown as U+FFFD
+-- the same, if the first word, if there is one, is the binary name; it is kept as lossy text
 abbrev pub invoked : List (List ℕ) → UnreadLine
 invoked [] = fresh []
 invoked (word ∷ words) = record (fresh words) { bin_name = Some (lossy word) }
@@ -77,7 +77,7 @@ abbrev pub rest_of : List ℕ → Tail
 rest_of [] = no_tail
 rest_of (b ∷ bs) = rest (b ∷ bs)
 
--- the value that belongs to the last option, and whether it is joined to it by `=`
+-- the pending value, and whether it is joined to its option by `=`
 abbrev pub pending_in : Bool → Tail → Option (List ℕ × Bool)
 pending_in short_equals no_tail = None
 pending_in short_equals (joined value) = Some (value, true)
@@ -92,11 +92,11 @@ abbrev pub BeginsWith : ℕ → List ℕ → Type 0
 BeginsWith b [] = ⊥
 BeginsWith b (c ∷ cs) = c ≡ b
 
--- the word is not an option: it comes after the separator, or is `-`, or does not begin with a dash
+-- the word is plain: it comes after the separator, or is `-`, or does not begin with a dash
 abbrev pub IsPlain : Bool → List ℕ → Type 0
 IsPlain ended word = (ended ≡ true) ⊎ ((word ≡ dash ∷ []) ⊎ ¬ BeginsWith dash word)
 
--- the same, as a test
+-- the same, as a boolean
 abbrev pub is_plain : Bool → List ℕ → Bool
 is_plain ended [] = true
 is_plain ended (b ∷ []) = true
@@ -107,7 +107,7 @@ abbrev pub IsNormalIn : Bool → List (List ℕ) → Type 0
 IsNormalIn ended [] = ⊥
 IsNormalIn ended (word ∷ words) = IsPlain ended word
 
--- these words are the longest front of words that are all plain, and the others are left
+-- `front` is the longest front of the words that are all plain, and `left` are the other words
 pub record IsPlainFront (ended : Bool) (words front left : List (List ℕ)) : Type 0 where
   pub words_are : words ≡ front ++ left
   pub plain : All (IsPlain ended) front

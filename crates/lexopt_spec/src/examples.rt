@@ -1,4 +1,5 @@
-//! Examples of definitions: what they mean, and what they rule out.
+//! Worked examples of the definitions of words and of the parser: what they mean, and what they
+//! rule out.
 ghost use Rattle.std.specs.Prelude.{◌≡◌, [], ◌∷◌, true, false, None, Some, codes};
 ghost use Rattle.lexopt_spec.specs.Account.{NamesOption, damage, given, given_of, handed_items};
 ghost use Rattle.lexopt_spec.specs.Account.{mark};
@@ -11,7 +12,7 @@ ghost use Rattle.lexopt_spec.specs.UnreadLine.{BeginsWith, IsLine, dash, fresh, 
 ghost use Rattle.lexopt_spec.specs.UnreadLine.{long_option, no_option, no_tail, pending_in, rest};
 ghost use Rattle.lexopt_spec.specs.UnreadLine.{short_option};
 
-// Lines that a parser can be, and lines that it never is.
+// Unread lines that a parser can have, and lines that it never has.
 fn lines_are_told_apart()
     ensures nothing_read { fresh (codes "a" ∷ []) ≡ record {
       tail = no_tail;
@@ -56,7 +57,7 @@ fn lines_are_told_apart()
     ensures unexpected { NamesOption (unexpected (codes "-a") (codes "b")) → ⊥ }
 {}
 
-// A call asked for at most n items: never for more than before.
+// A call limited to at most n items never takes more items than before.
 fn fewer_items_are_asked()
     ensures values { up_to 5 (values 2) ≡ values 2 }
     ensures fewer_values { up_to 1 (values 2) ≡ values 1 }
@@ -75,7 +76,7 @@ fn fewer_items_are_asked()
     ensures off { up_to 0 (set_short_equals false) ≡ set_short_equals false }
 {}
 
-// Replies with what is handed out of the line as it is: values and words, and no name.
+// The values and words of the line that a reply has. Names are not among them.
 fn items_are_handed_out()
     ensures positional { handed_items (positional (codes "a")) ≡ codes "a" ∷ [] }
     ensures value { handed_items (taken (codes "a")) ≡ codes "a" ∷ [] }
@@ -102,12 +103,12 @@ fn sequences_are_well_formed()
     ensures begins_itself { BeginsWellFormed (codes "a") }
 {}
 
-// Bytes that begin a well-formed sequence, and are none.
+// Bytes that begin a well-formed sequence, but are not one.
 fn sequences_are_begun()
     ensures { BeginsWellFormed (0xC2 ∷ []) }
 {}
 
-// What a list of no calls reads.
+// A list of no calls reads no segments.
 fn no_other_segments()
     ensures nothing_read { AccountedRun (fresh []) [] [] (given [] ∷ []) (fresh []) → ⊥ }
     ensures no_segments { AccountedRun (fresh []) [] [] [] (fresh []) }

@@ -1,4 +1,4 @@
--- Where an item is named, no words show the items.
+-- If an item is at fault, no words show the items.
 use Rattle.std.proofs.Common.{ℕ, Bool, List}
 use Rattle.lexopt_line_spec.specs.Table.{Item, Table}
 use Rattle.lexopt_line_spec.specs.Spelling.{Shows}

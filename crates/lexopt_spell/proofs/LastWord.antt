@@ -1,4 +1,4 @@
--- The last word, and words after it.
+-- The last word of a list, and the words appended after it.
 use Rattle.std.proofs.Common.{◌≡◌, ℕ, Bool, true, false, List, [], ◌∷◌, ◌++◌, Option, Some, refl, sym, ap, ◌∙◌, append-nil, append_assoc}
 use Rattle.std.specs.Option.{option_to_list}
 use Rattle.lexopt_spell.specs.Words.{onto_last, pushed}
@@ -19,13 +19,13 @@ onto_twice (w ∷ []) a b = ap (λ l. l ∷ []) (append_assoc w a b)
 onto_twice (w ∷ v ∷ []) a b = ap (λ l. w ∷ l) (onto_twice (v ∷ []) a b)
 onto_twice (w ∷ v ∷ u ∷ ws) a b = ap (λ l. w ∷ l) (onto_twice (v ∷ u ∷ ws) a b)
 
--- a word taken off the end, and put back longer
+-- a word is popped off the list, and pushed back longer
 pub extended : (old left new : List (List ℕ)) (last : Option (List ℕ)) (w bytes : List ℕ) → old ≡ left ++ option_to_list last → last ≡ Some w → new ≡ left ++ ((w ++ bytes) ∷ [])
     → new ≡ onto_last old bytes
 extended old left new last w bytes was is now =
     now ∙ sym (onto_snoc left w bytes) ∙ ap (λ l. onto_last l bytes) (sym (was ∙ ap (λ (o : Option (List ℕ)). left ++ option_to_list o) is))
 
--- one more word after
-pub pushed_more : (goes_on : Bool) (words : List (List ℕ)) (word : List ℕ) (more last : List (List ℕ)) → pushed goes_on words word more ++ last ≡ pushed goes_on words word (more ++ last)
+-- one more word is appended
+pub pushed_more : (continues : Bool) (words : List (List ℕ)) (word : List ℕ) (more last : List (List ℕ)) → pushed continues words word more ++ last ≡ pushed continues words word (more ++ last)
 pushed_more true words word more last = append_assoc (onto_last words word) more last
 pushed_more false words word more last = append_assoc words (word ∷ more) last

@@ -1,4 +1,5 @@
--- What a loop over the items keeps: the words so far, with those that are spelled after them.
+-- The invariant of the loop over the items: the words so far, with those of the items that are
+-- left, are the words of all items.
 use Rattle.std.proofs.Common.{◌≡◌, ◌≢◌, ℕ, suc, ◌+◌, ◌==◌, ◌&&◌, Bool, true, false, List, [], ◌∷◌, ◌++◌, Result, Ok, Err, Option, Some, None, refl, sym, ap, ◌∙◌, arith, true≢false, cond, ◌<◌, ◌≤◌, length, map, drop, get_or, add-zero, zero-add, add-one, append-nil, append_assoc}
 use Rattle.std.proofs.lemmas.List.{drop_all}
 use Rattle.std.proofs.lemmas.Result.{IfOk-at_ok}
@@ -9,13 +10,13 @@ use Rattle.lexopt_spec.specs.UnreadLine.{dash, equals, is_plain}
 use Rattle.lexopt_line_spec.specs.Table.{short, long, Item, option, many, positional, Kind, flag, one, optional, several, kind, Table}
 use Rattle.lexopt_line_spec.specs.Spelling.{attached, joined}
 use Rattle.lexopt_line_spec.specs.Speller.{Reason, Place, open_line, in_cluster, after_values, after_positional, ended, Fault}
-use Rattle.lexopt_line_spec.specs.SpellerTables.{Form, in_word, attached_form, short_form, long_form, words_form, short_words_form, short_many_form, long_many_form, Added, is_named, short_added, long_placed, long_added, stands, positional_added, adds, separator_comes_too_early, separator_is_due, Rest, put_in_front, with_rest, with_rests, spelled_from, words_or_fault, spelled}
+use Rattle.lexopt_line_spec.specs.SpellerTables.{Form, in_word, attached_form, short_form, long_form, words_form, short_words_form, short_many_form, long_many_form, Added, is_named, short_added, long_placed, long_added, needs_no_separator, positional_added, adds, separator_comes_too_early, separator_is_due, Rest, put_in_front, with_rest, with_rests, spelled_from, words_or_fault, spelled}
 use Rattle.lexopt_line_spec.proofs.SpellerAnswers.{none_is}
 use Rattle.lexopt_spell.specs.Words.{onto_last, pushed}
 use Rattle.lexopt_spell.proofs.After.{from_on, from_on_is, at_item}
 use Rattle.lexopt_spell.proofs.LastWord.{onto_snoc, onto_nil, onto_twice}
 
--- ---- only a flag is followed by bytes that go on, and it has no words after its own
+-- ---- bytes that continue a word come only after a flag, which has no words after its own
 
 abbrev given : Form → Result Form Reason
 given f = Ok f
@@ -24,7 +25,7 @@ abbrev FormIsCalm : Form → Type 0
 FormIsCalm f = f.place ≡ in_cluster → f.words ≡ []
 
 abbrev IsCalm : Place → Added → Type 0
-IsCalm place a = (a.place ≡ in_cluster → a.words ≡ []) × (a.goes_on ≡ true → place ≡ in_cluster)
+IsCalm place a = (a.place ≡ in_cluster → a.words ≡ []) × (a.continues ≡ true → place ≡ in_cluster)
 
 off : {X : Type 0} → false ≡ true → X
 off is = absurd (true≢false (sym is))
@@ -141,19 +142,19 @@ adds_calm t short_equals joins due place (many (long name) values) a is =
     long_calm (is_utf8 name) (list_any (λ b. b == equals) name) place name (long_many_form (kind t (long name)) values) a
     (λ f found. long_many_calm (kind t (long name)) values f found) is
 adds_calm t short_equals joins due place (positional w) a is =
-    IfOk-at_ok (IsCalm place) is (positional_calm (stands (is_plain false w) due place) place w)
+    IfOk-at_ok (IsCalm place) is (positional_calm (needs_no_separator (is_plain false w) due place) place w)
 
--- ---- where no cluster is open, no bytes go on
+-- ---- without an open cluster, no bytes continue a word
 
-glued_first : (goes_on : Bool) (word : List ℕ) (words : List (List ℕ)) → (goes_on ≡ true → ⊥) → (put_in_front goes_on word words).first ≡ []
+glued_first : (continues : Bool) (word : List ℕ) (words : List (List ℕ)) → (continues ≡ true → ⊥) → (put_in_front continues word words).first ≡ []
 glued_first true word words alone = absurd (alone refl)
 glued_first false word words alone = refl
 
-with_first : (a : Added) (o : Result Rest Fault) (r : Rest) → (a.goes_on ≡ true → ⊥) → with_rest a o ≡ Ok r → r.first ≡ []
+with_first : (a : Added) (o : Result Rest Fault) (r : Rest) → (a.continues ≡ true → ⊥) → with_rest a o ≡ Ok r → r.first ≡ []
 with_first a (Err fault) r alone is = none_is _ r is
 with_first a (Ok q) r alone is =
-    let same : put_in_front a.goes_on (a.word ++ q.first) (a.words ++ q.words) ≡ r = cc in
-    ap (λ (x : Rest). x.first) (sym same) ∙ glued_first a.goes_on (a.word ++ q.first) (a.words ++ q.words) alone
+    let same : put_in_front a.continues (a.word ++ q.first) (a.words ++ q.words) ≡ r = cc in
+    ap (λ (x : Rest). x.first) (sym same) ∙ glued_first a.continues (a.word ++ q.first) (a.words ++ q.words) alone
 
 none_goes_on : (place : Place) (o : Result Added Reason) (rest : Place → Result Rest Fault) (r : Rest) → ((a : Added) → o ≡ Ok a → IsCalm place a) → place ≢ in_cluster
     → with_rests o rest ≡ Ok r → r.first ≡ []
@@ -169,7 +170,7 @@ rest_first t short_equals (item ∷ items) place r is other =
 
 -- ---- words so far
 
--- these words, with those that are spelled after them
+-- these words, with those spelled after them
 abbrev pub joined_on : Place → List (List ℕ) → Rest → List (List ℕ)
 joined_on in_cluster words r = onto_last words r.first ++ r.words
 joined_on open_line words r = words ++ r.words
@@ -177,7 +178,7 @@ joined_on after_values words r = words ++ r.words
 joined_on after_positional words r = words ++ r.words
 joined_on ended words r = words ++ r.words
 
--- these words spell i items and lead to this place, and this is spelled after them
+-- these words spell `i` items and lead to this place, and the result is spelled after them
 abbrev pub resumed : ℕ → Place → List (List ℕ) → Result Rest Fault → Result (List (List ℕ)) Fault
 resumed i place words (Err fault) = Err (record { index = i + fault.index; reason = fault.reason })
 resumed i place words (Ok r) = Ok (joined_on place words r)
@@ -194,7 +195,7 @@ not_positional is = cc
 not_ended : ended ≡ in_cluster → ⊥
 not_ended is = cc
 
--- a word that was begun, and what goes on after it
+-- a new word, and the bytes that continue it
 new_joined : (place : Place) (words : List (List ℕ)) (word : List ℕ) (more : List (List ℕ)) (r : Rest) → (place ≡ in_cluster → more ≡ []) → (place ≢ in_cluster → r.first ≡ [])
     → words ++ ((word ++ r.first) ∷ (more ++ r.words)) ≡ joined_on place (words ++ (word ∷ more)) r
 new_joined open_line words word more r calm none =
@@ -215,7 +216,7 @@ new_joined in_cluster words word more r calm none =
     ∙ ap (λ l. l ++ r.words) (sym (onto_snoc words word r.first))
     ∙ ap (λ l. onto_last (words ++ (word ∷ l)) r.first ++ r.words) (sym (calm refl))
 
--- and bytes that went on with a word
+-- bytes that continue a word, and more bytes that continue it
 last_joined : (place : Place) (words : List (List ℕ)) (word : List ℕ) (more : List (List ℕ)) (r : Rest) → (place ≡ in_cluster → more ≡ []) → (place ≢ in_cluster → r.first ≡ [])
     → onto_last words (word ++ r.first) ++ (more ++ r.words) ≡ joined_on place (onto_last words word ++ more) r
 last_joined open_line words word more r calm none =
@@ -236,13 +237,13 @@ last_joined in_cluster words word more r calm none =
     ∙ ap (λ l. onto_last l r.first ++ r.words) (sym (append-nil (onto_last words word)))
     ∙ ap (λ l. onto_last (onto_last words word ++ l) r.first ++ r.words) (sym (calm refl))
 
-pushed_joined : (goes_on : Bool) (place : Place) (words : List (List ℕ)) (word : List ℕ) (more : List (List ℕ)) (r : Rest) → (place ≡ in_cluster → more ≡ [])
-    → (place ≢ in_cluster → r.first ≡ []) → pushed goes_on words (word ++ r.first) (more ++ r.words) ≡ joined_on place (pushed goes_on words word more) r
+pushed_joined : (continues : Bool) (place : Place) (words : List (List ℕ)) (word : List ℕ) (more : List (List ℕ)) (r : Rest) → (place ≡ in_cluster → more ≡ [])
+    → (place ≢ in_cluster → r.first ≡ []) → pushed continues words (word ++ r.first) (more ++ r.words) ≡ joined_on place (pushed continues words word more) r
 pushed_joined true place words word more r calm none = last_joined place words word more r calm none
 pushed_joined false place words word more r calm none = new_joined place words word more r calm none
 
-glued_joined : (place : Place) (goes_on : Bool) (words : List (List ℕ)) (word : List ℕ) (more : List (List ℕ)) → (goes_on ≡ true → place ≡ in_cluster)
-    → joined_on place words (put_in_front goes_on word more) ≡ pushed goes_on words word more
+glued_joined : (place : Place) (continues : Bool) (words : List (List ℕ)) (word : List ℕ) (more : List (List ℕ)) → (continues ≡ true → place ≡ in_cluster)
+    → joined_on place words (put_in_front continues word more) ≡ pushed continues words word more
 glued_joined in_cluster true words word more at = refl
 glued_joined open_line true words word more at = absurd (not_open (at refl))
 glued_joined after_values true words word more at = absurd (not_values (at refl))
@@ -255,12 +256,12 @@ glued_joined after_positional false words word more at = refl
 glued_joined ended false words word more at = refl
 
 rest_joined : (t : Table) (short_equals : Bool) (i : ℕ) (place : Place) (words : List (List ℕ)) (a : Added) (items : List Item) (o : Result Rest Fault) → IsCalm place a
-    → spelled_from t short_equals items a.place ≡ o → resumed i place words (with_rest a o) ≡ resumed (suc i) a.place (pushed a.goes_on words a.word a.words) o
+    → spelled_from t short_equals items a.place ≡ o → resumed i place words (with_rest a o) ≡ resumed (suc i) a.place (pushed a.continues words a.word a.words) o
 rest_joined t short_equals i place words a items (Err fault) calm is =
     let same : i + suc fault.index ≡ suc i + fault.index = omega arith in ap (λ n. Err (record { index = n; reason = fault.reason })) same
 rest_joined t short_equals i place words a items (Ok r) calm is =
-    ap (λ l. Ok l) (glued_joined place a.goes_on words (a.word ++ r.first) (a.words ++ r.words) calm.1
-    ∙ pushed_joined a.goes_on a.place words a.word a.words r calm.0 (rest_first t short_equals items a.place r is))
+    ap (λ l. Ok l) (glued_joined place a.continues words (a.word ++ r.first) (a.words ++ r.words) calm.1
+    ∙ pushed_joined a.continues a.place words a.word a.words r calm.0 (rest_first t short_equals items a.place r is))
 
 -- ---- the steps of the loop
 
@@ -280,7 +281,7 @@ none_spelled t short_equals l = all_first (spelled_from t short_equals l open_li
 
 pub more_spelled : (t : Table) (short_equals : Bool) (i : ℕ) (place : Place) (words : List (List ℕ)) (item : Item) (items : List Item) (a : Added)
     → adds t short_equals (separator_comes_too_early items) (separator_is_due items) place item ≡ Ok a
-    → resumed i place words (spelled_from t short_equals (item ∷ items) place) ≡ resumed (suc i) a.place (pushed a.goes_on words a.word a.words) (spelled_from t short_equals items a.place)
+    → resumed i place words (spelled_from t short_equals (item ∷ items) place) ≡ resumed (suc i) a.place (pushed a.continues words a.word a.words) (spelled_from t short_equals items a.place)
 unfolding spelled_from
 more_spelled t short_equals i place words item items a is =
     ap (λ o. resumed i place words (with_rests o (spelled_from t short_equals items))) is
@@ -297,7 +298,7 @@ pub all_spelled : (t : Table) (short_equals : Bool) (i : ℕ) (place : Place) (w
 unfolding spelled_from
 all_spelled t short_equals i place words = ap (λ l. Ok l) (none_after place words)
 
--- ---- the same of items as the code has them
+-- ---- the same for items as the code has them
 
 pub item_at_fault : {X : Type 0} (f : X → Item) (t : Table) (short_equals : Bool) (xs : List X) (i : ℕ) (x : X) (place : Place) (words : List (List ℕ)) (reason : Reason)
     (answer : Result (List (List ℕ)) Fault) → i < length xs → x ≡ get_or xs i x → adds t short_equals (separator_comes_too_early (map f (from_on (i + 1) xs))) (separator_is_due (map f (from_on (i + 1) xs))) place (f x) ≡ Err reason
@@ -308,13 +309,13 @@ item_at_fault f t short_equals xs i x place words reason answer within is refuse
 
 pub item_spelled : {X : Type 0} (f : X → Item) (t : Table) (short_equals : Bool) (xs : List X) (i : ℕ) (x : X) (place : Place) (words new : List (List ℕ)) (a : Added)
     (answer : Result (List (List ℕ)) Fault) → i < length xs → x ≡ get_or xs i x → adds t short_equals (separator_comes_too_early (map f (from_on (i + 1) xs))) (separator_is_due (map f (from_on (i + 1) xs))) place (f x) ≡ Ok a
-    → new ≡ pushed a.goes_on words a.word a.words → answer ≡ resumed i place words (spelled_from t short_equals (map f (drop i xs)) place)
+    → new ≡ pushed a.continues words a.word a.words → answer ≡ resumed i place words (spelled_from t short_equals (map f (drop i xs)) place)
     → answer ≡ resumed (i + 1) a.place new (spelled_from t short_equals (map f (drop (i + 1) xs)) a.place)
 item_spelled f t short_equals xs i x place words new a answer within is added now so_far =
     so_far ∙ ap (λ l. resumed i place words (spelled_from t short_equals l place)) (at_item f xs i x within is)
     ∙ more_spelled t short_equals i place words (f x) (map f (from_on (i + 1) xs)) a added
-    ∙ ap (λ n. resumed n a.place (pushed a.goes_on words a.word a.words) (spelled_from t short_equals (map f (from_on (i + 1) xs)) a.place)) (sym (add-one i))
-    ∙ ap (λ l. resumed (i + 1) a.place (pushed a.goes_on words a.word a.words) (spelled_from t short_equals (map f l) a.place)) (from_on_is (i + 1) xs)
+    ∙ ap (λ n. resumed n a.place (pushed a.continues words a.word a.words) (spelled_from t short_equals (map f (from_on (i + 1) xs)) a.place)) (sym (add-one i))
+    ∙ ap (λ l. resumed (i + 1) a.place (pushed a.continues words a.word a.words) (spelled_from t short_equals (map f l) a.place)) (from_on_is (i + 1) xs)
     ∙ ap (λ ws. resumed (i + 1) a.place ws (spelled_from t short_equals (map f (drop (i + 1) xs)) a.place)) (sym now)
 
 pub items_spelled : {X : Type 0} (f : X → Item) (t : Table) (short_equals : Bool) (xs : List X) (i : ℕ) (place : Place) (words : List (List ℕ)) (answer : Result (List (List ℕ)) Fault)

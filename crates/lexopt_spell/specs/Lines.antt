@@ -1,5 +1,5 @@
--- What `spell` ensures for a whole line, over a table and items of Rust. `short_equals` is the
--- setting of the switch.
+-- The clauses of `spell` for a whole line, for a table and items of Rust. `short_equals` is the
+-- setting that the words are read by.
 use Rattle.std.specs.Prelude.{◌≡◌, ℕ, Bool, List, map}
 use Rattle.lexopt_spec.specs.Steps as steps
 use Rattle.lexopt_spec.specs.Steps.{Reply}
@@ -14,19 +14,19 @@ use Rattle.lexopt_items.specs.declared.items.Table.{Table}
 use Rattle.lexopt_spell.specs.Models as views
 use Rattle.lexopt_spell.specs.declared.spell.SpellError.{SpellError}
 
--- of the words that spell the items, the rules choose these
+-- the rules choose these words among those that spell the items
 abbrev pub HaveWords : Table → Bool → List Item → List (List ℕ) → Type 0
 HaveWords table short_equals items words =
     SpelledAs (table_view table) short_equals (map item_view items) words
 
--- by the rules the items have the fault that the error names. `OutOfMemory` says nothing of them
+-- by the rules the items have the fault that the error names; `OutOfMemory` names none
 abbrev pub HaveFault : Table → Bool → List Item → SpellError → Type 0
 HaveFault table short_equals items e =
     views.HasFault (table_view table) short_equals (map item_view items) e
 
--- every reading of the words comes to the end of the line, and gives these items
-abbrev pub LineSaysNothingElse : Table → Bool → List (List ℕ) → List Item → Type 0
-LineSaysNothingElse table short_equals words items = (final : Reply) (l : List table_spec.Item)
+-- every reading of the words reaches the end of the line, and gives these items
+abbrev pub LineMeansNothingElse : Table → Bool → List (List ℕ) → List Item → Type 0
+LineMeansNothingElse table short_equals words items = (final : Reply) (l : List table_spec.Item)
     → IsReading (table_view table) (start short_equals words) final l
     → (final ≡ steps.end) × (map item_view items ≡ l)
 

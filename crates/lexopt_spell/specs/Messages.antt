@@ -1,4 +1,4 @@
--- What the errors of `spell` print.
+-- The messages of the errors of `spell`.
 use Rattle.std.specs.Prelude.{ℕ, List, ◌++◌, codes}
 use Rattle.std.specs.Fmt.{decimal}
 use Rattle.lexopt_spec.specs.Text.{no_memory_message}
@@ -18,13 +18,13 @@ reason_message MissingValue = codes "by the table the option wants a value, and 
 reason_message WantsMany = codes "by the table the option has several values: give them as a list"
 reason_message NotMany = codes "by the table the option does not have several values"
 reason_message EmptyValue =
-    codes "an empty value cannot stand right after a character where `short_equals` is off"
+    codes "an empty value cannot come right after a character where `short_equals` is off"
 reason_message OptionAmongValues = codes "one of several values would be read as an option"
 reason_message EmptyName = codes "a long option with an empty name needs one value after `=`"
 reason_message PastSeparator =
-    codes "an option cannot stand after a positional that needs `--` before it"
+    codes "an option cannot come after a positional that needs `--` before it"
 reason_message DashWithoutFlag =
-    codes "the option `-` can only stand right after a flag of one character"
+    codes "the option `-` can only come right after a flag of one character"
 
 abbrev pub message : SpellError → List ℕ
 message (AtFault index reason) =

@@ -1,4 +1,4 @@
--- What the speller's functions return, as contracts see it.
+-- The results of the speller's functions, as contracts see them.
 use Rattle.std.specs.Prelude.{ℕ, Bool, true, false, List, ◌∷◌, [], ◌++◌, Result, Ok, Err}
 use Rattle.std.specs.Prelude.{encode_utf8, string_bytes}
 use Rattle.lexopt_spec.specs.UnreadLine.{dash}
@@ -26,7 +26,7 @@ use Rattle.lexopt_spell.specs.declared.spell.Reason.TheVariants.{DashWithoutFlag
 use Rattle.lexopt_spell.specs.declared.spell.SpellError.{SpellError}
 use Rattle.lexopt_spell.specs.declared.spell.SpellError.TheVariants.{AtFault, OutOfMemory}
 
--- `no_name` is no one's: a `char` is a character, and a `String` is a text
+-- no `Reason` corresponds to `no_name`: a `char` is a character, and a `String` is a text
 abbrev pub reason_view : Reason → spec.Reason
 reason_view EqualsInName = spec.equals_in_name
 reason_view UnexpectedValue = spec.unexpected_value
@@ -39,13 +39,13 @@ reason_view EmptyName = spec.empty_name
 reason_view PastSeparator = spec.past_separator
 reason_view DashWithoutFlag = spec.dash_without_flag
 
--- the items have the fault that the error names. `OutOfMemory` says nothing of them
+-- the items have the fault that the error names; `OutOfMemory` names none
 abbrev pub HasFault : Table → Bool → List Item → SpellError → Type 0
 HasFault t short_equals items (AtFault index reason) =
     spec.HasFault t short_equals items (record { index = index; reason = reason_view reason })
 HasFault t short_equals items OutOfMemory = Unit {0}
 
--- those before the item that the error names can be spelled, and with it they cannot
+-- the items before the one at fault can be spelled, and together with it they cannot
 abbrev pub NamesItemAtFault : Table → Bool → List Item → SpellError → Type 0
 NamesItemAtFault t short_equals items (AtFault index reason) =
     spec.IsAtFault t short_equals items index
@@ -70,7 +70,7 @@ abbrev pub form_answer : Result Form Reason → Result tables.Form spec.Reason
 form_answer (Ok f) = Ok (form_view f)
 form_answer (Err reason) = Err (reason_view reason)
 
--- the bytes of a word, or those that go on with the word before
+-- the bytes of a word, or the bytes that continue the word before
 abbrev pub word_bytes : Word → List ℕ
 word_bytes (Short c after) = dash ∷ encode_utf8 c ++ after_bytes (after_view after)
 word_bytes (Dash after) = dash ∷ [] ++ after_bytes (after_view after)
@@ -78,17 +78,17 @@ word_bytes (Long name after) = dash ∷ dash ∷ string_bytes name.now ++ after_
 word_bytes Separator = dash ∷ dash ∷ []
 word_bytes (Positional word) = word.now
 
--- these bytes go on with the word before
-abbrev pub goes_on : Word → Bool
-goes_on (Short c after) = false
-goes_on (Dash after) = true
-goes_on (Long name after) = false
-goes_on Separator = false
-goes_on (Positional word) = false
+-- these bytes continue the word before
+abbrev pub continues : Word → Bool
+continues (Short c after) = false
+continues (Dash after) = true
+continues (Long name after) = false
+continues Separator = false
+continues (Positional word) = false
 
 abbrev pub added_view : Added → tables.Added
 added_view a = record {
-  goes_on = goes_on a.word;
+  continues = continues a.word;
   word = word_bytes a.word;
   words = a.words.now;
   place = place_view a.place;

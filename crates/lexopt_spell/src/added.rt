@@ -1,4 +1,4 @@
-//! What one item adds to the words that spell those before it.
+//! The words that one item adds to those of the items before it.
 ghost use Rattle.std.specs.Prelude.{◌≡◌, ◌==◌, false, true, Ok, map, string_bytes};
 ghost use Rattle.std.specs.List.{list_all, list_any};
 ghost use Rattle.lexopt_spec.specs.UnreadLine as line;
@@ -18,7 +18,7 @@ use lexopt_items::kinds::{kind_of_long, kind_of_short};
 use lexopt_words::os_string::OsString;
 use std::slice;
 
-/// What an item adds: a word, and more words; and what the next item follows then.
+/// The words that an item adds: one word, and more words after it; and the place of the next item.
 #[derive(Clone, Copy)]
 pub struct Added<'a> {
     pub word: Word<'a>,
@@ -26,7 +26,7 @@ pub struct Added<'a> {
     pub place: Place,
 }
 
-// An option of one character, with this after its name.
+// Returns the words of a short option whose values have this form.
 fn short_added(place: Place, option: char, form: Form<'_>) -> Result<Added<'_>, Reason>
     ensures { added_answer result
         ≡ tables.short_added true (option == line.dash) (place_view place) option
@@ -47,7 +47,7 @@ fn short_added(place: Place, option: char, form: Form<'_>) -> Result<Added<'_>, 
     })
 }
 
-// An option whose name has no `=`, with this after it.
+// Returns the words of a long option whose values have this form. Its name has no `=`.
 fn long_placed<'a>(place: Place, name: &'a String, form: Form<'a>) -> Result<Added<'a>, Reason>
     ensures { added_answer result
         ≡ tables.long_placed (tables.is_named (string_bytes name.now) (after_view form.entry.after))
@@ -66,7 +66,7 @@ fn long_placed<'a>(place: Place, name: &'a String, form: Form<'a>) -> Result<Add
     })
 }
 
-// An option with a name, if its values have a form.
+// Returns the words of a long option, if its values have a form.
 fn long_added<'a>(
     place: Place,
     name: &'a String,
@@ -82,24 +82,24 @@ fn long_added<'a>(
     long_placed(place, name, form?)
 }
 
-// Whether an item is not an option.
+// Returns whether an item is not an option.
 fn is_no_option(item: &Item) -> bool
     ensures { result ≡ spec.is_positional (item_view item.now) }
 {
     matches!(item, Item::Positional(_))
 }
 
-// Whether no item is an option.
+// Returns whether no item is an option.
 fn are_no_options(items: &[Item]) -> bool
     ensures { result ≡ list_all (λ item. spec.is_positional (item_view item)) items.now }
 {
     items.iter().all(|item| is_no_option(item))
 }
 
-// Whether the separator would come before an option, if it came before the first of these items.
+// Returns whether a separator before the first of these items would come before an option too.
 //
-// It reads on to the first option, and is asked after options alone: it reads each item of a line
-// once at most.
+// It reads up to the first option, and is called only right after an option, so in all it reads
+// each item of a line at most once.
 fn separator_comes_too_early(items: &[Item]) -> bool
     ensures { result ≡ tables.separator_comes_too_early (map item_view items.now) }
 {
@@ -109,7 +109,7 @@ fn separator_comes_too_early(items: &[Item]) -> bool
     }
 }
 
-// Whether an item is not a positional that would be an option.
+// Returns whether an item is an option or a plain positional.
 fn is_plain_item(item: &Item) -> bool
     ensures { result ≡ tables.is_plain_item (item_view item.now) }
 {
@@ -119,38 +119,38 @@ fn is_plain_item(item: &Item) -> bool
     }
 }
 
-// Whether no item is a positional that would be an option.
+// Returns whether each item is an option or a plain positional.
 fn are_plain(items: &[Item]) -> bool
     ensures { result ≡ list_all (λ item. tables.is_plain_item (item_view item)) items.now }
 {
     items.iter().all(|item| is_plain_item(item))
 }
 
-// Whether these items are positionals, and one of them would be an option.
+// Returns whether all these items are positionals, and one of them is not plain.
 //
-// It reads on to the first option, and is asked at the first positional of a row alone: it reads
-// each item of a line twice at most.
+// It reads up to the first option, and is called only at the first of successive positionals, so in
+// all it reads each item of a line at most twice.
 fn separator_is_due(items: &[Item]) -> bool
     ensures { result ≡ tables.separator_is_due (map item_view items.now) }
 {
     are_no_options(items) && !are_plain(items)
 }
 
-// A positional, with these items after it. After values the separator keeps it from being one more
-// of them.
+// Returns the words of a positional that comes before these items. After several values a separator
+// keeps it from being one more value.
 fn positional_added<'a>(place: Place, word: &'a OsString, after: &[Item]) -> Added<'a>
     ensures { added_view result
-        ≡ tables.positional_added (tables.stands (line.is_plain false word.now)
+        ≡ tables.positional_added (tables.needs_no_separator (line.is_plain false word.now)
         (tables.separator_is_due (map item_view after.now)) (place_view place)) (place_view place)
         word.now }
 {
-    let stands = match place {
+    let needs_no_separator = match place {
         Place::Ended => true,
         Place::AfterValues => false,
         Place::AfterPositional => is_plain(word),
         Place::Open | Place::InCluster => is_plain(word) && !separator_is_due(after),
     };
-    if !stands {
+    if !needs_no_separator {
         return Added {
             word: Word::Separator,
             words: slice::from_ref(word),
@@ -167,7 +167,11 @@ fn positional_added<'a>(place: Place, word: &'a OsString, after: &[Item]) -> Add
     }
 }
 
-/// What an item adds at this place, where these items come after it.
+/// Returns the words that an item adds at this place, before the items `after`.
+///
+/// # Errors
+///
+/// The reason, if the item cannot be spelled there.
 pub fn adds<'a>(
     place: Place,
     item: &'a Item,

@@ -1,4 +1,5 @@
-//! Where the values of an option are: after its name in its word, or in words of their own.
+//! The form of an option: whether its values come after its name in its word, or in words of their
+//! own.
 ghost use Rattle.std.specs.Prelude.{◌≡◌, false};
 ghost use Rattle.std.specs.List.{list_all};
 ghost use Rattle.lexopt_line_spec.specs.SpellerTables as tables;
@@ -12,33 +13,33 @@ use lexopt_words::os_string::OsString;
 use lexopt_words::word::is_positional;
 use std::slice;
 
-/// What the next item follows.
+/// The place of the next item: what comes right before it.
 #[derive(Clone, Copy)]
 pub enum Place {
-    /// Nothing that it has to do with.
+    /// Nothing that matters for its words.
     Open,
-    /// A flag, which is the last of its cluster.
+    /// A short flag, the last option of its cluster.
     InCluster,
-    /// Values of an option that has several, which go on in words.
+    /// Values of an option of several that are not joined: a plain word would be one more value.
     AfterValues,
-    /// A positional that needs no separator.
+    /// A positional without a separator before it.
     AfterPositional,
-    /// The separator, and perhaps positionals.
+    /// The separator, perhaps with positionals after it.
     Ended,
 }
 
-/// What comes after an option's name in its word.
+/// The text after an option's name in its word.
 #[derive(Clone, Copy)]
 pub enum After<'a> {
     Nothing,
-    /// A value, right after a character.
+    /// A value right after the character: `-i.bak`.
     Attached(&'a OsString),
-    /// A value, after `=`.
+    /// A value after `=`: `--out=x`.
     Joined(&'a OsString),
 }
 
-/// What comes after an option's name in its word, the words after that word, and what the next
-/// item follows then.
+/// The form of an option: the text after its name in its word, the words after that word, and the
+/// place of the next item.
 #[derive(Clone, Copy)]
 pub struct Form<'a> {
     pub after: After<'a>,
@@ -46,7 +47,7 @@ pub struct Form<'a> {
     pub place: Place,
 }
 
-// Nothing but the name.
+// Returns the form of an option that is only its name.
 fn name_only<'a>(place: Place) -> Form<'a>
     ensures { form_view result ≡ tables.name_only (place_view place) }
 {
@@ -57,7 +58,7 @@ fn name_only<'a>(place: Place) -> Form<'a>
     }
 }
 
-// All in one word.
+// Returns the form of an option with all its values in its word.
 fn in_word(after: After<'_>) -> Form<'_>
     ensures { form_view result ≡ tables.in_word (after_view after.entry) }
 {
@@ -68,8 +69,9 @@ fn in_word(after: After<'_>) -> Form<'_>
     }
 }
 
-// A value right after a character. It comes after `=` where it would be lost, or begins with `=`,
-// if `short_equals` is on.
+// Returns the form of a value right after a character. If the value is empty or begins with `=`,
+// and `short_equals` is on, the value comes after `=` instead. With `short_equals` off an empty
+// value has no form.
 fn attached_form(short_equals: bool, value: &OsString) -> Result<Form<'_>, Reason>
     ensures { form_answer result ≡ tables.attached_form short_equals value.now }
 {
@@ -91,7 +93,7 @@ fn attached_form(short_equals: bool, value: &OsString) -> Result<Form<'_>, Reaso
     }
 }
 
-/// The form of a short option with one value or none.
+/// Returns the form of a short option with one value or none.
 pub fn short_form(
     short_equals: bool,
     kind: Kind,
@@ -114,7 +116,7 @@ pub fn short_form(
     }
 }
 
-/// The form of a long option with one value or none.
+/// Returns the form of a long option with one value or none.
 pub fn long_form(kind: Kind, value: &Option<OsString>) -> Result<Form<'_>, Reason>
     ensures { form_answer result ≡ tables.long_form (kind_view kind) value.now }
 {
@@ -129,21 +131,22 @@ pub fn long_form(kind: Kind, value: &Option<OsString>) -> Result<Form<'_>, Reaso
     }
 }
 
-/// Whether a word is not an option, as one of several values is to be.
+/// Returns whether a word is plain before the separator. One of several values in a word of its own
+/// has to be.
 pub fn is_plain(word: &OsString) -> bool
     ensures { result ≡ line.is_plain false word.now }
 {
     is_positional(word.as_bytes())
 }
 
-// Whether no word is an option.
+// Returns whether all words are plain before the separator.
 fn all_plain(words: &[OsString]) -> bool
     ensures { result ≡ list_all (line.is_plain false) words.now }
 {
     words.iter().all(|word| is_plain(word))
 }
 
-// Values in words of their own.
+// Returns the form of several values in words of their own.
 fn words_form(values: &[OsString]) -> Result<Form<'_>, Reason>
     ensures { form_answer result
         ≡ tables.words_form (list_all (line.is_plain false) values.now) values.now }
@@ -158,8 +161,8 @@ fn words_form(values: &[OsString]) -> Result<Form<'_>, Reason>
     })
 }
 
-// A first value that would be an option, right after a character, and the others in words of their
-// own.
+// Returns the form of several values of a short option of which the first is not plain: it comes
+// right after the character, and the others in words of their own.
 fn attached_words_form<'a>(first: &'a OsString, others: &'a [OsString]) -> Result<Form<'a>, Reason>
     ensures { form_answer result
         ≡ tables.short_words_form false (list_all (line.is_plain false) others.now) first.now
@@ -175,7 +178,8 @@ fn attached_words_form<'a>(first: &'a OsString, others: &'a [OsString]) -> Resul
     })
 }
 
-/// The form of a short option with several values. A lone one may have to be joined.
+/// Returns the form of a short option with several values. `joins` is whether an only value is
+/// joined by `=`.
 pub fn short_many_form(joins: bool, kind: Kind, values: &[OsString]) -> Result<Form<'_>, Reason>
     ensures { form_answer result ≡ tables.short_many_form joins (kind_view kind) values.now }
 {
@@ -190,7 +194,7 @@ pub fn short_many_form(joins: bool, kind: Kind, values: &[OsString]) -> Result<F
     }
 }
 
-/// The form of a long option with several values.
+/// Returns the form of a long option with several values. An only value is joined by `=`.
 pub fn long_many_form(kind: Kind, values: &[OsString]) -> Result<Form<'_>, Reason>
     ensures { form_answer result ≡ tables.long_many_form (kind_view kind) values.now }
 {

@@ -1,4 +1,7 @@
-//! Words that spell what a line is to mean. The crate `lexopt` re-exports its public items.
+//! Turns items back into words, for the command line of another program. The crate `lexopt`
+//! re-exports the module `spell`.
+//!
+//! In the examples `alloc` is `rt.alloc()`, where `rt` is the runtime that `main` gets.
 #![tactic(auto)]
 
 mod added;

@@ -1,7 +1,7 @@
-//! Words that spell what a line is to mean: from items to words, for another program.
+//! `spell`: turns items back into words, for the command line of another program.
 ghost use Rattle.std.specs.Prelude.{◌≡◌, ◌⊎◌, ℕ, List, IfErr, IfOk};
 ghost use Rattle.lexopt_items.specs.Lines.{LineReads, LineShows, LineSpells};
-ghost use Rattle.lexopt_spell.specs.Lines.{HaveFault, HaveWords, LineSaysNothingElse};
+ghost use Rattle.lexopt_spell.specs.Lines.{HaveFault, HaveWords, LineMeansNothingElse};
 ghost use Rattle.lexopt_spell.specs.Lines.{NamesItemAtFault, NoWordsShow};
 
 use crate::added::adds;
@@ -13,37 +13,38 @@ use lexopt_words::os_string::OsString;
 use std::alloc::{AllocError, Global};
 use std::fmt;
 
-/// Why an item cannot be spelled after those before it.
+/// The reason why an item cannot be spelled after those before it. It prints as a message.
+///
+/// The types `Reason` of `lexopt_declaration` and `lexopt_commands` are about options and commands
+/// that cannot be declared.
 #[derive(Debug, Clone, Copy, PartialEq, Eq)]
 pub enum Reason {
-    /// A long option has `=` in its name: `--a=b` would be `a` with a value.
+    /// A long option has `=` in its name: `--a=b` is the option `a` with the value `b`.
     EqualsInName,
-    /// An option that the table does not have is given a value.
+    /// A flag is given a value.
     UnexpectedValue,
-    /// An option of one value is given none, or one of several an empty list.
+    /// An option of one value is given none, or an option of several is given an empty list.
     MissingValue,
-    /// An option that has several values by the table is not given them as `ShortMany` or
+    /// By the table the option has several values, and it is not given as `ShortMany` or
     /// `LongMany`.
     WantsMany,
-    /// An option that does not have several values by the table is given as `ShortMany` or
+    /// By the table the option does not have several values, and it is given as `ShortMany` or
     /// `LongMany`.
     NotMany,
-    /// A short option whose value may be left out is given an empty one, and `short_equals` is off:
-    /// with it on, `-c=` has one.
+    /// A short option of one value or none is given an empty value, and `short_equals` is off. If
+    /// it is on, `-c=` has the empty value.
     EmptyValue,
-    /// One of several values would be an option: `-x` after `1` in `--dim 1 -x`. A first one may
-    /// come right after a character, as in `-d-x 1`, and a lone one after the `=` of a long
-    /// option.
+    /// One of several values would be read as an option or as the separator: `-x` after `1` in
+    /// `--dim 1 -x`. Such a value can be spelled if it is the first one of a short option, as in
+    /// `-d-x 1`, or the only one of a long option, as in `--dim=-x`.
     OptionAmongValues,
-    /// A long option has an empty name, and not one value, which comes after `=`: `--` alone is
-    /// the separator.
+    /// A long option has an empty name, and no value after `=`: `--` alone is the separator.
     EmptyName,
-    /// An option comes after a positional that needs `--` before it, so that the option would be a
-    /// positional too.
+    /// An option comes after a positional that needs `--` before it, so the option would be read as
+    /// a positional.
     PastSeparator,
-    /// `-` as an option of one character, with no flag of one character right before it. No word
-    /// begins with it, since `--` is the separator and `--name` a long option, but in `-v-` it
-    /// comes after `v`.
+    /// The short option `-` has no short flag right before it. It cannot begin a cluster, since
+    /// `--` is the separator and `--name` a long option, but it can follow a flag, as in `-v-`.
     DashWithoutFlag,
 }
 
@@ -61,30 +62,30 @@ impl fmt::Display for Reason {
             Reason::WantsMany => "by the table the option has several values: give them as a list",
             Reason::NotMany => "by the table the option does not have several values",
             Reason::EmptyValue => {
-                "an empty value cannot stand right after a character where `short_equals` is off"
+                "an empty value cannot come right after a character where `short_equals` is off"
             }
             Reason::OptionAmongValues => "one of several values would be read as an option",
             Reason::EmptyName => "a long option with an empty name needs one value after `=`",
             Reason::PastSeparator => {
-                "an option cannot stand after a positional that needs `--` before it"
+                "an option cannot come after a positional that needs `--` before it"
             }
             Reason::DashWithoutFlag =>
-                "the option `-` can only stand right after a flag of one character",
+                "the option `-` can only come right after a flag of one character",
         })
     }
 }
 
-/// Why no words are returned.
+/// The error of [`spell`]. It prints as a message.
 #[derive(Debug, Clone, Copy, PartialEq, Eq)]
 pub enum SpellError {
-    /// An item cannot be spelled after those before it, and those before it can.
+    /// This item cannot be spelled after those before it, which can be spelled.
     AtFault {
-        /// Which item it is, counted from 0.
+        /// The index of the item, counted from 0.
         index: usize,
-        /// Why it cannot be spelled.
+        /// The reason why it cannot be spelled.
         reason: Reason,
     },
-    /// Memory ran out. It says nothing about the items.
+    /// An allocation failed. The items may or may not be such that words spell them.
     OutOfMemory,
 }
 
@@ -115,46 +116,66 @@ impl From<AllocError> for SpellError {
     }
 }
 
-/// Words that spell these items under this table, in the form of the POSIX utility conventions and
-/// of GNU.
+/// Returns words that spell these items under a table, in order.
 ///
-/// Under a table with `o` and `out` of one value, `color` of a value that may be left out, and `d`
-/// of several, the items `Short('v', None)`, `Short('o', Some(x))`, `Long("out", Some(y))`,
+/// They are words for another program's command line, without its name. `read_items` with the same
+/// table and `short_equals` reads them back as the same items, unless memory runs out.
+/// `short_equals` must be the setting that the other program reads by: whether `=` separates a
+/// short option from its value.
+///
+/// The forms are those of the POSIX Utility Syntax Guidelines and of GNU, which have no options of
+/// several values. `docs/behaviour.md` lists them all; these are the main rules:
+///
+/// - Each option has a word of its own, except that the short option `-` continues the word of the
+///   flag before it: `-v-`.
+/// - The separator comes only if a positional needs it, because it would otherwise be read as an
+///   option or as one more of several values. It then comes before the first of the positionals
+///   that end the line.
+/// - If the separator would come before an option too, the only value of a short option of several
+///   is joined to it, as in `-d=1`, if `short_equals` is on.
+///
+/// This allocates the list and each word.
+///
+/// # Errors
+///
+/// - `AtFault` if no words spell the items, such as an option after a positional `-f`. It names the
+///   first item that cannot be spelled after those before it, and the reason.
+/// - `OutOfMemory` if an allocation fails.
+///
+/// # Examples
+///
+/// ```rust
+/// // In the table `o` and `out` have one value, `color` has one or none, and `d` has several.
+/// let words = spell(alloc, &items, true, &table)?;
+/// ```
+///
+/// The items `Short('v', None)`, `Short('o', Some(x))`, `Long("out", Some(y))`,
 /// `Long("color", Some(z))`, `ShortMany('d', [1, 2])` and `Positional(-f)` give the words `-v`,
-/// `-o`, `x`, `--out=y`, `--color=z`, `-d`, `1`, `2`, `--` and `-f`. Each option has a word of its
-/// own, except for `-` as an option of one character, which goes on with the flag before it: `-v-`.
-/// The separator comes only where a positional needs it, which would be an option, or one more of
-/// several values; and then before the first of the positionals that end the line. Where it would
-/// come before an option too, a lone value of a short option of several is joined to it, as
-/// `-d=1`, if `short_equals` is on.
-///
-/// `short_equals` tells whether `=` in a cluster separates an option from its value. It is to be
-/// the setting that the words are read under. Items that no words spell, such as an option
-/// after a positional `-f`, are refused.
+/// `-o`, `x`, `--out=y`, `--color=z`, `-d`, `1`, `2`, `--` and `-f`.
 pub fn spell(
     alloc: Global,
     items: &[Item],
     short_equals: bool,
     table: &Table,
 ) -> Result<Vec<OsString>, SpellError>
-    // Which words are returned, and which item is named, and why. Nothing is said about
-    // `OutOfMemory`.
+    // The words are those that the rules choose, and the error names the item at fault and the
+    // reason. These clauses state nothing about `OutOfMemory`.
     ensures form { IfOk result (λ words. HaveWords table.now short_equals items.now words.items) }
     ensures fault { IfErr result (λ e. HaveFault table.now short_equals items.now e) }
 
-    // What is returned legally spells the items. A reading of it comes to the end and gives them,
-    // as every reading does.
+    // The words legally spell the items. A reading of the words reaches the end and gives the
+    // items, and so does every reading.
     ensures spelled { IfOk result (λ words.
         LineSpells table.now short_equals words.items items.now) }
     ensures read { IfOk result (λ words. LineReads table.now short_equals words.items items.now) }
-    ensures said { IfOk result (λ words.
-        LineSaysNothingElse table.now short_equals words.items items.now) }
+    ensures parsed { IfOk result (λ words.
+        LineMeansNothingElse table.now short_equals words.items items.now) }
 
-    // The items before the one that is named can be spelled, and with it they cannot.
+    // The items before the one at fault can be spelled, and together with it they cannot.
     ensures at_fault { IfErr result (λ e. NamesItemAtFault table.now short_equals items.now e) }
 
-    // Items that some words show, and so those that some words spell, are spelled, or memory runs
-    // out.
+    // Items that some words show are spelled, unless memory runs out. So are those that some words
+    // spell.
     ensures answered { (words : List (List ℕ)) → LineShows table.now short_equals words items.now
         → IfErr result (λ e. e ≡ SpellError.OutOfMemory) }
     ensures none { IfErr result (λ e. (e ≡ SpellError.OutOfMemory)

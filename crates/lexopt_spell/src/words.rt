@@ -1,29 +1,30 @@
-//! Words, as the items that they spell lend them, and the list that they are added to.
+//! Words that borrow from the items that they spell, and calls that append them to a list of words.
+//! `words.rt` of `lexopt_words` copies lists of words.
 ghost use Rattle.std.specs.Prelude.{◌≡◌, ◌++◌, [], IfOk, OnOk, string_bytes};
 ghost use Rattle.lexopt_line_spec.specs.Speller.{after_bytes};
-ghost use Rattle.lexopt_spell.specs.Models.{after_view, goes_on, word_bytes};
+ghost use Rattle.lexopt_spell.specs.Models.{after_view, continues, word_bytes};
 ghost use Rattle.lexopt_spell.specs.Words.{onto_last, pushed};
 
 use crate::forms::After;
 use lexopt_words::os_string::OsString;
 use std::alloc::{AllocError, Global};
 
-/// A word, or bytes that go on with the word before.
+/// A word to append, or text that continues the last word of the list.
 #[derive(Clone, Copy)]
 pub enum Word<'a> {
-    /// An option of one character.
+    /// A short option.
     Short(char, After<'a>),
-    /// The option `-`, which goes on with the cluster of the flag before it.
+    /// The short option `-`, which continues the cluster of the flag before it.
     Dash(After<'a>),
-    /// An option with a name.
+    /// A long option.
     Long(&'a String, After<'a>),
-    /// `--`
+    /// The separator, `--`.
     Separator,
-    /// A positional argument.
+    /// A positional.
     Positional(&'a OsString),
 }
 
-// Adds to the bytes of a name what comes after it.
+// Appends the text after a name to the name.
 fn with_after(name: String, after: After<'_>) -> Result<OsString, AllocError>
     ensures { IfOk result (λ word.
         word ≡ string_bytes name ++ after_bytes (after_view after.entry)) }
@@ -40,7 +41,7 @@ fn with_after(name: String, after: After<'_>) -> Result<OsString, AllocError>
     Ok(OsString::from_vec(bytes))
 }
 
-// A word, copied.
+// Copies a word.
 fn to_os_string(alloc: Global, word: Word<'_>) -> Result<OsString, AllocError>
     ensures { IfOk result (λ bytes. bytes ≡ word_bytes word.entry) }
 {
@@ -53,7 +54,7 @@ fn to_os_string(alloc: Global, word: Word<'_>) -> Result<OsString, AllocError>
     }
 }
 
-// The last word goes on with these bytes.
+// Appends bytes to the last word of the list.
 fn extend_last(words: &mut Vec<OsString>, bytes: &OsString) -> Result<(), AllocError>
     ensures { OnOk result (words.new.items ≡ onto_last words.old.items bytes.now) }
 {
@@ -65,10 +66,10 @@ fn extend_last(words: &mut Vec<OsString>, bytes: &OsString) -> Result<(), AllocE
     Ok(())
 }
 
-// Adds a word, or bytes to the last word.
+// Appends a word to the list, or bytes to its last word.
 fn push_word(alloc: Global, words: &mut Vec<OsString>, word: Word<'_>) -> Result<(), AllocError>
     ensures { OnOk result (words.new.items
-        ≡ pushed (goes_on word.entry) words.old.items (word_bytes word.entry) []) }
+        ≡ pushed (continues word.entry) words.old.items (word_bytes word.entry) []) }
 {
     let bytes = to_os_string(alloc, word)?;
     match word {
@@ -77,7 +78,12 @@ fn push_word(alloc: Global, words: &mut Vec<OsString>, word: Word<'_>) -> Result
     }
 }
 
-/// Adds a word, or bytes to the last word, and then more words.
+/// Appends a word to the list, or bytes to its last word, and then more words.
+///
+/// # Errors
+///
+/// `AllocError` if an allocation fails. The list may then have lost its last word, or have only
+/// some of the new ones.
 pub fn push(
     alloc: Global,
     words: &mut Vec<OsString>,
@@ -85,7 +91,7 @@ pub fn push(
     more: &[OsString],
 ) -> Result<(), AllocError>
     ensures { OnOk result (words.new.items
-        ≡ pushed (goes_on word.entry) words.old.items (word_bytes word.entry) more.now) }
+        ≡ pushed (continues word.entry) words.old.items (word_bytes word.entry) more.now) }
 {
     push_word(alloc, words, word)?;
     for other in more {

@@ -1,9 +1,9 @@
--- Words that are returned one after another, when one more has come and when none is to come.
+-- Lists of words that a source has: when one more word is read, and when no word is left.
 use Rattle.std.proofs.Common.{◌+◌, ◌∷◌, [], ◌++◌, ℕ, List, Option, Some, None, sym, subst, append-nil}
 use Rattle.std.proofs.lemmas.List.{append_assoc}
 use Rattle.lexopt_words.specs.Answered.{AreAnswered}
 
--- the words from this place on are those after the words that have come
+-- the words from this place on come after the words that have been read
 abbrev pub AreAfter : (ℕ → Option (List ℕ) → Type 0) → ℕ → List (List ℕ) → Type 0
 AreAfter answers place came = (rest : List (List ℕ)) → AreAnswered answers place rest → AreAnswered answers 0 (came ++ rest)
 

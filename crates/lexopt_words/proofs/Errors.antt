@@ -1,4 +1,4 @@
--- An error that `?` made.
+-- An error that `?` converts.
 use Rattle.std.proofs.Common.{Result, Ok, Err, MatchResult}
 use Rattle.std.specs.Prelude.{IsErrAnd}
 

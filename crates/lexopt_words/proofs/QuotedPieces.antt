@@ -1,4 +1,4 @@
--- The quoted form, a piece at a time.
+-- The quoted form, written one piece at a time.
 use Rattle.std.proofs.Common.{◌≡◌, ℕ, ◌<◌, List, ◌++◌, length, take, drop, flat_map, Option, sym, ap, ◌∙◌, append_assoc}
 use Rattle.bstr.specs.Utf8.{decoded}
 use Rattle.lexopt_spec.specs.Pieces.{pieces}

@@ -1,4 +1,4 @@
--- What `next` reads: options, and what a program returns where it does not know one.
+-- Which arguments are options, and the error for an argument that a program does not know.
 use Rattle.std.specs.Prelude.{◌≡◌, Some, string_bytes}
 use Rattle.lexopt_spec.specs.UnreadLine.{LastOption, short_option, long_option, spelling}
 use Rattle.lexopt_words.specs.declared.error.Arg.{Arg}
@@ -15,7 +15,7 @@ IsOption (Short c) = Unit {0}
 IsOption (Long name) = Unit {0}
 IsOption (Value value) = ⊥
 
--- the error says that this option was not expected, or that there was no memory to spell it
+-- the error is `UnexpectedOption` with the spelling of this option, or `OutOfMemory`
 abbrev pub RefusesOption : LastOption → Error → Type 0
 RefusesOption last (MissingValue spelled) = ⊥
 RefusesOption last (UnexpectedOption spelled) = spelling last ≡ Some (string_bytes spelled)
@@ -26,7 +26,7 @@ RefusesOption last (NonUnicodeValue value) = ⊥
 RefusesOption last (Custom error) = ⊥
 RefusesOption last OutOfMemory = Unit {0}
 
--- the error says that this argument was not expected
+-- `unexpected` may return this error for the argument
 abbrev pub Refuses : Arg → Error → Type 0
 Refuses (Short c) e = RefusesOption (short_option c) e
 Refuses (Long name) e = RefusesOption (long_option name.now) e

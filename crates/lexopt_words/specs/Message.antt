@@ -1,4 +1,4 @@
--- What errors print, and what they hold.
+-- The messages and causes of errors.
 use Rattle.std.specs.Prelude.{ℕ, List, Option, Some, None, string_bytes}
 use Rattle.anyhow.specs.declared.error.Error.{Error as Cause}
 use Rattle.anyhow.specs.Error.{IsMadeOf, error_message}
@@ -11,7 +11,7 @@ use Rattle.lexopt_words.specs.declared.error.Error.TheVariants.{UnexpectedArgume
 use Rattle.lexopt_words.specs.declared.error.Error.TheVariants.{ParsingFailed, NonUnicodeValue}
 use Rattle.lexopt_words.specs.declared.error.Error.TheVariants.{Custom, OutOfMemory}
 
--- what `{}` and `{:?}` write
+-- the message that `{}` and `{:?}` print
 abbrev pub message : Error → List ℕ
 message (MissingValue None) = missing_message None
 message (MissingValue (Some option)) = missing_message (Some (string_bytes option))
@@ -24,7 +24,7 @@ message (NonUnicodeValue value) = non_unicode_message value
 message (Custom error) = error_message error
 message OutOfMemory = no_memory_message
 
--- the cause, where there is one
+-- the cause of an error, if it has one
 abbrev pub cause_of : Error → Option Cause
 cause_of (MissingValue option) = None
 cause_of (UnexpectedOption option) = None
@@ -35,7 +35,7 @@ cause_of (NonUnicodeValue value) = None
 cause_of (Custom error) = Some error
 cause_of OutOfMemory = None
 
--- the error is a custom one, whose cause `anyhow` made of this text alone
+-- the error is `Custom`, and `anyhow` made its cause from this text alone
 abbrev pub IsCustom : List ℕ → Error → Type 0
 IsCustom text (MissingValue option) = ⊥
 IsCustom text (UnexpectedOption option) = ⊥

@@ -1,7 +1,7 @@
-//! The words that a program was called with.
+//! Reads the words that the program was called with.
 //!
-//! They are asked for one after another, and the room for a word grows until the word fits, so
-//! there is no limit on its length.
+//! Each word is read into a buffer that grows until the word fits, so there is no limit on the
+//! length of a word.
 ghost use Rattle.std.specs.Prelude.{◌≡◌, ℕ, List, None, Option, Some, Err, IfOk, take};
 ghost use Rattle.std.specs.Io.{WritesAtMost};
 ghost use Rattle.lexopt_words.specs.Answered.{AreAnswered};
@@ -10,24 +10,26 @@ use crate::os_string::OsString;
 use std::alloc::{AllocError, Global};
 use std::env::{Env, FillError};
 
-// How many bytes there is room for at first.
+// The size of the buffer at first, in bytes.
 const FIRST_ROOM: usize = 256;
 
-// What words are asked of.
+// A source of words: one word for each place, counted from 0. It is a trait for the prover's sake,
+// so that the clause of `ask_for_words` can name the words of a source; `Env` does not state its
+// words.
 trait WordSource {
     ghost use Rattle.std.specs.declared.env.FillError.TheVariants.{NotPresent};
 
-    // What may be returned at a place: the word there, or none after the last.
+    // What a place may have: a word, or `None` after the last word.
     ghost answers: { Self → ℕ → Option (List ℕ) → Type 0 };
 
-    // Copies the word at a place to the front of the room.
+    // Copies the word at a place to the front of the buffer, and returns its length in bytes.
     fn copy_word(&self, place: usize, room: &mut [u8]) -> Result<usize, FillError>
         ensures within { WritesAtMost result room.new }
         ensures word { IfOk result (λ count. answers self.now place (Some (take count room.new))) }
         ensures end { result ≡ Err NotPresent → answers self.now place None };
 }
 
-// What `Env` promises is that a result fits into the room, and nothing about its bytes.
+// The contract of `Env::arg` states that a word fits into the buffer, and nothing about its bytes.
 impl<R: Env> WordSource for R {
     ghost answers = { λ _ _ _. Unit {0} };
 
@@ -36,16 +38,27 @@ impl<R: Env> WordSource for R {
     }
 }
 
-/// The words that the program was called with, of any bytes and any length. The first is the name
-/// that it was called by; there may be no word at all.
+/// Returns the words that the program was called with, of any bytes and any length.
 ///
-/// They are what `Env::arg` gives. Its contract says nothing about their bytes, so only tests show
-/// which words these are. The only error is that memory runs out.
+/// The first word is the binary name. There may be no word at all. The words come from `Env::arg`,
+/// whose contract states nothing about their bytes, so only tests show which words these are. This
+/// allocates the list, each word, and a buffer.
+///
+/// # Errors
+///
+/// `AllocError` if an allocation fails.
+///
+/// # Examples
+///
+/// ```rust
+/// // The words without the binary name.
+/// let words: Vec<OsString> = arguments(rt, alloc)?.into_iter().skip(1).collect(alloc)?;
+/// ```
 pub fn arguments<R: Env>(rt: &R, alloc: Global) -> Result<Vec<OsString>, AllocError> {
     ask_for_words(rt, alloc)
 }
 
-// The words of each place, up to the first that has none.
+// Returns the word of each place, up to the first place that has none.
 #[tactic(auto, using(crate::proofs::Answered::one_more_came))]
 fn ask_for_words<S: WordSource>(source: &S, alloc: Global) -> Result<Vec<OsString>, AllocError>
     ensures { IfOk result (λ words. AreAnswered (S.answers source.now) 0 words.items) }
@@ -61,7 +74,7 @@ fn ask_for_words<S: WordSource>(source: &S, alloc: Global) -> Result<Vec<OsStrin
     Err(AllocError)
 }
 
-// The word at a place. The room is doubled for as long as the word does not fit.
+// Returns the word at a place, if it has one. The buffer is doubled until the word fits.
 fn word_at<S: WordSource>(
     source: &S,
     alloc: Global,

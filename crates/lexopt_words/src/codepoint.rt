@@ -1,4 +1,4 @@
-//! The first character of some bytes, or the damaged piece that they begin with.
+//! Decodes the first piece of some bytes: a character, or damage.
 ghost use Rattle.std.specs.Prelude.{◌≡◌, ◌<◌, ◌++◌, [], drop, length, IfOk, OnOk, encode_utf8};
 ghost use Rattle.std.specs.Prelude.{string_bytes};
 ghost use Rattle.lexopt_spec.specs.Pieces.{first_piece, lossy, shown};
@@ -8,16 +8,19 @@ ghost use Rattle.bstr.specs.Utf8.{decoded};
 use bstr::decode_utf8;
 use std::alloc::{AllocError, Global};
 
-/// What some bytes begin with. A size is a number of bytes.
+/// The first piece of some bytes. Sizes are in bytes.
 #[derive(Clone, Copy)]
 pub enum FirstCodepoint {
+    /// There are no bytes.
     Empty,
+    /// A character and its size.
     Character(char, usize),
+    /// Damage of this size.
     Damage(usize),
 }
 
 impl FirstCodepoint {
-    /// How many bytes it takes.
+    /// Returns the size of the piece in bytes: 0 if there is none.
     pub fn size(self) -> usize
         ensures { result ≡ size_of self }
     {
@@ -27,7 +30,7 @@ impl FirstCodepoint {
         }
     }
 
-    /// Its character, or U+FFFD for damage.
+    /// Returns the character that lossy text has for the piece: its own, or U+FFFD for damage.
     pub fn shown(self) -> char
         ensures { result ≡ shown (character_of self) }
     {
@@ -38,8 +41,18 @@ impl FirstCodepoint {
     }
 }
 
-/// The first piece of the bytes: by table 3-7 of the Unicode Standard a well-formed sequence, or
-/// else the maximal subpart of one, or a single byte.
+/// Returns the first piece of the bytes.
+///
+/// By table 3-7 of the Unicode Standard this is a well-formed sequence, otherwise the maximal
+/// subpart of one, otherwise a single byte. The last two are damage.
+///
+/// # Examples
+///
+/// ```rust
+/// // The bytes `66 6F FF` begin with `Character('f', 1)`, and `FF 66` with `Damage(1)`.
+/// let piece = first_codepoint(bytes);
+/// let rest = &bytes[piece.size()..];
+/// ```
 #[inline(always)]
 pub fn first_codepoint(bytes: &[u8]) -> FirstCodepoint
     ensures by_the_table { IsFirstOf bytes.now result }
@@ -53,7 +66,7 @@ pub fn first_codepoint(bytes: &[u8]) -> FirstCodepoint
     }
 }
 
-/// The first piece of the bytes from this position on, of which there is one at least.
+/// Returns the first piece of the bytes from this position on. At least one byte is there.
 #[inline(always)]
 pub fn codepoint_at(bytes: &[u8], position: usize) -> FirstCodepoint
     requires { position < length bytes.now }
@@ -67,7 +80,7 @@ pub fn codepoint_at(bytes: &[u8], position: usize) -> FirstCodepoint
     }
 }
 
-// The first piece of the bytes, of which there is one at least.
+// Returns the first piece of the bytes. At least one byte is there.
 #[inline(always)]
 fn decoded_codepoint(bytes: &[u8]) -> FirstCodepoint
     requires { 0 < length bytes.now }
@@ -81,11 +94,22 @@ fn decoded_codepoint(bytes: &[u8]) -> FirstCodepoint
     }
 }
 
-/// The lossy text of the bytes: each damaged piece is one U+FFFD.
+/// Returns the lossy text of the bytes, in which each damaged piece is one U+FFFD.
+///
+/// # Errors
+///
+/// `AllocError` if memory for the text runs out.
+///
+/// # Examples
+///
+/// ```rust
+/// // The bytes `66 6F 6F FF` give `foo` and U+FFFD.
+/// let text = lossy_text(alloc, word.as_bytes())?;
+/// ```
 pub fn lossy_text(alloc: Global, bytes: &[u8]) -> Result<String, AllocError>
     ensures { IfOk result (λ text. string_bytes text ≡ lossy bytes.now) }
 {
-    // Room for one damaged piece of one byte, which most such texts have.
+    // U+FFFD has 3 bytes: there is room for one damaged byte, and most texts have no more damage.
     let mut text = String::with_capacity(alloc, bytes.len().saturating_add(2))?;
     let mut rest = bytes;
     while !rest.is_empty() {
@@ -96,7 +120,7 @@ pub fn lossy_text(alloc: Global, bytes: &[u8]) -> Result<String, AllocError>
     Ok(text)
 }
 
-// Adds to a text what a piece is shown as: its character, or U+FFFD for damage.
+// Appends a piece to lossy text: its character, or U+FFFD for damage.
 fn push_shown(text: &mut String, character: Option<char>) -> Result<(), AllocError>
     ensures { OnOk result (string_bytes text.new
         ≡ string_bytes text.old ++ encode_utf8 (shown character)) }

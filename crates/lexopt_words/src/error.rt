@@ -1,4 +1,4 @@
-//! What can be wrong with a command line, and what the parser hands out.
+//! `Arg`, which the parser returns, and `Error`, the errors of a command line.
 ghost use Rattle.std.specs.Prelude.{◌≡◌, Some, option_map};
 
 use crate::message::{write_missing_value, write_no_memory, write_unexpected_value};
@@ -6,23 +6,47 @@ use crate::os_string::{OsString, Quoted};
 use std::alloc::{AllocError, AllocFailed, Global};
 use std::fmt;
 
-/// What `next` reads.
+/// An argument that `Parser::next` returns: an option or a positional.
+///
+/// # Examples
+///
+/// ```rust
+/// match parser.next()? {
+///     Some(Short('q') | Long("quiet")) => quiet = true,
+///     Some(Value(file)) => files.push(file)?,
+///     Some(argument) => return Err(argument.unexpected(alloc)),
+///     None => {}
+/// }
+/// ```
 #[derive(PartialEq, Eq, Debug, Drop)]
 pub enum Arg<'a> {
-    /// An option of one character: `-o` reads as `Short('o')`.
+    /// A short option: `Short('q')` for `-q`.
     Short(char),
-    /// An option with a name, here without its dashes: `--out` reads as `Long("out")`.
+    /// A long option, without its dashes: `Long("quiet")` for `--quiet`. The parser lends the name.
     Long(&'a str),
-    /// A word that is not an option, or that comes after the separator.
+    /// A positional: a word that is not an option, or that comes after the separator.
     Value(OsString),
 }
 
 impl Arg<'_> {
     ghost use Rattle.lexopt_words.specs.Arguments.{Refuses};
 
-    /// The error for an argument that the program does not know: `UnexpectedOption` of `-o` for
-    /// `Short('o')` and of `--out` for `Long("out")`, and `UnexpectedArgument` of a value.
-    /// `OutOfMemory` comes only in place of `UnexpectedOption`.
+    /// Returns the error for an argument that the program does not know.
+    ///
+    /// It is `UnexpectedOption` with `-o` for `Short('o')` and with `--out` for `Long("out")`, and
+    /// `UnexpectedArgument` with the word for a `Value`. If memory for the option's text runs out,
+    /// it is `OutOfMemory`. The argument is spent.
+    ///
+    /// # Examples
+    ///
+    /// ```rust
+    /// match parser.next()? {
+    ///     Some(Short('v')) => verbose = true,
+    ///     // `-x` is refused with the message `invalid option '-x'`.
+    ///     Some(argument) => return Err(argument.unexpected(alloc)),
+    ///     None => break,
+    /// }
+    /// ```
     pub fn unexpected(self, alloc: Global) -> Error
         ensures { Refuses self.entry result }
     {
@@ -46,7 +70,11 @@ impl<'a> Clone for Arg<'a> {
 
     ghost is_infallible = { IsOption };
 
-    /// An equal argument. Only the copy of a value allocates.
+    /// Returns an equal argument. Only the copy of a `Value` allocates.
+    ///
+    /// # Errors
+    ///
+    /// `AllocError` if memory for the copy of a `Value` runs out.
     fn clone(&self) -> Result<Arg<'a>, AllocError> {
         match self {
             Arg::Short(option) => Ok(Arg::Short(*option)),
@@ -56,34 +84,55 @@ impl<'a> Clone for Arg<'a> {
     }
 }
 
-/// Why a command line was refused.
+/// An error of a command line.
+///
+/// It prints as a message for the user, by both `{error}` and `{error:?}`. Values in messages are
+/// in double quotes, escaped as [`Quoted`] does. `Error::from` makes `Custom` from a text,
+/// `NonUnicodeValue` from an `OsString`, and `OutOfMemory` from an `AllocError` or an
+/// `AllocFailed`.
+///
+/// # Examples
+///
+/// ```rust
+/// let _ = eprintln!(rt; "hello: {error}");
+/// ```
 #[derive(Drop)]
 pub enum Error {
-    /// An option needs a value, and no word is left. The option is spelled with its dashes; there
-    /// is none if no option was read.
+    /// A value was asked for, and there is none. `option` is the last option with its dashes, or
+    /// `None` if no option was read.
     MissingValue { option: Option<String> },
-    /// An option was not expected. It is spelled with its dashes.
+    /// The program does not know this option, given with its dashes.
     UnexpectedOption(String),
-    /// A positional argument was not expected.
+    /// The program did not expect this positional.
     UnexpectedArgument(OsString),
-    /// An option that takes no value has one joined to it. The option is spelled with its dashes.
+    /// The value of this option, which is given with its dashes, was not taken: `x` of `--flag=x`
+    /// if the program does not take a value for `--flag`.
     UnexpectedValue { option: String, value: OsString },
-    /// A value could not be converted, for this cause.
+    /// A value could not be converted to its type, for the reason `error`.
     ParsingFailed { value: String, error: anyhow::Error },
-    /// A value is not UTF-8, but has to be a text.
+    /// A value has to be a text, and is not UTF-8.
     NonUnicodeValue(OsString),
-    /// The program's own reason. `Error::from` makes it of a text.
+    /// An error of the program's own. `Error::from` makes it from a text.
     Custom(anyhow::Error),
-    /// Memory ran out. A call of a parser has changed nothing then, and can be made again. A
-    /// constructor does not give its items back, and `Arg::unexpected` does not give the argument
-    /// back.
+    /// An allocation failed. If a call of a parser returns it, the line is unchanged, and the call
+    /// can be made again. The items of a constructor, and the argument of `Arg::unexpected`, are
+    /// gone.
     OutOfMemory,
 }
 
 impl Error {
     ghost use Rattle.lexopt_words.specs.Message.{cause_of};
 
-    /// The cause of `ParsingFailed` and of `Custom`, as `anyhow` keeps it.
+    /// Returns the cause of `ParsingFailed` or `Custom`, as `anyhow` keeps it. Other errors have
+    /// none.
+    ///
+    /// # Examples
+    ///
+    /// ```rust
+    /// if let Some(cause) = error.cause() {
+    ///     let _ = eprintln!(rt; "caused by: {cause}");
+    /// }
+    /// ```
     pub fn cause(&self) -> Option<&anyhow::Error>
         ensures { option_map (λ cause. cause.now) result ≡ cause_of self.now }
     {

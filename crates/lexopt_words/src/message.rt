@@ -1,4 +1,4 @@
-//! The messages that more than one type prints. The crate `lexopt` does not hand them on.
+//! The messages that more than one type prints. The crate `lexopt` does not re-export them.
 ghost use Rattle.std.specs.Prelude.{None, Some, option_map};
 ghost use Rattle.std.specs.Fmt.{WritesOnOk};
 ghost use Rattle.lexopt_spec.specs.Text.{missing_message, no_memory_message};
@@ -7,7 +7,7 @@ ghost use Rattle.lexopt_spec.specs.Text.{unexpected_value_message};
 use crate::os_string::{OsString, Quoted};
 use std::fmt;
 
-/// A value is missing, for this option if there is one.
+/// Writes the message for a missing value, of this option if there is one.
 pub fn write_missing_value<W: fmt::Write>(
     option: Option<&str>,
     f: &mut fmt::Formatter<W>,
@@ -21,7 +21,7 @@ pub fn write_missing_value<W: fmt::Write>(
     }
 }
 
-/// An option that takes no value is given this one.
+/// Writes the message for a value that the option does not take.
 pub fn write_unexpected_value<W: fmt::Write>(
     option: &str,
     value: &OsString,
@@ -34,7 +34,7 @@ pub fn write_unexpected_value<W: fmt::Write>(
     write!(f, "unexpected argument for option '{option}': {value}")
 }
 
-/// Memory ran out.
+/// Writes the message for an allocation that failed.
 pub fn write_no_memory<W: fmt::Write>(f: &mut fmt::Formatter<W>) -> fmt::Result
     ensures { WritesOnOk W.write_str_gives f.old result no_memory_message f.new }
 {

@@ -1,7 +1,5 @@
-//! Words of any bytes.
-//!
-//! A word of a command line is a list of bytes, which need not be UTF-8. Nothing here changes a
-//! byte.
+//! Words of a command line, which are lists of bytes and need not be UTF-8. Nothing here changes a
+//! byte. `words.rt` has a call for lists of words.
 ghost use Rattle.std.specs.Prelude.{◌≡◌, ◌↔◌, ◌≤◌, ℕ, List, [], drop, length, string_bytes, IfOk};
 ghost use Rattle.std.specs.Prelude.{IfSome, IsOk, IsSome, IsTrue, IsUtf8, MatchResult, vec_len};
 
@@ -13,13 +11,22 @@ use std::hash::{Hash, Hasher};
 use std::marker::Model;
 use std::{fmt, str};
 
-/// A word: a list of bytes, which contracts see as that list.
+/// A word: a list of bytes, which need not be UTF-8. Contracts see it as that list.
+///
+/// It takes the place of `std::ffi::OsString` of Rust.
+///
+/// # Examples
+///
+/// ```rust
+/// let word = OsString::from_text(alloc, "--name=value")?;
+/// let is_dashed = word.as_bytes().starts_with(b"-");
+/// ```
 #[derive(Drop)]
 pub struct OsString {
-    // The bytes of the word, after some that are no longer a part of it. So a value is taken out of
-    // its word and no byte is moved.
+    // The bytes of the word, after `front` bytes that are no longer part of it. This way a value is
+    // taken out of its word without moving a byte.
     bytes: Vec<u8>,
-    // How many are no longer a part of it.
+    // The number of bytes at the front that are no longer part of the word.
     front: usize,
 }
 
@@ -32,7 +39,7 @@ impl Model for OsString {
 }
 
 impl OsString {
-    /// The empty word. It never allocates.
+    /// Creates the empty word. It never allocates.
     pub fn new(alloc: Global) -> OsString
         ensures { result ≡ [] }
     {
@@ -42,7 +49,11 @@ impl OsString {
         }
     }
 
-    /// A copy of these bytes.
+    /// Copies these bytes into a word.
+    ///
+    /// # Errors
+    ///
+    /// `AllocError` if memory for the copy runs out.
     pub fn from_bytes(alloc: Global, bytes: &[u8]) -> Result<OsString, AllocError>
         ensures { IfOk result (λ word. word ≡ bytes.now) }
     {
@@ -52,28 +63,32 @@ impl OsString {
         })
     }
 
-    /// The bytes of a text, copied.
+    /// Copies the bytes of a text into a word.
+    ///
+    /// # Errors
+    ///
+    /// `AllocError` if memory for the copy runs out.
     pub fn from_text(alloc: Global, text: &str) -> Result<OsString, AllocError>
         ensures { IfOk result (λ word. word ≡ text.now) }
     {
         OsString::from_bytes(alloc, text.as_bytes())
     }
 
-    /// The word of these bytes. It never allocates.
+    /// Turns these bytes into a word. It never allocates.
     pub fn from_vec(bytes: Vec<u8>) -> OsString
         ensures { result ≡ bytes.items }
     {
         OsString { bytes, front: 0 }
     }
 
-    /// The word of the bytes of this text. It never allocates.
+    /// Turns a text into a word. It never allocates.
     pub fn from_string(text: String) -> OsString
         ensures { result ≡ string_bytes text }
     {
         OsString::from_vec(text.into_bytes())
     }
 
-    /// The bytes of the word. It never allocates.
+    /// Returns the bytes of the word. It never allocates.
     pub fn into_vec(self) -> Vec<u8>
         ensures { result.items ≡ self }
     {
@@ -84,9 +99,14 @@ impl OsString {
         moved_up(bytes, front)
     }
 
-    /// The word without its first `count` bytes. It never allocates, and moves no byte.
+    /// Returns the word without its first `count` bytes. It never allocates, and moves no byte.
     ///
-    /// The word `--name=value` without its first 7 bytes is `value`.
+    /// # Examples
+    ///
+    /// ```rust
+    /// // `--name=value` without its first 7 bytes is `value`.
+    /// let value = word.without_front(7);
+    /// ```
     pub fn without_front(self, count: usize) -> OsString
         requires { count ≤ length self }
         ensures { result ≡ drop count self }
@@ -98,9 +118,18 @@ impl OsString {
         }
     }
 
-    /// The text of the word if its bytes are UTF-8, otherwise the same word. It never allocates.
+    /// Returns the word as text if it is UTF-8, otherwise the same word as `Err`. It never
+    /// allocates.
     ///
-    /// The bytes `66 6F 6F` give `foo`. The bytes `66 6F 6F FF` are given back.
+    /// # Examples
+    ///
+    /// ```rust
+    /// // The bytes `66 6F 6F` are `Ok` of `foo`; the bytes `66 6F 6F FF` are `Err` of the word.
+    /// match word.into_string() {
+    ///     Ok(text) => texts.push(text)?,
+    ///     Err(word) => words.push(word)?,
+    /// }
+    /// ```
     pub fn into_string(self) -> Result<String, OsString>
         ensures exactly_on_utf8 { IsOk result ↔ IsUtf8 self }
         ensures same_bytes { MatchResult result (λ text. string_bytes text ≡ self) (λ word.
@@ -112,21 +141,27 @@ impl OsString {
         }
     }
 
-    /// The bytes of the word.
+    /// Returns the bytes of the word.
     pub fn as_bytes(&self) -> &[u8]
         ensures { result.now ≡ self.now }
     {
         &self.bytes[self.front..]
     }
 
-    /// A view of the word.
+    /// Returns a view of the word.
     pub fn as_os_str(&self) -> OsStr<'_>
         ensures { result.bytes.now ≡ self.now }
     {
         OsStr::from_bytes(self.as_bytes())
     }
 
-    /// The text of the word, if its bytes are UTF-8. The bytes `66 6F 6F FF` have none.
+    /// Returns the word as text if it is UTF-8. The bytes `66 6F 6F FF` give `None`.
+    ///
+    /// # Examples
+    ///
+    /// ```rust
+    /// let is_auto = word.to_str() == Some("auto");
+    /// ```
     pub fn to_str(&self) -> Option<&str>
         ensures exactly_on_utf8 { IsSome result ↔ IsUtf8 self.now }
         ensures same_bytes { IfSome result (λ text. text.now ≡ self.now) }
@@ -134,27 +169,27 @@ impl OsString {
         self.as_os_str().to_str()
     }
 
-    /// How many bytes the word has.
+    /// Returns the number of bytes of the word.
     pub fn len(&self) -> usize
         ensures { result ≡ length self.now }
     {
         self.bytes.len() - self.front
     }
 
-    /// Whether the word has no bytes.
+    /// Returns whether the word has no bytes.
     pub fn is_empty(&self) -> bool
         ensures { IsTrue result ↔ (self.now ≡ []) }
     {
         self.len() == 0
     }
 
-    // The allocator of the word.
+    // Returns the allocator of the word.
     pub(crate) fn allocator(&self) -> Global {
         *self.bytes.allocator()
     }
 }
 
-// The bytes without the first `count`, in the memory that they have.
+// Removes the first `count` bytes, and keeps the allocation.
 #[cold]
 fn moved_up(bytes: Vec<u8>, count: usize) -> Vec<u8>
     requires { count ≤ vec_len bytes }
@@ -172,7 +207,11 @@ impl Clone for OsString {
 
     ghost is_clone = { λ word copy. copy ≡ word };
 
-    /// A word of the same bytes, copied.
+    /// Copies the word.
+    ///
+    /// # Errors
+    ///
+    /// `AllocError` if memory for the copy runs out.
     fn clone(&self) -> Result<OsString, AllocError> {
         self.as_os_str().to_os_string(*self.bytes.allocator())
     }
@@ -201,7 +240,7 @@ impl Eq for OsString {
 }
 
 // Words have the order of their lists of bytes: the first byte that differs decides, and a prefix
-// comes first. `-b` comes after `-ab`.
+// comes first. `-ab` comes before `-b`, and `-a` before `-ab`.
 impl PartialOrd for OsString {
     ghost use Rattle.std.proofs.Common.{rules};
     ghost use Rattle.std.specs.Cmp.{partial_order_from_own_ties};
@@ -238,7 +277,7 @@ impl Ord for OsString {
     }
 }
 
-// What is hashed is the number of bytes and then each byte, as for a `Vec<u8>`.
+// This hashes the number of bytes and then each byte, as a `Vec<u8>` does.
 impl Hash for OsString {
     ghost use Rattle.std.proofs.Common.{rules};
     ghost use Rattle.std.specs.Cmp.Rules.{hashing};
@@ -253,7 +292,7 @@ impl Hash for OsString {
     }
 }
 
-// The quoted form, as `Quoted` prints it.
+// `{word:?}` prints the quoted form, as `Quoted` does.
 impl fmt::Debug for OsString {
     ghost use Rattle.std.specs.Prelude.{Some};
     ghost use Rattle.lexopt_spec.specs.Text.{quoted};
@@ -265,7 +304,7 @@ impl fmt::Debug for OsString {
     }
 }
 
-/// A view of a word's bytes. It is passed by value, where Rust has `&OsStr`.
+/// A view of a word's bytes. It is passed by value, where Rust passes `&OsStr`.
 #[derive(Clone, Copy)]
 pub struct OsStr<'a> {
     /// The bytes of the word.
@@ -273,14 +312,14 @@ pub struct OsStr<'a> {
 }
 
 impl<'a> OsStr<'a> {
-    /// A view of these bytes.
+    /// Returns a view of these bytes.
     pub fn from_bytes(bytes: &'a [u8]) -> OsStr<'a>
         ensures { result.bytes.now ≡ bytes.now }
     {
         OsStr { bytes }
     }
 
-    /// The bytes of the word, for as long as they were lent.
+    /// Returns the bytes of the word, for as long as the view may borrow them.
     pub fn as_bytes(self) -> &'a [u8]
         ensures { result.now ≡ self.entry.bytes.now }
     {
@@ -288,7 +327,7 @@ impl<'a> OsStr<'a> {
         bytes
     }
 
-    /// The text of the word, if its bytes are UTF-8, for as long as they were lent.
+    /// Returns the word as text if it is UTF-8, for as long as the view may borrow it.
     pub fn to_str(self) -> Option<&'a str>
         ensures exactly_on_utf8 { IsSome result ↔ IsUtf8 self.entry.bytes.now }
         ensures same_bytes { IfSome result (λ text. text.now ≡ self.entry.bytes.now) }
@@ -296,7 +335,11 @@ impl<'a> OsStr<'a> {
         str::from_utf8(self.bytes).ok()
     }
 
-    /// A word of the same bytes, copied.
+    /// Copies the bytes into a word.
+    ///
+    /// # Errors
+    ///
+    /// `AllocError` if memory for the copy runs out.
     pub fn to_os_string(self, alloc: Global) -> Result<OsString, AllocError>
         ensures { IfOk result (λ word. word ≡ self.entry.bytes.now) }
     {

@@ -1,4 +1,4 @@
-//! Bytes in quotes, as messages show them.
+//! Bytes in double quotes, as messages show them.
 ghost use Rattle.std.specs.Prelude.{◌≡◌, ℕ, List, Some, IfSome, encode_utf8};
 ghost use Rattle.std.specs.List.{flat_map};
 ghost use Rattle.std.specs.Fmt.{WritesOnOk};
@@ -11,11 +11,19 @@ use crate::codepoint::{FirstCodepoint, first_codepoint};
 use std::fmt;
 use std::marker::Model;
 
-/// Bytes that print in double quotes. A double quote, a backslash, each control character of ASCII
-/// and each byte that is not UTF-8 are escaped. Every other character stands for itself, even one
-/// that a terminal may act on, as U+0085, U+009B and U+2028.
+/// Prints bytes in double quotes, as messages show words.
 ///
-/// The bytes `66 6F 6F FF` print as `"foo\xFF"`.
+/// A double quote, a backslash, each ASCII control character and each byte of damage are escaped.
+/// Every other character is printed as it is, even one that a terminal may act on, such as U+0085,
+/// U+009B and U+2028.
+///
+/// # Examples
+///
+/// ```rust
+/// // The bytes `66 6F 6F FF` print as `"foo\xFF"`.
+/// let file = Quoted::new(file.as_bytes());
+/// println!(rt; "file: {file}")?;
+/// ```
 #[derive(Drop)]
 pub struct Quoted<'a> {
     bytes: &'a [u8],
@@ -28,7 +36,7 @@ impl<'a> Model for Quoted<'a> {
 }
 
 impl<'a> Quoted<'a> {
-    /// These bytes, to be printed.
+    /// Borrows bytes to print.
     pub fn new(bytes: &'a [u8]) -> Quoted<'a>
         ensures { result ≡ bytes.entry.now }
     {
@@ -46,6 +54,7 @@ impl fmt::Display for Quoted<'_> {
     }
 }
 
+// Writes each piece of the bytes, escaped.
 fn write_pieces<W: fmt::Write>(bytes: &[u8], f: &mut fmt::Formatter<W>) -> fmt::Result
     ensures { WritesOnOk W.write_str_gives f.old result (flat_map quoted_piece (pieces bytes.now))
         f.new }
@@ -60,6 +69,7 @@ fn write_pieces<W: fmt::Write>(bytes: &[u8], f: &mut fmt::Formatter<W>) -> fmt::
     Ok(())
 }
 
+// Writes a piece, which has these bytes, escaped.
 fn write_piece<W: fmt::Write>(
     piece: FirstCodepoint,
     bytes: &[u8],
@@ -75,6 +85,7 @@ fn write_piece<W: fmt::Write>(
     }
 }
 
+// Writes a character, escaped if it is a double quote, a backslash or an ASCII control character.
 fn write_character<W: fmt::Write>(character: char, f: &mut fmt::Formatter<W>) -> fmt::Result
     ensures { WritesOnOk W.write_str_gives f.old result
         (quoted_character character (encode_utf8 character)) f.new }
@@ -94,6 +105,7 @@ fn write_character<W: fmt::Write>(character: char, f: &mut fmt::Formatter<W>) ->
     }
 }
 
+// Writes each byte of damage as `\xHH`.
 fn write_damage<W: fmt::Write>(piece: &[u8], f: &mut fmt::Formatter<W>) -> fmt::Result
     ensures { WritesOnOk W.write_str_gives f.old result (flat_map byte_escape piece.now) f.new }
 {

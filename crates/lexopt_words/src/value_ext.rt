@@ -1,4 +1,4 @@
-//! Conversions of values.
+//! Conversions of a value to a text or to another type.
 ghost use Rattle.std.specs.Prelude.{◌≡◌, List, ℕ, IsUtf8, MatchResult, Result, string_bytes};
 ghost use Rattle.std.specs.Fn.{FnOnceReturnsAt, FnOnceTakesAt};
 ghost use Rattle.lexopt_words.specs.Conversions.{IsNotUnicode, IsParsed};
@@ -13,15 +13,34 @@ mod private {
     impl Sealed for crate::os_string::OsString {}
 }
 
-/// Conversions of a value. Only `OsString` has them.
+/// Conversions of a value. Only `OsString` implements this trait.
+///
+/// # Examples
+///
+/// ```rust
+/// use lexopt_base::prelude::ValueExt;
+///
+/// let number = parser.value()?.parse::<u32>()?;
+/// let name = parser.value()?.string()?;
+/// ```
 pub trait ValueExt: private::Sealed {
     // The bytes of the word.
     ghost word: { Self → List ℕ };
 
-    /// What the text of the word stands for, by its type's `FromStr`: `10` as a `u32` is ten.
+    /// Converts the word to the type `T`, by the `FromStr` of `T`.
     ///
-    /// Errors: `NonUnicodeValue` with a copy of the word if it is not UTF-8; `ParsingFailed` with
-    /// the text and the cause if the type refuses it; `OutOfMemory` only in place of these two.
+    /// # Errors
+    ///
+    /// - `NonUnicodeValue` with a copy of the word if it is not UTF-8.
+    /// - `ParsingFailed` with the text and the cause if `FromStr` fails.
+    /// - `OutOfMemory` in place of these two.
+    ///
+    /// # Examples
+    ///
+    /// ```rust
+    /// // `-n 10` sets the number to 10; `-n x` is refused.
+    /// Some(Short('n')) => number = parser.value()?.parse::<u32>()?,
+    /// ```
     fn parse<T: FromStr>(&self) -> Result<T, Error>
     where
         T::Err: Into<anyhow::Error>,
@@ -30,11 +49,29 @@ pub trait ValueExt: private::Sealed {
             × IsParsed T.Err.converts (word self.now) answer result) }
         ensures damaged { (IsUtf8 (word self.now) → ⊥) → IsNotUnicode (word self.now) result };
 
-    /// What the function makes of the text of the word. It is called once if the word is UTF-8, and
-    /// otherwise not at all.
+    /// Converts the word by a function of the program's own.
     ///
-    /// Errors: those of `parse`. The cause is what `anyhow` keeps of the function's error, at most
-    /// 120 bytes of its text.
+    /// `func` is called once with the text of the word if it is UTF-8, otherwise not at all.
+    ///
+    /// # Errors
+    ///
+    /// - `NonUnicodeValue` with a copy of the word if it is not UTF-8.
+    /// - `ParsingFailed` with the text and the cause if `func` fails. The cause is what `anyhow`
+    ///   keeps of the error of `func`: at most 120 bytes of its text.
+    /// - `OutOfMemory` in place of these two.
+    ///
+    /// # Examples
+    ///
+    /// ```rust
+    /// fn jobs_of(text: &str) -> anyhow::Result<u32> {
+    ///     match text.parse() {
+    ///         Ok(jobs @ 1..=256) => Ok(jobs),
+    ///         _ => bail!("expected a number from 1 to 256"),
+    ///     }
+    /// }
+    ///
+    /// let jobs = parser.value()?.parse_with(jobs_of)?;
+    /// ```
     fn parse_with<F, T, E>(&self, func: F) -> Result<T, Error>
     where
         F: FnOnce(&str) -> Result<T, E> + Drop,
@@ -45,9 +82,18 @@ pub trait ValueExt: private::Sealed {
             × IsParsed E.converts (word self.now) answer result) }
         ensures damaged { (IsUtf8 (word self.now) → ⊥) → IsNotUnicode (word self.now) result };
 
-    /// The text of the word. It never allocates.
+    /// Turns the word into a `String`. It never allocates.
     ///
-    /// Errors: `NonUnicodeValue` with the word itself if it is not UTF-8.
+    /// # Errors
+    ///
+    /// `NonUnicodeValue` with the word itself if it is not UTF-8.
+    ///
+    /// # Examples
+    ///
+    /// ```rust
+    /// // The thing to greet is a text; a word that is not UTF-8 is refused.
+    /// Some(Value(word)) => thing = Some(word.string()?),
+    /// ```
     fn string(self) -> Result<String, Error>
         ensures { MatchResult result
             (λ text. (string_bytes text ≡ word self) × IsUtf8 (word self))
@@ -61,8 +107,8 @@ impl ValueExt for OsString {
     where
         T::Err: Into<anyhow::Error>,
     {
-        // If the value and the error met at the end of the function, the value would be moved as a
-        // whole `Result`.
+        // Each arm returns at once: if they met at the end of the function, the whole `Result`
+        // would be moved.
         match self.parse_with(|text| T::from_str(text)) {
             Ok(value) => return Ok(value),
             Err(error) => Err(error),

@@ -1,22 +1,23 @@
-//! What a word is before the separator.
+//! The kind of one word before the separator: an option, the separator or a positional. `Kind` of
+//! `lexopt_items` is how many values an option has.
 ghost use Rattle.std.specs.Prelude.{◌↔◌, false, IsTrue};
 ghost use Rattle.lexopt_spec.specs.UnreadLine.{IsPlain};
 ghost use Rattle.lexopt_words.specs.WordKinds.{IsOfKind};
 
-/// What a word is, if the separator has not been read.
+/// The kind of a word, if the separator has not been read.
 #[derive(Clone, Copy)]
 pub enum WordKind {
     /// `--`
     Separator,
     /// `--name` or `--name=value`
     Long,
-    /// `-abc`
+    /// `-abc`: a cluster of short options
     Shorts,
     /// `-`, or a word that does not begin with a dash
     Positional,
 }
 
-/// The kind of this word.
+/// Returns the kind of this word, if the separator has not been read.
 pub fn kind_of(word: &[u8]) -> WordKind
     ensures { IsOfKind word.now result }
 {
@@ -33,7 +34,7 @@ pub fn kind_of(word: &[u8]) -> WordKind
     }
 }
 
-/// Whether this word is neither an option nor the separator.
+/// Returns whether this word is neither an option nor the separator, if that has not been read.
 pub fn is_positional(word: &[u8]) -> bool
     ensures { IsTrue result ↔ IsPlain false word.now }
 {

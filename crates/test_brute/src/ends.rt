@@ -1,10 +1,10 @@
-//! The end of a line: what is missing, what is asked for, and which positional argument each word
-//! belongs to.
+//! The end of a line: what is missing, what is asked for, and to which positional each word
+//! belongs.
 use crate::plain::{Item, Place, Plan, PlanWord, Typed, text_of};
 use lexopt_options::{Asked, Count, Kind, Names, Words};
 use std::alloc::{AllocError, Global};
 
-/// How many positional arguments are among these.
+/// How many of these items are positionals.
 pub fn count_of(items: &[Item<'_>]) -> usize {
     items
         .iter()
@@ -12,26 +12,26 @@ pub fn count_of(items: &[Item<'_>]) -> usize {
         .count()
 }
 
-/// Whether a positional argument may occur more than once.
+/// Whether a positional may occur more than once.
 pub fn may_repeat(count: Count) -> bool {
     count == Count::AnyNumber || count == Count::AtLeastOnce
 }
 
-// Whether it is required.
-fn has_to_occur(count: Count) -> bool {
+// Whether a positional is required.
+fn is_required(count: Count) -> bool {
     count == Count::Once || count == Count::AtLeastOnce
 }
 
-// The placeholder of the first required positional argument after `count` words.
+// The placeholder of the first required positional that is missing after `count` words.
 fn missing_argument(plan: &'static Plan, count: usize) -> Option<&'static str> {
     plan.positionals
         .iter()
-        .filter(|own| has_to_occur(own.count))
+        .filter(|own| is_required(own.count))
         .nth(count)
         .map(|own| own.placeholder)
 }
 
-// The names of the first required option that is not among these.
+// The names of the first required option that is not among these items.
 fn missing_option(plan: &'static Plan, items: &[Item<'_>]) -> Option<Names<'static>> {
     for (place, option) in plan.options.iter().enumerate() {
         let occurs = items.iter().any(|item| matches!(item, Item::Option(own, _) if *own == place));
@@ -42,7 +42,7 @@ fn missing_option(plan: &'static Plan, items: &[Item<'_>]) -> Option<Names<'stat
     None
 }
 
-/// An option as messages have it, by its names.
+/// The text of an option in messages, by its names.
 pub fn name_of(alloc: Global, names: Names<'_>) -> Result<String, AllocError> {
     match names {
         Names::Short(character) => text_of(alloc, Typed::Short(character)),
@@ -50,7 +50,7 @@ pub fn name_of(alloc: Global, names: Names<'_>) -> Result<String, AllocError> {
     }
 }
 
-// The words that a positional argument accepts, if it has a list.
+// The words that a positional accepts, if it has a list.
 fn list_of(own: &PlanWord) -> Option<&'static [&'static str]> {
     match own.words {
         Words::Listed(values) => Some(values),
@@ -58,8 +58,8 @@ fn list_of(own: &PlanWord) -> Option<&'static [&'static str]> {
     }
 }
 
-// The mistake that this positional argument does not accept a word, if it does not.
-fn unfit(
+// The mistake that this positional does not accept a word, if it does not.
+fn unlisted_word(
     alloc: Global,
     plan: &'static Plan,
     place: Place,
@@ -79,8 +79,8 @@ fn unfit(
     Ok(None)
 }
 
-// The mistake of the first word that its positional argument does not accept.
-fn first_unfit(
+// The mistake of the first word that its positional does not accept, if there is one.
+fn first_unlisted_word(
     alloc: Global,
     plan: &'static Plan,
     items: &[Item<'_>],
@@ -89,7 +89,7 @@ fn first_unfit(
     let mut words = 0usize;
     for item in items {
         if let (Item::Word(word), Some(place)) = (item, places.get(words)) {
-            if let Some(mistake) = unfit(alloc, plan, *place, word)? {
+            if let Some(mistake) = unlisted_word(alloc, plan, *place, word)? {
                 return Ok(Some(mistake));
             }
             words = words.saturating_add(1);
@@ -98,8 +98,8 @@ fn first_unfit(
     Ok(None)
 }
 
-/// The places in the declaration of the positional arguments that the word after `count` others can
-/// belong to, with some more words after it or with none; and the words in their lists.
+/// The places in the declaration of the positionals to which the word after `count` others can
+/// belong, with or without more words after it; and the words in their lists.
 pub fn owners_after(
     alloc: Global,
     plan: &'static Plan,
@@ -124,7 +124,7 @@ pub fn owners_after(
     Ok((owners, words))
 }
 
-/// What is wrong at the end of a line.
+/// The mistake at the end of a line, if there is one.
 pub fn missing(
     alloc: Global,
     plan: &'static Plan,
@@ -133,7 +133,7 @@ pub fn missing(
     if let Some(placeholder) = missing_argument(plan, count_of(items)) {
         return Ok(Some(format!(in alloc; "missing argument {placeholder}")?));
     }
-    if let Some(mistake) = first_unfit(alloc, plan, items)? {
+    if let Some(mistake) = first_unlisted_word(alloc, plan, items)? {
         return Ok(Some(mistake));
     }
     let Some(names) = missing_option(plan, items) else {
@@ -143,7 +143,7 @@ pub fn missing(
     Ok(Some(format!(in alloc; "missing option '{option}'")?))
 }
 
-/// What is asked for, by the first of these that asks.
+/// The request of the first item that is one, if there is one.
 pub fn asked(plan: &Plan, items: &[Item<'_>]) -> Option<Asked<'static>> {
     for item in items {
         if let Item::Option(place, _) = item {
@@ -157,18 +157,18 @@ pub fn asked(plan: &Plan, items: &[Item<'_>]) -> Option<Asked<'static>> {
     None
 }
 
-// Whether one more word can belong to a positional argument that has this many.
+// Whether one more word can belong to a positional that has this many words.
 fn has_room(count: Count, taken: usize) -> bool {
     may_repeat(count) || taken == 0
 }
 
-/// The key for each of `count` words, in order. Each required positional argument has its word,
-/// whether or not it is there, and the words that are left go to the first that can take more.
+/// The key of each of `count` words, in order. Each required positional has a word, even if the
+/// word is missing, and the other words belong to the first positional that can take more.
 pub fn places_of(alloc: Global, plan: &Plan, count: usize) -> Result<Vec<Place>, AllocError> {
     let mut taken = Vec::new(alloc);
     let mut left = count;
     for own in plan.positionals {
-        let needed = usize::from(has_to_occur(own.count));
+        let needed = usize::from(is_required(own.count));
         taken.push(needed)?;
         left = left.saturating_sub(needed);
     }

@@ -1,6 +1,6 @@
-//! Lines of at most three of twelve words, read by declared options and by a plain reader that is
-//! written from the rules alone; and the spellings that are offered, beside the lines that this
-//! reader finds to be legal.
+//! Tests of declared options by brute force. Lines of at most three of twelve words are read by the
+//! library and by a plain reader, which is written from the rules alone. The spellings that are
+//! offered are compared with the lines that the plain reader finds to be legal.
 #![tactic(auto)]
 
 #[cfg(test)]
@@ -17,7 +17,7 @@ mod spellings;
 use lexopt_options::OsString;
 use std::alloc::{AllocError, Global};
 
-/// These words as the library takes them.
+/// The words as the library takes them.
 pub fn words_of(alloc: Global, list: &[&str]) -> Result<Vec<OsString>, AllocError> {
     let mut words = Vec::with_capacity(alloc, list.len())?;
     for word in list {

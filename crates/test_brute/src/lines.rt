@@ -1,15 +1,15 @@
-//! What lines are read as, beside the plain reader.
+//! Lines, read by the library and by the plain reader.
 use crate::ends::{asked, count_of, places_of};
 use crate::plain::{Item, Key, Place, Plan, Reading, read};
 use crate::plans::{WORDS, plans};
 use crate::words_of;
-use lexopt_options::{Declared, Kind, Line, Options, OsString, Said};
+use lexopt_options::{Declared, Kind, Line, Options, OsString, Parsed};
 use std::alloc::{AllocError, Global};
 use test_helpers::lists::{list_of, numbers_of};
 
 type KeyOptions = Options<'static, Key, Key, Place, Key, Key>;
 
-type KeySaid = Said<Key, Key, Place, Key, Key>;
+type KeyParsed = Parsed<Key, Key, Place, Key, Key>;
 
 type KeyLine = Line<'static, Key, Key, Place, Key, Key>;
 
@@ -25,47 +25,47 @@ fn are_values(values: &[&str], wanted: &[OsString]) -> bool {
 }
 
 // Whether this is the option with these values.
-fn is_option(option: &KeyOption, values: &[&str], said: &KeySaid) -> bool {
-    match (option.kind, said) {
-        (Kind::Flag(key), Said::Flag(found)) => key == *found && values.is_empty(),
-        (Kind::Value(key, _), Said::Value(found, word)) => {
+fn is_option(option: &KeyOption, values: &[&str], parsed: &KeyParsed) -> bool {
+    match (option.kind, parsed) {
+        (Kind::Flag(key), Parsed::Flag(found)) => key == *found && values.is_empty(),
+        (Kind::Value(key, _), Parsed::Value(found, word)) => {
             key == *found && values.len() == 1 && values[0].as_bytes() == word.as_bytes()
         }
-        (Kind::Maybe(key, _), Said::Maybe(found, None)) => key == *found && values.is_empty(),
-        (Kind::Maybe(key, _), Said::Maybe(found, Some(word))) => {
+        (Kind::Maybe(key, _), Parsed::Maybe(found, None)) => key == *found && values.is_empty(),
+        (Kind::Maybe(key, _), Parsed::Maybe(found, Some(word))) => {
             key == *found && values.len() == 1 && values[0].as_bytes() == word.as_bytes()
         }
-        (Kind::Values(key, _), Said::Values(found, words)) => {
+        (Kind::Values(key, _), Parsed::Values(found, words)) => {
             key == *found && are_values(values, words)
         }
         _ => false,
     }
 }
 
-// Whether this is read, where a positional argument has this key.
-fn is_item(plan: &Plan, item: &Item<'_>, place: Option<Place>, said: &KeySaid) -> bool {
-    match (item, said) {
-        (Item::Word(word), Said::Positional(key, found)) => {
+// Whether this item was read. A positional has this key.
+fn is_item(plan: &Plan, item: &Item<'_>, place: Option<Place>, parsed: &KeyParsed) -> bool {
+    match (item, parsed) {
+        (Item::Word(word), Parsed::Positional(key, found)) => {
             place == Some(*key) && word.as_bytes() == found.as_bytes()
         }
         (Item::Option(own, values), _) => match plan.options.get(*own) {
-            Some(option) => is_option(option, values, said),
+            Some(option) => is_option(option, values, parsed),
             None => false,
         },
         _ => false,
     }
 }
 
-// Whether these are read, with the keys of the positional arguments.
+// Whether these items were read, with the keys of the positionals.
 fn are_items(
     alloc: Global,
     plan: &Plan,
     items: &[Item<'_>],
-    said: &[KeySaid],
+    parsed: &[KeyParsed],
 ) -> Result<bool, AllocError> {
     let places = places_of(alloc, plan, count_of(items))?;
     let mut words = 0usize;
-    for (item, own) in items.iter().zip(said) {
+    for (item, own) in items.iter().zip(parsed) {
         if !is_item(plan, item, places.get(words).copied(), own) {
             return Ok(false);
         }
@@ -73,10 +73,10 @@ fn are_items(
             words = words.saturating_add(1);
         }
     }
-    Ok(items.len() == said.len())
+    Ok(items.len() == parsed.len())
 }
 
-// Whether a line is what the plain reader finds.
+// Whether the library and the plain reader agree on a line.
 fn is_line(
     alloc: Global,
     plan: &Plan,
@@ -89,7 +89,7 @@ fn is_line(
     };
     match (asked(plan, &reading.items), mistake, line) {
         (Some(wanted), _, Line::Asked(found)) => Ok(wanted == *found),
-        (None, None, Line::Said(said)) => are_items(alloc, plan, &reading.items, said),
+        (None, None, Line::Parsed(parsed)) => are_items(alloc, plan, &reading.items, parsed),
         (None, Some(mistake), Line::Refused(refused)) => {
             Ok(
                 refused.mistake.to_string(alloc)? == *mistake
@@ -100,8 +100,8 @@ fn is_line(
     }
 }
 
-// How many lines are read as the plain reader reads them, up to the first that is not.
-fn lines_read_so(
+// How many lines agree, up to the first that does not.
+fn lines_that_agree(
     alloc: Global,
     plan: &'static Plan,
     options: &KeyOptions,
@@ -119,10 +119,10 @@ fn lines_read_so(
     Ok(lines)
 }
 
-// The same with options that can be declared.
-fn lines_of(alloc: Global, plan: &'static Plan) -> Result<usize, AllocError> {
+// How many lines agree under this declaration; 0 if it cannot be declared.
+fn count_lines(alloc: Global, plan: &'static Plan) -> Result<usize, AllocError> {
     match Options::try_new(plan) {
-        Ok(options) => lines_read_so(alloc, plan, &options),
+        Ok(options) => lines_that_agree(alloc, plan, &options),
         Err(_) => Ok(0),
     }
 }
@@ -131,7 +131,7 @@ fn lines_of(alloc: Global, plan: &'static Plan) -> Result<usize, AllocError> {
 #[test]
 fn lines(rt: HostRuntime) {
     for plan in plans() {
-        let lines = lines_of(rt.alloc(), plan).expect(&rt, "memory");
+        let lines = count_lines(rt.alloc(), plan).expect(&rt, "memory");
         assert_eq!(rt; lines, 1885, "{}", plan.program);
     }
 }

@@ -1,6 +1,6 @@
-//! A plain reader of declared options, written from the rules alone. It looks at a declaration, and
-//! calls nothing of the library. It reads words of ASCII without `=` in a cluster and without
-//! characters that messages escape, and gives no hints.
+//! A plain reader of declared options, written from the rules alone. It uses the declaration, and
+//! calls nothing of the library. It reads words of ASCII, without `=` in a cluster and without
+//! characters that messages escape, and it gives no hints.
 use crate::ends::{count_of, may_repeat, missing, name_of};
 use lexopt_options::{Declaration, Kind, Names, Positional, Words};
 use std::alloc::{AllocError, Global};
@@ -13,7 +13,7 @@ pub enum Key {
     User,
 }
 
-/// The key of a positional argument.
+/// The key of a positional.
 #[derive(Debug, Clone, Copy, PartialEq, Eq)]
 pub enum Place {
     First,
@@ -25,7 +25,7 @@ pub type Plan = Declaration<'static, Key, Key, Place, Key, Key>;
 
 pub type PlanWord = Positional<'static, Place>;
 
-/// What is read.
+/// An item of a line.
 #[derive(Debug, PartialEq, Eq, Drop)]
 pub enum Item<'w> {
     /// The option at this place of the declaration, and its values.
@@ -33,14 +33,14 @@ pub enum Item<'w> {
     Word(&'w str),
 }
 
-/// What a line is read as.
+/// The reading of a line.
 #[derive(Drop)]
 pub struct Reading<'w> {
-    /// What is read, up to the mistake if there is one.
+    /// The items, up to the mistake if there is one.
     pub items: Vec<Item<'w>>,
-    /// Why the words cannot be read on.
+    /// The mistake at which the reading stopped, if there is one.
     pub mistake: Option<String>,
-    /// What is wrong at the end, if the words can be read to it.
+    /// The mistake at the end of the line, if there is one.
     pub missing: Option<String>,
 }
 
@@ -51,29 +51,29 @@ pub enum Typed<'w> {
     Long(&'w str),
 }
 
-// What the words so far leave open.
+// What the words so far leave pending.
 #[derive(Clone, Copy)]
-enum Open<'w> {
+enum Pending<'w> {
     Nothing,
-    // The next word is the value of the last item, of this placeholder and name.
+    // The next word is the value of the last item, whose option has this placeholder and this name.
     Value(&'static str, Typed<'w>),
-    // Plain words that follow are values of the last item.
+    // The plain words that follow are values of the last item.
     Values(&'static str, Typed<'w>),
 }
 
-/// What can come after words.
+/// What can come after some words.
 #[derive(Debug, Clone, Copy, PartialEq, Eq)]
-pub enum Left {
-    /// An option, or a word that is no value.
+pub enum Next {
+    /// An option, or a word that is not a value.
     Option,
     /// An option, or a value of the option at this place.
     OptionOrValue(usize),
     /// A value of the option at this place, and nothing else.
     Value(usize),
-    /// A value of the option at this place that is not like an option, and nothing else.
+    /// A value of the option at this place that is a plain word, and nothing else.
     PlainValue(usize),
-    /// A positional argument, and nothing else.
-    Argument,
+    /// A positional, and nothing else.
+    Positional,
     /// Nothing: the words have a mistake.
     Nothing,
 }
@@ -82,11 +82,11 @@ pub enum Left {
 struct Reader<'w> {
     alloc: Global,
     plan: &'static Plan,
-    // The lists of values are looked at.
+    // Whether values that are not in a list are refused.
     lists: bool,
     items: Vec<Item<'w>>,
-    open: Open<'w>,
-    ended: bool,
+    pending: Pending<'w>,
+    after_separator: bool,
 }
 
 // Whether an option has this name.
@@ -105,7 +105,7 @@ pub fn place_of(plan: &Plan, typed: Typed<'_>) -> Option<usize> {
         .position(|option| is_named(option.names, typed))
 }
 
-/// An option as messages have it.
+/// The text of an option in messages.
 pub fn text_of(alloc: Global, typed: Typed<'_>) -> Result<String, AllocError> {
     match typed {
         Typed::Short(character) => format!(in alloc; "-{character}"),
@@ -113,12 +113,12 @@ pub fn text_of(alloc: Global, typed: Typed<'_>) -> Result<String, AllocError> {
     }
 }
 
-// Whether a word is not an option before the separator, and not the separator.
+// Whether a word before the separator is a plain word: neither an option nor the separator.
 fn is_plain(word: &str) -> bool {
     word == "-" || !word.starts_with('-')
 }
 
-// Whether no more positional arguments can come after these.
+// Whether no more positionals can come after these items.
 fn is_full(plan: &Plan, items: &[Item<'_>]) -> bool {
     !plan.positionals.iter().any(|own| may_repeat(own.count))
         && count_of(items) >= plan.positionals.len()
@@ -157,14 +157,14 @@ fn unlisted(alloc: Global, plan: &Plan, item: &Item<'_>) -> Result<Option<String
 }
 
 impl<'w> Reader<'w> {
-    // Adds an option without values so far.
+    // Adds an option, without values so far.
     fn add(&mut self, place: usize) -> Result<(), AllocError> {
         let item = Item::Option(place, Vec::new(self.alloc));
         Ok(self.items.push(item)?)
     }
 
     // Adds a value to the last item.
-    fn give(&mut self, value: &'w str) -> Result<(), AllocError> {
+    fn add_value(&mut self, value: &'w str) -> Result<(), AllocError> {
         if let Some(Item::Option(_, values)) = self.items.last_mut() {
             values.push(value)?;
         }
@@ -179,9 +179,9 @@ impl<'w> Reader<'w> {
         }
     }
 
-    // The mistake that the last item has a value that its option does not accept. It is then not
-    // among what is read.
-    fn refuse(&mut self) -> Result<Option<String>, AllocError> {
+    // The mistake that the last item has a value that its option does not accept, if it does. The
+    // item is then removed.
+    fn refuse_value(&mut self) -> Result<Option<String>, AllocError> {
         let mistake = match self.items.last() {
             Some(item) if self.lists => unlisted(self.alloc, self.plan, item)?,
             _ => None,
@@ -192,18 +192,18 @@ impl<'w> Reader<'w> {
         Ok(mistake)
     }
 
-    // The mistake that the option that is open has no value, if it needs one, or one that it does
-    // not accept.
+    // Ends a pending option. Returns the mistake if it has no value, or a value that it does not
+    // accept.
     fn close(&mut self) -> Result<Option<String>, AllocError> {
-        let (placeholder, typed) = match self.open {
-            Open::Nothing => return Ok(None),
-            Open::Value(placeholder, typed) | Open::Values(placeholder, typed) => {
+        let (placeholder, typed) = match self.pending {
+            Pending::Nothing => return Ok(None),
+            Pending::Value(placeholder, typed) | Pending::Values(placeholder, typed) => {
                 (placeholder, typed)
             }
         };
-        self.open = Open::Nothing;
+        self.pending = Pending::Nothing;
         if self.has_values() {
-            return self.refuse();
+            return self.refuse_value();
         }
         let _without_value = self.items.pop();
         let option = text_of(self.alloc, typed)?;
@@ -211,7 +211,7 @@ impl<'w> Reader<'w> {
     }
 
     // Reads an option and the value that follows it in its word. Returns the mistake, if there is
-    // one, and whether the rest of the word is read.
+    // one, and whether the whole word is read.
     fn read_option(
         &mut self,
         typed: Typed<'w>,
@@ -243,27 +243,27 @@ impl<'w> Reader<'w> {
             Kind::Value(_, placeholder) => {
                 self.add(place)?;
                 if value.is_none() {
-                    self.open = Open::Value(placeholder, typed);
+                    self.pending = Pending::Value(placeholder, typed);
                 }
             }
             Kind::Maybe(_, _) => self.add(place)?,
             Kind::Values(_, placeholder) => {
                 self.add(place)?;
                 if !joined || value.is_none() {
-                    self.open = Open::Values(placeholder, typed);
+                    self.pending = Pending::Values(placeholder, typed);
                 }
             }
         }
         if let Some(value) = value {
-            self.give(value)?;
-            if let Open::Nothing = self.open {
-                return Ok((self.refuse()?, true));
+            self.add_value(value)?;
+            if let Pending::Nothing = self.pending {
+                return Ok((self.refuse_value()?, true));
             }
         }
         Ok((None, true))
     }
 
-    // Reads what follows the only leading dash of a word.
+    // Reads a cluster: what follows the only leading dash of a word.
     fn read_cluster(&mut self, cluster: &'w str) -> Result<Option<String>, AllocError> {
         let mut rest = cluster.chars();
         for _ in 0..cluster.len() {
@@ -279,7 +279,7 @@ impl<'w> Reader<'w> {
         Ok(None)
     }
 
-    // Reads what follows the two leading dashes of a word.
+    // Reads a long option: what follows the two leading dashes of a word.
     fn read_long(&mut self, long: &'w str) -> Result<Option<String>, AllocError> {
         let (name, value) = match long.split_once('=') {
             Some((name, value)) => (name, Some(value)),
@@ -288,9 +288,9 @@ impl<'w> Reader<'w> {
         Ok(self.read_option(Typed::Long(name), value)?.0)
     }
 
-    // Reads a word that no option takes.
+    // Reads a word that is not a value.
     fn read_own(&mut self, word: &'w str) -> Result<Option<String>, AllocError> {
-        if self.ended || is_plain(word) {
+        if self.after_separator || is_plain(word) {
             if is_full(self.plan, &self.items) {
                 return Ok(Some(format!(in self.alloc; "unexpected argument \"{word}\"")?));
             }
@@ -298,7 +298,7 @@ impl<'w> Reader<'w> {
             return Ok(None);
         }
         if word == "--" {
-            self.ended = true;
+            self.after_separator = true;
             return Ok(None);
         }
         match word.strip_prefix("--") {
@@ -309,16 +309,16 @@ impl<'w> Reader<'w> {
 
     // Reads a word. Returns the mistake, if there is one.
     fn read_word(&mut self, word: &'w str) -> Result<Option<String>, AllocError> {
-        let takes = match self.open {
-            Open::Nothing => false,
-            Open::Value(_, _) => true,
-            Open::Values(_, _) => is_plain(word),
+        let takes = match self.pending {
+            Pending::Nothing => false,
+            Pending::Value(_, _) => true,
+            Pending::Values(_, _) => is_plain(word),
         };
         if takes {
-            self.give(word)?;
-            if let Open::Value(_, _) = self.open {
-                self.open = Open::Nothing;
-                return self.refuse();
+            self.add_value(word)?;
+            if let Pending::Value(_, _) = self.pending {
+                self.pending = Pending::Nothing;
+                return self.refuse_value();
             }
             return Ok(None);
         }
@@ -338,7 +338,7 @@ impl<'w> Reader<'w> {
         Ok(None)
     }
 
-    // The same of all words.
+    // Reads these words to the end of the line. Returns the mistake, if there is one.
     fn read_all(&mut self, words: &[&'w str]) -> Result<Option<String>, AllocError> {
         match self.read_words(words)? {
             Some(mistake) => Ok(Some(mistake)),
@@ -347,21 +347,21 @@ impl<'w> Reader<'w> {
     }
 
     // What can come next.
-    fn left(&self) -> Left {
-        match (self.open, self.items.last()) {
-            (Open::Value(_, _), Some(Item::Option(place, _))) => Left::Value(*place),
-            (Open::Values(_, _), Some(Item::Option(place, values))) => {
+    fn possible_next(&self) -> Next {
+        match (self.pending, self.items.last()) {
+            (Pending::Value(_, _), Some(Item::Option(place, _))) => Next::Value(*place),
+            (Pending::Values(_, _), Some(Item::Option(place, values))) => {
                 if values.is_empty() {
-                    Left::PlainValue(*place)
+                    Next::PlainValue(*place)
                 } else {
-                    Left::OptionOrValue(*place)
+                    Next::OptionOrValue(*place)
                 }
             }
             _ => {
-                if self.ended {
-                    Left::Argument
+                if self.after_separator {
+                    Next::Positional
                 } else {
-                    Left::Option
+                    Next::Option
                 }
             }
         }
@@ -375,12 +375,12 @@ fn new_reader<'w>(alloc: Global, plan: &'static Plan, lists: bool) -> Reader<'w>
         plan,
         lists,
         items: Vec::new(alloc),
-        open: Open::Nothing,
-        ended: false,
+        pending: Pending::Nothing,
+        after_separator: false,
     }
 }
 
-/// What the words are read as.
+/// The reading of these words as a line.
 pub fn read<'w>(
     alloc: Global,
     plan: &'static Plan,
@@ -397,22 +397,22 @@ pub fn read<'w>(
     })
 }
 
-/// What can come after these words, whatever lists accept, and how many positional arguments are
-/// among them.
-pub fn left_after(
+/// What can come after these words if lists accept every value, and how many of the words are
+/// positionals.
+pub fn next_after(
     alloc: Global,
     plan: &'static Plan,
     words: &[&str],
-) -> Result<(Left, usize), AllocError> {
+) -> Result<(Next, usize), AllocError> {
     let mut reader = new_reader(alloc, plan, false);
     match reader.read_words(words)? {
-        Some(_) => Ok((Left::Nothing, 0)),
-        None => Ok((reader.left(), count_of(&reader.items))),
+        Some(_) => Ok((Next::Nothing, 0)),
+        None => Ok((reader.possible_next(), count_of(&reader.items))),
     }
 }
 
 /// Whether the last of these words is read as the option at this place, without a value so far,
-/// after `count` other things.
+/// after `count` other items.
 pub fn ends_in_option(
     alloc: Global,
     plan: &'static Plan,

@@ -1,9 +1,9 @@
-//! The words of the lines, and the declarations that they are read by.
+//! The words of the lines, and the declarations by which they are read.
 use crate::plain::{Key, Place, Plan};
 use lexopt_options::{Names, declare};
 
-/// The words of the lines. No name that is typed is near another one that is declared, nor begins
-/// it.
+/// The words of the lines. No name in them is near another declared name, or begins one, so no
+/// message has a hint.
 pub static WORDS: [&str; 12] = [
     "-v",
     "-vx",
@@ -19,7 +19,7 @@ pub static WORDS: [&str; 12] = [
     "--verbose=1",
 ];
 
-/// The words that may come after a spelling: these, and one more.
+/// The words that may come after a spelling: the words of the lines, and `x`.
 pub static MORE_WORDS: [&str; 13] = [
     "-v",
     "-vx",
@@ -36,7 +36,8 @@ pub static MORE_WORDS: [&str; 13] = [
     "x",
 ];
 
-/// What is tried first after a spelling: most lines that can be legal are legal with one of these.
+/// Words that are tried first after a spelling. Most spellings that can come have a legal line with
+/// one of these.
 pub static TAILS: [&[&str]; 19] = [
     &[],
     &["a"],
@@ -59,14 +60,14 @@ pub static TAILS: [&[&str]; 19] = [
     &["-vx", "-uu", "a"],
 ];
 
-/// The spellings of all declared options: of each option the character first.
+/// The spellings of all declared options. The short name of an option comes first.
 pub static SPELLINGS: [&str; 7] = ["-v", "--verbose", "-x", "-u", "--user", "-h", "--help"];
 
-/// What is typed where spellings and values are offered.
+/// The typed words for which spellings and values are offered.
 pub static FRONTS: [&str; 8] = ["", "-", "--", "--u", "--user=", "u", "-uu", "-vu="];
 
-// An option with a list of values is required, and there are two arguments, of which the first may
-// occur more than once, and the second has a list of words.
+// A required option with a list of values, and two positionals. The first may occur more than once,
+// and the second has a list of words.
 static SOURCES: Plan = declare! {
     program: "sources",
     options: [
@@ -79,8 +80,8 @@ static SOURCES: Plan = declare! {
     positionals: [at_least_once(Place::First, "SOURCE"), once(Place::Second, "DEST").one_of(&["a", "u"])],
 };
 
-// Two options are required, one of them by a character alone. No help is declared. The first
-// argument, which may be left out, has a list of words.
+// Two required options, one with a short name only. No help is declared. The first positional,
+// which may be left out, has a list of words.
 static RENAME: Plan = declare! {
     program: "rename",
     options: [
@@ -94,7 +95,7 @@ static RENAME: Plan = declare! {
     ],
 };
 
-// No option is required, and one has several values. Two of three arguments have lists of words.
+// No required option, and one with several values. Two of three positionals have lists of words.
 static OPEN: Plan = declare! {
     program: "open",
     options: [
@@ -110,7 +111,7 @@ static OPEN: Plan = declare! {
     ],
 };
 
-// The help, the version, and any number of arguments.
+// The help, the version, and any number of positionals.
 static ASKED: Plan = declare! {
     program: "asked",
     options: [
@@ -121,8 +122,7 @@ static ASKED: Plan = declare! {
     positionals: [any_number(Place::First, "FILE")],
 };
 
-// An option with several values and one whose value may be left out are required, and each has a
-// list of values.
+// A required option with several values and one with an optional value, each with a list of values.
 static STRICT: Plan = declare! {
     program: "strict",
     options: [
@@ -136,7 +136,7 @@ static STRICT: Plan = declare! {
     ],
 };
 
-/// The declarations that lines are read by.
+/// The declarations by which lines are read.
 pub fn plans() -> [&'static Plan; 5] {
     [&SOURCES, &RENAME, &OPEN, &ASKED, &STRICT]
 }

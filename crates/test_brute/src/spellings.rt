@@ -1,7 +1,7 @@
-//! The spellings and values that are offered, beside the plain reader.
+//! The spellings and values that are offered, compared with the plain reader.
 use crate::ends::owners_after;
 use crate::plain::{
-    Item, Key, Left, Place, Plan, Reading, Typed, ends_in_option, left_after, list_at, place_of,
+    Item, Key, Next, Place, Plan, Reading, Typed, ends_in_option, list_at, next_after, place_of,
     read,
 };
 use crate::plans::{FRONTS, MORE_WORDS, SPELLINGS, TAILS, WORDS, plans};
@@ -19,7 +19,7 @@ struct Spelling {
     place: usize,
 }
 
-// The place of the option of this spelling.
+// The place of the option with this spelling, if it is declared.
 fn place_of_spelling(plan: &Plan, spelling: &str) -> Option<usize> {
     match spelling.strip_prefix("--") {
         Some(name) => place_of(plan, Typed::Long(name)),
@@ -43,8 +43,8 @@ fn spellings_of(alloc: Global, plan: &Plan) -> Result<Vec<Spelling>, AllocError>
     Ok(spellings)
 }
 
-// Whether a legal line says what these words say, and then the option at this place.
-fn goes_on(front: &Reading<'static>, place: usize, line: &Reading<'static>) -> bool {
+// Whether a legal line is read as `front` and then the option at this place.
+fn continues_with(front: &Reading<'static>, place: usize, line: &Reading<'static>) -> bool {
     line.mistake.is_none()
         && line.missing.is_none()
         && line.items.starts_with(&front.items)
@@ -54,7 +54,7 @@ fn goes_on(front: &Reading<'static>, place: usize, line: &Reading<'static>) -> b
         )
 }
 
-// These words, the spelling, and those.
+// The words `before`, the spelling, and the words `after`.
 fn joined(
     alloc: Global,
     before: &[&'static str],
@@ -72,8 +72,8 @@ fn joined(
     Ok(words)
 }
 
-// Whether a spelling can come after these words: with one of the tails, or with at most two words,
-// after it some line is legal in which it is its option.
+// Whether a spelling can come after these words: a line with one of `TAILS` or with at most two
+// words after the spelling is legal, and the spelling is its option there.
 fn can_come(
     alloc: Global,
     plan: &'static Plan,
@@ -89,16 +89,16 @@ fn can_come(
     }
     for after in TAILS {
         let words = joined(alloc, before, spelling.text, after)?;
-        if goes_on(&front, spelling.place, &read(alloc, plan, &words)?) {
+        if continues_with(&front, spelling.place, &read(alloc, plan, &words)?) {
             return Ok(true);
         }
     }
-    // The numbers of the lists of at most two of the words.
+    // The numbers of the lists of at most two of the words are below the square of `base`.
     let base = MORE_WORDS.len().saturating_add(1);
     for number in 0..base.saturating_mul(base) {
         if let Some(after) = list_of(alloc, &MORE_WORDS, number)? {
             let words = joined(alloc, before, spelling.text, &after)?;
-            if goes_on(&front, spelling.place, &read(alloc, plan, &words)?) {
+            if continues_with(&front, spelling.place, &read(alloc, plan, &words)?) {
                 return Ok(true);
             }
         }
@@ -107,7 +107,7 @@ fn can_come(
 }
 
 // The spellings that can come after these words.
-fn comers(
+fn possible_spellings(
     alloc: Global,
     plan: &'static Plan,
     before: &[&'static str],
@@ -121,20 +121,20 @@ fn comers(
     Ok(found)
 }
 
-// Whether exactly those of these spellings that begin with what was typed are offered.
-fn are_offered(comers: &[Spelling], typed: &str, offered: &[Offered<'_>]) -> bool {
-    let wanted = comers
+// Whether exactly the possible spellings that begin with what was typed are offered.
+fn are_offered(possible_spellings: &[Spelling], typed: &str, offered: &[Offered<'_>]) -> bool {
+    let wanted = possible_spellings
         .iter()
         .filter(|spelling| spelling.text.starts_with(typed));
     wanted.count() == offered.len()
-        && comers
+        && possible_spellings
             .iter()
             .filter(|spelling| spelling.text.starts_with(typed))
             .zip(offered)
             .all(|(spelling, own)| spelling.text == own.text.as_str())
 }
 
-// The option whose value is typed after the `=` of its name, and what comes before the value.
+// The option whose value is typed after `=`, and the part of the word before the value.
 fn joined_to_name(plan: &Plan, typed: &'static str) -> Option<(usize, &'static str)> {
     let (name, value) = typed.strip_prefix("--")?.split_once('=')?;
     let place = place_of(plan, Typed::Long(name))?;
@@ -149,7 +149,7 @@ fn is_flag(plan: &Plan, place: usize) -> bool {
     }
 }
 
-// The option whose value is typed in its cluster, and what comes before the value.
+// The option whose value is typed in its cluster, and the part of the word before the value.
 fn joined_in_cluster(plan: &Plan, typed: &'static str) -> Option<(usize, &'static str)> {
     let mut rest = typed.strip_prefix('-')?.chars();
     while let Some(character) = rest.next() {
@@ -167,7 +167,7 @@ fn joined_in_cluster(plan: &Plan, typed: &'static str) -> Option<(usize, &'stati
     None
 }
 
-// The option whose value is typed in its word, and what comes before the value.
+// The option whose value is typed in its word, and the part of the word before the value.
 fn joined_option(plan: &Plan, typed: &'static str) -> Option<(usize, &'static str)> {
     if typed.starts_with("--") {
         joined_to_name(plan, typed)
@@ -177,7 +177,7 @@ fn joined_option(plan: &Plan, typed: &'static str) -> Option<(usize, &'static st
 }
 
 // Adds the texts that begin with what was typed.
-fn add_begun(
+fn add_matching(
     alloc: Global,
     values: &mut Vec<String>,
     texts: &[&str],
@@ -191,26 +191,26 @@ fn add_begun(
     Ok(())
 }
 
-// The values in lists that can come, where this can come next and this was typed, and a word can
-// belong to positional arguments that accept these words.
+// The values of lists that can complete a typed word, if `next` can come there and `words` are in
+// the lists of the positionals to which the word can belong.
 fn values_of(
     alloc: Global,
     plan: &Plan,
-    left: Left,
+    next: Next,
     words: &[&str],
     typed: &'static str,
 ) -> Result<Vec<String>, AllocError> {
     let mut values = Vec::new(alloc);
-    match left {
-        Left::OptionOrValue(place) | Left::Value(place) | Left::PlainValue(place) => {
+    match next {
+        Next::OptionOrValue(place) | Next::Value(place) | Next::PlainValue(place) => {
             let own = list_at(plan, place).unwrap_or(&[]);
-            add_begun(alloc, &mut values, own, typed)?;
+            add_matching(alloc, &mut values, own, typed)?;
         }
-        Left::Option | Left::Argument => add_begun(alloc, &mut values, words, typed)?,
-        Left::Nothing => {}
+        Next::Option | Next::Positional => add_matching(alloc, &mut values, words, typed)?,
+        Next::Nothing => {}
     }
-    if let (Left::Option | Left::OptionOrValue(_), Some((place, before))) = (
-        left,
+    if let (Next::Option | Next::OptionOrValue(_), Some((place, before))) = (
+        next,
         joined_option(plan, typed),
     ) {
         for value in list_at(plan, place).unwrap_or(&[]) {
@@ -223,33 +223,33 @@ fn values_of(
     Ok(values)
 }
 
-// Whether a word would be a positional argument, where this can come next and this was typed.
-fn is_argument(left: Left, typed: &str) -> bool {
-    left == Left::Argument || (left == Left::Option && !typed.starts_with('-'))
+// Whether a typed word can be a positional, if `next` can come there.
+fn can_be_positional(next: Next, typed: &str) -> bool {
+    next == Next::Positional || (next == Next::Option && !typed.starts_with('-'))
 }
 
-// For how many of what can be typed after these words what is offered is right.
-fn right_after(
+// For how many typed words the right spellings and values are offered after these words.
+fn count_right_after(
     alloc: Global,
     plan: &'static Plan,
     options: &KeyOptions,
     before: &[&'static str],
 ) -> Result<usize, AllocError> {
-    let comers = comers(alloc, plan, before)?;
-    let (left, count) = left_after(alloc, plan, before)?;
+    let possible_spellings = possible_spellings(alloc, plan, before)?;
+    let (next, count) = next_after(alloc, plan, before)?;
     let (owners, own_words) = owners_after(alloc, plan, count)?;
     let words = words_of(alloc, before)?;
     let mut right = 0usize;
     for typed in FRONTS {
         let word = OsString::from_bytes(alloc, typed.as_bytes())?;
         let completion = options.complete(alloc, &words, &word)?;
-        let arguments: &[usize] = if is_argument(left, typed) {
+        let arguments: &[usize] = if can_be_positional(next, typed) {
             &owners
         } else {
             &[]
         };
-        if are_offered(&comers, typed, &completion.spellings)
-            && completion.values == values_of(alloc, plan, left, &own_words, typed)?
+        if are_offered(&possible_spellings, typed, &completion.spellings)
+            && completion.values == values_of(alloc, plan, next, &own_words, typed)?
             && completion.arguments.as_slice() == arguments
         {
             right = right.saturating_add(1);
@@ -258,26 +258,31 @@ fn right_after(
     Ok(right)
 }
 
-// The same after no word, and after each one and each two of the words.
-fn right_of(alloc: Global, plan: &'static Plan) -> Result<usize, AllocError> {
+// The same, counted after no word, and after each one and each two of the words.
+fn count_right(alloc: Global, plan: &'static Plan) -> Result<usize, AllocError> {
     let Ok(options) = Options::try_new(plan) else {
         return Ok(0);
     };
-    let mut right = right_after(alloc, plan, &options, &[])?;
+    let mut right = count_right_after(alloc, plan, &options, &[])?;
     for word in WORDS {
-        right = right.saturating_add(right_after(alloc, plan, &options, &[word])?);
+        right = right.saturating_add(count_right_after(alloc, plan, &options, &[word])?);
         for second in WORDS {
-            right = right.saturating_add(right_after(alloc, plan, &options, &[word, second])?);
+            right = right.saturating_add(count_right_after(
+                alloc,
+                plan,
+                &options,
+                &[word, second],
+            )?);
         }
     }
     Ok(right)
 }
 
-// Eight things are typed after each of 1 + 12 + 144 lines.
+// Eight words are typed after each of 1 + 12 + 144 lines.
 #[test]
 fn spellings(rt: HostRuntime) {
     for plan in plans() {
-        let right = right_of(rt.alloc(), plan).expect(&rt, "memory");
+        let right = count_right(rt.alloc(), plan).expect(&rt, "memory");
         assert_eq!(rt; right, 1_256, "{}", plan.program);
     }
 }

@@ -1,4 +1,4 @@
--- What the clauses of `complete` and `answer` mean for the tool.
+-- The clauses of `complete` and `answer`, for the tool.
 use Rattle.std.proofs.Common.{◌≡◌, ℕ, List, [], ◌∷◌, ◌++◌, Some, None, subst, sym, ap, ◌∙◌, refl, map, option_map, Option, slice_get, string_bytes, codes, inl, inr, ⊎_elim, Bool, false}
 use Rattle.std.specs.Prelude.{String, if◌then◌else◌, unwrap_or}
 use Rattle.std.specs.Global.{Global}
@@ -41,7 +41,7 @@ use Rattle.test_callers.specs.declared.declared.Values.{Values}
 use Rattle.test_callers.specs.declared.declared.Word.{Word}
 use Rattle.test_callers.specs.Tool as by
 use Rattle.test_callers.specs.Tool.{AreInOrder, AsksToComplete, IsAsked, IsAskedFor, IsOffer, IsSameJoined, IsSameRole, ToolAnswer, ToolRequest, by_directories, by_files, line_after, line_at, line_at_after, line_of, owners_line, plus_line, role_line, source_of, spelled_line, spelled_lines, tool, tool_options, tool_positionals, tool_script}
-use Rattle.test_callers.proofs.Tool.{AreOfTool, refused_as, says}
+use Rattle.test_callers.proofs.Tool.{AreOfTool, refused_as, means}
 
 pub same_role : (options : List (Declared Flag Value Maybe Values)) (r : Option completion.Role) (found : Option (Role Flag Value Maybe Values)) → IsRoleAt options r found → IsSameRole r found
 same_role options None None is = is
@@ -195,7 +195,7 @@ asked_for words width text (for_version version, asks, is) = inr (version, asks,
 
 pub answered : (o : Options Flag Value Word Maybe Values) (words : List (List ℕ)) (width : ℕ) (a : Answer Flag Value Word Maybe Values) → AreOfTool o → IsAnswer o words width a
     → ToolAnswer words width a
-answered o words width (answer.Said own) its is = says o words own.items its is
+answered o words width (answer.Parsed own) its is = means o words own.items its is
 answered o words width (answer.Text text) its is =
     asked_for words width (string_bytes text) (subst (λ (d : Declaration). AskForText d words width (string_bytes text)) its.view is)
 answered o words width (answer.Refused refused) its is = refused_as o words refused its is
@@ -207,18 +207,18 @@ script o Fish text view is = is ∙ ap (λ (d : Declaration). fish_script d.prog
 
 pub requested : (o : Options Flag Value Word Maybe Values) (r : Request) (width : ℕ) (a : Answer Flag Value Word Maybe Values) → AreOfTool o → IsRequestAnswer o r width a → ToolRequest r width a
 requested o (request.Line words) width a its is = answered o words.items width a its is
-requested o (request.Completion before typed) width (answer.Said own) its is = is
+requested o (request.Completion before typed) width (answer.Parsed own) its is = is
 requested o (request.Completion before typed) width (answer.Text text) its is = offer o before.items typed (string_bytes text) its.view is
 requested o (request.Completion before typed) width (answer.Refused refused) its is = is
-requested o (request.Script shell) width (answer.Said own) its is = is
+requested o (request.Script shell) width (answer.Parsed own) its is = is
 requested o (request.Script shell) width (answer.Text text) its is = script o shell (string_bytes text) its.view is
 requested o (request.Script shell) width (answer.Refused refused) its is = is
-requested o request.Unknown width (answer.Said own) its is = is
+requested o request.Unknown width (answer.Parsed own) its is = is
 requested o request.Unknown width (answer.Text text) its is = is
 requested o request.Unknown width (answer.Refused refused) its is =
     (is.program ∙ ap (λ (d : Declaration). d.program) its.view, is.before, (is.name, is.variable ∙ ap (λ (d : Declaration). variable_name d.program) its.view, is.mistake))
 
--- what is asked for by a value of the variable
+-- the request that a value of the variable makes
 completes_by : (shell : Shell) → AsksToComplete (request_text (asks.Completion shell))
 completes_by Bash = inl refl
 completes_by Zsh = inr (inl refl)

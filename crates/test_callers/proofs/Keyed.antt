@@ -1,4 +1,4 @@
--- The option that a key, a role or the names in an error belong to.
+-- The option to which a key, a role or the names in an error belong.
 use Rattle.std.proofs.Common.{◌≡◌, ◌∙◌, ℕ, Bool, List, [], ◌∷◌, Some, None, Option, Ok, Err, Result, refl, sym, ap, subst, position}
 use Rattle.std.specs.Prelude.{option_and_then, option_map, slice_get}
 use Rattle.std.proofs.Math.Path.{fun_ext}
@@ -15,7 +15,7 @@ use Rattle.lexopt_declaration.specs.declared.declaration.Kind.{Kind}
 use Rattle.lexopt_declaration.specs.declared.declaration.Kind.TheVariants as kind
 use Rattle.lexopt_declaration.specs.declared.declaration.Names.{Names}
 use Rattle.lexopt_options.specs.Declarations.{options_of}
-use Rattle.lexopt_options.specs.Keys.{AreSaid, IsSaid}
+use Rattle.lexopt_options.specs.Keys.{AreParsedAs, IsParsedAs}
 use Rattle.lexopt_options.specs.Lines.{IsLineRead}
 use Rattle.lexopt_options.specs.Roles.{IsJoinedAt, IsRoleAt}
 use Rattle.lexopt_options.specs.Usage.{ConvertsFor, is_maybe, is_value, is_values, maybe_names, named, value_names, values_names}
@@ -25,8 +25,8 @@ use Rattle.lexopt_options.specs.declared.complete.Role.TheVariants as role
 use Rattle.lexopt_options.specs.declared.options.Options.{Options}
 use Rattle.lexopt_options.specs.declared.refused.Line.{Line}
 use Rattle.lexopt_options.specs.declared.refused.Line.TheVariants as line
-use Rattle.lexopt_options.specs.declared.said.Said.{Said}
-use Rattle.lexopt_options.specs.declared.said.Said.TheVariants as said
+use Rattle.lexopt_options.specs.declared.parsed.Parsed.{Parsed}
+use Rattle.lexopt_options.specs.declared.parsed.Parsed.TheVariants as parsed
 use Rattle.lexopt_options.specs.declared.usage.UsageError.{UsageError}
 use Rattle.test_callers.specs.Keyed.{Converts, HasKey, HaveKeys, IsConverted, IsKnown, IsKnownRole, asks_for_help, first_names, has_maybe, has_value, has_values}
 
@@ -86,25 +86,25 @@ values_first eq key options = first (is_values eq key) (has_values eq key) optio
 
 -- ---- keys
 
-one_key : {F V P M S : Type 0} (options : List (Declared F V M S)) (s : legal.Said) (own : Said F V P M S) → IsSaid options s own → HasKey options s own
-one_key options s (said.Flag key) is = is
-one_key options s (said.Value key word) is = is
-one_key options s (said.Maybe key value) is = is
-one_key options s (said.Values key values) is = is
-one_key options s (said.Positional key word) is = is
+one_key : {F V P M S : Type 0} (options : List (Declared F V M S)) (s : legal.Parsed) (own : Parsed F V P M S) → IsParsedAs options s own → HasKey options s own
+one_key options s (parsed.Flag key) is = is
+one_key options s (parsed.Value key word) is = is
+one_key options s (parsed.Maybe key value) is = is
+one_key options s (parsed.Values key values) is = is
+one_key options s (parsed.Positional key word) is = is
 
-keys : {F V P M S : Type 0} (options : List (Declared F V M S)) (l : List legal.Said) (own : List (Said F V P M S)) → AreSaid options l own → AllZip (HasKey options) l own
+keys : {F V P M S : Type 0} (options : List (Declared F V M S)) (l : List legal.Parsed) (own : List (Parsed F V P M S)) → AreParsedAs options l own → AllZip (HasKey options) l own
 keys options [] [] all = all
 keys options [] (o ∷ os) all = absurd all
 keys options (s ∷ l) [] all = absurd all
 keys options (s ∷ l) (o ∷ os) all = (one_key options s o all.0, keys options l os all.1)
 
 pub line_keys : {F V P M S : Type 0} (o : Options F V P M S) (words : List (List ℕ)) (l : Line F V P M S) → IsLineRead o words l → HaveKeys (options_of o) l
-line_keys o words (line.Said own) is = (is.0, keys (options_of o) is.0 own.items is.3)
+line_keys o words (line.Parsed own) is = (is.0, keys (options_of o) is.0 own.items is.3)
 line_keys o words (line.Asked asked) is = tt
 line_keys o words (line.Refused r) is = (_, keys (options_of o) _ r.before.items is.before, is.help ∙ help_first (options_of o))
 
--- ---- what can be typed
+-- ---- completion of a typed word
 
 pub known : {F V M S : Type 0} (options : List (Declared F V M S)) (j : Option completion.Joined) (found : Option (Joined F V M S)) → IsJoinedAt options j found → IsKnown options found
 known options None None is = tt

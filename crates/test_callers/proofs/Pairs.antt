@@ -1,4 +1,4 @@
--- Two replies to two calls.
+-- Two replies of two calls.
 use Rattle.std.proofs.Common.{◌≡◌, List, [], ◌∷◌, ◌++◌, map, Option, Some, ap, subst, ◌∙◌}
 use Rattle.std.specs.Option.{option_to_list}
 use Rattle.lexopt_spec.specs.UnreadLine.{UnreadLine}
@@ -13,7 +13,7 @@ no_others u v a b (z ∷ []) x y run = absurd run.2.2
 no_others u v a b (z ∷ w ∷ []) x y run = absurd run.2.2
 no_others u v a b (z ∷ w ∷ q ∷ front) x y run = absurd run.2.2
 
--- the last two of the replies are all of them
+-- two calls have two replies: the last and the one before it
 pub two_replies : (u v : UnreadLine) (a b : Call) (front before replies : List Reply) (first last : Option Reply) (x y : Reply)
     → Run u (a ∷ b ∷ []) (map reply_view replies) v → replies ≡ before ++ option_to_list last → before ≡ front ++ option_to_list first
     → first ≡ Some x → last ≡ Some y → Run u (a ∷ b ∷ []) (reply_view x ∷ reply_view y ∷ []) v

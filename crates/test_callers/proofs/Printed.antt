@@ -1,4 +1,4 @@
--- What the clause of `try_new` means for an option and two positionals.
+-- The clause of `try_new`, for an option and two positionals.
 use Rattle.std.proofs.Common.{◌≡◌, ℕ, suc, Bool, true, false, List, [], ◌∷◌, ◌++◌, Some, None, Option, length, map, refl, sym, subst, ap, ◌∙◌, codes, inl, inr, if◌then◌else◌}
 use Rattle.std.specs.Prelude.{◌&&◌, filter, option_map, slice_get, unwrap_or, is_none, zero}
 use Rattle.std.specs.Prelude.{IfOk, MatchResult, Result, String, string_bytes}
@@ -69,7 +69,7 @@ itself count.AtMostOnce more = let no : false ≡ true = more in cc
 itself count.AnyNumber more = refl
 itself count.AtLeastOnce more = refl
 
--- the second that may occur more than once is the one of index 1
+-- the second positional that may occur more than once has index 1
 twice : (help : List ℕ) (first second : Count) (values : List (List ℕ)) (index : ℕ) → IsSecondRepeated (two_words help first second values) index
     → (index ≡ 1) × ((repeats first && repeats second) ≡ true)
 twice help first second values zero is = let no : zero ≡ suc zero = is.before in cc
@@ -97,7 +97,7 @@ cannot : (values : List (List ℕ)) → list_fault (spec.listed values) ≡ Some
 cannot [] is = λ can. can.0 refl
 cannot (v ∷ vs) is = λ can. bad (list_all spec.is_listable (v ∷ vs)) can.1 is
 
--- the first whose list cannot be declared is the one of index 1
+-- the first positional whose list cannot be declared has index 1
 bad_one : (help : List ℕ) (first second : Count) (values : List (List ℕ)) (index : ℕ) → IsFirstBadList (two_words help first second values) index → (index ≡ 1) × (¬ CanBeListed values)
 bad_one help first second values zero is =
     let no : None ≡ Some spec.bad_list = ap (λ (o : Option spec.Positional). unwrap_or (option_map (λ (p : spec.Positional). list_fault p.words) o) None) is.here ∙ is.bad in
@@ -130,12 +130,12 @@ same_reason reason.BadPlaceholder = refl
 same_reason reason.BadList = refl
 same_reason reason.SameName = refl
 
--- the only option is the one of index 0
+-- the only option has index 0
 only_one : (character : ℕ) (help : List ℕ) (index : ℕ) (r : spec.Reason) → IsFirstFault (one_option character help) index r → index ≡ 0
 only_one character help zero r is = refl
 only_one character help (suc index) r is = let no : None ≡ Some (Some r) = is.here in cc
 
--- ---- all
+-- ---- the whole clause
 
 pub usage_of : {F V P M S : Type 0} (width character : ℕ) (help : List ℕ) (first second : Count) (values : List (List ℕ)) (d : Declaration F V P M S) (text : List ℕ)
     → declaration_view d ≡ small_tool character help first second values → IsUsageWith width d text → IsUsageOf width character help first second values text

@@ -1,11 +1,11 @@
--- A positional argument is one of the words.
+-- A positional is one of the words.
 use Rattle.std.proofs.Common.{◌≡◌, ℕ, List, [], ◌∷◌, Some, refl, ap, arith, suc, inl, inr}
 use Rattle.std.specs.Prelude.{Contains}
 use Rattle.lexopt_spec.specs.UnreadLine.{UnreadLine}
 use Rattle.lexopt_spec.specs.Steps.{Reply, positional, short, no_memory, NextStep, joined_value, equals_value, next_in_cluster, after_separator, next_word, ReadsPositional, no_word_left, word_left, ReadsWord, no_word, reads_separator, reads_long, reads_cluster, reads_positional}
 use Rattle.lexopt_base.specs.Replies.{IsReplyOfNext}
 
--- the word of a reply that is a positional argument
+-- the word of a reply that is a positional
 abbrev word_of : Reply → List ℕ
 word_of (positional w) = w
 word_of other = []
@@ -34,7 +34,7 @@ in_step u w after (next_in_cluster bytes tail goes reads) = let is : positional 
 in_step u w after (after_separator tail ended reads) = in_words u w after reads
 in_step u w after (next_word tail ended reads) = in_word u w after reads
 
--- a word that `next` can return as a positional argument is one of the words
+-- a word that `next` can return as a positional is one of the words
 pub positional_is_a_word : (u : UnreadLine) (w : List ℕ) → IsReplyOfNext u (Some (positional w)) → Contains u.words w
 positional_is_a_word u w (after, inl step) = in_step u w after step
 positional_is_a_word u w (after, inr refused) = let is : positional w ≡ no_memory = refused.reply_is in cc

@@ -1,4 +1,4 @@
--- The option that a key, a role or the names in an error belong to, by plain data.
+-- The option to which a key, a role or the names in an error belong, by plain data.
 use Rattle.std.specs.Prelude.{◌≡◌, ◌≢◌, ℕ, Bool, true, false, List, Option, Some, None, option_map}
 use Rattle.std.specs.Prelude.{option_and_then, position, slice_get, Result, Ok, Err, IsUtf8}
 use Rattle.std.specs.Borrow.{Bor}
@@ -17,8 +17,8 @@ use Rattle.lexopt_options.specs.declared.complete.Role.{Role}
 use Rattle.lexopt_options.specs.declared.complete.Role.TheVariants as role
 use Rattle.lexopt_options.specs.declared.refused.Line.{Line}
 use Rattle.lexopt_options.specs.declared.refused.Line.TheVariants as line
-use Rattle.lexopt_options.specs.declared.said.Said.{Said}
-use Rattle.lexopt_options.specs.declared.said.Said.TheVariants as said
+use Rattle.lexopt_options.specs.declared.parsed.Parsed.{Parsed}
+use Rattle.lexopt_options.specs.declared.parsed.Parsed.TheVariants as parsed
 use Rattle.lexopt_options.specs.declared.usage.UsageError.{UsageError}
 use Rattle.lexopt_options.specs.declared.usage.UsageError.TheVariants as usage
 
@@ -56,7 +56,7 @@ has_values eq key (kind.Values own placeholder) = eq own key
 has_values eq key kind.Help = false
 has_values eq key (kind.Version text) = false
 
--- the names of the first option of a kind that passes the test
+-- the names of the first option whose kind passes the test
 abbrev pub first_names : {F V M S : Type 0} → (Kind F V M S → Bool) → List (Declared F V M S)
     → Option Names
 first_names test options = option_and_then (λ i. option_map (λ o. o.names) (slice_get options i))
@@ -64,34 +64,34 @@ first_names test options = option_and_then (λ i. option_map (λ o. o.names) (sl
 
 -- ---- keys
 
--- the option of this index is of this kind, with its key
+-- the option of this index has this kind, with its key
 abbrev pub KindIs : {F V M S : Type 0} → List (Declared F V M S) → ℕ → Kind F V M S → Type 0
 KindIs options i k = option_map (λ o. o.kind) (slice_get options i) ≡ Some k
 
 -- an option with a key is the option of some index, which was declared with that key
-abbrev pub HasKey : {F V P M S : Type 0} → List (Declared F V M S) → legal.Said → Said F V P M S
+abbrev pub HasKey : {F V P M S : Type 0} → List (Declared F V M S) → legal.Parsed → Parsed F V P M S
     → Type 0
-HasKey options s (said.Flag key) =
+HasKey options s (parsed.Flag key) =
     (i : ℕ) × (s ≡ legal.option i None) × KindIs options i (kind.Flag key)
-HasKey options s (said.Value key word) = (i : ℕ) × (placeholder : _)
+HasKey options s (parsed.Value key word) = (i : ℕ) × (placeholder : _)
     × (s ≡ legal.option i (Some word)) × KindIs options i (kind.Value key placeholder)
-HasKey options s (said.Maybe key value) = (i : ℕ) × (placeholder : _)
+HasKey options s (parsed.Maybe key value) = (i : ℕ) × (placeholder : _)
     × (s ≡ legal.option i value) × KindIs options i (kind.Maybe key placeholder)
-HasKey options s (said.Values key values) = (i : ℕ) × (placeholder : _)
+HasKey options s (parsed.Values key values) = (i : ℕ) × (placeholder : _)
     × (s ≡ legal.several i values.items) × KindIs options i (kind.Values key placeholder)
-HasKey options s (said.Positional key word) = s ≡ legal.positional word
+HasKey options s (parsed.Positional key word) = s ≡ legal.positional word
 
--- So is each option of the line, also before a mistake. A refusal has the names of the first option
--- that asks for the help.
+-- Each option of the line has its key, also before a mistake. A refusal has the names of the first
+-- option that asks for the help.
 abbrev pub HaveKeys : {F V P M S : Type 0} → List (Declared F V M S) → Line F V P M S → Type 0
-HaveKeys options (line.Said own) = (l : List legal.Said) × AllZip (HasKey options) l own.items
+HaveKeys options (line.Parsed own) = (l : List legal.Parsed) × AllZip (HasKey options) l own.items
 HaveKeys options (line.Asked asked) = Unit {0}
-HaveKeys options (line.Refused r) = (l : List legal.Said)
+HaveKeys options (line.Refused r) = (l : List legal.Parsed)
     × AllZip (HasKey options) l r.before.items × (r.help ≡ first_names asks_for_help options)
 
--- ---- what can be typed
+-- ---- completion of a typed word
 
--- its option is one of the options, if it is there
+-- the option of a joined value, if there is one, is one of the options
 abbrev pub IsKnown : {F V M S : Type 0} → List (Declared F V M S) → Option (Joined F V M S) → Type 0
 IsKnown options None = Unit {0}
 IsKnown options (Some joined) = (i : ℕ) × (slice_get options i ≡ Some joined.option.now)
@@ -109,7 +109,7 @@ abbrev pub Converts : {T E : Type 0} → (List ℕ → Result T E → Type 0) �
 Converts gives converts word answer = (IsUtf8 word → (read : Result _ _) × gives word read
     × IsParsed converts word read answer) × ((IsUtf8 word → ⊥) → IsNotUnicode word answer)
 
--- the value; or the error with these names, unless memory ran out
+-- the value; or the error with these names; or that memory ran out
 abbrev pub IsConverted : {T E : Type 0} → Option Names → (List ℕ → Result T E → Type 0)
     → (E → Cause → Type 0) → List ℕ → Result T UsageError → Type 0
 IsConverted names gives converts word (Ok value) = Converts gives converts word (Ok value)

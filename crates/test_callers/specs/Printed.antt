@@ -1,4 +1,5 @@
--- What is printed of declared options, and which of two cannot be declared, in plain data.
+-- The texts of declared options and their errors, and which of two options cannot be declared, by
+-- plain data.
 use Rattle.std.specs.Prelude.{◌≡◌, ◌≢◌, ◌⊎◌, ◌&&◌, zero, suc, ℕ, Bool, true, false, List, []}
 use Rattle.std.specs.Prelude.{◌∷◌, ◌++◌, map, Option, Some, None, codes, encode_utf8}
 use Rattle.std.specs.Prelude.{string_bytes, nat_lt, ◌==◌, ◌||◌, if◌then◌else◌}
@@ -42,7 +43,7 @@ names_line (Short c) = codes "-" ++ encode_utf8 c
 names_line (Long name) = codes "--" ++ name.now
 names_line (Both c name) = codes "--" ++ name.now
 
--- why a list cannot be declared
+-- the reason why a list cannot be declared
 abbrev pub list_reason : List ℕ
 list_reason =
     codes "the list of its values is empty, or one of them is empty, begins with '-' or '=', "
@@ -69,7 +70,7 @@ declaration_line (refusal.BadList placeholder) =
 
 -- ---- a line that is refused
 
--- a control character of ASCII is printed as between quotes
+-- a control character of ASCII is printed as it is in quotes
 abbrev pub printed : ℕ → List ℕ
 printed c = if nat_lt c 0x20 || c == 0x7F then quoted_character c [] else encode_utf8 c
 
@@ -101,7 +102,7 @@ mistake_line (mistake.InvalidVariable name) = codes "invalid value of " ++ (stri
     ++ (codes ": one of bash_source, bash_complete, zsh_source, zsh_complete, fish_source, "
     ++ codes "fish_complete"))
 
--- where the help is
+-- the second line, which names the option for the help
 abbrev pub try_line : List ℕ → Option Names → List ℕ
 try_line program None = []
 try_line program (Some names) = codes "\nTry '"
@@ -111,7 +112,7 @@ abbrev pub refused_line : {F V P M S : Type 0} → Refused F V P M S → List �
 refused_line r = r.program.now
     ++ (codes ": " ++ (mistake_line r.mistake ++ try_line r.program.now r.help))
 
--- ---- a mistake that the program finds
+-- ---- a mistake that the program found
 
 abbrev pub of_option : Option Names → List ℕ
 of_option None = []
@@ -133,7 +134,7 @@ usage_line (usage.Text text) = text.now
 usage_line (usage.Formatted text) = string_bytes text
 usage_line usage.OutOfMemory = codes "out of memory"
 
--- unless memory ran out
+-- the second line of a mistake, and none if memory ran out
 abbrev pub try_after : List ℕ → Option Names → UsageError → List ℕ
 try_after program help (usage.Invalid names error) = try_line program help
 try_after program help (usage.Text text) = try_line program help
@@ -181,27 +182,27 @@ reason_of reason.BadPlaceholder = spec.bad_placeholder
 reason_of reason.BadList = spec.bad_list
 reason_of reason.SameName = spec.same_name
 
--- the character of the first of them, or of the second
+-- the character of the first option, or of the second
 abbrev pub character_at : ℕ → ℕ → ℕ
 character_at character zero = character
 character_at character (suc index) = 118
 
--- the option of this character is the first that cannot be declared, and why
+-- the option with this character is the first that cannot be declared, for this reason
 abbrev pub IsFaultOf : ℕ → List ℕ → List ℕ → List (List ℕ) → ℕ × Reason → Type 0
 IsFaultOf character name placeholder values fault = (index : ℕ)
     × IsFirstFault (two_options character name placeholder values) index (reason_of fault.1)
     × (fault.0 ≡ character_at character index)
 
--- ---- a declaration that is tried, by the definitions that the clause of `try_new` cites
+-- ---- a declaration, by the definitions that the clause of `try_new` cites
 
--- all of it can be declared together, and the text is its usage line in this width
+-- everything can be declared together, and the text is the usage line at this width
 abbrev pub IsUsageWith : {F V P M S : Type 0} → ℕ → Declaration F V P M S → List ℕ → Type 0
 IsUsageWith width d text = (is_sound (map option_view d.options.now) ≡ true)
     × (are_clear (map positional_view d.positionals.now) ≡ true)
     × (are_listable (map positional_view d.positionals.now) ≡ true)
     × IsUsage width (declaration_view d) text
 
--- not all of it can be declared together, and the text is what is printed of the error
+-- not everything can be declared together, and the text is that of the error
 abbrev pub IsErrorWith : {F V P M S : Type 0} → Declaration F V P M S → List ℕ → Type 0
 IsErrorWith d text = (error : DeclarationError) × IsDeclarationError d error
     × (text ≡ declaration_line error)
@@ -253,19 +254,19 @@ small_tool character help first second values = record {
   short_equals = true;
 }
 
--- it may occur more than once
+-- a positional with this count may occur more than once
 abbrev pub repeats : Count → Bool
 repeats count.Once = false
 repeats count.AtMostOnce = false
 repeats count.AnyNumber = true
 repeats count.AtLeastOnce = true
 
--- the list is not empty, and each of these can be in it
+-- a list is not empty, and each of these values can be in it
 abbrev pub CanBeListed : List (List ℕ) → Type 0
 CanBeListed values = (values ≢ []) × (list_all spec.is_listable values ≡ true)
 
--- The option can be declared, not both positionals may occur more than once, and the list of the
--- second can be declared. The text is the usage line in this width.
+-- The option can be declared, at most one positional may occur more than once, and the list of the
+-- second can be declared. The text is the usage line at this width.
 abbrev pub IsUsageOf : ℕ → ℕ → List ℕ → Count → Count → List (List ℕ) → List ℕ → Type 0
 IsUsageOf width character help first second values text =
     (is_sound (one_option character help) ≡ true)
@@ -273,8 +274,9 @@ IsUsageOf width character help first second values text =
     × IsUsage width (small_tool character help first second values) text
 
 -- The option cannot be declared, for the reason in the text. Or it can be declared, and both
--- positionals may occur more than once: the text says so of the second. Or not both may, and the
--- list of the second cannot be declared: the text says so.
+-- positionals may occur more than once, and the text names the second. Or the option can be
+-- declared, at most one positional may occur more than once, and the text reports the list of the
+-- second, which cannot be declared.
 abbrev pub IsErrorOf : ℕ → List ℕ → Count → Count → List (List ℕ) → List ℕ → Type 0
 IsErrorOf character help first second values text = ((reason : Reason)
     × IsFirstFault (one_option character help) 0 (reason_of reason)

@@ -1,5 +1,5 @@
-//! Callers of `next`, of `value` and of views, with clauses of their own. These rest on the clauses
-//! of the public calls alone.
+//! Callers of `next`, of `value` and of views. Their clauses are proved from the clauses of the
+//! public calls alone.
 ghost use Rattle.std.specs.Prelude.{◌≡◌, ◌≢◌, ◌↔◌, ℕ, List, [], ◌∷◌, Contains, None, Some, IfErr};
 ghost use Rattle.std.specs.Prelude.{IfNone, IfOk, IfSome, IsTrue};
 ghost use Rattle.std.specs.List.{cons_option};
@@ -14,8 +14,8 @@ use lexopt::replay::{Call, Reply, replay};
 use lexopt::{Arg, Error, OsString, Parser};
 use std::alloc::Global;
 
-/// Reads an option of one character and takes its value, as in `-n 10`. `None` if anything else
-/// comes, or no value.
+/// Reads a short option and takes its value, as in `-n 10`. Returns `None` if the line has
+/// something else there, or no value.
 pub fn option_and_value(
     alloc: Global,
     parser: &mut Parser,
@@ -32,8 +32,8 @@ pub fn option_and_value(
     }
 }
 
-/// Takes the next argument if it is positional. It is then a word of the line, byte for byte.
-/// Anything else is dropped.
+/// Reads the next argument, and returns it if it is a positional: a word of the line, byte for
+/// byte. An option is dropped.
 #[tactic(auto, using(crate::proofs::Words::positional_is_a_word))]
 pub fn next_file(parser: &mut Parser) -> Result<Option<OsString>, Error>
     ensures file { IfOk result (λ found. IfSome found (λ word. Contains parser.old.words word)) }
@@ -48,7 +48,8 @@ pub fn next_file(parser: &mut Parser) -> Result<Option<OsString>, Error>
     }
 }
 
-/// Takes two values of the last option, or one if there is no other. The words after them stay.
+/// Takes the first two values of the last option, or its only value. The words after them stay
+/// unread.
 pub fn two_values(parser: &mut Parser) -> Result<(Option<OsString>, Option<OsString>), Error>
     ensures ok { IfOk result (λ found.
         Step (values 2) parser.old (items (cons_option found.0 (cons_option found.1 [])))
@@ -62,7 +63,7 @@ pub fn two_values(parser: &mut Parser) -> Result<(Option<OsString>, Option<OsStr
     Ok((first, second))
 }
 
-/// Takes the next word if it is a dash and then a digit, as `-10`, which `next` would read as
+/// Takes the next word if it begins with a dash and a digit, as `-10`, which `next` would read as
 /// options.
 pub fn negative_number(parser: &mut Parser) -> Result<Option<OsString>, Error>
     ensures ok { IfOk result (λ found. (pending parser.old ≡ None)
@@ -78,7 +79,7 @@ pub fn negative_number(parser: &mut Parser) -> Result<Option<OsString>, Error>
     if is_wanted { Ok(view.next()) } else { Ok(None) }
 }
 
-// Whether a word is a dash, a digit, and whatever follows.
+// Whether a word begins with a dash and a digit.
 fn is_negative(word: &[u8]) -> bool
     ensures { IsTrue result ↔ IsNegative word.now }
 {

@@ -1,6 +1,6 @@
-//! Callers of declared options, with clauses of their own about one tool. The clauses of the public
-//! functions cite definitions over the types of Rust; these restate them by the grammar and by
-//! plain data, so that no such definition can become weaker unnoticed.
+//! Callers of declared options, for one tool. The clauses of the public functions cite definitions
+//! over the types of Rust. The clauses here state the same by the grammar and by plain data. If
+//! such a definition becomes weaker, they can no longer be proved.
 ghost use Rattle.std.specs.Prelude.{◌≡◌, ℕ, Contains, IfOk, List, Option, codes, map, option_map};
 ghost use Rattle.std.specs.Prelude.{string_bytes};
 ghost use Rattle.lexopt_options_spec.specs.Completion as completion;
@@ -8,9 +8,9 @@ ghost use Rattle.lexopt_options_spec.specs.Completion.{AreOwnersIn, Completes, H
 ghost use Rattle.lexopt_options_spec.specs.Completion.{offered_values};
 ghost use Rattle.lexopt_options_spec.specs.Declaration as spec;
 ghost use Rattle.lexopt_options_spec.specs.Help.{IsHelp};
-ghost use Rattle.lexopt_options_spec.specs.Leading.{SaysLeading};
+ghost use Rattle.lexopt_options_spec.specs.Leading.{MeansLeading};
 ghost use Rattle.lexopt_options_spec.specs.Legal as legal;
-ghost use Rattle.lexopt_options_spec.specs.Legal.{Says};
+ghost use Rattle.lexopt_options_spec.specs.Legal.{Means};
 ghost use Rattle.lexopt_items.specs.Items.{table_view};
 ghost use Rattle.test_callers.specs.Tool.{AreInOrder, IsAsked, IsSameJoined, IsSameRole};
 ghost use Rattle.test_callers.specs.Tool.{LeadingTells, ToolRequest, both_of, words_of};
@@ -34,7 +34,7 @@ pub enum Flag {
     Force,
 }
 
-/// Its options with a value.
+/// Its options with one value.
 #[derive(Clone, Copy)]
 pub enum Value {
     /// `-o`, `--output`.
@@ -43,7 +43,7 @@ pub enum Value {
     User,
 }
 
-/// Its positional arguments.
+/// Its positionals.
 #[derive(Clone, Copy)]
 pub enum Word {
     /// `FROM`.
@@ -54,7 +54,7 @@ pub enum Word {
     More,
 }
 
-/// Its options whose value may be left out.
+/// Its options with an optional value.
 #[derive(Clone, Copy)]
 pub enum Maybe {
     /// `--color`.
@@ -68,7 +68,7 @@ pub enum Values {
     Exclude,
 }
 
-// What the tool declares.
+// The declaration of the tool.
 static TOOL: Declaration<'static, Flag, Value, Word, Maybe, Values> = Declaration {
     program: "tool",
     about: "Works.",
@@ -171,26 +171,26 @@ pub fn read_line(
     words: Vec<OsString>,
 ) -> Result<Line<'static, Flag, Value, Word, Maybe, Values>, AllocError>
     ensures line { IfOk result (λ line. ToolLine words.items line) }
-    ensures answered { (l : List legal.Said) → Says tool words.items l
+    ensures answered { (l : List legal.Parsed) → Means tool words.items l
         → IfOk result (λ line. LineTells l line) }
 {
     Options::new(&TOOL).read(alloc, words)
 }
 
-/// Reads the options of a line of the tool up to its first positional.
+/// Reads the leading options of a line of the tool.
 pub fn read_leading(
     alloc: Global,
     words: Vec<OsString>,
 ) -> Result<Leading<'static, Flag, Value, Word, Maybe, Values>, AllocError>
     ensures leading { IfOk result (λ leading. ToolLeading words.items leading) }
-    ensures answered { (l : List legal.Said) (rest : List (List ℕ))
-        → SaysLeading tool words.items l rest
+    ensures answered { (l : List legal.Parsed) (rest : List (List ℕ))
+        → MeansLeading tool words.items l rest
         → IfOk result (λ leading. LeadingTells l rest leading) }
 {
     Options::new(&TOOL).read_leading(alloc, words)
 }
 
-/// What can be typed after these words of a line of the tool.
+/// What can complete a typed word after these words of a line of the tool.
 pub fn complete(
     alloc: Global,
     words: &[OsString],
@@ -220,7 +220,7 @@ pub fn complete(
     Options::new(&TOOL).complete(alloc, words, typed)
 }
 
-/// What the tool is to do about these words.
+/// What the tool does with these words.
 pub fn answer(
     alloc: Global,
     words: Vec<OsString>,
@@ -231,7 +231,7 @@ pub fn answer(
     Options::new(&TOOL).answer(alloc, words, width)
 }
 
-/// What the tool is to do about a request.
+/// What the tool does with a request.
 pub fn answer_request(
     alloc: Global,
     request: Request,
@@ -242,15 +242,15 @@ pub fn answer_request(
     Options::new(&TOOL).answer_request(alloc, request, width)
 }
 
-/// What is asked for by this value of the variable and these words.
+/// The request that this value of the variable and these words make.
 pub fn asked(alloc: Global, value: Option<&[u8]>, words: Vec<OsString>) -> Request
     ensures { IsAsked (option_map (λ v. v.now) value.entry) words.items result }
 {
     Request::new(alloc, value, words)
 }
 
-/// The variable of a program whose name has letters, a digit, another character of ASCII, and one
-/// of two bytes.
+/// The variable of a program whose name has letters, a digit, other characters of ASCII, and a
+/// character of two bytes.
 pub fn odd_variable(alloc: Global) -> Result<String, AllocError>
     ensures { IfOk result (λ name. string_bytes name ≡ codes "_AZ9_____COMPLETE") }
 {
@@ -266,7 +266,7 @@ pub fn usage_and_help(alloc: Global, width: usize) -> Result<(String, String), A
     Ok((options.usage(alloc, width)?, options.help(alloc, width)?))
 }
 
-/// The options of the tool that have values, as `read_items` takes them.
+/// The table of the options of the tool that have values.
 pub fn table(alloc: Global) -> Result<Table, AllocError>
     ensures { IfOk result (λ made. table_view made ≡ spec.table tool_options) }
 {

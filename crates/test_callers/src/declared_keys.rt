@@ -1,5 +1,5 @@
-//! Callers of declared options with any keys. Their clauses give, by plain data, the option that a
-//! key, a role or the names in an error belong to.
+//! Callers of declared options with any keys. Their clauses state, by plain data, to which option a
+//! key, a role or the names in an error belong.
 ghost use Rattle.std.specs.Prelude.{◌≡◌, IfOk};
 ghost use Rattle.test_callers.specs.Keyed.{HaveKeys, IsConverted, IsKnown, IsKnownRole};
 ghost use Rattle.test_callers.specs.Keyed.{asks_for_help, first_names, has_maybe, has_value};
@@ -20,7 +20,7 @@ pub fn read_line<'a, F: Copy, V: Copy, P: Copy, M: Copy, S: Copy>(
     options.read(alloc, words)
 }
 
-/// What can be typed.
+/// What can complete a typed word.
 pub fn complete<'a, F, V, P, M, S>(
     alloc: Global,
     options: &Options<'a, F, V, P, M, S>,
@@ -35,7 +35,7 @@ pub fn complete<'a, F, V, P, M, S>(
     options.complete(alloc, words, typed)
 }
 
-/// Converts a value of an option.
+/// Converts the value of an option.
 pub fn parse_value<'a, F, V: Copy + PartialEq, P, M, S, T: FromStr>(
     options: &Options<'a, F, V, P, M, S>,
     key: V,
@@ -50,7 +50,7 @@ where
     options.parse_value(key, word)
 }
 
-/// Converts a value that may be left out.
+/// Converts an optional value.
 pub fn parse_maybe<'a, F, V, P, M: Copy + PartialEq, S, T: FromStr>(
     options: &Options<'a, F, V, P, M, S>,
     key: M,
@@ -80,7 +80,7 @@ where
     options.parse_values(key, word)
 }
 
-/// A mistake that the program found, with what is printed around it.
+/// A mistake that the program found, with the text around it.
 pub fn report<'a, F, V, P, M, S>(
     options: &Options<'a, F, V, P, M, S>,
     error: UsageError<'a>,

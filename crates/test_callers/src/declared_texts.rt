@@ -1,5 +1,5 @@
-//! Callers of what prints names and errors, and of what refuses a declaration, with clauses of
-//! their own in plain data.
+//! Callers that print names and errors, and that declare options which may be refused. Their
+//! clauses state the texts by plain data.
 ghost use Rattle.std.specs.Prelude.{◌≡◌, ◌≢◌, IfOk, MatchResult, codes, map, string_bytes, true};
 ghost use Rattle.std.specs.Option.{MatchOption};
 ghost use Rattle.lexopt_options_spec.specs.Declaration.{is_sound};
@@ -46,7 +46,7 @@ pub fn missing_option_text(alloc: Global) -> Result<String, AllocError>
     format!(in alloc; "{mistake}")
 }
 
-/// Prints a mistake that a program finds itself.
+/// Prints a mistake that a program found itself.
 pub fn report_text(alloc: Global, report: &Report<'_>) -> Result<String, AllocError>
     ensures { IfOk result (λ text. string_bytes text ≡ report_line report.now) }
 {
@@ -61,8 +61,8 @@ pub fn report_status(report: &Report<'_>) -> u8
     report.status()
 }
 
-/// Declares two options, the second with a list of values. Returns the character of the first of
-/// them that cannot be declared, and why; `None` if both can be declared together.
+/// Declares two options, the second with a list of values. Returns the character of the first that
+/// cannot be declared, and the reason, or `None` if both can be declared together.
 pub fn fault_of_two(
     character: char,
     name: &str,
@@ -97,13 +97,13 @@ pub fn fault_of_two(
     }
 }
 
-// The usage line of what is declared, or what is printed of the error.
+// The usage line of a declaration, or the text of its error.
 fn usage_or_error_of<'a>(
     alloc: Global,
     width: usize,
     declaration: &'a Declaration<'a, Flag, Value, Word>,
 ) -> Result<Result<String, String>, AllocError>
-    ensures { IfOk result (λ told. MatchResult told
+    ensures { IfOk result (λ found. MatchResult found
         (λ text. IsUsageWith width declaration.now (string_bytes text))
         (λ text. IsErrorWith declaration.now (string_bytes text))) }
 {
@@ -113,8 +113,8 @@ fn usage_or_error_of<'a>(
     }
 }
 
-/// Declares an option and two positional arguments, the second with a list of words. Returns the
-/// usage line if they can be declared together, and what is printed of the error if they cannot.
+/// Declares an option and two positionals, the second with a list of words. Returns the usage line
+/// if they can be declared together, and otherwise the text of the error.
 pub fn usage_or_error(
     alloc: Global,
     width: usize,
@@ -125,7 +125,7 @@ pub fn usage_or_error(
     values: &[&str],
 ) -> Result<Result<String, String>, AllocError>
     ensures { let listed = map (λ value. value.now) values.now in
-        IfOk result (λ told. MatchResult told
+        IfOk result (λ found. MatchResult found
         (λ text. IsUsageOf width character help.now first second listed (string_bytes text))
         (λ text. IsErrorOf character help.now first second listed (string_bytes text))) }
 {

@@ -1,4 +1,5 @@
-//! Callers with clauses of their own, which rest on the clauses of the public calls alone.
+//! Callers of the library that exist for the prover. Each has clauses of its own, which are proved
+//! from the clauses of the public calls alone. `test_calls` runs some of them.
 #![tactic(auto)]
 
 pub mod callers;

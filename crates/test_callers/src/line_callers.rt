@@ -1,5 +1,5 @@
-//! Callers of whole lines and of lists of calls, with clauses of their own. These rest on the
-//! clauses of the public calls alone, and restate those by the grammar.
+//! Callers of whole lines and of lists of calls. Their clauses are proved from the clauses of the
+//! public calls alone, and state the same by the grammar.
 ghost use Rattle.std.specs.Prelude.{◌≡◌, ◌⊎◌, ◌+◌, ◌++◌, ◌≤◌, ℕ, List, Some, map, IfOk, IfErr};
 ghost use Rattle.std.specs.Prelude.{Bool, Err, IfSome, OnErr};
 ghost use Rattle.std.specs.List.{flat_map};
@@ -27,7 +27,7 @@ use lexopt::spell::{Reason, SpellError, spell};
 use lexopt::{Error, OsString, Parser};
 use std::alloc::Global;
 
-/// Makes calls, and accounts for each byte of the line.
+/// Makes calls. The clauses account for each byte of the line.
 pub fn account(alloc: Global, parser: &mut Parser, calls: &[Call]) -> Result<Vec<Reply>, Error>
     ensures bytes { IfOk result (λ replies. (segments : List Segment)
         × AccountedRun parser.old (map call_view calls.now) (map reply_view replies.items) segments
@@ -44,7 +44,8 @@ pub fn account(alloc: Global, parser: &mut Parser, calls: &[Call]) -> Result<Vec
     replay(alloc, parser, calls)
 }
 
-/// Spells items, and reads the words. `None` if the items cannot be spelled, or memory runs out.
+/// Spells items, and reads the words. Returns `None` if no words spell the items, or memory runs
+/// out.
 pub fn read_back(
     alloc: Global,
     items: &[Item],
@@ -63,7 +64,8 @@ pub fn read_back(
     }
 }
 
-/// Reads words, and spells what is read from them. `None` if they are refused, or memory runs out.
+/// Reads words, and spells their items. Returns `None` if the words are refused, or memory runs
+/// out.
 pub fn spelled_again(
     alloc: Global,
     words: Vec<OsString>,
@@ -124,7 +126,7 @@ pub fn read_line(
     read_items(alloc, words, short_equals, table)
 }
 
-/// Spells items. The error is the place of the item at fault and why it is, or nothing if memory
+/// Spells items. The error is the place of the item at fault and the reason, or `None` if memory
 /// runs out.
 pub fn spell_line(
     alloc: Global,
@@ -151,7 +153,7 @@ pub fn spell_line(
     }
 }
 
-/// What a script in memory writes.
+/// The output of a script in memory.
 pub fn output_of(alloc: Global, script: &[u8]) -> Result<Vec<u8>, RunError>
     ensures { IfOk result (λ text. IsOutput script.now text.items) }
 {
@@ -161,8 +163,8 @@ pub fn output_of(alloc: Global, script: &[u8]) -> Result<Vec<u8>, RunError>
     Ok(text)
 }
 
-/// What those clauses of `replay`, `read_items` and `spell` mean that follow from their other
-/// clauses.
+/// For the prover alone: clauses of `replay`, `read_items` and `spell` that follow from their other
+/// clauses, by the grammar.
 pub fn clauses_say_the_grammar()
     ensures run { (u v : UnreadLine) (calls : List Call) (replies : List Reply)
         → Replays u calls replies v

@@ -1,5 +1,5 @@
-//! Callers of pieces, of errors and of conversions, with clauses of their own. These rest on the
-//! clauses of the public calls alone, which exclude every result that is unreachable here.
+//! Callers of pieces, of errors and of conversions. Their clauses are proved from the clauses of
+//! the public calls alone, which exclude every result that is `unreachable!` here.
 ghost use Rattle.std.specs.Prelude.{◌≡◌, [], ◌∷◌, Some, Ok, IfSome, IfOk, IfErr, IsUtf8};
 ghost use Rattle.std.specs.Prelude.{MatchOption, slice_get, string_bytes};
 ghost use Rattle.anyhow.specs.Error.{IsMadeOf};
@@ -13,7 +13,7 @@ use lexopt_words::codepoint::{FirstCodepoint, first_codepoint};
 use std::alloc::Global;
 use std::str::FromStr;
 
-/// The first piece of some bytes, a character or damage, and its size. `None` if there is no byte.
+/// The first piece of some bytes, a character or damage, and its size; `None` if there is no byte.
 pub fn first_piece(bytes: &[u8]) -> Option<(Option<char>, usize)>
     ensures { MatchOption result (bytes.now ≡ []) (λ piece.
         IsFirstPiece bytes.now piece.1 piece.0) }
@@ -25,7 +25,7 @@ pub fn first_piece(bytes: &[u8]) -> Option<(Option<char>, usize)>
     }
 }
 
-/// How an unknown option of one character is spelled. `None` if memory runs out.
+/// The spelling of an unknown short option; `None` if memory runs out.
 pub fn unknown_short(alloc: Global, option: char) -> Option<String>
     ensures { IfSome result (λ text. spelling (short_option option) ≡ Some (string_bytes text)) }
 {
@@ -41,7 +41,7 @@ pub fn unknown_short(alloc: Global, option: char) -> Option<String>
     }
 }
 
-/// How an unknown option with a name is spelled. `None` if memory runs out.
+/// The spelling of an unknown long option; `None` if memory runs out.
 pub fn unknown_long(alloc: Global, name: &str) -> Option<String>
     ensures { IfSome result (λ text. spelling (long_option name.now) ≡ Some (string_bytes text)) }
 {
@@ -52,7 +52,7 @@ pub fn unknown_long(alloc: Global, name: &str) -> Option<String>
     }
 }
 
-/// The word that an error reports, for an unknown one.
+/// The word that an error reports as unexpected.
 pub fn unknown_word(alloc: Global, word: OsString) -> OsString
     ensures { result ≡ word }
 {
@@ -62,7 +62,7 @@ pub fn unknown_word(alloc: Global, word: OsString) -> OsString
     }
 }
 
-/// The cause that an error keeps of a text.
+/// The cause of an error that is made from a text.
 pub fn cause_of_text(text: &str) -> anyhow::Error
     ensures { IsMadeOf (Some text.now) result }
 {
@@ -78,8 +78,8 @@ pub fn cause_of_text(text: &str) -> anyhow::Error
     }
 }
 
-/// The value that the text of a word represents, or that text if it represents none. `None` if
-/// memory runs out.
+/// The value that the text of a word parses to, or that text if it does not parse; `None` if memory
+/// runs out.
 pub fn parsed<T: FromStr>(word: &OsString) -> Option<Result<T, String>>
 where
     T::Err: Into<anyhow::Error>,
@@ -102,19 +102,19 @@ where
     }
 }
 
-/// The word that an error reports, for one that is not UTF-8. `None` if memory runs out.
+/// The word that an error reports as not UTF-8; `None` if memory runs out.
 pub fn damaged(word: &OsString) -> Option<OsString>
     requires { IsUtf8 word.now → ⊥ }
-    ensures { IfSome result (λ told. told ≡ word.now) }
+    ensures { IfSome result (λ found. found ≡ word.now) }
 {
     match word.parse::<u32>() {
-        Err(Error::NonUnicodeValue(told)) => Some(told),
+        Err(Error::NonUnicodeValue(found)) => Some(found),
         Err(Error::OutOfMemory) => None,
         _ => unreachable!(),
     }
 }
 
-/// A copy of an option of one character, which needs no memory.
+/// A copy of a short option, which does not allocate.
 pub fn copied_short(option: char) -> Arg<'static>
     ensures { result ≡ Arg.Short option }
 {
@@ -124,7 +124,8 @@ pub fn copied_short(option: char) -> Arg<'static>
     }
 }
 
-/// Words are returned one after another, up to the first place that has none.
+/// For the prover alone: `AreAnswered` holds of the words in order, up to the first place without a
+/// word, and of no other list.
 pub fn two_words_are_answered()
     ensures both { AreAnswered (λ place word. word ≡ slice_get ((1 ∷ []) ∷ (2 ∷ []) ∷ []) place) 0
         ((1 ∷ []) ∷ (2 ∷ []) ∷ []) }

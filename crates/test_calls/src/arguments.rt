@@ -1,4 +1,5 @@
-//! The words that a program was called with, of any bytes.
+//! The words that a program was called with: `arguments` and `from_env_os`, which take any bytes,
+//! and `from_env`, which refuses words that are not UTF-8.
 use lexopt_base::{Error, OsString, Parser};
 use lexopt_words::os_string::arguments;
 use std::alloc::{AllocError, Global};
@@ -10,13 +11,13 @@ use test_helpers::errors::prints;
 use test_helpers::parsers::words_from;
 
 // Whether `arguments` returns these words.
-fn are_answered(rt: &impl Env, alloc: Global, words: &[OsString]) -> Result<bool, AllocError> {
+fn are_arguments(rt: &impl Env, alloc: Global, words: &[OsString]) -> Result<bool, AllocError> {
     Ok(arguments(rt, alloc)?.as_slice() == words)
 }
 
-// Whether `arguments` returns these words, and `from_env_os` makes a parser with this name, which
-// has those after the first to read.
-fn come_whole(
+// Whether `arguments` returns these words, and `from_env_os` a parser with this name whose unread
+// words are those after the first.
+fn has_all_words(
     rt: &impl Env,
     alloc: Global,
     words: &[OsString],
@@ -24,16 +25,16 @@ fn come_whole(
 ) -> Result<bool, Error> {
     let unread = words.get(1..).unwrap_or(&[]);
     let is_made = has_words(&mut Parser::from_env_os(rt, alloc)?, name, unread)?;
-    Ok(is_made && are_answered(rt, alloc, words)?)
+    Ok(is_made && are_arguments(rt, alloc, words)?)
 }
 
-// Whether this is so of an environment with these words.
+// Whether both calls return these words if the environment has them.
 fn are_read(alloc: Global, words: &[OsString], name: Option<&str>) -> Result<bool, Error> {
-    come_whole(&Arguments { words }, alloc, words, name)
+    has_all_words(&Arguments { words }, alloc, words, name)
 }
 
-// A word of this many bytes, none of them 00. They count up from the first, and begin again at 01.
-fn counting(alloc: Global, length: usize, first: u8) -> Result<OsString, AllocError> {
+// A word of this length. Its bytes count up from `first`, and go on with 01 after FF.
+fn word_of_length(alloc: Global, length: usize, first: u8) -> Result<OsString, AllocError> {
     let mut bytes = Vec::with_capacity(alloc, length)?;
     let mut byte = first;
     for _ in 0..length {
@@ -43,7 +44,7 @@ fn counting(alloc: Global, length: usize, first: u8) -> Result<OsString, AllocEr
     Ok(OsString::from_vec(bytes))
 }
 
-// Words, and the name of a parser of them.
+// Lines, each with the name of its parser.
 const LINES: [(&[&[u8]], Option<&str>); 8] = [
     (&[], None),
     (&[b""], Some("")),
@@ -58,11 +59,8 @@ const LINES: [(&[&[u8]], Option<&str>); 8] = [
     (&[b"\x80", b"\x80"], Some("\u{FFFD}")),
 ];
 
-// The place of the first line of these that is not read whole, or none.
-fn first_not_read(
-    alloc: Global,
-    lines: &[(&[&[u8]], Option<&str>)],
-) -> Result<Option<usize>, Error> {
+// The place of the first line that is not read whole, if there is one.
+fn first_wrong(alloc: Global, lines: &[(&[&[u8]], Option<&str>)]) -> Result<Option<usize>, Error> {
     for (place, (line, name)) in lines.iter().enumerate() {
         if !are_read(alloc, &words_from(alloc, line)?, *name)? {
             return Ok(Some(place));
@@ -74,27 +72,28 @@ fn first_not_read(
 #[test]
 fn lines_of_any_bytes(rt: HostRuntime) {
     assert_eq!(rt;
-        first_not_read(rt.alloc(), &LINES).expect(&rt, "success"),
+        first_wrong(rt.alloc(), &LINES).expect(&rt, "success"),
         None
     );
 }
 
-// Words of these lengths, of which the one at place N begins with the byte N + 1.
+// Words of these lengths. The word at place N begins with the byte N + 1.
 fn words_of_lengths(alloc: Global, lengths: &[usize]) -> Result<Vec<OsString>, AllocError> {
     let mut words = Vec::new(alloc);
     for (length, first) in lengths.iter().zip(1..=u8::MAX) {
-        words.push(counting(alloc, *length, first)?)?;
+        words.push(word_of_length(alloc, *length, first)?)?;
     }
     Ok(words)
 }
 
-// Around the room for a word, which has 256 bytes at first and is doubled, and of the longest word
-// that Linux hands over, with short ones between them. The word of 255 bytes has each byte but 00.
+// Lengths around the size of the buffer for a word, which is 256 bytes at first and is doubled, and
+// the longest length that Linux allows, with short words between them. The word of 255 bytes has
+// each byte except 00.
 const LENGTHS: [usize; 18] = [
     5, 255, 1, 256, 0, 257, 2, 511, 3, 512, 1, 513, 0, 131_071, 4, 131_071, 257, 1,
 ];
 
-// Whether the words of these lengths are read whole, and there are as many.
+// Whether words of these lengths are read whole.
 fn lengths_are_read(alloc: Global, lengths: &[usize]) -> Result<bool, Error> {
     let words = words_of_lengths(alloc, lengths)?;
     Ok(words.len() == lengths.len() && are_read(alloc, &words, Some("\u{1}\u{2}\u{3}\u{4}\u{5}"))?)
@@ -105,8 +104,8 @@ fn long_and_short_words(rt: HostRuntime) {
     assert!(rt; lengths_are_read(rt.alloc(), &LENGTHS).expect(&rt, "success"));
 }
 
-// This many words, each of which is its place.
-fn places(alloc: Global, count: usize) -> Result<Vec<OsString>, AllocError> {
+// This many words. Each is the number of its place.
+fn numbered_words(alloc: Global, count: usize) -> Result<Vec<OsString>, AllocError> {
     let mut words = Vec::new(alloc);
     for place in 0..count {
         words.push(OsString::from_string(format!(in alloc; "{place}")?))?;
@@ -119,15 +118,14 @@ fn many_words(rt: HostRuntime) {
     assert!(rt;
         are_read(
             rt.alloc(),
-            &places(rt.alloc(), 2_000).expect(&rt, "success"),
+            &numbered_words(rt.alloc(), 2_000).expect(&rt, "success"),
             Some("0")
         )
         .expect(&rt, "success")
     );
 }
 
-// Whether the words after the name are read as on any line: an option, with damage as its value,
-// and damage as a word.
+// Whether the parser reads an option with damage in its value, and a positional with damage.
 fn reads_a_line(parser: &mut Parser) -> Result<bool, Error> {
     Ok(
         reads_short(parser, 'x')?
@@ -146,7 +144,7 @@ fn line_of_an_environment(rt: HostRuntime) {
     assert!(rt; reads_a_line(&mut parser).expect(&rt, "success"));
 }
 
-// Whether there is no name, and nothing to read.
+// Whether the parser has no name and no words.
 fn has_nothing(parser: &mut Parser) -> Result<bool, Error> {
     Ok(parser.bin_name().is_none() && is_at_end(parser)?)
 }
@@ -159,7 +157,7 @@ fn no_words_at_all(rt: HostRuntime) {
     assert!(rt; has_nothing(&mut parser).expect(&rt, "success"));
 }
 
-// Whether an error is a custom one, and prints this message.
+// Whether an error is a `Custom` error that prints this message.
 fn is_custom(alloc: Global, error: &Error, message: &str) -> Result<bool, AllocError> {
     Ok(matches!(error, Error::Custom(_)) && prints(alloc, error, message)?)
 }
@@ -172,7 +170,7 @@ fn are_refused(alloc: Global, words: &[OsString], message: &str) -> Result<bool,
     }
 }
 
-// Damage, for both calls.
+// `from_env` refuses a word with damage, and the other two calls read it.
 #[test]
 fn words_that_are_no_text(rt: HostRuntime) {
     let words = words_from(rt.alloc(), &[b"tool", b"foo\xff"]).expect(&rt, "success");
@@ -190,6 +188,6 @@ fn words_of_this_program(rt: HostRuntime) {
     let name = env::args(&rt).expect(&rt, "success").next();
     assert!(rt;
         !words.is_empty()
-            && come_whole(&rt, rt.alloc(), &words, name.as_deref()).expect(&rt, "success")
+            && has_all_words(&rt, rt.alloc(), &words, name.as_deref()).expect(&rt, "success")
     );
 }

@@ -1,11 +1,10 @@
-//! Calls that no script can make, or not in this way: copies of a parser, and `optional_value`
-//! itself. The tests beside this one make the other calls that read a line, and rows of them are
-//! cases of `test_cases`.
+//! Calls that a script cannot make in this way: copies of a parser, and `optional_value` itself.
+//! The other modules make the other calls that read a line, and so do the cases of `test_cases`.
 use lexopt::{Error, Parser};
 use test_helpers::calls::{gives, reads_short, reads_word, takes};
 use test_helpers::parsers::parser_of;
 
-// Whether everything after `-c` is its value when `short_equals` is false, and the next word is not
+// Whether all bytes after `-c` are its value when `short_equals` is false, and the next word is not
 // a value.
 fn takes_with_equals(parser: &mut Parser) -> Result<bool, Error> {
     let is_read = reads_short(parser, 'c')?;
@@ -24,15 +23,15 @@ fn optional_values(rt: HostRuntime) {
     assert!(rt; takes_with_equals(&mut parser).expect(&rt, "success"));
 }
 
-// Whether a copy takes one value, and then the parser itself another. After the copy is made,
-// `short_equals` is set on the parser itself.
+// Sets `short_equals` of a parser after it was copied. Whether the copy and the parser then have
+// these values.
 fn both_take(parser: &mut Parser, on: bool, of_copy: &[u8], own: &[u8]) -> Result<bool, Error> {
     let mut copy = parser.clone()?;
     parser.set_short_equals(on);
     Ok(takes(&mut copy, of_copy)? && takes(parser, own)?)
 }
 
-// A copy has the pending value.
+// A copy of a parser has the same pending value.
 #[test]
 fn copies_of_parsers(rt: HostRuntime) {
     let mut parser = parser_of(rt.alloc(), &[b"-ab"]).expect(&rt, "success");

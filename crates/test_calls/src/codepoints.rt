@@ -1,9 +1,9 @@
-//! Code points: what some bytes begin with, and the lossy text of bytes.
+//! Code points: the first character or damage of some bytes, and the lossy text of bytes.
 use lexopt_words::codepoint::{FirstCodepoint, first_codepoint, lossy_text};
 use std::alloc::{AllocError, Global};
 
-// What bytes begin with: a character, or damage where there is none; and its length, which is 0
-// where there are no bytes.
+// The first character of some bytes, or `None` for damage, and its length in bytes. The length is 0
+// if there are no bytes.
 fn first(bytes: &[u8]) -> (Option<char>, usize) {
     match first_codepoint(bytes) {
         FirstCodepoint::Empty => (None, 0),

@@ -7,7 +7,7 @@ use test_helpers::calls::reads_short;
 use test_helpers::errors::prints;
 use test_helpers::parsers::parser_of;
 
-// An error of a program's own.
+// An error of the program's own.
 #[derive(Debug, Drop)]
 struct Bad;
 
@@ -19,7 +19,7 @@ impl fmt::Display for Bad {
 
 impl std::error::Error for Bad {}
 
-// Whether a result is an error with this message.
+// Whether a result is an error that prints this message.
 fn fails<T: Drop>(
     alloc: Global,
     answer: Result<T, Error>,
@@ -31,14 +31,14 @@ fn fails<T: Drop>(
     }
 }
 
-// Whether the word of a text is that text.
+// Whether `string` returns the text from which the word was made.
 fn is_text(alloc: Global, text: &str) -> Result<bool, Error> {
     let word = OsString::from_text(alloc, text)?;
     Ok(word.string()?.as_str() == text)
 }
 
-// Whether damage is given back as it is.
-fn is_given_back(alloc: Global, bytes: &[u8]) -> Result<bool, Error> {
+// Whether the error of `string` holds a word with damage unchanged.
+fn is_kept(alloc: Global, bytes: &[u8]) -> Result<bool, Error> {
     match OsString::from_bytes(alloc, bytes)?.string() {
         Err(Error::NonUnicodeValue(word)) => Ok(word.as_bytes() == bytes),
         _ => Ok(false),
@@ -51,10 +51,10 @@ fn texts(rt: HostRuntime) {
         is_text(rt.alloc(), "").expect(&rt, "success")
             && is_text(rt.alloc(), "-10").expect(&rt, "success")
     );
-    assert!(rt; is_given_back(rt.alloc(), b"foo\xff").expect(&rt, "success"));
+    assert!(rt; is_kept(rt.alloc(), b"foo\xff").expect(&rt, "success"));
 }
 
-// Whether a word is parsed as this number, or, if there is no number, refused with this message.
+// Whether a word parses to this number, or is refused with this message if the number is `None`.
 fn is_number(
     alloc: Global,
     word: &[u8],
@@ -84,16 +84,16 @@ fn numbers(rt: HostRuntime) {
     }
 }
 
-// Whether what a function of the text returns is the result, and whether its error is reported.
-fn is_asked(alloc: Global) -> Result<bool, Error> {
+// Whether `parse_with` returns the value of its function, and reports the error of its function.
+fn is_applied(alloc: Global) -> Result<bool, Error> {
     let word = OsString::from_text(alloc, "-10")?;
     let zero = word.parse_with(|_text| -> Result<u8, Bad> { Ok(0) })?;
     let answer = word.parse_with(|_text| -> Result<u8, Bad> { Err(Bad) });
     Ok(zero == 0 && fails(alloc, answer, "cannot parse argument \"-10\": bad")?)
 }
 
-// Whether damage fails with its own error, whatever the function would return.
-fn is_not_asked(alloc: Global) -> Result<bool, Error> {
+// Whether `parse_with` refuses damage, although its function would accept any text.
+fn is_not_applied(alloc: Global) -> Result<bool, Error> {
     let word = OsString::from_bytes(alloc, b"foo\xff")?;
     let answer = word.parse_with(|_text| -> Result<u8, Bad> { Ok(0) });
     Ok(fails(alloc, answer, "argument is invalid unicode: \"foo\\xFF\"")?)
@@ -102,12 +102,12 @@ fn is_not_asked(alloc: Global) -> Result<bool, Error> {
 #[test]
 fn functions_of_texts(rt: HostRuntime) {
     assert!(rt;
-        is_asked(rt.alloc()).expect(&rt, "success")
-            && is_not_asked(rt.alloc()).expect(&rt, "success")
+        is_applied(rt.alloc()).expect(&rt, "success")
+            && is_not_applied(rt.alloc()).expect(&rt, "success")
     );
 }
 
-// Whether a number below 0 cannot be parsed as an unsigned one, and the error has a cause.
+// Whether a negative number cannot be parsed as an unsigned one, and the error has a cause.
 fn has_a_cause(alloc: Global) -> Result<bool, Error> {
     match OsString::from_text(alloc, "-10")?.parse::<u32>() {
         Ok(_) => Ok(false),
@@ -127,7 +127,7 @@ fn cause_of_a_failed_parse(rt: HostRuntime) {
     assert!(rt; has_a_cause(rt.alloc()).expect(&rt, "success"));
 }
 
-// Whether the value of `-n` is ten, and a positional comes next.
+// Whether the value of `-n` is ten, and the next argument is a positional.
 fn reads_ten(parser: &mut Parser) -> Result<bool, Error> {
     Ok(
         reads_short(parser, 'n')?

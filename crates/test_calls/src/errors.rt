@@ -1,31 +1,31 @@
-//! Errors: what each prints, what it holds, and what becomes one. Those of scripts, with their
-//! status.
+//! Errors: what they are made from, what they hold, and what they print. Errors of scripts, and
+//! their exit status.
 use lexopt_base::{Arg, Error, OsString};
 use lexopt_calls::run_error::RunError;
 use std::alloc::{AllocError, AllocFailed, Global};
 use std::process::Abort;
 use test_helpers::errors::prints;
 
-// How an error comes to be, and of what.
+// How an error is made.
 #[derive(Clone, Copy)]
 enum Made {
-    // No value is there, for no option or for this one.
+    // A value is missing, of no option or of this option.
     Missing,
     MissingOf(&'static str),
-    // No program wanted this.
+    // This option, word or value is unexpected.
     OfShort(char),
     OfLong(&'static str),
     OfWord(&'static [u8]),
     OfValue(&'static str, &'static str),
-    // These bytes are not text.
+    // These bytes are not UTF-8.
     OfBytes(&'static [u8]),
-    // This value was not parsed, for this reason.
+    // This value cannot be parsed, for this reason.
     OfParse(&'static str, &'static str),
-    // A program's own message.
+    // This is the program's own message.
     OfStr(&'static str),
     OfString(&'static str),
     OfCustom(&'static str),
-    // Memory was refused.
+    // Memory ran out.
     OfAlloc,
     OfFailedAlloc,
 }
@@ -108,18 +108,18 @@ const MESSAGES: [(Made, &str); 16] = [
     (Made::OfFailedAlloc, "out of memory"),
 ];
 
-// Whether the error prints this message.
-fn tells(rt: &(impl Abort + AllocGlobal), made: Made, message: &str) -> bool {
+// Whether an error that is made in this way prints this message.
+fn has_message(rt: &(impl Abort + AllocGlobal), made: Made, message: &str) -> bool {
     prints(rt.alloc(), &error_of(rt, made), message).expect(rt, "memory")
 }
 
-// The first message of these that its error does not print, or none.
-fn first_not_told(
+// The first of these messages that its error does not print, if there is one.
+fn first_wrong(
     rt: &(impl Abort + AllocGlobal),
     rows: &[(Made, &'static str)],
 ) -> Option<&'static str> {
     for (made, message) in rows {
-        if !tells(rt, *made, message) {
+        if !has_message(rt, *made, message) {
             return Some(*message);
         }
     }
@@ -128,10 +128,10 @@ fn first_not_told(
 
 #[test]
 fn messages(rt: HostRuntime) {
-    assert_eq!(rt; first_not_told(&rt, &MESSAGES), None);
+    assert_eq!(rt; first_wrong(&rt, &MESSAGES), None);
 }
 
-// `anyhow` keeps a front of a message that is longer than 120 bytes, and not all of it.
+// Whether `anyhow` keeps the first bytes of a message of 121 bytes, but not all of them.
 fn keeps_a_front(alloc: Global) -> Result<bool, AllocError> {
     let mut text = String::new(alloc);
     for _ in 0..121 {
@@ -147,8 +147,8 @@ fn long_message(rt: HostRuntime) {
     assert!(rt; keeps_a_front(rt.alloc()).expect(&rt, "success"));
 }
 
-// Whether the cause of an error prints this; `None` means that there is no cause.
-fn is_caused(rt: &(impl Abort + AllocGlobal), made: Made, by: Option<&str>) -> bool {
+// Whether the cause of an error prints this text. `None` means that there is no cause.
+fn has_cause(rt: &(impl Abort + AllocGlobal), made: Made, by: Option<&str>) -> bool {
     match error_of(rt, made).cause() {
         Some(cause) => Some(cause.to_string(rt.alloc()).expect(rt, "memory").as_str()) == by,
         None => by.is_none(),
@@ -158,13 +158,13 @@ fn is_caused(rt: &(impl Abort + AllocGlobal), made: Made, by: Option<&str>) -> b
 #[test]
 fn causes(rt: HostRuntime) {
     let custom = "this is an error message";
-    assert!(rt; is_caused(&rt, Made::OfStr(custom), Some(custom)));
-    assert!(rt; is_caused(&rt, Made::OfParse("1\t2", "no number"), Some("no number")));
-    assert!(rt; is_caused(&rt, Made::OfShort('o'), None));
+    assert!(rt; has_cause(&rt, Made::OfStr(custom), Some(custom)));
+    assert!(rt; has_cause(&rt, Made::OfParse("1\t2", "no number"), Some("no number")));
+    assert!(rt; has_cause(&rt, Made::OfShort('o'), None));
 }
 
-// Whether an error of a script prints this message.
-fn says(alloc: Global, error: &RunError, message: &str) -> Result<bool, AllocError> {
+// Whether the error of a script prints this message.
+fn run_error_prints(alloc: Global, error: &RunError, message: &str) -> Result<bool, AllocError> {
     Ok(error.to_string(alloc)?.as_str() == message)
 }
 
@@ -183,7 +183,7 @@ fn run_errors(rt: HostRuntime) {
         ),
     ] {
         assert!(rt;
-            says(rt.alloc(), &error, message).expect(&rt, "success"),
+            run_error_prints(rt.alloc(), &error, message).expect(&rt, "success"),
             "{message}"
         );
         assert_eq!(rt; error.status(), status);

@@ -1,11 +1,11 @@
-//! A reader of options with an error type of its own.
+//! A program that reads its options with an error type of its own.
 use lexopt::{Arg, Error, OsString, Parser};
 use std::alloc::Global;
 use test_helpers::calls::gives;
 use test_helpers::items::are_words;
 use test_helpers::parsers::split_words;
 
-// What a program was asked to do.
+// The options of the program.
 #[derive(Drop)]
 struct Options {
     number: Option<OsString>,
@@ -13,7 +13,7 @@ struct Options {
     files: Vec<OsString>,
 }
 
-// Why the line was not understood.
+// Why the program refuses a line.
 #[derive(Debug, Drop)]
 enum UsageError {
     CommandLine(Error),
@@ -40,8 +40,8 @@ fn read_options(parser: &mut Parser, options: &mut Options) -> Result<(), UsageE
     Ok(())
 }
 
-// Whether a line, given as one word in each line, is understood exactly if `known` is true, and
-// what was read is `-n 10`, `--shout` and these files.
+// Whether the program accepts a line if and only if `known` is true, and reads `-n 10`, `--shout`
+// and these files from it.
 fn reads(alloc: Global, line: &[u8], known: bool, files: &[&[u8]]) -> Result<bool, Error> {
     let mut parser = Parser::from_vec(split_words(alloc, line)?);
     let mut options = Options {
@@ -62,7 +62,7 @@ fn reads(alloc: Global, line: &[u8], known: bool, files: &[&[u8]]) -> Result<boo
     Ok(is_known == known && shout && gives(number, b"10") && are_words(&found, files))
 }
 
-// Lines, whether each is understood, and its files.
+// Lines, with a word on each line of text; whether the program accepts them; and their files.
 const LINES: [(&[u8], bool, &[&[u8]]); 6] = [
     (
         b"-n10\n--shout\nfile\n--\n-x\n",

@@ -1,4 +1,4 @@
-//! Binary names, and the words of an environment as text.
+//! Binary names, and the words that `from_env` reads.
 use lexopt_base::{Error, Parser};
 use std::alloc::Global;
 use std::env;
@@ -7,12 +7,12 @@ use test_helpers::calls::{is_at_end, reads_short, takes};
 use test_helpers::environments::Arguments;
 use test_helpers::parsers::{named, parser_of, words_from};
 
-// Whether this is the name of the parser of these words.
-fn is_name(alloc: Global, words: &[&[u8]], name: Option<&str>) -> Result<bool, Error> {
+// Whether a parser of these words has this name.
+fn has_name(alloc: Global, words: &[&[u8]], name: Option<&str>) -> Result<bool, Error> {
     Ok(named(alloc, words)?.bin_name() == name)
 }
 
-// Words, and the name of a parser of them.
+// Words, and the name of their parser.
 const NAMES: [(&[&[u8]], Option<&str>); 16] = [
     (&[], None),
     (&[b""], Some("")),
@@ -32,13 +32,10 @@ const NAMES: [(&[&[u8]], Option<&str>); 16] = [
     (&[b"\xef\xbf\xbd"], Some("\u{FFFD}")),
 ];
 
-// The place of the first words of these whose parser has another name, or none.
-fn first_otherwise(
-    alloc: Global,
-    rows: &[(&[&[u8]], Option<&str>)],
-) -> Result<Option<usize>, Error> {
+// The place of the first row whose parser has another name, if there is one.
+fn first_wrong(alloc: Global, rows: &[(&[&[u8]], Option<&str>)]) -> Result<Option<usize>, Error> {
     for (place, (words, name)) in rows.iter().enumerate() {
-        if !is_name(alloc, words, *name)? {
+        if !has_name(alloc, words, *name)? {
             return Ok(Some(place));
         }
     }
@@ -48,18 +45,18 @@ fn first_otherwise(
 #[test]
 fn names(rt: HostRuntime) {
     assert_eq!(rt;
-        first_otherwise(rt.alloc(), &NAMES).expect(&rt, "success"),
+        first_wrong(rt.alloc(), &NAMES).expect(&rt, "success"),
         None
     );
 }
 
-// Whether the words after a name are read, and the name stays.
+// Whether the word after the name is read, and the name stays the same.
 fn reads_after_a_name(parser: &mut Parser) -> Result<bool, Error> {
     Ok(reads_short(parser, 'x')? && is_at_end(parser)? && parser.bin_name() == Some("foo"))
 }
 
-// Whether a copy has the same name, and reads the same words; and a copy of a parser with no name
-// has none.
+// Whether a copy has the same name and reads the same words, and the copy of a parser without a
+// name has no name.
 fn copies_have_names(rt: &(impl Abort + AllocGlobal)) -> bool {
     let mut parser = named(rt.alloc(), &[b"foo", b"-x"]).expect(rt, "memory");
     let mut copy = parser.clone().expect(rt, "memory");
@@ -80,7 +77,7 @@ fn parser_of_arguments(alloc: Global, words: &[&[u8]]) -> Result<Parser, Error> 
     Parser::from_env(&(Arguments { words: &words }, alloc), alloc)
 }
 
-// Whether the first word is the name, and the others are read.
+// Whether the first word of the environment is the name, and the others are read.
 fn reads_an_environment(alloc: Global) -> Result<bool, Error> {
     let mut parser = parser_of_arguments(alloc, &[b"tool", b"-x", b"\xc2\xb5"])?;
     let is_named = parser.bin_name() == Some("tool");
@@ -97,7 +94,7 @@ fn words_of_an_environment(rt: HostRuntime) {
     assert!(rt; reads_an_environment(rt.alloc()).expect(&rt, "success"));
 }
 
-// Whether no words give no name.
+// Whether a parser of no words has no name and nothing to read.
 fn reads_no_words(alloc: Global) -> Result<bool, Error> {
     let mut parser = parser_of_arguments(alloc, &[])?;
     Ok(parser.bin_name().is_none() && is_at_end(&mut parser)?)

@@ -1,11 +1,11 @@
-//! Lists of calls, and their replies as values. The cases of `test_cases` have what they print.
+//! Lists of calls, and their replies as values. `test_cases` tests the text of replies.
 use lexopt::replay::{Call, replay};
 use lexopt::{Error, OsString, Parser};
 use std::alloc::Global;
 use test_helpers::parsers::parser_of;
 
 // Whether these calls have these replies, as `Debug` writes them.
-fn answers(
+fn has_replies(
     alloc: Global,
     parser: &mut Parser,
     calls: &[Call],
@@ -15,37 +15,38 @@ fn answers(
     Ok(format!(in alloc; "{found:?}")?.as_str() == replies)
 }
 
-// The same for the call that no script has: it takes the next word if it is this one.
-fn answers_if(
+// The same for the call `RawIf`, which scripts do not have: it takes the next word if it is this
+// one.
+fn takes_word(
     alloc: Global,
     parser: &mut Parser,
     wanted: &[u8],
     replies: &str,
 ) -> Result<bool, Error> {
     let word = OsString::from_bytes(alloc, wanted)?;
-    answers(alloc, parser, &[Call::RawIf(word)], replies)
+    has_replies(alloc, parser, &[Call::RawIf(word)], replies)
 }
 
-// Whether a word is given if it is the wanted one, and otherwise stays.
-fn gives_the_wanted(alloc: Global, parser: &mut Parser) -> Result<bool, Error> {
+// Whether `RawIf` takes the next word if it is the wanted one, and otherwise leaves it unread.
+fn takes_wanted_words(alloc: Global, parser: &mut Parser) -> Result<bool, Error> {
     Ok(
-        answers_if(alloc, parser, b"x", "[Maybe(None)]")?
-            && answers_if(alloc, parser, b"a", "[Maybe(Some(\"a\"))]")?
-            && answers(
+        takes_word(alloc, parser, b"x", "[Maybe(None)]")?
+            && takes_word(alloc, parser, b"a", "[Maybe(Some(\"a\"))]")?
+            && has_replies(
                 alloc,
                 parser,
                 &[Call::Raw(0), Call::Next],
                 "[Items([]), Positional(\"-b\")]",
             )?
-            && answers_if(alloc, parser, b"-b", "[Maybe(None)]")?
-            && answers(alloc, parser, &[Call::Next], "[End]")?,
+            && takes_word(alloc, parser, b"-b", "[Maybe(None)]")?
+            && has_replies(alloc, parser, &[Call::Next], "[End]")?,
     )
 }
 
 #[test]
 fn words_of_which_one_is_wanted(rt: HostRuntime) {
     let mut parser = parser_of(rt.alloc(), &[b"a", b"--", b"-b"]).expect(&rt, "success");
-    assert!(rt; gives_the_wanted(rt.alloc(), &mut parser).expect(&rt, "success"));
+    assert!(rt; takes_wanted_words(rt.alloc(), &mut parser).expect(&rt, "success"));
 }
 
 #[test]
@@ -53,7 +54,7 @@ fn values_asked_and_not_asked(rt: HostRuntime) {
     let mut parser = parser_of(rt.alloc(), &[b"-a=b", b"--n=x"]).expect(&rt, "success");
     let calls = [Call::Next, Call::Value, Call::Next, Call::Next];
     let replies = "[Short('a'), Taken(\"b\"), LongName(\"n\"), Unexpected(\"--n\", \"x\")]";
-    assert!(rt; answers(rt.alloc(), &mut parser, &calls, replies).expect(&rt, "success"));
+    assert!(rt; has_replies(rt.alloc(), &mut parser, &calls, replies).expect(&rt, "success"));
 }
 
 #[test]
@@ -61,7 +62,7 @@ fn damage_and_a_value(rt: HostRuntime) {
     let mut parser = parser_of(rt.alloc(), &[b"-\xf0\x9da"]).expect(&rt, "success");
     let calls = [Call::Next, Call::Optional];
     let replies = "[Short('\u{FFFD}'), Maybe(Some(\"a\"))]";
-    assert!(rt; answers(rt.alloc(), &mut parser, &calls, replies).expect(&rt, "success"));
+    assert!(rt; has_replies(rt.alloc(), &mut parser, &calls, replies).expect(&rt, "success"));
 }
 
 #[test]
@@ -78,5 +79,5 @@ fn views_and_the_switch(rt: HostRuntime) {
     ];
     let replies =
         "[Short('a'), Busy, Done, Items([\"=b\"]), Items([\"c\"]), Taken(\"d\"), Missing(Some(\"-a\"))]";
-    assert!(rt; answers(rt.alloc(), &mut parser, &calls, replies).expect(&rt, "success"));
+    assert!(rt; has_replies(rt.alloc(), &mut parser, &calls, replies).expect(&rt, "success"));
 }

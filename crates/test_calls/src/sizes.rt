@@ -2,19 +2,19 @@
 use lexopt::replay::run;
 use std::alloc::{AllocError, Global};
 
-// How many pieces a long name has, and how many words of each kind a long script has.
+// The number of pieces of a long name, and of words of each kind in a long script.
 const MANY: usize = 1_500;
 
-// Whether a script runs, and writes this text.
+// Whether a script succeeds, and writes this text.
 fn writes(alloc: Global, script: &str, text: &str) -> bool {
     let mut written = Vec::new(alloc);
     run(alloc, &mut script.as_bytes(), &mut written).is_ok()
         && written.as_slice() == text.as_bytes()
 }
 
-// Whether a long name with a long value, and the name alone, are read and printed. Both repeat
-// `piece`, which a name shows as `shown`.
-fn is_told(alloc: Global, piece: &str, shown: &str) -> Result<bool, AllocError> {
+// Whether a long name is read and printed, with a long value and without one. Both repeat `piece`,
+// which is `shown` in a name.
+fn reads_long_name(alloc: Global, piece: &str, shown: &str) -> Result<bool, AllocError> {
     let bytes = piece.repeat(alloc, MANY)?;
     let name = shown.repeat(alloc, MANY)?;
     let script = format!(in alloc; "w --{bytes}={bytes}\nw --{bytes}\nnext\nnext\nnext\nvalue\n")?;
@@ -28,13 +28,13 @@ fn is_told(alloc: Global, piece: &str, shown: &str) -> Result<bool, AllocError> 
 fn long_names(rt: HostRuntime) {
     for (piece, shown) in [("n", "n"), ("µ", "µ"), ("\\xFF", "\u{fffd}")] {
         assert!(rt;
-            is_told(rt.alloc(), piece, shown).expect(&rt, "success"),
+            reads_long_name(rt.alloc(), piece, shown).expect(&rt, "success"),
             "{shown}"
         );
     }
 }
 
-// Whether a script of many words and calls writes each reply.
+// Whether a script of many words and calls writes every reply.
 fn reads_many(alloc: Global) -> Result<bool, AllocError> {
     let words = "w --name=value\nw file\n".repeat(alloc, MANY)?;
     let calls = "next\nvalue\nnext\n".repeat(alloc, MANY)?;

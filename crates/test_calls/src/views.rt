@@ -1,5 +1,5 @@
-//! Views: several values of one option, and the words that are left, asked in ways that no script
-//! can. Also the callers of `test_callers`.
+//! Views of several values and of the unread words, used in ways that a script cannot use them.
+//! Also the callers of `test_callers`.
 use lexopt::{Error, OsStr, OsString, Parser, RawArgs, ValuesIter};
 use std::alloc::Global;
 use std::process::Abort;
@@ -8,35 +8,35 @@ use test_helpers::calls::{gives, is_at_end, reads_short, reads_word, takes};
 use test_helpers::items::are_words;
 use test_helpers::parsers::parser_of;
 
-fn shows(word: Option<OsStr<'_>>, wanted: &[u8]) -> bool {
+fn is_word(word: Option<OsStr<'_>>, wanted: &[u8]) -> bool {
     match word {
         Some(word) => word.as_bytes() == wanted,
         None => false,
     }
 }
 
-fn gives_both(view: &mut ValuesIter<'_>) -> bool {
+fn gives_b_and_c(view: &mut ValuesIter<'_>) -> bool {
     gives(view.next(), b"b")
         && gives(view.next(), b"c")
         && view.next().is_none()
         && view.next().is_none()
 }
 
-// Whether `-a` has the values `b` and `c`, and no more.
-fn has_both(parser: &mut Parser) -> Result<bool, Error> {
-    Ok(reads_short(parser, 'a')? && gives_both(&mut parser.values()?))
+// Whether `-a` has the values `b` and `c`, and no others.
+fn takes_b_and_c(parser: &mut Parser) -> Result<bool, Error> {
+    Ok(reads_short(parser, 'a')? && gives_b_and_c(&mut parser.values()?))
 }
 
 #[test]
 fn several_values(rt: HostRuntime) {
     let mut parser = parser_of(rt.alloc(), &[b"-a", b"b", b"c", b"-d"]).expect(&rt, "success");
     assert!(rt;
-        has_both(&mut parser).expect(&rt, "success")
+        takes_b_and_c(&mut parser).expect(&rt, "success")
             && reads_short(&mut parser, 'd').expect(&rt, "success")
     );
 }
 
-// How many values `collect` gives for `-a`.
+// How many values of `-a` there are, by `collect`.
 fn collect_words(alloc: Global, parser: &mut Parser) -> Result<usize, Error> {
     if !reads_short(parser, 'a')? {
         return Ok(0);
@@ -80,8 +80,8 @@ fn values_in_a_loop(rt: HostRuntime) {
     );
 }
 
-fn looks_first(view: &mut RawArgs<'_>) -> bool {
-    shows(view.peek(), b"a")
+fn peeks_and_takes(view: &mut RawArgs<'_>) -> bool {
+    is_word(view.peek(), b"a")
         && view.next_if(|_| false).is_none()
         && gives(
             view.next_if(|word| word.as_bytes() == b"a".as_slice()),
@@ -95,22 +95,22 @@ fn looks_first(view: &mut RawArgs<'_>) -> bool {
 fn words_looked_at(rt: HostRuntime) {
     let mut parser = parser_of(rt.alloc(), &[b"a"]).expect(&rt, "success");
     assert!(rt;
-        looks_first(&mut parser.raw_args().expect(&rt, "success"))
+        peeks_and_takes(&mut parser.raw_args().expect(&rt, "success"))
             && is_at_end(&mut parser).expect(&rt, "success")
     );
 }
 
 // Whether a view gives `-a`, lends the two words after it, and then gives `--`.
-fn lends(mut view: RawArgs<'_>) -> bool {
+fn lends_words(mut view: RawArgs<'_>) -> bool {
     gives(view.next(), b"-a")
         && are_words(view.as_slice(), &[b"--", b"b"])
         && gives(view.next(), b"--")
 }
 
-// Whether `try_raw_args` gives a view, and the view does so.
+// Whether `try_raw_args` returns such a view.
 fn lends_if_free(parser: &mut Parser) -> bool {
     match parser.try_raw_args() {
-        Some(view) => lends(view),
+        Some(view) => lends_words(view),
         None => false,
     }
 }
@@ -150,7 +150,7 @@ fn reads_number(alloc: Global, parser: &mut Parser) -> Result<bool, Error> {
     }
 }
 
-// Whether `next_file` gives nothing for an option, and then this word.
+// Whether `next_file` returns `None` for an option, and then this word.
 fn gives_after_an_option(parser: &mut Parser, wanted: &[u8]) -> Result<bool, Error> {
     Ok(next_file(parser)?.is_none() && gives(next_file(parser)?, wanted))
 }

@@ -1,5 +1,5 @@
-//! Whole lines: a table of options of one value; the option `-`, which no script can put into a
-//! table; and items as values. Other lines are cases of `test_cases`.
+//! Whole lines: a table of options of one value, with the option `-`, which a script cannot put
+//! into a table; and items as values. Other lines are cases of `test_cases`.
 use lexopt::replay::{Item, Table, read_items};
 use std::alloc::AllocError;
 use std::process::Abort;
@@ -7,7 +7,7 @@ use test_helpers::items::Given::{LongMany, LongValue, Positional, Short, ShortMa
 use test_helpers::items::{Given, items_of, table_of_each_kind};
 use test_helpers::parsers::split_words;
 
-// The table of the option `-` and the name `a=b`, of one value each.
+// A table with the short option `-` and the long option `a=b`, of one value each.
 fn table_with_a_dash(rt: &(impl Abort + AllocGlobal)) -> Table {
     let alloc = rt.alloc();
     let name = String::from_str(alloc, "a=b").expect(rt, "memory");
@@ -24,9 +24,9 @@ fn push_items(text: &mut String, items: &[Item]) -> Result<(), AllocError> {
     Ok(())
 }
 
-// What these words are read as by that table, as text: each item on a line of its own, or the
-// message.
-fn told(rt: &(impl Abort + AllocGlobal), words: &[u8]) -> String {
+// What these words are read as by that table: each item on a line of its own, or the message of the
+// error.
+fn text_of(rt: &(impl Abort + AllocGlobal), words: &[u8]) -> String {
     let words = split_words(rt.alloc(), words).expect(rt, "memory");
     match read_items(rt.alloc(), words, true, &table_with_a_dash(rt)) {
         Ok(items) => {
@@ -45,11 +45,11 @@ fn one_value_each(rt: HostRuntime) {
         (b"-a-", "missing argument for option '--'"),
         (b"--a=b", "unexpected argument for option '--a': \"b\""),
     ] {
-        assert_eq!(rt; told(&rt, words).as_str(), text);
+        assert_eq!(rt; text_of(&rt, words).as_str(), text);
     }
 }
 
-// Whether these words are read as these items, by the table with each kind.
+// Whether these words are read as these items by the table with options of each kind.
 fn reads_as(rt: &(impl Abort + AllocGlobal), words: &[u8], wanted: &[Given]) -> bool {
     let table = table_of_each_kind(rt.alloc()).expect(rt, "memory");
     let wanted = items_of(rt.alloc(), wanted).expect(rt, "memory");

@@ -4,7 +4,7 @@ use std::alloc::{AllocError, Global};
 use std::hash::{DefaultHasher, Hash, Hasher};
 use std::process::Abort;
 
-// Whether a word has these bytes, and its copy, the view of it, its list of bytes and the word of
+// Whether a word has these bytes, and so do its copy, its view, its list of bytes and the word of
 // that list.
 fn has_bytes(rt: &(impl Abort + AllocGlobal), bytes: &[u8]) -> bool {
     let view = OsStr::from_bytes(bytes);
@@ -36,8 +36,8 @@ fn bytes_of_words(rt: HostRuntime) {
     }
 }
 
-// Whether the word of a text has its bytes, and words of other bytes are others.
-fn differ(rt: &(impl Abort + AllocGlobal)) -> bool {
+// Whether the word of a text has the bytes of the text, and words with other bytes are different.
+fn are_different(rt: &(impl Abort + AllocGlobal)) -> bool {
     let empty = OsString::new(rt.alloc());
     let text = OsString::from_text(rt.alloc(), "foo").expect(rt, "memory");
     let word = OsString::from_bytes(rt.alloc(), b"foo\xff").expect(rt, "memory");
@@ -53,11 +53,12 @@ fn differ(rt: &(impl Abort + AllocGlobal)) -> bool {
 
 #[test]
 fn other_words(rt: HostRuntime) {
-    assert!(rt; differ(&rt));
+    assert!(rt; are_different(&rt));
 }
 
-// Whether a word without its front is a value, and that without its own front the last letter.
-fn is_cut(alloc: Global) -> Result<bool, AllocError> {
+// Whether a word without its first seven bytes is its value, and the value without its first two
+// bytes is its last letter.
+fn loses_front(alloc: Global) -> Result<bool, AllocError> {
     let value = OsString::from_bytes(alloc, b"--name=a\xffb")?.without_front(7);
     let is_value = value.as_bytes() == b"a\xffb".as_slice() && value.len() == 3;
     let last = value.without_front(2);
@@ -67,10 +68,10 @@ fn is_cut(alloc: Global) -> Result<bool, AllocError> {
 
 #[test]
 fn words_without_their_front(rt: HostRuntime) {
-    assert!(rt; is_cut(rt.alloc()).expect(&rt, "success"));
+    assert!(rt; loses_front(rt.alloc()).expect(&rt, "success"));
 }
 
-fn quotes(alloc: Global, bytes: &[u8], text: &str) -> Result<bool, AllocError> {
+fn is_quoted(alloc: Global, bytes: &[u8], text: &str) -> Result<bool, AllocError> {
     Ok(Quoted::new(bytes).to_string(alloc)?.as_str() == text)
 }
 
@@ -87,14 +88,14 @@ fn quoted_bytes(rt: HostRuntime) {
         (b"\xf0\x9d".as_slice(), "\"\\xF0\\x9D\""),
     ] {
         assert!(rt;
-            quotes(rt.alloc(), bytes, text).expect(&rt, "success"),
+            is_quoted(rt.alloc(), bytes, text).expect(&rt, "success"),
             "{text}"
         );
     }
 }
 
-// Whether bytes are this text, in a view, in a word and in the text that a word becomes; a word
-// that is not text stays a word.
+// Whether a view and a word of these bytes have this text, and the word becomes it; or, if the text
+// is `None`, whether they have no text, and the word stays a word.
 fn has_text(rt: &(impl Abort + AllocGlobal), bytes: &[u8], text: Option<&str>) -> bool {
     let word = OsString::from_bytes(rt.alloc(), bytes).expect(rt, "memory");
     let is_text = OsStr::from_bytes(bytes).to_str() == text && word.to_str() == text;
@@ -124,8 +125,8 @@ fn texts_of_words(rt: HostRuntime) {
     }
 }
 
-// Whether `Debug` writes this, of a word and of a view.
-fn debugs(rt: &(impl Abort + AllocGlobal), bytes: &[u8], text: &str) -> bool {
+// Whether `Debug` writes this text for a word and for a view.
+fn has_debug_text(rt: &(impl Abort + AllocGlobal), bytes: &[u8], text: &str) -> bool {
     let word = OsString::from_bytes(rt.alloc(), bytes).expect(rt, "memory");
     let view = OsStr::from_bytes(bytes);
     let of_word = format!(in rt.alloc(); "{word:?}").expect(rt, "memory");
@@ -143,12 +144,12 @@ fn debug_text_of_words(rt: HostRuntime) {
             "\"\\u{1b}\\u{1}\\xF0\\x9D'\"",
         ),
     ] {
-        assert!(rt; debugs(&rt, bytes, text), "{text}");
+        assert!(rt; has_debug_text(&rt, bytes, text), "{text}");
     }
 }
 
-// Words in their order, which is that of their lists of bytes: the first byte that differs decides,
-// and a front comes first.
+// Words in their order, which is that of lists of bytes: the first byte that differs decides, and a
+// word comes before the words that begin with it.
 const ORDERED: [&[u8]; 12] = [
     b"",
     b"\0",
@@ -164,7 +165,7 @@ const ORDERED: [&[u8]; 12] = [
     b"\xff",
 ];
 
-// Whether words compare with each other as their places do.
+// Whether the words at these places compare as the places do.
 fn are_ordered(rt: &(impl Abort + AllocGlobal), place: usize, other_place: usize) -> bool {
     let (Some(bytes), Some(others)) = (ORDERED.get(place), ORDERED.get(other_place)) else {
         return false;
@@ -194,8 +195,8 @@ fn hash_of<T: Hash>(value: &T) -> u64 {
     state.finish()
 }
 
-// Whether a word has the hash of its copy and of its bytes, and another word another one.
-fn hashes(rt: &(impl Abort + AllocGlobal)) -> bool {
+// Whether a word has the same hash as its copy and as its bytes, and another word has another hash.
+fn has_same_hash(rt: &(impl Abort + AllocGlobal)) -> bool {
     let word = OsString::from_bytes(rt.alloc(), b"foo\xff").expect(rt, "memory");
     let copy = word.clone().expect(rt, "memory");
     let other = OsString::from_text(rt.alloc(), "foo!").expect(rt, "memory");
@@ -205,10 +206,10 @@ fn hashes(rt: &(impl Abort + AllocGlobal)) -> bool {
 
 #[test]
 fn hashes_of_words(rt: HostRuntime) {
-    assert!(rt; hashes(&rt));
+    assert!(rt; has_same_hash(&rt));
 }
 
-// Whether the copy of an argument is the same, and `Debug` writes this of it.
+// Whether the copy of an argument is equal to it, and `Debug` writes this text for the copy.
 fn is_copied(alloc: Global, argument: &Arg<'_>, text: &str) -> Result<bool, Error> {
     let copy = argument.clone()?;
     Ok(copy == *argument && format!(in alloc; "{copy:?}")?.as_str() == text)

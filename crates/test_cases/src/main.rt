@@ -1,15 +1,15 @@
-//! Replays cases: scripts of calls and whole lines, each with the text that it should write.
+//! Tests that scripts of calls and of whole lines have their expected outputs.
 //!
-//! Standard input holds the cases; the head of the file `stdin` describes how they are written.
-//! Each case that differs is printed, and after each section the number of its cases that agree and
-//! that differ.
+//! Standard input has the cases. The first lines of the file `stdin` describe their format. The
+//! program prints each case that differs, and after each section how many of its cases agree and
+//! differ.
 #![tactic(auto)]
 
 use lexopt_calls::run::run;
 use std::alloc::{AllocError, Global};
 use std::io;
 
-// The outcome of a script: what is written for it, and the message if it is refused.
+// The outcome of a script: its output, and the message if it is refused.
 #[derive(PartialEq, Drop)]
 struct Outcome {
     written: Vec<u8>,
@@ -96,7 +96,7 @@ impl Section {
         })
     }
 
-    // Replays a case, and prints it if it differs.
+    // Runs a case, and prints it if it differs.
     fn replay(&mut self, rt: &(impl Print + AllocGlobal), case: &Case) -> io::Result<()> {
         if case.is_empty() {
             return Ok(());
@@ -130,7 +130,8 @@ impl Section {
     }
 }
 
-// What follows the mark of a line: nothing, or a space and a text.
+// The text after the mark of a line, if the line has this mark. After a mark is nothing, or a space
+// and a text.
 fn after<'a>(line: &'a str, mark: &str) -> Option<&'a str> {
     let rest = line.strip_prefix(mark)?;
     if rest.is_empty() {
@@ -159,7 +160,7 @@ fn main(rt: HostRuntime) -> io::Result<()> {
         if case.add(line)? {
             continue;
         }
-        // Each other line ends the case.
+        // Any other line ends the case.
         section.replay(&rt, &case)?;
         case = Case::new(alloc);
         if let Some(name) = after(line, "#") {

@@ -1,106 +1,106 @@
--- What three commands do where a word is typed, by the clauses of `Commands::answer_request`.
-use Rattle.std.proofs.Common.{◌≡◌, ◌⊎◌, ℕ, List, [], ◌∷◌, ◌++◌, None, codes, map, string_bytes, sym, subst, ap, refl, ◌∙◌, ⊎_elim}
-use Rattle.std.specs.List.{AllZip, concat, flat_map}
+-- What three commands do to complete a word, by the clauses of `Commands::answer_request`.
+use Rattle.std.proofs.Common.{◌≡◌, ◌⊎◌, ℕ, List, [], ◌∷◌, None, map, sym, subst, ◌∙◌, ⊎_elim}
+use Rattle.std.specs.List.{AllZip, flat_map}
 use Rattle.lexopt_options_spec.specs.Asking.{first_asked}
 use Rattle.lexopt_options_spec.specs.Declaration.{Declaration}
-use Rattle.lexopt_options_spec.specs.Leading.{SaysLeading}
+use Rattle.lexopt_options_spec.specs.Leading.{MeansLeading}
 use Rattle.lexopt_options_spec.specs.Legal as legal
 use Rattle.lexopt_options_spec.proofs.OneLeading.{one_leading}
 use Rattle.lexopt_options.specs.declared.options.Options.{Options}
 use Rattle.lexopt_options.specs.declared.request.Request.TheVariants as request
-use Rattle.lexopt_options.specs.declared.said.Said.{Said}
-use Rattle.lexopt_options.specs.Answers.{IsCompletionText}
+use Rattle.lexopt_options.specs.declared.parsed.Parsed.{Parsed}
+use Rattle.lexopt_options.specs.Completions.{HasPositional}
 use Rattle.lexopt_options.specs.Declarations.{declaration_of, options_of}
-use Rattle.lexopt_options.specs.Keys.{AreSaid}
+use Rattle.lexopt_options.specs.Keys.{AreParsedAs}
 use Rattle.lexopt_commands.specs.declared.answer.Step.{Step}
 use Rattle.lexopt_commands.specs.declared.answer.Step.TheVariants as step
 use Rattle.lexopt_commands.specs.declared.command.Command.{Command}
 use Rattle.lexopt_commands.specs.declared.commands.Commands.{Commands}
-use Rattle.lexopt_commands.specs.Completions.{IsCompletionStep, IsNameLine, IsPlaced, IsPlacedAfter, IsUnplaced, Place, at_help, at_options, begun_line, in_command, name_line, nowhere, place}
+use Rattle.lexopt_commands.specs.Completions.{IsCompletionStep, IsNameLine, IsOptionsText, IsPlaced, IsPlacedAfter, IsText, IsUnplaced, at_help, at_options, begun_line, in_command, name_line, nowhere, place}
 use Rattle.test_commands.specs.declared.callers.Task.{Task}
 use Rattle.test_commands.specs.Tasks as tasks
-use Rattle.test_commands.specs.Tasks.{AreOffered, IsTaskAsked, IsWritten, begun, task_lines}
+use Rattle.test_commands.specs.Tasks.{AreOffered, IsTaskAsked, IsWritten, task_lines}
 
--- the place is by these general options and these words
-placed_so : {F V P M S : Type 0} (c : Commands Task F V P M S) (o : Options F V P M S) (words : List (List ℕ)) (typed : List ℕ) (l : List legal.Said) (rest : List (List ℕ)) (it : Step Task F V P M S)
-    → c.options ≡ o → first_asked (declaration_of o).options l ≡ None → SaysLeading (declaration_of o) words l rest → IsCompletionStep c words typed it
-    → (said : List (Said F V P M S)) × AreSaid (options_of o) l said × IsPlaced c words typed said (place c.commands.now rest) it
-placed_so {F} {V} {P} {M} {S} c o words typed l rest it same none says is = ⊎_elim
+-- the place of the typed word, after these general options and these words
+placed_so : {F V P M S : Type 0} (c : Commands Task F V P M S) (o : Options F V P M S) (words : List (List ℕ)) (typed : List ℕ) (l : List legal.Parsed) (rest : List (List ℕ)) (it : Step Task F V P M S)
+    → c.options ≡ o → first_asked (declaration_of o).options l ≡ None → MeansLeading (declaration_of o) words l rest → IsCompletionStep c words typed it
+    → (parsed : List (Parsed F V P M S)) × AreParsedAs (options_of o) l parsed × IsPlaced c words typed parsed (place c.commands.now rest) it
+placed_so {F} {V} {P} {M} {S} c o words typed l rest it same none means is = ⊎_elim
     (λ (after : IsPlacedAfter c words typed it).
-    let own : SaysLeading (declaration_of c.options) words l rest = subst (λ (x : Options F V P M S). SaysLeading (declaration_of x) words l rest) (sym same) says in
-    let one = one_leading (declaration_of c.options) words after.read l after.rest rest after.says.split own.split in (
-      after.said,
-      subst (λ (x : Options F V P M S). AreSaid (options_of x) l after.said) same (subst (λ m. AreSaid (options_of c.options) m after.said) one.0 after.are),
-      subst (λ r. IsPlaced c words typed after.said (place c.commands.now r) it) one.1 after.placed,
+    let own : MeansLeading (declaration_of c.options) words l rest = subst (λ (x : Options F V P M S). MeansLeading (declaration_of x) words l rest) (sym same) means in
+    let one = one_leading (declaration_of c.options) words after.read l after.rest rest after.means.split own.split in (
+      after.parsed,
+      subst (λ (x : Options F V P M S). AreParsedAs (options_of x) l after.parsed) same (subst (λ m. AreParsedAs (options_of c.options) m after.parsed) one.0 after.are),
+      subst (λ r. IsPlaced c words typed after.parsed (place c.commands.now r) it) one.1 after.placed,
     ))
     (λ (un : IsUnplaced c words typed it).
-    absurd (un.neither l rest (subst (λ (x : Options F V P M S). SaysLeading (declaration_of x) words l rest) (sym same) says) (subst (λ (x : Options F V P M S). first_asked (declaration_of x).options l ≡ None) (sym same) none)))
+    absurd (un.neither l rest (subst (λ (x : Options F V P M S). MeansLeading (declaration_of x) words l rest) (sym same) means) (subst (λ (x : Options F V P M S). first_asked (declaration_of x).options l ≡ None) (sym same) none)))
     is
 
-in_task : {F V P M S : Type 0} (c : Commands Task F V P M S) (o : Options F V P M S) (words : List (List ℕ)) (typed : List ℕ) (l : List legal.Said) (rest : List (List ℕ)) (task : Task) (said : List (Said F V P M S)) (it : Step Task F V P M S)
-    → AreSaid (options_of o) l said → IsPlaced c words typed said (in_command task rest) it → IsTaskAsked (options_of o) l task rest typed it
-in_task c o words typed l rest task said (step.Command own key (request.Completion before last)) are is = (subst (λ x. AreSaid (options_of o) l x) (sym is.0) are, is.1, is.2, is.3)
-in_task c o words typed l rest task said (step.Command own key (request.Line others)) are is = is
-in_task c o words typed l rest task said (step.Command own key (request.Script shell)) are is = is
-in_task c o words typed l rest task said (step.Command own key request.Unknown) are is = is
-in_task c o words typed l rest task said (step.Text text) are is = is
-in_task c o words typed l rest task said (step.Refused refused) are is = is
+in_task : {F V P M S : Type 0} (c : Commands Task F V P M S) (o : Options F V P M S) (words : List (List ℕ)) (typed : List ℕ) (l : List legal.Parsed) (rest : List (List ℕ)) (task : Task) (parsed : List (Parsed F V P M S)) (it : Step Task F V P M S)
+    → AreParsedAs (options_of o) l parsed → IsPlaced c words typed parsed (in_command task rest) it → IsTaskAsked (options_of o) l task rest typed it
+in_task c o words typed l rest task parsed (step.Command own key (request.Completion before last)) are is = (subst (λ x. AreParsedAs (options_of o) l x) (sym is.0) are, is.1, is.2, is.3)
+in_task c o words typed l rest task parsed (step.Command own key (request.Line others)) are is = is
+in_task c o words typed l rest task parsed (step.Command own key (request.Script shell)) are is = is
+in_task c o words typed l rest task parsed (step.Command own key request.Unknown) are is = is
+in_task c o words typed l rest task parsed (step.Text text) are is = is
+in_task c o words typed l rest task parsed (step.Refused refused) are is = is
 
-pub task_asked : {F V P M S : Type 0} (c : Commands Task F V P M S) (o : Options F V P M S) (words : List (List ℕ)) (typed : List ℕ) (l : List legal.Said) (rest own : List (List ℕ)) (task : Task) (it : Step Task F V P M S)
-    → c.options ≡ o → first_asked (declaration_of o).options l ≡ None → place c.commands.now rest ≡ in_command task own → SaysLeading (declaration_of o) words l rest → IsCompletionStep c words typed it
+pub task_asked : {F V P M S : Type 0} (c : Commands Task F V P M S) (o : Options F V P M S) (words : List (List ℕ)) (typed : List ℕ) (l : List legal.Parsed) (rest own : List (List ℕ)) (task : Task) (it : Step Task F V P M S)
+    → c.options ≡ o → first_asked (declaration_of o).options l ≡ None → place c.commands.now rest ≡ in_command task own → MeansLeading (declaration_of o) words l rest → IsCompletionStep c words typed it
     → IsTaskAsked (options_of o) l task own typed it
-task_asked c o words typed l rest own task it same none means says is =
-    let p = placed_so c o words typed l rest it same none says is in
-    in_task c o words typed l own task p.0 it p.1 (subst (λ x. IsPlaced c words typed p.0 x it) means p.2)
+task_asked c o words typed l rest own task it same none there means is =
+    let p = placed_so c o words typed l rest it same none means is in
+    in_task c o words typed l own task p.0 it p.1 (subst (λ x. IsPlaced c words typed p.0 x it) there p.2)
 
-written_at_help : {F V P M S : Type 0} (c : Commands Task F V P M S) (words : List (List ℕ)) (typed : List ℕ) (said : List (Said F V P M S)) (it : Step Task F V P M S) → IsPlaced c words typed said at_help it → IsWritten (flat_map (begun_line typed) c.commands.now) it
-written_at_help c words typed said (step.Command own key (request.Completion before last)) is = is
-written_at_help c words typed said (step.Command own key (request.Line others)) is = is
-written_at_help c words typed said (step.Command own key (request.Script shell)) is = is
-written_at_help c words typed said (step.Command own key request.Unknown) is = is
-written_at_help c words typed said (step.Text text) is = is
-written_at_help c words typed said (step.Refused refused) is = is
+written_at_help : {F V P M S : Type 0} (c : Commands Task F V P M S) (words : List (List ℕ)) (typed : List ℕ) (parsed : List (Parsed F V P M S)) (it : Step Task F V P M S) → IsPlaced c words typed parsed at_help it → IsWritten (flat_map (begun_line typed) c.commands.now) it
+written_at_help c words typed parsed (step.Command own key (request.Completion before last)) is = is
+written_at_help c words typed parsed (step.Command own key (request.Line others)) is = is
+written_at_help c words typed parsed (step.Command own key (request.Script shell)) is = is
+written_at_help c words typed parsed (step.Command own key request.Unknown) is = is
+written_at_help c words typed parsed (step.Text text) is = is
+written_at_help c words typed parsed (step.Refused refused) is = is
 
-pub names_written : {F V P M S : Type 0} (c : Commands Task F V P M S) (o : Options F V P M S) (words : List (List ℕ)) (typed : List ℕ) (l : List legal.Said) (rest : List (List ℕ)) (it : Step Task F V P M S) (text : List ℕ)
-    → c.options ≡ o → first_asked (declaration_of o).options l ≡ None → place c.commands.now rest ≡ at_help → flat_map (begun_line typed) c.commands.now ≡ text → SaysLeading (declaration_of o) words l rest → IsCompletionStep c words typed it
+pub names_written : {F V P M S : Type 0} (c : Commands Task F V P M S) (o : Options F V P M S) (words : List (List ℕ)) (typed : List ℕ) (l : List legal.Parsed) (rest : List (List ℕ)) (it : Step Task F V P M S) (text : List ℕ)
+    → c.options ≡ o → first_asked (declaration_of o).options l ≡ None → place c.commands.now rest ≡ at_help → flat_map (begun_line typed) c.commands.now ≡ text → MeansLeading (declaration_of o) words l rest → IsCompletionStep c words typed it
     → IsWritten text it
-names_written c o words typed l rest it text same none means are says is =
-    let p = placed_so c o words typed l rest it same none says is in
-    subst (λ t. IsWritten t it) are (written_at_help c words typed p.0 it (subst (λ x. IsPlaced c words typed p.0 x it) means p.2))
+names_written c o words typed l rest it text same none there are means is =
+    let p = placed_so c o words typed l rest it same none means is in
+    subst (λ t. IsWritten t it) are (written_at_help c words typed p.0 it (subst (λ x. IsPlaced c words typed p.0 x it) there p.2))
 
-written_nowhere : {F V P M S : Type 0} (c : Commands Task F V P M S) (words : List (List ℕ)) (typed : List ℕ) (said : List (Said F V P M S)) (it : Step Task F V P M S) → IsPlaced c words typed said nowhere it → IsWritten [] it
-written_nowhere c words typed said (step.Command own key (request.Completion before last)) is = is
-written_nowhere c words typed said (step.Command own key (request.Line others)) is = is
-written_nowhere c words typed said (step.Command own key (request.Script shell)) is = is
-written_nowhere c words typed said (step.Command own key request.Unknown) is = is
-written_nowhere c words typed said (step.Text text) is = is
-written_nowhere c words typed said (step.Refused refused) is = is
+written_nowhere : {F V P M S : Type 0} (c : Commands Task F V P M S) (words : List (List ℕ)) (typed : List ℕ) (parsed : List (Parsed F V P M S)) (it : Step Task F V P M S) → IsPlaced c words typed parsed nowhere it → IsWritten [] it
+written_nowhere c words typed parsed (step.Command own key (request.Completion before last)) is = is
+written_nowhere c words typed parsed (step.Command own key (request.Line others)) is = is
+written_nowhere c words typed parsed (step.Command own key (request.Script shell)) is = is
+written_nowhere c words typed parsed (step.Command own key request.Unknown) is = is
+written_nowhere c words typed parsed (step.Text text) is = is
+written_nowhere c words typed parsed (step.Refused refused) is = is
 
-pub nothing_written : {F V P M S : Type 0} (c : Commands Task F V P M S) (o : Options F V P M S) (words : List (List ℕ)) (typed : List ℕ) (l : List legal.Said) (rest : List (List ℕ)) (it : Step Task F V P M S)
-    → c.options ≡ o → first_asked (declaration_of o).options l ≡ None → place c.commands.now rest ≡ nowhere → SaysLeading (declaration_of o) words l rest → IsCompletionStep c words typed it → IsWritten [] it
-nothing_written c o words typed l rest it same none means says is =
-    let p = placed_so c o words typed l rest it same none says is in
-    written_nowhere c words typed p.0 it (subst (λ x. IsPlaced c words typed p.0 x it) means p.2)
+pub nothing_written : {F V P M S : Type 0} (c : Commands Task F V P M S) (o : Options F V P M S) (words : List (List ℕ)) (typed : List ℕ) (l : List legal.Parsed) (rest : List (List ℕ)) (it : Step Task F V P M S)
+    → c.options ≡ o → first_asked (declaration_of o).options l ≡ None → place c.commands.now rest ≡ nowhere → MeansLeading (declaration_of o) words l rest → IsCompletionStep c words typed it → IsWritten [] it
+nothing_written c o words typed l rest it same none there means is =
+    let p = placed_so c o words typed l rest it same none means is in
+    written_nowhere c words typed p.0 it (subst (λ x. IsPlaced c words typed p.0 x it) there p.2)
 
-offered_at_options : {F V P M S : Type 0} (c : Commands Task F V P M S) (words : List (List ℕ)) (typed : List ℕ) (said : List (Said F V P M S)) (it : Step Task F V P M S)
+offered_at_options : {F V P M S : Type 0} (c : Commands Task F V P M S) (words : List (List ℕ)) (typed : List ℕ) (parsed : List (Parsed F V P M S)) (it : Step Task F V P M S)
     → ((lines : List (List ℕ)) → AllZip (IsNameLine (declaration_of c.options) words typed) c.commands.now lines → AllZip (tasks.IsLineOf (declaration_of c.options) words typed) task_lines lines)
-    → IsPlaced c words typed said at_options it → AreOffered c.options words typed it
-offered_at_options c words typed said (step.Command own key (request.Completion before last)) so is = is
-offered_at_options c words typed said (step.Command own key (request.Line others)) so is = is
-offered_at_options c words typed said (step.Command own key (request.Script shell)) so is = is
-offered_at_options c words typed said (step.Command own key request.Unknown) so is = is
-offered_at_options c words typed said (step.Text text) so is = (is.0, so is.0 is.1, is.2, is.3, is.4)
-offered_at_options c words typed said (step.Refused refused) so is = is
+    → IsPlaced c words typed parsed at_options it → AreOffered c.options words typed it
+offered_at_options c words typed parsed (step.Command own key (request.Completion before last)) so is = is
+offered_at_options c words typed parsed (step.Command own key (request.Line others)) so is = is
+offered_at_options c words typed parsed (step.Command own key (request.Script shell)) so is = is
+offered_at_options c words typed parsed (step.Command own key request.Unknown) so is = is
+offered_at_options c words typed parsed (step.Text text) so is = (is.0, so is.0 is.1, is.2, is.3, is.4)
+offered_at_options c words typed parsed (step.Refused refused) so is = is
 
-pub options_offered : {F V P M S : Type 0} (c : Commands Task F V P M S) (o : Options F V P M S) (words : List (List ℕ)) (typed : List ℕ) (l : List legal.Said) (it : Step Task F V P M S) → c.options ≡ o
-    → first_asked (declaration_of o).options l ≡ None → SaysLeading (declaration_of o) words l []
+pub options_offered : {F V P M S : Type 0} (c : Commands Task F V P M S) (o : Options F V P M S) (words : List (List ℕ)) (typed : List ℕ) (l : List legal.Parsed) (it : Step Task F V P M S) → c.options ≡ o
+    → first_asked (declaration_of o).options l ≡ None → MeansLeading (declaration_of o) words l []
     → ((lines : List (List ℕ)) → AllZip (IsNameLine (declaration_of c.options) words typed) c.commands.now lines → AllZip (tasks.IsLineOf (declaration_of c.options) words typed) task_lines lines) → IsCompletionStep c words typed it
     → AreOffered o words typed it
-options_offered {F} {V} {P} {M} {S} c o words typed l it same none says so is =
-    let p = placed_so c o words typed l [] it same none says is in
+options_offered {F} {V} {P} {M} {S} c o words typed l it same none means so is =
+    let p = placed_so c o words typed l [] it same none means is in
     subst (λ (x : Options F V P M S). AreOffered x words typed it) same (offered_at_options c words typed p.0 it so p.2)
 
--- the name of a command and its line
+-- the name of a command, and its line
 abbrev pub name_and_line : Command Task → List ℕ × List ℕ
 name_and_line c = (c.name.now, name_line c)
 
@@ -109,3 +109,39 @@ lines_so d words typed [] [] zip = zip
 lines_so d words typed [] (l ∷ ls) zip = zip
 lines_so d words typed (c ∷ cs) [] zip = zip
 lines_so d words typed (c ∷ cs) (l ∷ ls) zip = (zip.0, lines_so d words typed cs ls zip.1)
+
+-- ---- where the words are not general options that ask for nothing, nor with words after them
+
+unplaced : {F V P M S : Type 0} (c : Commands Task F V P M S) (o : Options F V P M S) (words : List (List ℕ)) (typed : List ℕ) (it : Step Task F V P M S) → c.options ≡ o
+    → ((l : List legal.Parsed) (rest : List (List ℕ)) → MeansLeading (declaration_of o) words l rest → first_asked (declaration_of o).options l ≡ None → ⊥) → IsCompletionStep c words typed it → IsUnplaced c words typed it
+unplaced {F} {V} {P} {M} {S} c o words typed it same neither is = ⊎_elim
+    (λ (after : IsPlacedAfter c words typed it).
+    absurd (neither after.read after.rest (subst (λ (x : Options F V P M S). MeansLeading (declaration_of x) words after.read after.rest) same after.means) (subst (λ (x : Options F V P M S). first_asked (declaration_of x).options after.read ≡ None) same after.nothing)))
+    (λ (un : IsUnplaced c words typed it). un)
+    is
+
+written : {F V P M S : Type 0} (it : Step Task F V P M S) (text : List ℕ) → IsText it text → IsWritten text it
+written (step.Command parsed key own) text is = is
+written (step.Text found) text is = is
+written (step.Refused refused) text is = is
+
+pub nothing_offered : {F V P M S : Type 0} (c : Commands Task F V P M S) (o : Options F V P M S) (words : List (List ℕ)) (typed : List ℕ) (it : Step Task F V P M S) → c.options ≡ o
+    → ((l : List legal.Parsed) (rest : List (List ℕ)) → MeansLeading (declaration_of o) words l rest → first_asked (declaration_of o).options l ≡ None → ⊥) → HasPositional (declaration_of o) words → IsCompletionStep c words typed it → IsWritten [] it
+nothing_offered {F} {V} {P} {M} {S} c o words typed it same neither has is =
+    let un = unplaced c o words typed it same neither is in
+    ⊎_elim (λ own. subst (λ t. IsWritten t it) own.1 (written it un.text un.is_text)) (λ other. absurd (other.0 (subst (λ (x : Options F V P M S). HasPositional (declaration_of x) words) (sym same) has))) un.offered
+
+offered_so : {F V P M S : Type 0} (c : Commands Task F V P M S) (words : List (List ℕ)) (typed text : List ℕ) (it : Step Task F V P M S)
+    → ((lines : List (List ℕ)) → AllZip (IsNameLine (declaration_of c.options) words typed) c.commands.now lines → AllZip (tasks.IsLineOf (declaration_of c.options) words typed) task_lines lines)
+    → IsText it text → IsOptionsText c words typed text → AreOffered c.options words typed it
+offered_so c words typed text (step.Command parsed key own) so is are = is
+offered_so c words typed text (step.Text found) so is are = (are.0, so are.0 are.1, are.2, are.3, is ∙ are.4)
+offered_so c words typed text (step.Refused refused) so is are = is
+
+pub options_offered_too : {F V P M S : Type 0} (c : Commands Task F V P M S) (o : Options F V P M S) (words : List (List ℕ)) (typed : List ℕ) (it : Step Task F V P M S) → c.options ≡ o
+    → ((l : List legal.Parsed) (rest : List (List ℕ)) → MeansLeading (declaration_of o) words l rest → first_asked (declaration_of o).options l ≡ None → ⊥) → (¬ HasPositional (declaration_of o) words)
+    → ((lines : List (List ℕ)) → AllZip (IsNameLine (declaration_of c.options) words typed) c.commands.now lines → AllZip (tasks.IsLineOf (declaration_of c.options) words typed) task_lines lines) → IsCompletionStep c words typed it
+    → AreOffered o words typed it
+options_offered_too {F} {V} {P} {M} {S} c o words typed it same neither none so is =
+    let un = unplaced c o words typed it same neither is in
+    ⊎_elim (λ own. absurd (none (subst (λ (x : Options F V P M S). HasPositional (declaration_of x) words) same own.0))) (λ other. subst (λ (x : Options F V P M S). AreOffered x words typed it) same (offered_so c words typed un.text it so un.is_text other.1)) un.offered

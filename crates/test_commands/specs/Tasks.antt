@@ -1,18 +1,23 @@
--- What lines of three commands come to, by plain data.
-use Rattle.std.specs.Prelude.{◌≡◌, ◌⊎◌, ◌++◌, ℕ, if◌then◌else◌, nat_eq, List, [], ◌∷◌, None}
-use Rattle.std.specs.Prelude.{codes, map, string_bytes}
-use Rattle.std.specs.List.{AllZip, concat, starts_with}
+-- What lines of three commands mean, what completes a word, and what the help shows, by plain data.
+use Rattle.std.specs.Prelude.{◌≡◌, ◌⊎◌, ◌++◌, ℕ, if◌then◌else◌, nat_eq, List, [], ◌∷◌}
+use Rattle.std.specs.Prelude.{Option, Some, None, codes, false, map, option_map, string_bytes}
+use Rattle.std.specs.List.{AllZip, concat, flat_map, starts_with}
+use Rattle.lexopt_line_spec.specs.Table.{flag}
 use Rattle.lexopt_options_spec.specs.Asking.{first_asked}
+use Rattle.lexopt_options_spec.specs.Declaration as spec
 use Rattle.lexopt_options_spec.specs.Declaration.{Declaration}
-use Rattle.lexopt_options_spec.specs.Leading.{SaysLeading}
+use Rattle.lexopt_options_spec.specs.Help.{IsEntry, IsParagraph, IsUsage, described, label}
+use Rattle.lexopt_options_spec.specs.Help.{set_apart, visible, with_list}
+use Rattle.lexopt_options_spec.specs.Leading.{MeansLeading}
 use Rattle.lexopt_options_spec.specs.Legal as legal
+use Rattle.lexopt_options_spec.specs.Nearest.{IsNearest, hinted_name}
 use Rattle.lexopt_declaration.specs.declared.declaration.Declared.{Declared}
-use Rattle.lexopt_options.specs.declared.said.Asked.TheVariants.{Help}
+use Rattle.lexopt_options.specs.declared.parsed.Asked.TheVariants.{Help}
 use Rattle.lexopt_options.specs.declared.options.Options.{Options}
 use Rattle.lexopt_options.specs.declared.request.Request.TheVariants as request
 use Rattle.lexopt_options.specs.Answers.{IsCompletionText}
 use Rattle.lexopt_options.specs.Declarations.{declaration_of}
-use Rattle.lexopt_options.specs.Keys.{AreSaid}
+use Rattle.lexopt_options.specs.Keys.{AreParsedAs}
 use Rattle.lexopt_commands.specs.declared.answer.Step.{Step}
 use Rattle.lexopt_commands.specs.declared.answer.Step.TheVariants as step
 use Rattle.lexopt_commands.specs.declared.mistake.Mistake.{Mistake}
@@ -21,10 +26,16 @@ use Rattle.lexopt_commands.specs.declared.refused.CommandLine.{CommandLine}
 use Rattle.lexopt_commands.specs.declared.refused.CommandLine.TheVariants as line
 use Rattle.test_commands.specs.declared.callers.Task.{Task}
 
+-- the names of the commands, and the line about each
+abbrev pub task_helps : List (List ℕ × List ℕ)
+task_helps = (codes "add", codes "add files")
+    ∷ (codes "remote", codes "add or remove a remote")
+    ∷ (codes "help", codes "print the help of a command") ∷ []
+
 -- the line is this command with these words, after these general options
-abbrev pub IsTask : {F V P M S : Type 0} → List (Declared F V M S) → List legal.Said → Task
+abbrev pub IsTask : {F V P M S : Type 0} → List (Declared F V M S) → List legal.Parsed → Task
     → List (List ℕ) → CommandLine Task F V P M S → Type 0
-IsTask options l task words (line.Command said key own) = AreSaid options l said.items
+IsTask options l task words (line.Command parsed key own) = AreParsedAs options l parsed.items
     × (key ≡ task) × (own.items ≡ words)
 IsTask options l task words line = ⊥
 
@@ -39,30 +50,50 @@ IsMissingName (mistake.MissingCommand names) =
 IsMissingName m = ⊥
 
 -- it has no command
-abbrev pub IsMissing : {F V P M S : Type 0} → List (Declared F V M S) → List legal.Said
+abbrev pub IsMissing : {F V P M S : Type 0} → List (Declared F V M S) → List legal.Parsed
     → CommandLine Task F V P M S → Type 0
-IsMissing options l (line.Refused refused) = AreSaid options l refused.before.items
+IsMissing options l (line.Refused refused) = AreParsedAs options l refused.before.items
     × IsMissingName refused.mistake
 IsMissing options l line = ⊥
 
-abbrev pub IsUnknownName : List ℕ → Mistake → Type 0
-IsUnknownName name (mistake.UnknownCommand word hint) = word ≡ name
-IsUnknownName name m = ⊥
+-- a long option of this name
+abbrev pub long_option : List ℕ × List ℕ → spec.Declared
+long_option p = record {
+  short_name = None;
+  long_name = Some p.0;
+  kind = flag;
+  placeholder = [];
+  help = p.1;
+  asks = None;
+  hidden = false;
+  required = false;
+  words = spec.files;
+}
 
--- this name is not that of a command
-abbrev pub IsUnknown : {F V P M S : Type 0} → List (Declared F V M S) → List legal.Said → List ℕ
-    → CommandLine Task F V P M S → Type 0
-IsUnknown options l name (line.Refused refused) = AreSaid options l refused.before.items
-    × IsUnknownName name refused.mistake
-IsUnknown options l name line = ⊥
+-- the hint for this text, if the names of the commands were those of long options
+abbrev pub IsHintFor : List ℕ → Option (List ℕ) → Type 0
+IsHintFor typed hint = (found : Option ℕ) × IsNearest (map long_option task_helps) typed found
+    × (hint ≡ hinted_name (map long_option task_helps) typed found)
 
--- ---- where a word is typed
+abbrev pub IsUnknownName : List ℕ → List ℕ → Mistake → Type 0
+IsUnknownName name typed (mistake.UnknownCommand word hint) =
+    (word ≡ name) × IsHintFor typed (option_map string_bytes hint)
+IsUnknownName name typed m = ⊥
 
--- this command is asked what can come where this is typed after these words
-abbrev pub IsTaskAsked : {F V P M S : Type 0} → List (Declared F V M S) → List legal.Said → Task
+-- no command has this name, and its hint is the one for this text
+abbrev pub IsUnknown : {F V P M S : Type 0} → List (Declared F V M S) → List legal.Parsed → List ℕ
+    → List ℕ → CommandLine Task F V P M S → Type 0
+IsUnknown options l name typed (line.Refused refused) = AreParsedAs options l refused.before.items
+    × IsUnknownName name typed refused.mistake
+IsUnknown options l name typed line = ⊥
+
+-- ---- completion of a typed word
+
+-- this command is asked to complete this typed word after these words
+abbrev pub IsTaskAsked : {F V P M S : Type 0} → List (Declared F V M S) → List legal.Parsed → Task
     → List (List ℕ) → List ℕ → Step Task F V P M S → Type 0
-IsTaskAsked options l task rest typed (step.Command said key (request.Completion before last)) =
-    AreSaid options l said.items × (key ≡ task) × (before.items ≡ rest) × (last ≡ typed)
+IsTaskAsked options l task rest typed (step.Command parsed key (request.Completion before last)) =
+    AreParsedAs options l parsed.items × (key ≡ task) × (before.items ≡ rest) × (last ≡ typed)
 IsTaskAsked options l task rest typed found = ⊥
 
 -- this text is written
@@ -70,29 +101,51 @@ abbrev pub IsWritten : {F V P M S : Type 0} → List ℕ → Step Task F V P M S
 IsWritten text (step.Text own) = string_bytes own ≡ text
 IsWritten text found = ⊥
 
--- the line of a name, if it begins with what was typed
+-- the line of a name, if the name begins with what was typed
 abbrev pub begun : List ℕ → List ℕ × List ℕ → List ℕ
 begun typed p = if starts_with nat_eq p.0 typed then p.1 else []
 
--- the names of the commands, and their lines
+-- the names of the commands, and the line of each
 abbrev pub task_lines : List (List ℕ × List ℕ)
 task_lines = (codes "add", codes "+add\tadd files\n")
     ∷ (codes "remote", codes "+remote\tadd or remove a remote\n")
     ∷ (codes "help", codes "+help\tprint the help of a command\n") ∷ []
 
--- with this name at their end, the words are general options that ask for nothing, and the name
+-- the words and then this name are general options without a request, and the name
 abbrev pub CanCome : Declaration → List (List ℕ) → List ℕ → Type 0
-CanCome d words name = (l : List legal.Said) × SaysLeading d (words ++ name ∷ []) l (name ∷ [])
+CanCome d words name = (l : List legal.Parsed) × MeansLeading d (words ++ name ∷ []) l (name ∷ [])
     × (first_asked d.options l ≡ None)
 
 abbrev pub IsLineOf : Declaration → List (List ℕ) → List ℕ → List ℕ × List ℕ → List ℕ → Type 0
 IsLineOf d words typed p line = (CanCome d words p.0 × (line ≡ begun typed p))
     ⊎ ((¬ CanCome d words p.0) × (line ≡ []))
 
--- the lines of the names that can come, and what can come by the general options, are written
+-- the lines of the names that can come are written, and then the completion by the general options
 abbrev pub AreOffered : {F V P M S : Type 0} → Options F V P M S → List (List ℕ) → List ℕ
     → Step Task F V P M S → Type 0
 AreOffered o words typed (step.Text text) = (lines : List (List ℕ))
     × AllZip (IsLineOf (declaration_of o) words typed) task_lines lines × (own : List ℕ)
     × IsCompletionText o words typed own × (string_bytes text ≡ concat lines ++ own)
 AreOffered o words typed found = ⊥
+
+-- ---- the help
+
+-- the parts of the help, with an entry for each command after those of the positionals
+pub record IsTaskHelp (d : Declaration) (width : ℕ) (text : List ℕ) : Type 0 where
+  pub usage : List ℕ
+  pub about : List ℕ
+  pub positionals : List (List ℕ)
+  pub commands : List (List ℕ)
+  pub options : List (List ℕ)
+  pub epilogue : List (List ℕ)
+  pub usage_first : IsUsage width d usage
+  pub about_next : IsParagraph width d.about about
+  pub each_positional :
+      AllZip (λ p. IsEntry width p.placeholder (with_list p.help p.words)) (described d.positionals)
+      positionals
+  pub each_command : AllZip (λ p. IsEntry width p.0 p.1) task_helps commands
+  pub each_option :
+      AllZip (λ o. IsEntry width (label o) (with_list o.help o.words)) (visible d.options) options
+  pub each_paragraph : AllZip (IsParagraph width) d.epilogue epilogue
+  pub written : text ≡ usage ++ about ++ set_apart (concat positionals)
+      ++ set_apart (concat commands) ++ set_apart (concat options) ++ flat_map set_apart epilogue

@@ -1,10 +1,10 @@
-//! What can come where a word is typed.
+//! What can complete a word that is typed.
 use crate::git::{Flag, Task, Value, git, words_of};
 use lexopt_commands::Step;
 use lexopt_options::Request;
 use std::alloc::{AllocError, Global};
 
-// What is to be done where the last word of this line is typed.
+// What the program does to complete the last word of this line.
 fn step_of(alloc: Global, line: &[u8]) -> Result<Step<'static, Task, Flag, Value, ()>, AllocError> {
     let request = Request::new(alloc, Some(b"zsh_complete"), words_of(alloc, line)?);
     git().answer_request(alloc, request, 80)
@@ -12,7 +12,9 @@ fn step_of(alloc: Global, line: &[u8]) -> Result<Step<'static, Task, Flag, Value
 
 fn text_of(alloc: Global, line: &[u8]) -> Result<String, AllocError> {
     match step_of(alloc, line)? {
-        Step::Command(said, task, request) => format!(in alloc; "{said:?} {task:?} {request:?}"),
+        Step::Command(parsed, task, request) => format!(in alloc;
+            "{parsed:?} {task:?} {request:?}"
+        ),
         Step::Text(text) => Ok(text),
         Step::Refused(refused) => format!(in alloc; "{refused}"),
     }
@@ -27,7 +29,7 @@ const DASHED: &str = "-v\ttell more\n--verbose\ttell more\n-C\twork there\n\
     -h\tprint this help and exit\n--help\tprint this help and exit\n\
     --version\tprint the version and exit\n";
 
-// Lines of which the last word is typed, and what is printed, or who is asked.
+// Lines whose last word is typed, and what is printed, or which command is asked.
 static ROWS: [(&[u8], &str); 22] = [
     (b"", NAMES),
     (b"re", TWO),
@@ -37,7 +39,7 @@ static ROWS: [(&[u8], &str); 22] = [
     (b"-v re", TWO),
     (b"-- re", TWO),
     (b"-- -", ""),
-    // A value is due, or is in the word of its option.
+    // The word is a value, or has an attached value.
     (b"-C ", "files\n"),
     (b"-vCdi", "files\t-vC\n"),
     (b"-C dir re", TWO),
@@ -48,19 +50,19 @@ static ROWS: [(&[u8], &str); 22] = [
         "[Flag(Verbose)] Remote Completion([\"add\"], \"-\")",
     ),
     (b"-- add -- x", "[] Add Completion([\"--\"], \"x\")"),
-    // No line goes on like this.
+    // No line that can be read begins with these words.
     (b"bogus ", ""),
     (b"bogus -", ""),
     (b"-z a", ""),
     (b"-h a", ""),
-    // After a name that asks for the help.
+    // The name `help` comes before.
     (b"help ", NAMES),
     (b"-v help re", TWO),
     (b"help remote a", "[] Remote Completion([], \"a\")"),
     (b"help help a", ""),
 ];
 
-// The first of these rows that does not hold, or none.
+// The place of the first row that does not hold, if there is one.
 fn first_wrong(alloc: Global) -> Result<Option<usize>, AllocError> {
     for (row, (line, wanted)) in ROWS.iter().enumerate() {
         if text_of(alloc, line)?.as_str() != *wanted {

@@ -1,4 +1,4 @@
-//! The declaration that the tests share, and lines of words.
+//! The declaration that the tests share, and the words of lines.
 use lexopt_commands::{Command, Commands, Runs};
 use lexopt_options::{Declaration, Names, Options, OsString, declare};
 use std::alloc::{AllocError, Global};
@@ -63,7 +63,7 @@ pub fn git() -> Git<'static> {
     Commands::new(Options::new(&GENERAL), &COMMANDS)
 }
 
-/// These words, between blanks. Two blanks have an empty word between them.
+/// The words of a line, which has one space between two words. An empty word is between two spaces.
 pub fn words_of(alloc: Global, line: &[u8]) -> Result<Vec<OsString>, AllocError> {
     let mut words = Vec::new(alloc);
     if !line.is_empty() {

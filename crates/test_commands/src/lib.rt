@@ -1,5 +1,6 @@
-//! Tests of declared commands: what is read, printed, refused and answered, by rows that are
-//! written by hand; and a caller with clauses of its own.
+//! Tests of declared commands: what a line means, what is printed and refused, and what can
+//! complete a word, by rows that are written by hand and by brute force. The modules
+//! `callers`, `line_callers` and `text_callers` exist for the prover.
 #![tactic(auto)]
 
 #[cfg(test)]
@@ -9,9 +10,11 @@ pub mod callers;
 mod completions;
 #[cfg(test)]
 mod git;
+pub mod line_callers;
 #[cfg(test)]
 mod lines;
 #[cfg(test)]
 mod names;
+pub mod text_callers;
 #[cfg(test)]
 mod texts;

@@ -1,14 +1,14 @@
-//! What lines of words come to.
+//! What lines mean: the command and its words, a request, or a mistake.
 use crate::git::{git, words_of};
 use lexopt_commands::CommandLine;
 use std::alloc::{AllocError, Global};
 
-// What a line comes to, as `Debug` writes it: the general options, the command and its words; or
-// what it asks for; or the general options before its mistake, and the mistake.
+// The meaning of a line, as `Debug` writes it: the general options, the command and its words; or
+// the request; or the general options before the mistake, and the mistake.
 fn text_of(alloc: Global, line: &[u8]) -> Result<String, AllocError> {
     match git().read(alloc, words_of(alloc, line)?)? {
-        CommandLine::Command(said, task, words) => {
-            format!(in alloc; "{said:?} {task:?} {words:?}")
+        CommandLine::Command(parsed, task, words) => {
+            format!(in alloc; "{parsed:?} {task:?} {words:?}")
         }
         CommandLine::Asked(asked) => format!(in alloc; "{asked:?}"),
         CommandLine::Refused(refused) => {
@@ -17,7 +17,7 @@ fn text_of(alloc: Global, line: &[u8]) -> Result<String, AllocError> {
     }
 }
 
-// The first of these rows that does not hold, or none.
+// The place of the first row that does not hold, if there is one.
 fn first_wrong(alloc: Global, rows: &[(&[u8], &'static str)]) -> Result<Option<usize>, AllocError> {
     for (row, (line, wanted)) in rows.iter().enumerate() {
         if text_of(alloc, line)?.as_str() != *wanted {
@@ -38,14 +38,14 @@ static COMMANDS: [(&[u8], &str); 10] = [
         "[Flag(Verbose)] Remote [\"add\", \"--help\"]",
     ),
     (b"add add", "[] Add [\"add\"]"),
-    // After the name nothing is read, not even a separator or a mistake.
+    // After the name nothing is read, not even a separator or an unknown option.
     (b"add -- --bogus", "[] Add [\"--\", \"--bogus\"]"),
     (b"remove -C", "[] Remove [\"-C\"]"),
-    // A separator before the name is no part of the words.
+    // A separator before the name is not one of the words.
     (b"-v -- add -v", "[Flag(Verbose)] Add [\"-v\"]"),
-    // What comes after an option with a value is its value.
+    // The word after an option with a value is its value.
     (b"-C add remove", "[Value(Directory, \"add\")] Remove []"),
-    // The help and the version are asked for before the name, and not after it.
+    // A request for the help after the name is a word of the command.
     (b"add -h", "[] Add [\"-h\"]"),
     (b"add \xFF", "[] Add [\"\\xFF\"]"),
 ];
@@ -102,7 +102,7 @@ static MISTAKES: [(&[u8], &str); 20] = [
         b"-v bogus -h",
         "[Flag(Verbose)], then unknown command \"bogus\"",
     ),
-    // One edit of three characters is near, and one of two is not.
+    // One edit in three characters is near, and one in two is not.
     (
         b"Add",
         "[], then unknown command \"Add\"; did you mean 'add'?",
@@ -116,7 +116,7 @@ static MISTAKES: [(&[u8], &str); 20] = [
         b"remoev",
         "[], then unknown command \"remoev\"; did you mean 'remove'?",
     ),
-    // Of two that are as near it is the first.
+    // If two names are equally near, the first is the hint.
     (
         b"remoze",
         "[], then unknown command \"remoze\"; did you mean 'remove'?",
@@ -129,7 +129,7 @@ static MISTAKES: [(&[u8], &str); 20] = [
         b"hlep",
         "[], then unknown command \"hlep\"; did you mean 'help'?",
     ),
-    // What only one name begins with.
+    // Only one name begins with this word.
     (
         b"ad",
         "[], then unknown command \"ad\"; did you mean 'add'?",
@@ -140,7 +140,7 @@ static MISTAKES: [(&[u8], &str); 20] = [
         b"a\xFFd",
         "[], then unknown command \"a\\xFFd\"; did you mean 'add'?",
     ),
-    // After `help` too.
+    // The same words after `help`.
     (
         b"help ad",
         "[], then unknown command \"ad\"; did you mean 'add'?",

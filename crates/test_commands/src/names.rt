@@ -1,4 +1,4 @@
-//! Commands that cannot be declared, and those that can.
+//! Which names of commands can be declared.
 use lexopt_commands::{Command, Commands, Runs};
 use lexopt_options::{Declaration, Options, declare};
 use std::alloc::{AllocError, Global};
@@ -9,7 +9,7 @@ static GENERAL: Declaration<'static, Infallible> = declare! {
     options: [],
 };
 
-// What is wrong with commands of these two names, or nothing.
+// The text of the error for commands of these two names, empty if there is none.
 fn text_of(alloc: Global, first: &'static str, second: &'static str) -> Result<String, AllocError> {
     let commands = [
         Command {
@@ -56,7 +56,7 @@ static NAMES: [(&str, &str, &str); 12] = [
         "add",
         "command 'add': a command before it has its name",
     ),
-    // The first that cannot be declared, and the first of its reasons.
+    // The first command that cannot be declared, and its first reason.
     (
         "-\u{FFFD} ",
         "",
@@ -69,7 +69,7 @@ static NAMES: [(&str, &str, &str); 12] = [
     ),
 ];
 
-// The first of these rows that does not hold, or none.
+// The place of the first row that does not hold, if there is one.
 fn first_wrong(alloc: Global) -> Result<Option<usize>, AllocError> {
     for (row, (first, second, wanted)) in NAMES.iter().enumerate() {
         if text_of(alloc, first, second)?.as_str() != *wanted {

@@ -1,19 +1,19 @@
-//! What a program is to do: the texts that it prints.
+//! What a program does with a line, and the texts that it prints.
 use crate::git::{git, words_of};
 use lexopt_commands::{Step, columns};
 use std::alloc::{AllocError, Global};
 use test_helpers::environments::{Arguments, Terminal};
 
-// What is to be done about a line.
+// What the program does with a line: the command, a text to print, or a refusal.
 fn text_of(alloc: Global, line: &[u8], width: usize) -> Result<String, AllocError> {
     match git().answer(alloc, words_of(alloc, line)?, width)? {
-        Step::Command(said, task, words) => format!(in alloc; "{said:?} {task:?} {words:?}"),
+        Step::Command(parsed, task, words) => format!(in alloc; "{parsed:?} {task:?} {words:?}"),
         Step::Text(text) => Ok(text),
         Step::Refused(refused) => format!(in alloc; "{refused}"),
     }
 }
 
-// Whether that is this.
+// Whether the program does this with a line.
 fn is_answer(alloc: Global, line: &[u8], width: usize, wanted: &str) -> Result<bool, AllocError> {
     Ok(text_of(alloc, line, width)?.as_str() == wanted)
 }
@@ -35,7 +35,7 @@ Tracks files.
 It has no index.
 ";
 
-// In 30 columns the help of an entry begins at column 10.
+// At 30 columns the help of an entry begins at column 10.
 const NARROW_HELP: &str = "\
 Usage: git [OPTION]... COMMAND
        [ARGUMENT]...
@@ -85,7 +85,7 @@ static ANSWERS: [(&[u8], usize, &str); 9] = [
     ),
 ];
 
-// The first of these rows that does not hold, or none.
+// The place of the first row that does not hold, if there is one.
 fn first_wrong(alloc: Global) -> Result<Option<usize>, AllocError> {
     for (row, (line, width, wanted)) in ANSWERS.iter().enumerate() {
         if !is_answer(alloc, line, *width, wanted)? {
@@ -100,7 +100,7 @@ fn answers(rt: HostRuntime) {
     assert_eq!(rt; first_wrong(rt.alloc()).expect(&rt, "success"), None);
 }
 
-// Whether the words `git help` print this help where `COLUMNS` is this, or is not set.
+// Whether the words `git help` print this help if `COLUMNS` has this value, or is not set.
 fn is_help_of_columns(alloc: Global, width: Option<&[u8]>, help: &str) -> Result<bool, AllocError> {
     let words = words_of(alloc, b"git help")?;
     let arguments = Arguments { words: &words };
@@ -120,7 +120,7 @@ fn help_of_the_environment(rt: HostRuntime) {
     assert!(rt; is_help_of_columns(rt.alloc(), None, HELP).expect(&rt, "memory"));
 }
 
-// How many columns there are where `COLUMNS` is this.
+// The number of columns if `COLUMNS` has this value.
 fn columns_of(value: &[u8]) -> usize {
     let words = [];
     let arguments = Arguments { words: &words };

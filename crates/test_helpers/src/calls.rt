@@ -1,10 +1,10 @@
-//! Calls of a parser, compared with the expected result.
+//! Calls of a parser, and comparisons of their results with the expected ones.
 use lexopt_base::{Arg, Error, OsString, Parser};
 use lexopt_calls::replay::replay;
 use lexopt_calls::reply::{Call, Reply};
 use std::alloc::Global;
 
-/// Whether the next argument is this short option.
+/// Whether `next` returns this short option.
 pub fn reads_short(parser: &mut Parser, wanted: char) -> Result<bool, Error> {
     match parser.next()? {
         Some(Arg::Short(option)) => Ok(option == wanted),
@@ -12,7 +12,7 @@ pub fn reads_short(parser: &mut Parser, wanted: char) -> Result<bool, Error> {
     }
 }
 
-/// Whether the next argument is this long option.
+/// Whether `next` returns this long option.
 pub fn reads_long(parser: &mut Parser, wanted: &str) -> Result<bool, Error> {
     match parser.next()? {
         Some(Arg::Long(name)) => Ok(name == wanted),
@@ -20,7 +20,7 @@ pub fn reads_long(parser: &mut Parser, wanted: &str) -> Result<bool, Error> {
     }
 }
 
-/// Whether the next argument is positional, and is this word.
+/// Whether `next` returns a positional with these bytes.
 pub fn reads_word(parser: &mut Parser, wanted: &[u8]) -> Result<bool, Error> {
     match parser.next()? {
         Some(Arg::Value(word)) => Ok(word.as_bytes() == wanted),
@@ -28,17 +28,17 @@ pub fn reads_word(parser: &mut Parser, wanted: &[u8]) -> Result<bool, Error> {
     }
 }
 
-/// Whether everything is read.
+/// Whether `next` returns `None`.
 pub fn is_at_end(parser: &mut Parser) -> Result<bool, Error> {
     Ok(parser.next()?.is_none())
 }
 
-/// Whether the value is these bytes.
+/// Whether `value` returns these bytes.
 pub fn takes(parser: &mut Parser, wanted: &[u8]) -> Result<bool, Error> {
     Ok(parser.value()?.as_bytes() == wanted)
 }
 
-/// Whether there is a word, from a view or from `optional_value`, and it has these bytes.
+/// Whether a view or `optional_value` returned a word with these bytes.
 pub fn gives(word: Option<OsString>, wanted: &[u8]) -> bool {
     match word {
         Some(word) => word.as_bytes() == wanted,
@@ -46,31 +46,7 @@ pub fn gives(word: Option<OsString>, wanted: &[u8]) -> bool {
     }
 }
 
-/// Whether the error reports that this option has no value; `None` if memory ran out.
-pub fn is_missing(error: Option<Error>, of: &str) -> Option<bool> {
-    match error {
-        Some(
-            Error::MissingValue {
-                option: Some(option),
-            },
-        ) => Some(option.as_str() == of),
-        Some(Error::OutOfMemory) => None,
-        _ => Some(false),
-    }
-}
-
-/// Whether the error reports that this option has this unexpected value; `None` if memory ran out.
-pub fn is_unexpected(error: Option<Error>, of: &str, held: &[u8]) -> Option<bool> {
-    match error {
-        Some(Error::UnexpectedValue { option, value }) => {
-            Some(option.as_str() == of && value.as_bytes() == held)
-        }
-        Some(Error::OutOfMemory) => None,
-        _ => Some(false),
-    }
-}
-
-/// Whether a parser has this name, and these words are what it has to read.
+/// Whether a parser has this name, and these are its unread words.
 pub fn has_words(
     parser: &mut Parser,
     name: Option<&str>,
@@ -84,7 +60,7 @@ pub fn has_words(
     Ok(is_named && are_there && unread.next().is_none())
 }
 
-/// What is left of a line: what is pending, the words, and the last option.
+/// The unread line: the pending value, the words, and the last option.
 pub fn left(alloc: Global, parser: &mut Parser) -> Result<Vec<Reply>, Error> {
     replay(alloc, parser, &[Call::Optional, Call::Raw(9), Call::Value])
 }

@@ -1,23 +1,23 @@
-//! Environments of tests.
+//! Environments with the words and the variables that a test chooses.
 ghost use Rattle.std.specs.Io.{WritesAtMost};
 
 use lexopt_base::OsString;
 use std::env::{Env, FillError};
 
-// Copies a value into a room, or as much of it as there is room for.
-fn fill(room: &mut [u8], value: &[u8]) -> Result<usize, FillError>
-    ensures bound { WritesAtMost result room.new }
+// Copies a value into a buffer, or as much of it as fits.
+fn fill(buf: &mut [u8], value: &[u8]) -> Result<usize, FillError>
+    ensures bound { WritesAtMost result buf.new }
 {
-    if value.len() > room.len() {
-        room.copy_from_slice(&value[..room.len()]);
+    if value.len() > buf.len() {
+        buf.copy_from_slice(&value[..buf.len()]);
         return Err(FillError::TooLong);
     }
-    room[..value.len()].copy_from_slice(value);
+    buf[..value.len()].copy_from_slice(value);
     Ok(value.len())
 }
 
-/// An environment with these arguments, and nothing else. Of a word that is too long for its room
-/// the front is there, as the runtime leaves it.
+/// An environment with these words, and without variables. If a word is longer than the buffer, its
+/// first bytes are copied, as the runtime does.
 #[derive(Drop)]
 pub struct Arguments<'a> {
     pub words: &'a [OsString],
@@ -40,7 +40,7 @@ impl Env for Arguments<'_> {
     }
 }
 
-/// The same with the width of a terminal: the environment variable `COLUMNS`, if it is set.
+/// The same with the variable `COLUMNS`, the width of a terminal, if it is set.
 #[derive(Drop)]
 pub struct Terminal<'a> {
     pub arguments: Arguments<'a>,
@@ -64,7 +64,7 @@ impl Env for Terminal<'_> {
     }
 }
 
-/// The same with one environment variable, if it is set.
+/// The same with one variable, if it is set.
 #[derive(Drop)]
 pub struct Variable<'a> {
     pub arguments: Arguments<'a>,

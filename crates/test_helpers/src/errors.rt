@@ -1,4 +1,4 @@
-//! What errors print.
+//! The text that errors print.
 use lexopt_base::Error;
 use std::alloc::{AllocError, Global};
 

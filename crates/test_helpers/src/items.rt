@@ -1,17 +1,17 @@
-//! Items as tests write them, and tables that read them.
+//! Items in constants, the words of items, and a table.
 use crate::parsers::words_from;
 use lexopt_base::OsString;
 use lexopt_items::items::{Item, Table};
 use std::alloc::{AllocError, Global};
 
-/// An item as a test writes it, which owns no memory.
+/// An item that owns no memory, so that a constant can hold it.
 #[derive(Clone, Copy)]
 pub enum Given {
-    /// An option of one character, with no value.
+    /// A short option without a value.
     Short(char),
     ShortValue(char, &'static [u8]),
     ShortMany(char, &'static [&'static [u8]]),
-    /// An option with a name, and no value.
+    /// A long option without a value.
     Long(&'static str),
     LongValue(&'static str, &'static [u8]),
     LongMany(&'static str, &'static [&'static [u8]]),
@@ -49,7 +49,7 @@ pub fn items_of(alloc: Global, list: &[Given]) -> Result<Vec<Item>, AllocError> 
     Ok(items)
 }
 
-/// Whether these are the words, in order.
+/// Whether the words have these bytes, in order.
 pub fn are_words(words: &[OsString], wanted: &[&[u8]]) -> bool {
     words.len() == wanted.len()
         && words
@@ -58,15 +58,15 @@ pub fn are_words(words: &[OsString], wanted: &[&[u8]]) -> bool {
             .all(|(word, bytes)| word.as_bytes() == *bytes)
 }
 
-/// A table: `o` and `out` have one value, `c` and `color` a value that may be left out, `d` and
-/// `cmd` several.
+/// A table in which `o` and `out` have one value, `c` and `color` an optional value, and `d` and
+/// `cmd` several values.
 pub fn table_of_each_kind(alloc: Global) -> Result<Table, AllocError> {
     let mut table = Table::new(alloc);
     add_options(alloc, &mut table)?;
     Ok(table)
 }
 
-// Adds two options of each kind.
+// Adds a short and a long option of each kind. It is a function of its own for a short proof.
 fn add_options(alloc: Global, table: &mut Table) -> Result<(), AllocError> {
     table.shorts.push('o')?;
     table.longs.push(String::from_str(alloc, "out")?)?;

@@ -1,5 +1,6 @@
-//! What tests call a parser with, and how they compare. Only crates of tests use it. It has no
-//! contracts: its functions are proved to be safe and to end.
+//! Helpers of the other test crates: words, parsers, items and environments, and comparisons of
+//! results. The public functions have no contracts of their own: they are proved to be safe and to
+//! end.
 #![tactic(auto)]
 
 pub mod calls;

@@ -1,18 +1,18 @@
-//! Every list of at most three things, by its number.
+//! Lists of at most three things, each with a number.
 use std::alloc::{AllocError, Global};
 
-// The most things of a list.
+// The greatest length of a list.
 const MOST: usize = 3;
 
-/// The numbers of the lists of at most three of `count` things are below this one.
+/// A number that is greater than that of every list of at most three of `count` things.
 pub fn numbers_of(count: usize) -> usize {
     let base = count.saturating_add(1);
     base.saturating_mul(base).saturating_mul(base)
 }
 
-/// The list of at most three of these things that has this number, if one has it. The digits of the
-/// number, the last one first, are the places of the things, counted from 1. So a shorter list has
-/// a smaller number.
+/// The list of at most three of these things that has this number, if there is one. Each digit of
+/// the number, the last one first, is the place of a thing, counted from 1. So a shorter list has a
+/// smaller number.
 pub fn list_of<T: Copy>(
     alloc: Global,
     things: &[T],

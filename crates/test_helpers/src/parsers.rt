@@ -2,7 +2,7 @@
 use lexopt_base::{Error, OsString, Parser};
 use std::alloc::{AllocError, Global};
 
-/// The words in these lines, one in each.
+/// The words of these lines, one on each line.
 pub fn split_words(alloc: Global, lines: &[u8]) -> Result<Vec<OsString>, AllocError> {
     let mut words = Vec::new(alloc);
     if !lines.is_empty() {
@@ -13,7 +13,7 @@ pub fn split_words(alloc: Global, lines: &[u8]) -> Result<Vec<OsString>, AllocEr
     Ok(words)
 }
 
-/// Words of these bytes.
+/// Words with these bytes.
 pub fn words_from(alloc: Global, list: &[&[u8]]) -> Result<Vec<OsString>, AllocError> {
     let mut words = Vec::with_capacity(alloc, list.len())?;
     for bytes in list {
@@ -22,7 +22,7 @@ pub fn words_from(alloc: Global, list: &[&[u8]]) -> Result<Vec<OsString>, AllocE
     Ok(words)
 }
 
-/// A parser of these words, with no binary name.
+/// A parser of these words, without a binary name.
 pub fn parser_of(alloc: Global, words: &[&[u8]]) -> Result<Parser, Error> {
     Parser::from_args(alloc, words_from(alloc, words)?)
 }

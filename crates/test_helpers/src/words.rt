@@ -1,7 +1,6 @@
 //! Words of every kind.
 
-/// Words that are not options, the separator, clusters and long options: with values, without, and
-/// damaged.
+/// Plain words, the separator, clusters and long options, with and without values and damage.
 pub const WORDS: [&[u8]; 25] = [
     b"",
     b"-",

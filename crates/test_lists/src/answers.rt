@@ -1,17 +1,17 @@
-//! Makes calls and writes their results, so that these can be compared. `bench/src/bin/compare`
-//! does the same with the Rust crate.
+//! Makes calls and writes their results, so that they can be compared with those of the Rust crate.
+//! `bench/src/bin/compare` makes the same calls there.
 //!
-//! Standard input has a case in each line: a constructor, words and calls, with a space between
-//! them. For each case a line is written: the result of each call and a space, and then what is
-//! left, the pending value and the words.
+//! Each line of standard input is a case: a constructor, words and calls, with a space between
+//! them. The output for a case is a line: the result of each call and a space, and then the unread
+//! line, which is the pending value and the words.
 //!
 //! - The constructor is `a` for `from_args`, or `i` for `from_iter`.
 //! - Each word is a point and then its bytes, in hexadecimal digits.
 //! - Each call is a letter and a digit N: `n` is `next`; `u` is `next`, and then `unexpected` of
-//!   what it gave; `v` is `value`; `p` is `value`, and then `parse`, `parse_with` and `string` of
-//!   what it gave; `o` is `optional_value`; `s`, `r`, `t` are `values`, `raw_args`, `try_raw_args`,
-//!   and then N items; `l` is `peek` and `as_slice`, `i` is `next_if` with the Nth wanted word; `e`
-//!   is `set_short_equals`, false if N is 0; `c` is `clone`, after which the copy goes on; `b` is
+//!   the argument; `v` is `value`; `p` is `value`, and then `parse`, `parse_with` and `string` of
+//!   the value; `o` is `optional_value`; `s`, `r`, `t` are `values`, `raw_args`, `try_raw_args`, and
+//!   then N items; `l` is `peek` and `as_slice`; `i` is `next_if` with the Nth wanted word; `e` is
+//!   `set_short_equals`, false if N is 0; `c` is `clone`, after which the copy is used; `b` is
 //!   `bin_name`.
 
 mod written;
@@ -49,8 +49,8 @@ fn number(number: Result<i32, Error>, answers: &mut Answers) -> Result<(), Error
     }
 }
 
-// A value as a number, in two ways, and then as a text, from which an error of the program's own is
-// made.
+// A value as a number, by `parse` and by `parse_with`, and then as a text, from which a custom
+// error is made.
 fn converted(parser: &mut Parser, answers: &mut Answers) -> Result<(), Error> {
     let value = parser.value()?;
     number(value.parse(), answers)?;
@@ -89,7 +89,7 @@ fn try_raw(parser: &mut Parser, count: usize, answers: &mut Answers) -> Result<(
     }
 }
 
-// Looks at the words that are left.
+// Looks at the unread words.
 fn look(parser: &mut Parser, answers: &mut Answers) -> Result<(), Error> {
     let view = parser.raw_args()?;
     match view.peek() {
@@ -113,8 +113,8 @@ fn bin_name(parser: &Parser, answers: &mut Answers) -> Result<(), Error> {
     }
 }
 
-// What is left: the pending value, and the words.
-fn rest(parser: &mut Parser, answers: &mut Answers) -> Result<(), Error> {
+// The unread line: the pending value, and the words.
+fn unread_line(parser: &mut Parser, answers: &mut Answers) -> Result<(), Error> {
     answers.word(parser.optional_value())?;
     match parser.try_raw_args() {
         Some(view) => answers.words(view.as_slice()),
@@ -126,7 +126,7 @@ fn value(parser: &mut Parser, answers: &mut Answers) -> Result<(), Error> {
     answers.bytes(b'V', parser.value()?.as_bytes())
 }
 
-fn go_on_with_a_copy(parser: &mut Parser) -> Result<(), Error> {
+fn use_a_copy(parser: &mut Parser) -> Result<(), Error> {
     *parser = parser.clone()?;
     Ok(())
 }
@@ -154,7 +154,7 @@ fn make_call(
             parser.set_short_equals(number > 0);
             Ok(())
         }
-        b'c' => go_on_with_a_copy(parser),
+        b'c' => use_a_copy(parser),
         b'b' => bin_name(parser, answers),
         _ => Err(Error::from("no call has this letter")),
     }
@@ -197,7 +197,7 @@ fn parser_of(alloc: Global, constructor: &str, words: Vec<OsString>) -> Result<P
 }
 
 // Makes the call of a letter and a digit, and writes its result.
-fn answer_call(
+fn write_call(
     alloc: Global,
     parser: &mut Parser,
     call: &[u8],
@@ -213,7 +213,7 @@ fn answer_call(
     answers.letter(b' ')
 }
 
-// Makes these calls, and writes what is left.
+// Makes these calls, and writes the unread line.
 fn make_calls(
     alloc: Global,
     parser: &mut Parser,
@@ -221,13 +221,13 @@ fn make_calls(
     answers: &mut Answers,
 ) -> Result<(), Error> {
     for call in calls.as_bytes().chunks(2) {
-        answer_call(alloc, parser, call, answers)?;
+        write_call(alloc, parser, call, answers)?;
     }
-    rest(parser, answers)?;
+    unread_line(parser, answers)?;
     answers.letter(b'\n')
 }
 
-fn answer(alloc: Global, case: &str, answers: &mut Answers) -> Result<(), Error> {
+fn write_case(alloc: Global, case: &str, answers: &mut Answers) -> Result<(), Error> {
     let mut parts = case.split(' ');
     let (Some(constructor), Some(text), Some(calls)) = (parts.next(), parts.next(), parts.next())
     else {
@@ -244,7 +244,7 @@ pub fn print(rt: &HostRuntime) -> Result<()> {
     rt.reader().read_to_string(&mut input)?;
     let mut answers = Answers::new(alloc);
     for case in input.lines() {
-        answer(alloc, case, &mut answers)?;
+        write_case(alloc, case, &mut answers)?;
     }
     io::writer(rt).write_all(answers.text())?;
     Ok(())

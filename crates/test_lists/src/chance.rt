@@ -1,9 +1,9 @@
 //! Makes random calls on random words, and checks the results against the laws alone.
 //!
-//! A round is a line of at most four words of at most eight bytes, ten calls of any kind, and two
-//! that take what is left; and the same words as a whole line, under a random table and setting of
-//! `short_equals`. The laws are those of the module `laws`. It prints how many rounds and calls
-//! were made, and the first round that broke a law, if one did.
+//! A round has a line of at most four words of at most eight bytes. It makes ten calls of any kind,
+//! and two calls that take the unread line. Then it reads the same words as a whole line, under a
+//! random table and setting of `short_equals`. The module `laws` has the laws. The output is how
+//! many rounds and calls were made, or the first round that broke a law.
 
 mod laws;
 mod numbers;
@@ -17,7 +17,7 @@ use lexopt_items::items::{Item, Table, read_items};
 use lexopt_words::words::copies;
 use std::alloc::Global;
 
-// How many random calls a round makes, and how many take what is left.
+// How many random calls a round makes, and how many calls take the unread line.
 const CALLS: usize = 10;
 
 const LAST_CALLS: usize = 2;
@@ -27,7 +27,7 @@ fn parser_of(alloc: Global, words: &[OsString]) -> Result<Parser, Error> {
     Parser::from_args(alloc, copies(alloc, words)?)
 }
 
-// Makes calls on the words, and takes what is left. Returns the law that was broken, if one was.
+// Makes calls on the words, and takes the unread line. Returns the law that was broken, if one was.
 fn calls_by_chance(
     alloc: Global,
     chance: &mut Chance,
@@ -42,7 +42,7 @@ fn calls_by_chance(
     take_rest(alloc, &mut parser, words, &mut replies)
 }
 
-// Takes what is left after these replies. Returns the law that was broken, if one was.
+// Takes the unread line after these replies. Returns the law that was broken, if one was.
 fn take_rest(
     alloc: Global,
     parser: &mut Parser,
@@ -57,7 +57,7 @@ fn take_rest(
     Ok(laws::broken_by_replies(words, replies))
 }
 
-// Whether these calls have the same replies if they are made in two parts.
+// Whether these calls have the same replies if they are made in two lists.
 fn is_same_in_parts(
     alloc: Global,
     chance: &mut Chance,
@@ -74,7 +74,7 @@ fn is_same_in_parts(
     Ok(replies.starts_with(&before) && replies.ends_with(&after))
 }
 
-// What the words are read as by this table, if anything.
+// The items of the words by this table, or `None` if the words are refused.
 fn items_of(
     alloc: Global,
     words: &[OsString],
@@ -115,7 +115,7 @@ fn round(alloc: Global, chance: &mut Chance) -> Result<Option<&'static str>, Err
     }
 }
 
-/// Makes this many rounds from this seed, and prints how many there were.
+/// Makes this many rounds from this seed, and prints how many rounds and calls there were.
 pub fn print(rt: &(impl Print + AllocGlobal), seed: u64, rounds: u64) -> Result<()> {
     let mut chance = Chance::new(seed);
     for number in 0..rounds {

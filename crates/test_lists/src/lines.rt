@@ -1,19 +1,19 @@
-//! Reads every list of at most three of 25 words by `read_items` and by a plain reader, written
-//! from the rules alone, and compares the two.
+//! Reads every list of at most three of 25 words by `read_items` and by a plain reader, which is
+//! written from the rules alone, and compares the two.
 //!
-//! The tables have the letter `a`, the character U+FFFD, which stands for damage, and the marks:
-//! `-` and `=` as short options, `-` and the empty name as long ones. Each of these three has no
-//! value, one, one that may be left out, or several, in all 64 ways. In four more tables all are in
-//! lists of several kinds.
+//! The tables have three groups of options: the letter `a`; the character U+FFFD, as which damage
+//! is read; and the marks, which are `-` and `=` as short options, and `-` and the empty name as
+//! long options. Each group has no value, one value, an optional value or several values, in all 64
+//! ways. In four more tables all groups are in lists of several kinds.
 //!
-//! The items that the plain reader finds are spelled by `spell`. The words are read as these items,
-//! and spelling what is read gives the same words.
+//! The items that the plain reader finds are spelled by `spell`. The words are read as these items
+//! again, and spelled again by the same words.
 //!
-//! For each table it prints how many readings agreed and how many differed, under either setting,
-//! and the first list that differed; and the same for the items that were spelled again. Items are
-//! compared as values, and errors by their messages.
+//! For each table the output is how many readings agreed and how many differed, under both settings
+//! of `short_equals`, and the first list that differed; and the same for the items that were
+//! spelled. Items are compared as values, and errors by their messages.
 //!
-//! Last it reads clusters, with `short_equals` false: each list of one to four of twenty bytes, by
+//! Then it reads clusters, with `short_equals` false: each list of one to four of twenty bytes, by
 //! `next` and by the plain pieces.
 
 mod clusters;
@@ -38,7 +38,8 @@ use test_helpers::lists::{list_of, numbers_of};
 use test_helpers::parsers::words_from;
 use test_helpers::words::WORDS;
 
-// How lists of words were read in both ways, and how their items were spelled, if they have any.
+// Counts of the lists of words that both readers read, and of the lists of items that were spelled
+// and read again.
 #[derive(Drop)]
 struct Found {
     read: Tally,
@@ -46,7 +47,7 @@ struct Found {
 }
 
 // Whether `read_items` refuses the line with this message.
-fn is_refused_so(
+fn is_refused_with(
     alloc: Global,
     message: &String,
     words: Vec<OsString>,
@@ -74,7 +75,13 @@ fn agree(
             Err(Error::OutOfMemory) => Err(AllocError),
             Err(_error) => Ok(false),
         },
-        Err(Refusal::Message(message)) => is_refused_so(alloc, message, words, short_equals, table),
+        Err(Refusal::Message(message)) => is_refused_with(
+            alloc,
+            message,
+            words,
+            short_equals,
+            table,
+        ),
         Err(Refusal::NoMemory) => Err(AllocError),
     }
 }
@@ -87,9 +94,9 @@ impl Found {
         }
     }
 
-    // Spells these items, reads the words, and spells what is read.
+    // Spells these items, reads the words, and spells their items again.
     fn spell(&mut self, reading: Reading<'_>, items: &[Item]) -> Result<(), AllocError> {
-        if reading.comes_back(items)? {
+        if reading.round_trips(items)? {
             self.spelled.agree();
         } else {
             let Reading {
@@ -103,7 +110,7 @@ impl Found {
         Ok(())
     }
 
-    // Reads these words in both ways, and spells what is read from them.
+    // Reads these words by both readers, and spells their items.
     fn read(
         &mut self,
         alloc: Global,
@@ -129,7 +136,7 @@ impl Found {
         }
     }
 
-    // Reads these words under either setting of `short_equals`.
+    // Reads these words under both settings of `short_equals`.
     fn read_both(
         &mut self,
         alloc: Global,
@@ -162,7 +169,7 @@ impl Found {
 }
 
 impl Choice {
-    // Reads all lists of words by this choice of tables, and prints what was found.
+    // Reads all lists of words by this table, and prints the counts.
     fn read(self, rt: &(impl Print + AllocGlobal)) -> io::Result<Found> {
         let table = self.table(rt.alloc())?;
         let name = self.name(rt.alloc())?;
@@ -173,7 +180,7 @@ impl Choice {
     }
 }
 
-// Reads all lists of words by all tables.
+// Reads all lists of words by all tables, and prints the counts.
 fn print_lists(rt: &(impl Print + AllocGlobal)) -> io::Result<()> {
     let mut total = Found::new();
     for number in 0..CHOICES {
@@ -185,7 +192,7 @@ fn print_lists(rt: &(impl Print + AllocGlobal)) -> io::Result<()> {
     total.print(rt, "total")
 }
 
-// Reads clusters.
+// Reads clusters, and prints the counts.
 fn print_clusters(rt: &(impl Print + AllocGlobal)) -> io::Result<()> {
     let Ok(Counts { agreed, differed }) = Counts::of_all(rt.alloc()) else {
         return Err(io::Error::from(io::ErrorKind::Other));
@@ -193,7 +200,7 @@ fn print_clusters(rt: &(impl Print + AllocGlobal)) -> io::Result<()> {
     println!(rt; "clusters: {agreed} agreed, {differed} differed")
 }
 
-/// Prints what was found.
+/// Reads everything, and prints the counts.
 pub fn print(rt: &(impl Print + AllocGlobal)) -> io::Result<()> {
     print_lists(rt)?;
     print_clusters(rt)

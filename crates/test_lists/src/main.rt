@@ -1,8 +1,8 @@
-//! Tries the library on many lists of words, and prints what was found.
+//! Tests the library by brute force and by chance on many lists of words, and prints the counts.
 //!
-//! With no argument it reads every short list of words, makes every sequence of calls on each,
-//! makes random calls, and runs the cases of standard input. With `chance SEED ROUNDS` it only
-//! makes random calls, and with `answers` it only runs cases; `bench/compare` uses that.
+//! Without words it reads every short list of words, makes every sequence of calls on each, makes
+//! random calls, and runs the cases of standard input. With `chance SEED ROUNDS` it only makes
+//! random calls, and with `answers`, for `bench/compare`, it only runs the cases.
 #![tactic(auto)]
 
 mod answers;
@@ -13,7 +13,7 @@ mod sequences;
 use anyhow::{Result, bail};
 use std::env;
 
-// The random rounds that are always made, and their seed.
+// The seed and the number of the random rounds without words.
 const SEED: u64 = 1;
 
 const ROUNDS: u64 = 20_000;

@@ -1,14 +1,14 @@
 //! Tries every sequence of `next`, `value`, `optional_value` and `values` on every list of at most
 //! three of 25 words.
 //!
-//! Each call is made on the parser, and by `replay` on a copy: the replies agree. So do those of a
-//! second parser of the same words, on which `advance` and `long_name` are called in place of
-//! `next`, `take` in place of `value` and `begin_values` in place of `values`. A sequence ends when
-//! `next` finds nothing more, or when there is no value or no optional value; `values` is read to
-//! its end. Before each call it checks what `raw_args`, `try_raw_args` and `optional_value`
-//! return for the line, on copies if they consume something.
+//! Each call is made on the parser, and by `replay` on a copy, and the replies agree. They also
+//! agree with those of a second parser of the same words, on which `advance` and `long_name` are
+//! called instead of `next`, `take` instead of `value`, and `begin_values` instead of `values`.
+//! `values` is read to its end. A sequence ends when `next` returns `None`, or when there is no
+//! value or no optional value. Before each call it checks the results of `raw_args`, `try_raw_args`
+//! and `optional_value`, on copies if they consume something.
 //!
-//! It prints how many lists it tried, and what went wrong first, if anything did.
+//! The output is how many lists it tried, and the first fault, if there was one.
 
 mod line;
 mod step;
@@ -22,17 +22,17 @@ use test_helpers::lists::{list_of, numbers_of};
 use test_helpers::parsers::parser_of;
 use test_helpers::words::WORDS;
 
-// No sequence is longer.
+// The greatest length of a sequence.
 const MOST_CALLS: u32 = 100;
 
-// What was tried, and the first thing that went wrong.
+// How many lists were tried, and the first fault.
 #[derive(Drop)]
 struct Tried {
     lists: u64,
     fault: Option<&'static str>,
 }
 
-// A parser after some calls, and one on which the other calls were made.
+// A parser after some calls, and a parser after the other calls.
 #[derive(Drop)]
 struct Place {
     parser: Parser,
@@ -41,7 +41,7 @@ struct Place {
 }
 
 impl Place {
-    // Both parsers, after one call more.
+    // Copies of both parsers, for one more call.
     fn copy(&self) -> Result<Place, Error> {
         let parser = self.parser.clone()?;
         let other = self.other.clone()?;
@@ -53,7 +53,7 @@ impl Place {
     }
 }
 
-// Whether `replay` gives this reply to the call.
+// Whether `replay` has this reply for the call. It is a function of its own for a short proof.
 fn is_replayed(
     alloc: Global,
     parser: &mut Parser,
@@ -63,7 +63,8 @@ fn is_replayed(
     Ok(replayed(alloc, parser, step)? == *reply)
 }
 
-// Whether this is the reply by `advance`, `take` or `begin_values`.
+// Whether `advance`, `take` or `begin_values` has this reply for the call. It is a function of its
+// own for the same reason.
 fn is_taken(alloc: Global, parser: &mut Parser, step: Step, reply: &Reply) -> Result<bool, Error> {
     Ok(taken(alloc, parser, step)? == *reply)
 }
@@ -75,8 +76,8 @@ impl Tried {
         }
     }
 
-    // Compares a call's reply with those to the other calls, and with the words that are left. The
-    // copy is of the parser before the call.
+    // Compares the reply of a call with those of the other calls, and with the unread words. `copy`
+    // is a copy of the parser before the call.
     fn compare(
         &mut self,
         alloc: Global,
@@ -86,19 +87,19 @@ impl Tried {
         reply: &Reply,
     ) -> Result<(), Error> {
         if !is_replayed(alloc, copy, step, reply)? {
-            self.fault("replay says otherwise");
+            self.fault("replay has another reply");
         }
         if !is_taken(alloc, &mut place.other, step, reply)? {
-            self.fault("advance, take or begin_values says otherwise");
+            self.fault("advance, take or begin_values has another reply");
         }
         if !line::agrees_with(step, reply, &mut place.parser)? {
-            self.fault("words are left, or no values");
+            self.fault("words are left, or values gave none");
         }
         Ok(())
     }
 
-    // Makes one call on both parsers of a place, and by `replay` on a copy. Returns whether a
-    // sequence goes on after it.
+    // Makes a call on both parsers of a place, and by `replay` on a copy. Returns whether the
+    // sequence continues after it.
     fn call(&mut self, alloc: Global, place: &mut Place, step: Step) -> Result<bool, Error> {
         let mut copy = place.parser.clone()?;
         let reply = made(alloc, &mut place.parser, step)?;
@@ -106,15 +107,15 @@ impl Tried {
         Ok(!is_last(&reply) && self.is_short(place.calls))
     }
 
-    // Whether a sequence of `calls` calls is not too long.
+    // Whether a sequence of this many calls is not too long.
     fn is_short(&mut self, calls: u32) -> bool {
         if calls > MOST_CALLS {
-            self.fault("no end");
+            self.fault("a sequence is too long");
         }
         calls <= MOST_CALLS
     }
 
-    // Makes one call after a place. Returns the place after it, if a sequence goes on there.
+    // Makes a call after a place. Returns the place after it, if the sequence continues.
     fn step(&mut self, alloc: Global, place: &Place, step: Step) -> Result<Option<Place>, Error> {
         let mut next = place.copy()?;
         if self.call(alloc, &mut next, step)? {
@@ -169,14 +170,14 @@ impl Tried {
     }
 }
 
-/// Prints what was found.
+/// Tries all lists, and prints the result.
 pub fn print(rt: &(impl Print + AllocGlobal)) -> io::Result<()> {
     let mut tried = Tried {
         lists: 0,
         fault: None,
     };
     if tried.lists(rt.alloc()).is_err() {
-        tried.fault("a call was refused");
+        tried.fault("a call failed");
     }
     let lists = tried.lists;
     match tried.fault {

@@ -1,4 +1,4 @@
-//! What a program is to do about its words.
+//! What a program does with its words: it works, prints a text, or refuses them.
 use crate::archive::{
     Archive, ArchiveOption, ArchiveOptions, ArchivePositional, Flag, Maybe, Value, Values, Word,
     archive, archive_of_files, debug_of, words_of,
@@ -8,7 +8,7 @@ use lexopt_options::{Answer, Declared, Names, Options, Positional, Request, decl
 use std::alloc::{AllocError, Global};
 use test_helpers::environments::{Arguments, Terminal, Variable};
 
-/// What a program is to do about a line.
+/// What a program does with a line.
 #[derive(Clone, Copy, PartialEq, Eq)]
 pub enum Do {
     Work,
@@ -36,19 +36,19 @@ Packs files.
              print this help and exit
 ";
 
-// Lines, what is to be done, and what is read or printed.
+// Lines, what the program does, and what it reads or prints.
 static LINES: [(&[u8], Do, &str); 9] = [
     (b"", Work, "[]"),
     (b"-v a", Work, "[Flag(Verbose), Positional(File, \"a\")]"),
     (b"-h", Print, HELP_AT_40),
-    // What comes after it does not matter.
+    // What comes after the request does not matter.
     (b"a --help --bogus", Print, HELP_AT_40),
     (
         b"--bogus --help",
         Refuse,
         "archive: invalid option '--bogus'\nTry 'archive --help' for more information.",
     ),
-    // It is a value here, and an argument.
+    // `--help` as a value, and as a positional.
     (b"-o --help", Work, "[Value(Output, \"--help\")]"),
     (b"-- --help", Work, "[Positional(File, \"--help\")]"),
     // No word is reserved for shells.
@@ -60,21 +60,21 @@ static LINES: [(&[u8], Do, &str); 9] = [
     (b"bash_source", Work, "[Positional(File, \"bash_source\")]"),
 ];
 
-// Lines of which the last word is typed, and what is printed.
+// Lines whose last word is typed, and what is printed.
 static COMPLETED: [(&[u8], &str); 15] = [
     (b"--verb", "--verbose\ttell more\n"),
     (
         b"--ex",
         "--exclude\tleave out the files whose names match one of these patterns of a shell\n",
     ),
-    // Nothing was typed.
+    // The typed word is empty.
     (b"", "files\n"),
     (b"-v ", "files\n"),
     (b"-o ", "files\n"),
     (b"-- a -", "files\n"),
     (b"-z ", ""),
     (b"__complete fi", "files\n"),
-    // A value in the word of its option.
+    // A joined or attached value.
     (b"--output=x", "files\t--output=\n"),
     (b"-ox", "files\t-o\n"),
     (b"-vo=x", "files\t-vo=\n"),
@@ -85,33 +85,33 @@ static COMPLETED: [(&[u8], &str); 15] = [
     (b"-- --output=x", "files\n"),
 ];
 
-// What is to be done about a line, and what is read or printed.
-fn answer_to(
+// What the program does with a line, and what it reads or prints.
+fn outcome_of(
     alloc: Global,
     options: &ArchiveOptions<'_>,
     line: &[u8],
 ) -> Result<(Do, String), AllocError> {
     match options.answer(alloc, words_of(alloc, line)?, 40)? {
-        Answer::Said(said) => Ok((Work, debug_of(alloc, &said)?)),
+        Answer::Parsed(parsed) => Ok((Work, debug_of(alloc, &parsed)?)),
         Answer::Text(text) => Ok((Print, text)),
         Answer::Refused(refused) => Ok((Refuse, refused.to_string(alloc)?)),
     }
 }
 
-// Whether this is the answer to a line.
-fn is_answered(
+// Whether the program does this with a line, and reads or prints this text.
+fn agrees(
     alloc: Global,
     options: &ArchiveOptions<'_>,
     line: &[u8],
     wanted: Do,
     text: &str,
 ) -> Result<bool, AllocError> {
-    let (done, found) = answer_to(alloc, options, line)?;
+    let (done, found) = outcome_of(alloc, options, line)?;
     Ok(done == wanted && found.as_str() == text)
 }
 
-// Whether this is printed where the last word of this line is typed.
-fn is_completed(
+// Whether this text is printed if the last word of a line is typed.
+fn completes(
     alloc: Global,
     options: &ArchiveOptions<'_>,
     line: &[u8],
@@ -124,28 +124,28 @@ fn is_completed(
     }
 }
 
-/// The first of these rows whose line is not completed so, or none.
+/// The place of the first row whose line is completed in another way, if there is one.
 pub fn first_wrong_offer(
     alloc: Global,
     options: &ArchiveOptions<'_>,
     rows: &[(&[u8], &'static str)],
 ) -> Result<Option<usize>, AllocError> {
     for (row, (line, text)) in rows.iter().enumerate() {
-        if !is_completed(alloc, options, line, text)? {
+        if !completes(alloc, options, line, text)? {
             return Ok(Some(row));
         }
     }
     Ok(None)
 }
 
-/// The first of these rows that does not hold, or none.
+/// The place of the first row that does not hold, if there is one.
 pub fn first_wrong(
     alloc: Global,
     options: &ArchiveOptions<'_>,
     rows: &[(&[u8], Do, &'static str)],
 ) -> Result<Option<usize>, AllocError> {
     for (row, (line, wanted, text)) in rows.iter().enumerate() {
-        if !is_answered(alloc, options, line, *wanted, text)? {
+        if !agrees(alloc, options, line, *wanted, text)? {
             return Ok(Some(row));
         }
     }
@@ -168,7 +168,7 @@ fn completions(rt: HostRuntime) {
     );
 }
 
-// Options whose values are directories, texts, and those in lists.
+// Options whose values are directories, texts, or words of a list.
 static CHOICES: Archive<'static> = declare! {
     program: "archive",
     options: [
@@ -198,7 +198,7 @@ static OFFERED: [(&[u8], &str); 17] = [
     (b"-x=", "-x=links\n-x=pipes\n"),
     (b"--backup=n", "--backup=new\n--backup=never\n"),
     (b"--backup=x", ""),
-    // A value that may be left out is not the next word.
+    // An optional value is never the next word.
     (b"--backup n", "files\n"),
     (b"--backup=", "--backup=new\n--backup=never\n--backup=old\n"),
 ];
@@ -211,7 +211,7 @@ fn values(rt: HostRuntime) {
     );
 }
 
-// A help text of several lines is put on one.
+// A help text of several lines is printed on one line.
 static PAINT: Archive<'static> = declare! {
     program: "archive",
     options: [flag(Flag::Verbose, Names::Long("verbose"), "tell\nmore\tthan é\x7f")],
@@ -226,7 +226,7 @@ fn help_on_one_line(rt: HostRuntime) {
     );
 }
 
-// What is asked for by a value of the variable, and how what is printed begins.
+// Values of the variable, what the program does, and the beginning of what it reads or prints.
 static REQUESTS: [(&[u8], Do, &str); 8] = [
     (b"", Work, "[Flag(Verbose)]"),
     (b"bash_source", Print, "# "),
@@ -242,9 +242,9 @@ const NOT_KNOWN: &str = "archive: invalid value of _ARCHIVE_COMPLETE: one of bas
     bash_complete, zsh_source, zsh_complete, fish_source, fish_complete\n\
     Try 'archive --help' for more information.";
 
-// What is to be done about the words `archive -v` where the variable has this value, and what is
-// read or printed.
-fn answer_by(alloc: Global, value: Option<&[u8]>) -> Result<(Do, String), AllocError> {
+// What the program does with the words `archive -v` if the variable has this value, and what it
+// reads or prints.
+fn outcome_by_variable(alloc: Global, value: Option<&[u8]>) -> Result<(Do, String), AllocError> {
     let words = words_of(alloc, b"archive -v")?;
     let arguments = Arguments { words: &words };
     let environment = Variable {
@@ -253,16 +253,16 @@ fn answer_by(alloc: Global, value: Option<&[u8]>) -> Result<(Do, String), AllocE
         value,
     };
     match archive_of_files().from_env(&(environment, alloc))? {
-        Answer::Said(said) => Ok((Work, debug_of(alloc, &said)?)),
+        Answer::Parsed(parsed) => Ok((Work, debug_of(alloc, &parsed)?)),
         Answer::Text(text) => Ok((Print, text)),
         Answer::Refused(refused) => Ok((Refuse, refused.to_string(alloc)?)),
     }
 }
 
-// The first of these rows that does not hold, or none.
+// The place of the first row that does not hold, if there is one.
 fn first_wrong_request(alloc: Global) -> Result<Option<usize>, AllocError> {
     for (row, (value, wanted, front)) in REQUESTS.iter().enumerate() {
-        let (done, text) = answer_by(alloc, Some(value))?;
+        let (done, text) = outcome_by_variable(alloc, Some(value))?;
         if done != *wanted || !text.as_str().starts_with(front) {
             return Ok(Some(row));
         }
@@ -276,16 +276,16 @@ fn requests(rt: HostRuntime) {
         first_wrong_request(rt.alloc()).expect(&rt, "success"),
         None
     );
-    // The variable is not set, or has more bytes than are read.
-    let (done, text) = answer_by(rt.alloc(), None).expect(&rt, "success");
+    // The variable is not set, or has more bytes than the program reads.
+    let (done, text) = outcome_by_variable(rt.alloc(), None).expect(&rt, "success");
     assert!(rt; done == Work && text.as_str() == "[Flag(Verbose)]");
     let long: &[u8] = b"bash_completely_of_course";
-    let (done, text) = answer_by(rt.alloc(), Some(long)).expect(&rt, "success");
+    let (done, text) = outcome_by_variable(rt.alloc(), Some(long)).expect(&rt, "success");
     assert!(rt; done == Refuse && text.as_str() == NOT_KNOWN);
 }
 
-// Whether this is the answer to `-h` under these options and arguments.
-fn is_answered_by(
+// Whether a program with these options and positionals does this with the word `-h`.
+fn agrees_on_help(
     alloc: Global,
     declared: &[ArchiveOption<'_>],
     positionals: &[ArchivePositional<'_>],
@@ -293,7 +293,7 @@ fn is_answered_by(
     text: &str,
 ) -> Result<bool, AllocError> {
     match Options::try_new(&archive(declared, positionals)) {
-        Ok(options) => is_answered(alloc, &options, b"-h", wanted, text),
+        Ok(options) => agrees(alloc, &options, b"-h", wanted, text),
         Err(_) => Ok(false),
     }
 }
@@ -305,22 +305,21 @@ Packs files.
              print this help and exit
 ";
 
-// The help is printed although an argument is missing. A flag with its name is not a request for
-// it.
+// The help is printed although a positional is missing. A flag named `h` does not ask for the help.
 #[test]
 fn help(rt: HostRuntime) {
     let help = [Declared::help(Names::Both('h', "help"))];
     let source = [Positional::once(Word::Source, "SOURCE", "")];
     assert!(rt;
-        is_answered_by(rt.alloc(), &help, &source, Print, HELP_OF_SOURCE).expect(&rt, "success")
+        agrees_on_help(rt.alloc(), &help, &source, Print, HELP_OF_SOURCE).expect(&rt, "success")
     );
     let other = [Declared::flag(Flag::Verbose, Names::Short('h'), "")];
     assert!(rt;
-        is_answered_by(rt.alloc(), &other, &[], Work, "[Flag(Verbose)]").expect(&rt, "success")
+        agrees_on_help(rt.alloc(), &other, &[], Work, "[Flag(Verbose)]").expect(&rt, "success")
     );
 }
 
-// Whether the words `archive -h` print this help where `COLUMNS` is this, or is not set.
+// Whether the words `archive -h` print this help if `COLUMNS` has this value, or is not set.
 fn is_help_of_columns(
     alloc: Global,
     columns: Option<&[u8]>,
@@ -335,8 +334,8 @@ fn is_help_of_columns(
     }
 }
 
-// The width of the help, for each value of `COLUMNS`: 80 if that is not a number, or is 0, or has
-// no room in 64 bits.
+// Values of `COLUMNS`, and the help. Its width is 80 if the value is not a number, is 0, or does
+// not fit in 64 bits.
 const COLUMNS: [(Option<&[u8]>, &str); 10] = [
     (Some(b"40"), HELP_AT_40),
     (Some(b"+40"), HELP_AT_40),
@@ -350,7 +349,7 @@ const COLUMNS: [(Option<&[u8]>, &str); 10] = [
     (Some(b"18446744073709551616"), HELP_AT_80),
 ];
 
-// The row of these whose help has another width, or none.
+// The place of the first row with another help, if there is one.
 fn first_wrong_width(alloc: Global) -> Result<Option<usize>, AllocError> {
     for (row, (columns, help)) in COLUMNS.iter().enumerate() {
         if !is_help_of_columns(alloc, *columns, help)? {

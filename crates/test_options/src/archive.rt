@@ -1,6 +1,7 @@
-//! The declaration that the tests share, and lines of words.
+//! The declaration that the tests share, and the words of lines.
 use lexopt_options::{
-    Declaration, Declared, Kind, Line, Names, Options, OsString, Positional, Refused, Said, declare,
+    Declaration, Declared, Kind, Line, Names, Options, OsString, Parsed, Positional, Refused,
+    declare,
 };
 use std::alloc::{AllocError, Global};
 
@@ -44,9 +45,9 @@ pub type ArchiveOptions<'a> = Options<'a, Flag, Value, Word, Maybe, Values>;
 
 pub type ArchiveLine<'a> = Line<'a, Flag, Value, Word, Maybe, Values>;
 
-pub type ArchiveSaid = Said<Flag, Value, Word, Maybe, Values>;
+pub type ArchiveParsed = Parsed<Flag, Value, Word, Maybe, Values>;
 
-/// The program with one option of each kind, that of the help, and any number of files.
+/// A program with one option of each kind, the option for the help, and any number of files.
 pub static ARCHIVE: Archive<'static> = declare! {
     program: "archive",
     about: "Packs files.",
@@ -70,7 +71,7 @@ pub static ARCHIVE: Archive<'static> = declare! {
     positionals: [any_number(Word::File, "FILE")],
 };
 
-/// These words, between blanks. Two blanks have an empty word between them.
+/// The words of a line, which has one space between two words. An empty word is between two spaces.
 pub fn words_of(alloc: Global, line: &[u8]) -> Result<Vec<OsString>, AllocError> {
     let mut words = Vec::new(alloc);
     if !line.is_empty() {
@@ -81,7 +82,7 @@ pub fn words_of(alloc: Global, line: &[u8]) -> Result<Vec<OsString>, AllocError>
     Ok(words)
 }
 
-/// A program with these options and arguments.
+/// A program with these options and positionals.
 pub fn archive<'a>(
     options: &'a [ArchiveOption<'a>],
     positionals: &'a [ArchivePositional<'a>],
@@ -96,38 +97,38 @@ pub fn archive<'a>(
     }
 }
 
-/// The program with one option of each kind and any number of files.
+/// The options of `ARCHIVE`.
 pub fn archive_of_files() -> ArchiveOptions<'static> {
     Options::new(&ARCHIVE)
 }
 
-/// Whether a text is a mistake, and where help is.
-pub fn tells(text: &str, mistake: &str) -> bool {
+/// Whether a text has this mistake, and a second line about the help.
+pub fn has_mistake(text: &str, mistake: &str) -> bool {
     text.strip_prefix("archive: ")
         .and_then(|rest| rest.strip_prefix(mistake))
         == Some("\nTry 'archive --help' for more information.")
 }
 
-/// What is read, as `Debug` writes it.
-pub fn debug_of(alloc: Global, said: &[ArchiveSaid]) -> Result<String, AllocError> {
-    format!(in alloc; "{said:?}")
+/// What was read, as `Debug` writes it.
+pub fn debug_of(alloc: Global, parsed: &[ArchiveParsed]) -> Result<String, AllocError> {
+    format!(in alloc; "{parsed:?}")
 }
 
-/// What words are read as or ask for, as `Debug` writes it. If they have a mistake, its message
-/// follows.
+/// The meaning of words, as `Debug` writes it: what was read, or the request. If the words have a
+/// mistake: what was read before it, and its message.
 pub fn text_of_words(
     alloc: Global,
     options: &ArchiveOptions<'_>,
     words: Vec<OsString>,
 ) -> Result<String, AllocError> {
     match options.read(alloc, words)? {
-        Line::Said(said) => debug_of(alloc, &said),
+        Line::Parsed(parsed) => debug_of(alloc, &parsed),
         Line::Asked(asked) => format!(in alloc; "{asked:?}"),
         Line::Refused(refused) => text_of_refused(alloc, &refused),
     }
 }
 
-// What is read before the mistake, and then what is printed for it.
+// What was read before the mistake, and then the message.
 fn text_of_refused(
     alloc: Global,
     refused: &Refused<'_, Flag, Value, Word, Maybe, Values>,

@@ -1,11 +1,11 @@
-//! Requests for the help and the version, and where help is in what is printed of a refused line.
+//! Requests for the help and the version, and the second line of a refusal, which names the option
+//! for the help.
 use crate::answers::Do::{self, Print, Refuse, Work};
 use crate::answers::first_wrong;
 use crate::archive::{Archive, Flag, Word};
 use lexopt_options::{Names, Options, declare};
 
-// An option that the help does not mention, a version, a help with a character alone, and an
-// argument that has to occur.
+// A hidden option, the version, the help with a short option only, and a required positional.
 static COPY: Archive<'static> = declare! {
     program: "copy",
     options: [
@@ -26,10 +26,10 @@ const COPY_HELP_AT_40: &str = "Usage: copy [OPTION]... SOURCE
 ";
 
 static COPY_LINES: [(&[u8], Do, &str); 10] = [
-    // Nothing has to occur beside a request.
+    // A request needs nothing else on the line.
     (b"--version", Print, "copy 1.0\n"),
     (b"a -h", Print, COPY_HELP_AT_40),
-    // The first one counts.
+    // The first request counts.
     (b"--version -h", Print, "copy 1.0\n"),
     (b"-hV", Print, COPY_HELP_AT_40),
     (b"-Vz", Print, "copy 1.0\n"),
@@ -38,7 +38,7 @@ static COPY_LINES: [(&[u8], Do, &str); 10] = [
         Work,
         "[Flag(Verbose), Positional(Source, \"a\")]",
     ),
-    // A mistake comes first.
+    // A mistake before the request counts.
     (
         b"-V=1",
         Refuse,
@@ -54,7 +54,7 @@ static COPY_LINES: [(&[u8], Do, &str); 10] = [
         Refuse,
         "copy: missing argument SOURCE\nTry 'copy -h' for more information.",
     ),
-    // An argument after the separator is not a request.
+    // A word after the separator is not a request.
     (b"-- -h", Work, "[Positional(Source, \"-h\")]"),
 ];
 

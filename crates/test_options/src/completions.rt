@@ -1,11 +1,11 @@
-//! What can occur where a word is typed.
+//! Completion: the spellings that are offered for a typed word, and what else the word can be.
 use crate::archive::{
     ARCHIVE, ArchiveOptions, Flag, Maybe, Value, Values, archive, archive_of_files, words_of,
 };
 use lexopt_options::{Options, OsString, Role, Spelling};
 use std::alloc::{AllocError, Global};
 
-// What a word that is not an option would be.
+// What a word would be if it is not an option.
 #[derive(Clone, Copy)]
 enum Word {
     // A value of the option with this name.
@@ -15,7 +15,8 @@ enum Word {
 
 use Word::{Argument, ValueOf};
 
-// What was typed after which words, and what can occur there.
+// Words, a word that is typed after them, the spellings that are offered, and what the word would
+// be otherwise.
 struct Row {
     words: &'static [u8],
     typed: &'static [u8],
@@ -74,7 +75,7 @@ static ROWS: [Row; 20] = [
         spellings: "--verbose",
         word: None,
     },
-    // A dash was typed first: a value and an argument after the separator may begin so.
+    // A value, and a positional after the separator, may begin with a dash.
     Row {
         words: b"-o",
         typed: b"-",
@@ -149,7 +150,7 @@ static ROWS: [Row; 20] = [
     },
 ];
 
-/// Whether these are the spellings, with blanks between them.
+/// Whether these are the spellings, with a space between two of them.
 pub fn are_spellings(
     alloc: Global,
     spellings: &[Spelling<'_>],
@@ -165,7 +166,7 @@ pub fn are_spellings(
     Ok(text.as_str() == wanted)
 }
 
-// Whether a word would be this.
+// Whether a word would be what is wanted.
 fn is_word(found: Option<Role<'_, Flag, Value, Maybe, Values>>, wanted: Option<Word>) -> bool {
     match (found, wanted) {
         (Some(Role::Value(option)), Some(ValueOf(name))) => option.names.long() == Some(name),
@@ -185,7 +186,7 @@ fn is_offered(alloc: Global, options: &ArchiveOptions<'_>, row: &Row) -> Result<
     )
 }
 
-// The first of these rows that does not hold, or none. With no options the first one does not.
+// The place of the first row that does not hold, if there is one; 0 if there are no options.
 fn first_wrong(
     alloc: Global,
     options: Option<ArchiveOptions<'_>>,
@@ -234,7 +235,7 @@ fn damage(rt: HostRuntime) {
     );
 }
 
-// Where no argument can occur, an option or a value can.
+// If no positional is declared, only options and values can complete a word.
 static ROWS_WITHOUT_ARGUMENTS: [Row; 7] = [
     Row {
         words: b"",

@@ -1,4 +1,4 @@
-//! What can be declared, as by the macro and by calls, and the table of the options.
+//! What can be declared, by the macro and by calls, and the table of the options.
 use crate::archive::{
     ARCHIVE, Archive, ArchiveKind, ArchivePositional, Flag, Maybe, Value, Values, Word, archive,
     archive_of_files,
@@ -8,8 +8,8 @@ use lexopt_options::{
 };
 use std::alloc::{AllocError, Global};
 
-// Whether an option that is declared after the help is refused for this reason, or is not refused
-// if there is none.
+// Whether an option that is declared after the help is refused for this reason, or accepted if the
+// reason is `None`.
 fn is_refused_for<'a>(names: Names<'a>, kind: ArchiveKind<'a>, reason: Option<Reason>) -> bool {
     let option = Declared {
         names,
@@ -110,7 +110,7 @@ static FAULTS: [(Names<'static>, ArchiveKind<'static>, Option<Reason>); 26] = [
     (Names::Both('H', "helps"), VERBOSE, None),
 ];
 
-// The first of these rows that does not hold, or none.
+// The place of the first row that does not hold, if there is one.
 fn first_wrong(rows: &[(Names<'static>, ArchiveKind<'static>, Option<Reason>)]) -> Option<usize> {
     rows.iter().position(|(names, kind, reason)| !is_refused_for(*names, *kind, *reason))
 }
@@ -120,14 +120,14 @@ fn faults(rt: HostRuntime) {
     assert_eq!(rt; first_wrong(&FAULTS), None);
 }
 
-// Whether these are the one character and the one name.
+// Whether these lists have this character and this name, and nothing else.
 fn are(shorts: &[char], longs: &[String], short: char, long: &str) -> bool {
     shorts == [short].as_slice()
         && longs.len() == 1
         && longs.iter().all(|name| name.as_str() == long)
 }
 
-// Whether the table has each option that takes values where it belongs.
+// Whether the table has each option that takes values in the lists of its kind.
 fn has_each_kind(alloc: Global) -> Result<bool, AllocError> {
     let table = archive_of_files().table(alloc)?;
     Ok(
@@ -142,8 +142,8 @@ fn tables(rt: HostRuntime) {
     assert!(rt; has_each_kind(rt.alloc()).expect(&rt, "success"));
 }
 
-// Whether the second of these positional arguments that may occur more than once has this
-// placeholder, or no second one may if there is none.
+// Whether these positionals are refused because two of them may occur more than once, and the
+// second has this placeholder; or are accepted if the placeholder is `None`.
 fn is_refused_at(positionals: &[ArchivePositional<'_>], placeholder: Option<&'static str>) -> bool {
     let declaration = archive(ARCHIVE.options, positionals);
     let wanted = match placeholder {
@@ -167,7 +167,7 @@ fn repeated(rt: HostRuntime) {
     assert!(rt; is_refused_at(&[last, last, file, target], None));
 }
 
-// An option at fault comes first.
+// An option that cannot be declared is reported before a positional.
 #[test]
 fn option_first(rt: HostRuntime) {
     let dash = [Declared::flag(Flag::Verbose, Names::Short('-'), "")];
@@ -181,7 +181,7 @@ fn option_first(rt: HostRuntime) {
     );
 }
 
-// Each mark and each count, as the macro declares them.
+// Each mark of an option and each count of a positional, by the macro.
 static MARKED: Archive<'static> = declare! {
     program: "archive",
     about: "Packs files.",
@@ -202,7 +202,7 @@ static MARKED: Archive<'static> = declare! {
     ],
 };
 
-// Whether the constructors make the same of them.
+// Whether the constructors make the same declaration.
 fn is_made_by_calls(alloc: Global) -> Result<bool, AllocError> {
     let user = Declared::value(Value::User, Names::Both('u', "user"), "NAME", "whose it is");
     let backup = Declared::maybe(Maybe::Backup, Names::Long("backup"), "DIR", "keep a copy");

@@ -1,13 +1,13 @@
-//! The options of a line up to its first positional argument, and the words that are left.
+//! Leading options, and the tail of the line after them.
 use crate::archive::{Archive, ArchiveOptions, Flag, Value, archive_of_files, words_of};
 use lexopt_options::{Leading, Names, Options, declare};
 use std::alloc::{AllocError, Global};
 
-// What the leading options of a line are, as `Debug` writes them, and the words after them; or what
-// they ask for; or their mistake.
+// The leading options of a line and the tail, as `Debug` writes them; or the request; or the
+// options before the mistake, and the mistake.
 fn text_of(alloc: Global, options: &ArchiveOptions<'_>, line: &[u8]) -> Result<String, AllocError> {
     match options.read_leading(alloc, words_of(alloc, line)?)? {
-        Leading::Said(said, rest) => format!(in alloc; "{said:?}, then {rest:?}"),
+        Leading::Parsed(parsed, rest) => format!(in alloc; "{parsed:?}, then {rest:?}"),
         Leading::Asked(asked) => format!(in alloc; "{asked:?}"),
         Leading::Refused(refused) => {
             format!(in alloc; "{:?}, then {}", refused.before, refused.mistake)
@@ -21,11 +21,11 @@ static LINES: [(&[u8], &str); 18] = [
         b"-vo x add -v --bogus",
         "[Flag(Verbose), Value(Output, \"x\")], then [\"add\", \"-v\", \"--bogus\"]",
     ),
-    // The separator ends the options, and is not part of the rest.
+    // The separator ends the options, and is not part of the tail.
     (b"-v -- -x a", "[Flag(Verbose)], then [\"-x\", \"a\"]"),
     (b"-v --", "[Flag(Verbose)], then []"),
     (b"-- -- --", "[], then [\"--\", \"--\"]"),
-    // An option of several values takes what it takes in a whole line.
+    // An option of several values takes the same words as in a whole line.
     (
         b"-x a b -v c -h",
         "[Values(Exclude, [\"a\", \"b\"]), Flag(Verbose)], then [\"c\", \"-h\"]",
@@ -38,7 +38,7 @@ static LINES: [(&[u8], &str); 18] = [
     ),
     (b"  -v", "[], then [\"\", \"\", \"-v\"]"),
     (b"\xFF -o", "[], then [\"\\xFF\", \"-o\"]"),
-    // The help is asked for before the rest, and not after it.
+    // A request counts before the first positional, and not in the tail.
     (b"-vh add", "Help"),
     (b"-h --bogus", "Help"),
     (b"add -h", "[], then [\"add\", \"-h\"]"),
@@ -54,7 +54,7 @@ static LINES: [(&[u8], &str); 18] = [
     (b"-o", "[], then missing argument FILE for option '-o'"),
 ];
 
-// The first of these rows that does not hold, or none.
+// The place of the first row that does not hold, if there is one.
 fn first_wrong(
     alloc: Global,
     options: &ArchiveOptions<'_>,
@@ -76,7 +76,7 @@ fn lines(rt: HostRuntime) {
     );
 }
 
-// A required option and one with a list.
+// A required option, and an option with a list.
 static STRICT: Archive<'static> = declare! {
     program: "archive",
     options: [
@@ -92,7 +92,7 @@ static STRICT_LINES: [(&[u8], &str); 7] = [
         b"-ux add -u",
         "[Value(User, \"x\")], then [\"add\", \"-u\"]",
     ),
-    // It has to be among the options before the rest.
+    // The required option has to be one of the leading options.
     (
         b"-v add -ux",
         "[Flag(Verbose)], then missing option '--user'",

@@ -1,5 +1,5 @@
-//! Tests of declared options: what is read, printed, refused and offered, by rows that are written
-//! by hand.
+//! Tests of declared options: what a line means, and what is printed, refused and offered, by rows
+//! that are written by hand.
 #![tactic(auto)]
 
 #[cfg(test)]

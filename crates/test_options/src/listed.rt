@@ -1,10 +1,10 @@
-//! Positional arguments with lists of words: what lines mean, how they are refused, what completes
-//! their words, and the help.
+//! Positionals with lists of words: what lines mean, which lines are refused, what completes the
+//! words, and the help.
 use crate::archive::{Archive, Flag, Value, Word, archive};
 use crate::{answers, readings, refusals};
 use lexopt_options::{DeclarationError, Names, Options, Positional, declare};
 
-// The first argument and the last one have a list, and there may be any number between them.
+// The first positional and the last have a list. Any number of positionals may be between them.
 static PACK: Archive<'static> = declare! {
     program: "archive",
     about: "Packs files.",
@@ -29,7 +29,7 @@ static LINES: [(&[u8], &str); 4] = [
         b"slow -ux zip",
         "[Positional(Source, \"slow\"), Value(User, \"x\"), Positional(Target, \"zip\")]",
     ),
-    // A word between them may be any.
+    // A positional between them may be any word.
     (
         b"fast fast -ux tar zip",
         "[Positional(Source, \"fast\"), Positional(File, \"fast\"), Value(User, \"x\"), \
@@ -62,13 +62,13 @@ static NOT_LISTED: [(&[u8], &str, &str); 9] = [
         "[Value(User, \"x\"), Positional(Source, \"fast\"), Positional(Target, \"rar\")]",
         "invalid argument \"rar\" for FORM: one of tar, zip",
     ),
-    // The first one counts.
+    // The first mistake counts.
     (
         b"-ux medium rar",
         "[Value(User, \"x\"), Positional(Source, \"medium\"), Positional(Target, \"rar\")]",
         "invalid argument \"medium\" for HOW: one of fast, slow",
     ),
-    // The last word is the last argument.
+    // The last word is the last positional.
     (
         b"-ux fast tar a",
         "[Value(User, \"x\"), Positional(Source, \"fast\"), Positional(File, \"tar\"), \
@@ -81,7 +81,7 @@ static NOT_LISTED: [(&[u8], &str, &str); 9] = [
          Positional(Target, \"tar\")]",
         "invalid argument \"fas\\xFF\" for HOW: one of fast, slow",
     ),
-    // It comes before an option that is missing, and after an argument that is missing.
+    // It is reported before a missing option, and after a missing positional.
     (
         b"medium tar",
         "[Positional(Source, \"medium\"), Positional(Target, \"tar\")]",
@@ -97,7 +97,7 @@ static NOT_LISTED: [(&[u8], &str, &str); 9] = [
         "[Positional(Source, \"fast\"), Positional(Target, \"tar\")]",
         "missing option '--user'",
     ),
-    // Any mistake before the end of the line comes first.
+    // A mistake before the end of the line is reported first.
     (
         b"medium tar -z",
         "[Positional(Source, \"medium\"), Positional(Target, \"tar\")]",
@@ -114,13 +114,13 @@ fn refused(rt: HostRuntime) {
     );
 }
 
-// What completes the words of these arguments.
+// Lines whose last word is typed, and what is printed.
 static OFFERED: [(&[u8], &str); 11] = [
     (b"", "+fast\n+slow\n"),
     (b"-", DASHED),
     (b"s", "+slow\n"),
     (b"m", ""),
-    // The next word is a file or the form.
+    // The next word is a FILE or the FORM.
     (b"fast t", "+tar\nfiles\n"),
     (b"fast a z", "+zip\nfiles\n"),
     // No line with an option after this word is legal.
@@ -143,7 +143,8 @@ fn offers(rt: HostRuntime) {
     );
 }
 
-// Arguments that are completed by the names of directories, and by nothing.
+// Positionals that are completed by nothing, by the names of directories, and by the names of
+// files.
 static COPY: Archive<'static> = declare! {
     program: "archive",
     options: [flag(Flag::Verbose, Names::Both('v', "verbose"), "tell more")],
@@ -190,8 +191,8 @@ fn help(rt: HostRuntime) {
     assert_eq!(rt; help.as_str(), HELP);
 }
 
-// The first argument whose list cannot be declared is at fault, after the second that may occur
-// more than once.
+// The error names the second positional that may occur more than once, or otherwise the first whose
+// list cannot be declared.
 #[test]
 fn faults(rt: HostRuntime) {
     let how = Positional::once(Word::Source, "HOW", "").one_of(&["fast", "very fast"]);

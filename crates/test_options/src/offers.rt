@@ -1,16 +1,17 @@
-//! Completion beside reading: a spelling is offered after some words exactly if the words, it and
-//! what may come after it can be read as what the words alone are read as, and then its option.
+//! Completion, compared with reading: a spelling is offered after some words if and only if the
+//! words and the spelling, alone or with a value after it, are read as the words alone and then the
+//! option.
 use crate::archive::{
-    ArchiveKind, ArchiveLine, ArchiveOptions, ArchiveSaid, Flag, Maybe, Value, Values,
+    ArchiveKind, ArchiveLine, ArchiveOptions, ArchiveParsed, Flag, Maybe, Value, Values,
     archive_of_files,
 };
-use lexopt_options::{Asked, Kind, Line, OsString, Said};
+use lexopt_options::{Asked, Kind, Line, OsString, Parsed};
 use std::process::Abort;
 use test_helpers::parsers::words_from;
 
 static WORDS: [&[u8]; 8] = [b"-v", b"-o", b"--output=", b"--", b"a", b"-x", b"", b"-bz"];
 
-// Each spelling, with what its option is.
+// Each spelling, with the kind of its option.
 static SPELLINGS: [(&str, ArchiveKind<'static>); 10] = [
     ("-v", Kind::Flag(Flag::Verbose)),
     ("--verbose", Kind::Flag(Flag::Verbose)),
@@ -24,7 +25,7 @@ static SPELLINGS: [(&str, ArchiveKind<'static>); 10] = [
     ("--help", Kind::Help),
 ];
 
-// These words, and then those.
+// The words `front`, and then the words `back`.
 fn line_of(rt: &(impl Abort + AllocGlobal), front: &[&[u8]], back: &[&[u8]]) -> Vec<OsString> {
     let mut words = words_from(rt.alloc(), front).expect(rt, "memory");
     for word in back {
@@ -34,7 +35,7 @@ fn line_of(rt: &(impl Abort + AllocGlobal), front: &[&[u8]], back: &[&[u8]]) -> 
     words
 }
 
-// What these words, and then those, come to.
+// What the words `front`, and then the words `back`, are read as.
 fn line_by_both(
     rt: &(impl Abort + AllocGlobal),
     options: &ArchiveOptions<'static>,
@@ -46,22 +47,27 @@ fn line_by_both(
         .expect(rt, "memory")
 }
 
-// Whether an option of this kind is read.
-fn is_option(said: Option<&ArchiveSaid>, kind: &ArchiveKind<'_>) -> bool {
-    match (said, kind) {
-        (Some(Said::Flag(found)), Kind::Flag(key)) => found == key,
-        (Some(Said::Value(found, _)), Kind::Value(key, _)) => found == key,
-        (Some(Said::Maybe(found, _)), Kind::Maybe(key, _)) => found == key,
-        (Some(Said::Values(found, _)), Kind::Values(key, _)) => found == key,
+// Whether this is an option of this kind.
+fn is_option(parsed: Option<&ArchiveParsed>, kind: &ArchiveKind<'_>) -> bool {
+    match (parsed, kind) {
+        (Some(Parsed::Flag(found)), Kind::Flag(key)) => found == key,
+        (Some(Parsed::Value(found, _)), Kind::Value(key, _)) => found == key,
+        (Some(Parsed::Maybe(found, _)), Kind::Maybe(key, _)) => found == key,
+        (Some(Parsed::Values(found, _)), Kind::Values(key, _)) => found == key,
         _ => false,
     }
 }
 
-// Whether more is read than before: that, and then an option of this kind. These words do not ask
-// for the help before that.
-fn goes_on(before: &[ArchiveSaid], line: &ArchiveLine<'_>, kind: &ArchiveKind<'_>) -> bool {
+// Whether a line is read as `before` and then an option of this kind. The option for the help makes
+// it a request.
+fn continues_with(
+    before: &[ArchiveParsed],
+    line: &ArchiveLine<'_>,
+    kind: &ArchiveKind<'_>,
+) -> bool {
     match line {
-        Line::Said(said) => said.starts_with(before) && is_option(said.get(before.len()), kind),
+        Line::Parsed(parsed) => parsed.starts_with(before)
+            && is_option(parsed.get(before.len()), kind),
         Line::Asked(asked) => *asked == Asked::Help && matches!(kind, Kind::Help),
         Line::Refused(_) => false,
     }
@@ -75,16 +81,16 @@ fn can_occur(
     spelling: &str,
     kind: &ArchiveKind<'_>,
 ) -> bool {
-    let Line::Said(before) = line_by_both(rt, options, words, &[]) else {
+    let Line::Parsed(before) = line_by_both(rt, options, words, &[]) else {
         return false;
     };
     let spelling = spelling.as_bytes();
     let alone = line_by_both(rt, options, words, &[spelling]);
     let with_value = line_by_both(rt, options, words, &[spelling, b"a"]);
-    goes_on(&before, &alone, kind) || goes_on(&before, &with_value, kind)
+    continues_with(&before, &alone, kind) || continues_with(&before, &with_value, kind)
 }
 
-// Whether exactly the spellings that can occur after these words are offered there.
+// Whether exactly the spellings that can occur after these words are offered.
 fn agrees(
     rt: &(impl Abort + AllocGlobal),
     options: &ArchiveOptions<'static>,
@@ -107,7 +113,7 @@ fn agrees(
     true
 }
 
-// Whether they agree after this word, and after it and each other.
+// Whether they agree after this word, and after this word and each of the words.
 fn agrees_after(
     rt: &(impl Abort + AllocGlobal),
     options: &ArchiveOptions<'static>,
@@ -121,7 +127,7 @@ fn agrees_after(
     agrees(rt, options, &[first])
 }
 
-// Whether they agree after no word, and after one or two of these.
+// Whether they agree after no word, and after one or two of the words.
 fn all_agree(rt: &(impl Abort + AllocGlobal)) -> bool {
     let options = archive_of_files();
     for first in WORDS {

@@ -1,13 +1,13 @@
-//! The keys of positional arguments: which of them each word of a line belongs to.
+//! The keys of positionals: to which positional each word of a line belongs.
 use crate::archive::{
-    Archive, ArchiveOptions, ArchivePositional, ArchiveSaid, Flag, Value, Values, Word, archive,
+    Archive, ArchiveOptions, ArchiveParsed, ArchivePositional, Flag, Value, Values, Word, archive,
 };
 use crate::{readings, refusals};
-use lexopt_options::{Line, Names, Options, Positional, Said, declare};
+use lexopt_options::{Line, Names, Options, Parsed, Positional, declare};
 use std::alloc::{AllocError, Global};
 use test_helpers::parsers::words_from;
 
-// How often a positional argument may occur.
+// How often a positional may occur.
 #[derive(Clone, Copy)]
 enum Shape {
     Once,
@@ -18,19 +18,19 @@ enum Shape {
 
 use Shape::{AnyNumber, AtLeastOnce, AtMostOnce, Once};
 
-// The positional arguments, in order, of which a program has the first ones.
+// The keys and placeholders of positionals. A declaration has the first of them.
 const NAMES: [(Word, &str); 3] = [
     (Word::File, "FILE"),
     (Word::Source, "SOURCE"),
     (Word::Target, "TARGET"),
 ];
 
-// The words of a line, of which it has the first ones.
+// The words of lines. A line has the first of them.
 const WORDS: [&[u8]; 4] = [b"a", b"b", b"", b"d"];
 
-// Positional arguments of these shapes; how many words there are; the key of each; and the mistake,
-// if the line is refused. Each required argument has its word, and the words that are left belong
-// to the first that can take more.
+// The shapes of the positionals, the number of words, the key of each word, and the mistake if the
+// line is refused. Each required positional has its word, and the other words belong to the first
+// positional that can take more.
 static KEYS: [(&[Shape], usize, &str, &str); 46] = [
     (&[], 0, "", ""),
     (&[], 1, "", "unexpected argument \"a\""),
@@ -110,7 +110,7 @@ static KEYS: [(&[Shape], usize, &str, &str); 46] = [
     (&[Once, AtMostOnce, Once], 2, "File Target", ""),
 ];
 
-// The positional arguments of these shapes.
+// Positionals of these shapes.
 fn positionals_of(
     alloc: Global,
     shapes: &[Shape],
@@ -127,29 +127,29 @@ fn positionals_of(
     Ok(positionals)
 }
 
-// The keys of what is read, with blanks between them.
-fn keys_of(alloc: Global, said: &[ArchiveSaid]) -> Result<String, AllocError> {
+// The keys of what is read, with a space between two of them.
+fn keys_of(alloc: Global, parsed: &[ArchiveParsed]) -> Result<String, AllocError> {
     let mut text = String::new(alloc);
-    for own in said {
+    for own in parsed {
         if !text.is_empty() {
             text.push(' ')?;
         }
         match own {
-            Said::Positional(key, _) => write!(text, "{key:?}")?,
+            Parsed::Positional(key, _) => write!(text, "{key:?}")?,
             _ => text.push('-')?,
         }
     }
     Ok(text)
 }
 
-// The keys of what is read from these words, and the mistake, if there is one.
+// The keys of what is read from these words, and the mistake, which is empty if there is none.
 fn keys_and_mistake(
     alloc: Global,
     options: &ArchiveOptions<'_>,
     words: &[&[u8]],
 ) -> Result<(String, String), AllocError> {
     match options.read(alloc, words_from(alloc, words)?)? {
-        Line::Said(said) => Ok((keys_of(alloc, &said)?, String::new(alloc))),
+        Line::Parsed(parsed) => Ok((keys_of(alloc, &parsed)?, String::new(alloc))),
         Line::Asked(_) => Ok((String::new(alloc), String::from_str(alloc, "asked")?)),
         Line::Refused(refused) => {
             let mistake = refused.mistake.to_string(alloc)?;
@@ -179,7 +179,7 @@ fn has_keys(
     }
 }
 
-// The first of these rows that does not hold, or none.
+// The place of the first row that does not hold, if there is one.
 fn first_wrong_key(alloc: Global) -> Result<Option<usize>, AllocError> {
     for (row, (shapes, count, keys, mistake)) in KEYS.iter().enumerate() {
         if !has_keys(alloc, shapes, *count, keys, mistake)? {
@@ -194,7 +194,7 @@ fn keys(rt: HostRuntime) {
     assert_eq!(rt; first_wrong_key(rt.alloc()).expect(&rt, "success"), None);
 }
 
-// Sources, and then where to; with options between them.
+// Sources and a target, with options between them.
 static COPY: Archive<'static> = declare! {
     program: "archive",
     options: [
@@ -212,7 +212,7 @@ static COPY_LINES: [(&[u8], &str); 3] = [
         "[Positional(Source, \"a\"), Flag(Verbose), Value(User, \"b\"), Positional(Source, \"c\"), \
         Positional(Target, \"-v\")]",
     ),
-    // Values belong to no positional argument.
+    // Values of options belong to no positional.
     (
         b"a -x b c --user=d - -v",
         "[Positional(Source, \"a\"), Values(Exclude, [\"b\", \"c\"]), Value(User, \"d\"), \
@@ -225,7 +225,8 @@ static COPY_LINES: [(&[u8], &str); 3] = [
     ),
 ];
 
-// The keys are those that the words have if no more words follow, or the missing ones.
+// The words before the mistake have the keys that they would have if the line ended there, or after
+// the missing words.
 static COPY_MISTAKES: [(&[u8], &str, &str); 6] = [
     (
         b"a -z b",

@@ -4,7 +4,7 @@ use lexopt_options::{Declaration, Options};
 use std::alloc::{AllocError, Global};
 
 // Whether a line is read as this.
-fn says(
+fn reads_as(
     alloc: Global,
     options: &ArchiveOptions<'_>,
     line: &[u8],
@@ -47,14 +47,14 @@ static LINES: [(&[u8], &str); 11] = [
     (b"-o\xFF", "[Value(Output, \"\\xFF\")]"),
 ];
 
-/// The first of these rows that does not hold, or none.
+/// The place of the first row that does not hold, if there is one.
 pub fn first_wrong(
     alloc: Global,
     options: &ArchiveOptions<'_>,
     rows: &[(&[u8], &'static str)],
 ) -> Result<Option<usize>, AllocError> {
     for (row, (line, wanted)) in rows.iter().enumerate() {
-        if !says(alloc, options, line, wanted)? {
+        if !reads_as(alloc, options, line, wanted)? {
             return Ok(Some(row));
         }
     }
@@ -69,14 +69,14 @@ fn lines(rt: HostRuntime) {
     );
 }
 
-// Whether `=` belongs to the value if it is a character like any other.
+// Whether `=` belongs to the value if `short_equals` is false.
 fn keeps_equals(alloc: Global) -> Result<bool, AllocError> {
     let declaration = Declaration {
         short_equals: false,
         ..ARCHIVE
     };
     match Options::try_new(&declaration) {
-        Ok(options) => says(alloc, &options, b"-o=x", "[Value(Output, \"=x\")]"),
+        Ok(options) => reads_as(alloc, &options, b"-o=x", "[Value(Output, \"=x\")]"),
         Err(_) => Ok(false),
     }
 }

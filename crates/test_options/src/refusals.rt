@@ -1,14 +1,14 @@
-//! What is printed for lines that are refused, and what is read from them before the mistake.
+//! Lines that are refused: what is printed, and what is read before the mistake.
 use crate::archive::{
     ARCHIVE, Archive, ArchiveKind, ArchiveOptions, Flag, Maybe, Value, Values, Word, archive,
-    archive_of_files, tells, text_of_words, words_of,
+    archive_of_files, has_mistake, text_of_words, words_of,
 };
 use lexopt_options::{
     Error, Kind, Names, Options, OsString, Positional, USAGE_ERROR, UsageError, ValueExt, declare,
 };
 use std::alloc::{AllocError, Global};
 
-// Whether a line is refused with this mistake, and this is read before it.
+// Whether a line is refused with this mistake, and this was read before it.
 fn is_refused(
     alloc: Global,
     options: &ArchiveOptions<'_>,
@@ -18,7 +18,7 @@ fn is_refused(
 ) -> Result<bool, AllocError> {
     let text = text_of_words(alloc, options, words_of(alloc, line)?)?;
     match text.as_str().strip_prefix(before) {
-        Some(printed) => Ok(tells(printed, mistake)),
+        Some(printed) => Ok(has_mistake(printed, mistake)),
         None => Ok(false),
     }
 }
@@ -63,7 +63,8 @@ static MISTAKES: [(&[u8], &str, &str); 26] = [
         "invalid option '--bogus'",
     ),
     (b"-vqo", "[Flag(Verbose)]", "invalid option '-q'"),
-    // A dash too few: the only long name that ends with the option and the rest of its cluster.
+    // One dash is missing. The hint is the only long name that ends with the option and the rest of
+    // its cluster.
     (
         b"-verbose",
         "[Flag(Verbose)]",
@@ -79,13 +80,13 @@ static MISTAKES: [(&[u8], &str, &str); 26] = [
     (b"-e=xclude", "[]", "invalid option '-e'"),
     (b"-exclude=a", "[]", "invalid option '-e'"),
     (b"-ex\xFFclude", "[]", "invalid option '-e'"),
-    // An option with a value that it does not take is not part of what is read before its mistake.
+    // A flag with a value is not part of what was read before the mistake.
     (
         b"-v --verbose=x -o",
         "[Flag(Verbose)]",
         "unexpected argument for option '--verbose': \"x\"",
     ),
-    // A request for the help that has a value is not a request.
+    // The option for the help is not a request if it has a value.
     (
         b"a --help=1",
         "[Positional(Source, \"a\")]",
@@ -115,7 +116,7 @@ static MISTAKES: [(&[u8], &str, &str); 26] = [
     (b"-v --", "[Flag(Verbose)]", "missing argument SOURCE"),
 ];
 
-/// The first of these rows that does not hold, or none. With no options the first one does not.
+/// The place of the first row that does not hold, if there is one; 0 if there are no options.
 pub fn first_wrong(
     alloc: Global,
     options: Option<ArchiveOptions<'_>>,
@@ -146,7 +147,7 @@ fn mistakes(rt: HostRuntime) {
     );
 }
 
-// Options with no character; the name of one ends with that of another.
+// Options without a short name. The name of one ends with the name of another.
 static LONG_NAMES: Archive<'static> = declare! {
     program: "archive",
     options: [
@@ -168,9 +169,9 @@ static DASHES: [(&[u8], &str, &str); 4] = [
         "[]",
         "invalid option '-n'; did you mean '--no-output'?",
     ),
-    // Two names end so.
+    // Two names end with these characters.
     (b"-output", "[]", "invalid option '-o'"),
-    // The name begins so.
+    // The name begins with these characters, but does not end with them.
     (b"-verb", "[]", "invalid option '-v'"),
 ];
 
@@ -183,7 +184,7 @@ fn a_dash_too_few(rt: HostRuntime) {
     );
 }
 
-// Options of one value, of one that may be left out, and of several, each with a list.
+// Options of one value, of an optional value and of several values, each with a list.
 static LISTS: Archive<'static> = declare! {
     program: "archive",
     options: [
@@ -272,7 +273,7 @@ fn status(rt: HostRuntime) {
     assert_eq!(rt; USAGE_ERROR, 2);
 }
 
-// What is printed of a mistake that the program found, and the status after it.
+// What is printed for a mistake that the program found, and the exit status.
 fn reported(
     alloc: Global,
     options: &ArchiveOptions<'static>,
@@ -282,7 +283,7 @@ fn reported(
     Ok((report.to_string(alloc)?, report.status()))
 }
 
-// Whether a mistake that the program found is printed like this.
+// Whether a mistake that the program found is printed with this text.
 fn is_reported(
     alloc: Global,
     options: &ArchiveOptions<'static>,
@@ -290,10 +291,11 @@ fn is_reported(
     mistake: &str,
 ) -> Result<bool, AllocError> {
     let (text, status) = reported(alloc, options, error)?;
-    Ok(tells(text.as_str(), mistake) && status == USAGE_ERROR)
+    Ok(has_mistake(text.as_str(), mistake) && status == USAGE_ERROR)
 }
 
-// The error of a word that is not a number: a value of the option with this key, or a positional.
+// The error for a word that is not a number: a value of the option with this key, or a positional
+// if there is no key.
 fn error_of(
     options: &ArchiveOptions<'static>,
     key: Option<ArchiveKind<'static>>,
@@ -326,7 +328,7 @@ fn is_invalid(
     }
 }
 
-// An option with no long name.
+// An option without a long name.
 static JOBS: Archive<'static> = declare! {
     program: "archive",
     options: [
@@ -335,7 +337,7 @@ static JOBS: Archive<'static> = declare! {
     ],
 };
 
-// It, and mistakes of other kinds.
+// A wrong value of that option, and mistakes of other kinds.
 #[test]
 fn other_mistakes(rt: HostRuntime) {
     let options = Options::new(&JOBS);
@@ -383,7 +385,7 @@ fn invalid_values(rt: HostRuntime) {
     }
 }
 
-// Refused memory is not a mistake in the line.
+// Running out of memory is not a mistake in the line.
 #[test]
 fn no_memory(rt: HostRuntime) {
     let error = UsageError::from(Error::OutOfMemory);

@@ -1,4 +1,4 @@
-//! Options that every line has to have: what lines mean and lack, the usage line, and completion.
+//! Required options: what lines mean, which option is missing, and completion.
 use crate::answers::Do::{self, Refuse, Work};
 use crate::archive::{Archive, Flag, Maybe, Value, Values, Word, words_of};
 use crate::completions::are_spellings;
@@ -6,7 +6,7 @@ use crate::{answers, readings, refusals};
 use lexopt_options::{Names, Options, OsString, declare};
 use std::alloc::{AllocError, Global};
 
-// An option and an argument that are required.
+// A required option and a required positional.
 static OWNED: Archive<'static> = declare! {
     program: "archive",
     options: [
@@ -47,7 +47,7 @@ static OWNED_LINES: [(&[u8], &str); 15] = [
         b"-ux -- -u",
         "[Value(User, \"x\"), Positional(Source, \"-u\")]",
     ),
-    // Any word is its value.
+    // Any word can be the value.
     (
         b"-u --help a",
         "[Value(User, \"--help\"), Positional(Source, \"a\")]",
@@ -56,7 +56,7 @@ static OWNED_LINES: [(&[u8], &str); 15] = [
         b"-ux a --user=y",
         "[Value(User, \"x\"), Positional(Source, \"a\"), Value(User, \"y\")]",
     ),
-    // Nothing has to occur beside a request, and what comes after it does not matter.
+    // A request needs nothing else on the line, and what comes after it does not matter.
     (b"--help", "Help"),
     (b"-vh", "Help"),
     (b"a -h -u", "Help"),
@@ -72,7 +72,7 @@ fn lines(rt: HostRuntime) {
     );
 }
 
-// What is read before each mistake, and the mistake.
+// Lines, what was read before the mistake, and the mistake.
 static OWNED_MISTAKES: [(&[u8], &str, &str); 16] = [
     (
         b"a",
@@ -84,7 +84,7 @@ static OWNED_MISTAKES: [(&[u8], &str, &str); 16] = [
         "[Flag(Verbose), Positional(Source, \"a\")]",
         "missing option '--user'",
     ),
-    // An argument after the separator, and a value of another option.
+    // A positional after the separator, or a value of another option.
     (
         b"-- -u",
         "[Positional(Source, \"-u\")]",
@@ -105,11 +105,11 @@ static OWNED_MISTAKES: [(&[u8], &str, &str); 16] = [
         "[Positional(Source, \"a\"), Value(Output, \"--user=x\")]",
         "missing option '--user'",
     ),
-    // An argument that is missing comes first.
+    // A missing positional is reported first.
     (b"", "[]", "missing argument SOURCE"),
     (b"-v --", "[Flag(Verbose)]", "missing argument SOURCE"),
     (b"-ux", "[Value(User, \"x\")]", "missing argument SOURCE"),
-    // So does any other mistake.
+    // So is any other mistake.
     (
         b"a -u",
         "[Positional(Source, \"a\")]",
@@ -152,7 +152,7 @@ fn mistakes(rt: HostRuntime) {
     );
 }
 
-// Required options of each kind: one with a character alone, and one that the help leaves out.
+// Required options of each kind. One has a short name only, and one is hidden.
 static SEALED: Archive<'static> = declare! {
     program: "archive",
     options: [
@@ -180,7 +180,7 @@ static SEALED_LINES: [(&[u8], &str); 3] = [
     ),
 ];
 
-// The first option of the declaration that is missing is named.
+// The message names the missing option that was declared first.
 static SEALED_MISTAKES: [(&[u8], &str, &str); 8] = [
     (b"", "[]", "missing option '--backup'"),
     (b"-f", "[Flag(Verbose)]", "missing option '--backup'"),
@@ -245,7 +245,7 @@ fn no_help(rt: HostRuntime) {
     );
 }
 
-// What was typed after which words, and the spellings that can come there.
+// Words, a word that is typed after them, and the spellings that are offered.
 static OFFERS: [(&[u8], &[u8], &str); 7] = [
     (
         b"",
@@ -260,7 +260,7 @@ static OFFERS: [(&[u8], &[u8], &str); 7] = [
     (b"-- a", b"--u", ""),
 ];
 
-// Whether these spellings, with blanks between them, are offered.
+// Whether these spellings, with a space between two of them, are offered.
 fn is_offered(
     alloc: Global,
     words: &[u8],
@@ -273,7 +273,7 @@ fn is_offered(
     are_spellings(alloc, &completion.spellings, spellings)
 }
 
-// The first of these rows that does not hold, or none.
+// The place of the first row that does not hold, if there is one.
 fn first_wrong_offer(alloc: Global) -> Result<Option<usize>, AllocError> {
     for (row, (words, typed, spellings)) in OFFERS.iter().enumerate() {
         if !is_offered(alloc, words, typed, spellings)? {

@@ -5,7 +5,7 @@ use crate::archive::{
 use lexopt_options::{Declared, Names, Options, Positional, WIDTH};
 use std::alloc::{AllocError, Global};
 
-/// The help of the program at 80 columns.
+/// The help of `ARCHIVE` at 80 columns.
 pub const HELP_AT_80: &str = "Usage: archive [OPTION]... [FILE]...
 Packs files.
 
@@ -19,7 +19,7 @@ Packs files.
   -h, --help            print this help and exit
 ";
 
-// Each word is on a line of its own.
+// Each word of a text is on a line of its own.
 const HELP_AT_0: &str = "Usage: archive
        [OPTION]...
        [FILE]...
@@ -67,7 +67,7 @@ and
 exit
 ";
 
-// Whether the help of these options and arguments is this, at this width.
+// Whether these options and positionals have this help at this width.
 fn is_help(
     alloc: Global,
     declared: &[ArchiveOption<'_>],
@@ -89,7 +89,7 @@ fn help(rt: HostRuntime) {
     assert!(rt; is_help(rt.alloc(), options, files, 0, HELP_AT_0).expect(&rt, "success"));
 }
 
-// Whether the help of these options, with no arguments, is this, at the usual width.
+// Whether these options, without positionals, have this help at the default width.
 fn is_help_of(
     alloc: Global,
     declared: &[ArchiveOption<'_>],
@@ -111,7 +111,7 @@ const LONG: &str =
     aaaaaaaaaaaaaaaaaaaaaaaaaaaaaaaaaaaaaaaaaaaaaaaaaaaaaaaaaaaaaaaaaaaaaaaaaaaaaaaa\
     aaaaaaaaaaaaaaaaaaaaaaaaaaaaaaaaaaaaaaaa";
 
-// Whether it is on a line of its own, unbroken, with its help below.
+// Whether that name is on one line, and its help on the next.
 fn is_on_one_line(alloc: Global) -> Result<bool, AllocError> {
     let declared = [Declared::flag(Flag::Verbose, Names::Long(LONG), "say it")];
     let wanted = format!(in alloc;
@@ -126,7 +126,7 @@ fn long_name(rt: HostRuntime) {
     assert!(rt; is_on_one_line(rt.alloc()).expect(&rt, "success"));
 }
 
-// Labels of one kind each, with one name. An accent that is a character of its own takes no column.
+// A label of each kind, with one name. A combining accent takes no column.
 const LABELS: &str = "Usage: archive [OPTION]...
 Packs files.
 
@@ -166,7 +166,7 @@ fn labels(rt: HostRuntime) {
     assert!(rt; are_labels(rt.alloc()).expect(&rt, "success"));
 }
 
-// Whether the usage line of these options is this, at this width.
+// Whether these options have this usage line at this width.
 fn is_usage(
     alloc: Global,
     declared: &[ArchiveOption<'_>],
@@ -183,7 +183,7 @@ fn is_usage(
     }
 }
 
-// Whether usage lines are on one line if they fit, and else on two.
+// Whether a usage line is on one line if it fits, and otherwise on two.
 fn are_usages(alloc: Global) -> Result<bool, AllocError> {
     Ok(
         is_usage(

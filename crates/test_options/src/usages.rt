@@ -3,7 +3,7 @@ use crate::archive::{Archive, Flag, Maybe, Value, Values, Word};
 use lexopt_options::{Names, Options, declare};
 use std::alloc::{AllocError, Global};
 
-// One option is required, and one argument may occur more than once.
+// One option is required, and one positional may occur more than once.
 static COPY: Archive<'static> = declare! {
     program: "copy",
     options: [
@@ -13,7 +13,7 @@ static COPY: Archive<'static> = declare! {
     positionals: [at_least_once(Word::Source, "SOURCE"), once(Word::Target, "TARGET")],
 };
 
-// Each kind of option, with a long name and with a character alone. All are required, and one is
+// Options of each kind, with a long name and with a short name only. All are required, and one is
 // hidden.
 static FORMS: Archive<'static> = declare! {
     program: "copy",
@@ -30,7 +30,7 @@ static FORMS: Archive<'static> = declare! {
     ],
 };
 
-// The one that is not required is hidden.
+// The option that is not required is hidden.
 static HIDDEN: Archive<'static> = declare! {
     program: "copy",
     options: [
@@ -40,7 +40,7 @@ static HIDDEN: Archive<'static> = declare! {
     positionals: [at_most_once(Word::Source, "SOURCE"), any_number(Word::File, "FILE")],
 };
 
-// The one that is required is hidden.
+// The required option is hidden.
 static HIDDEN_REQUIRED: Archive<'static> = declare! {
     program: "copy",
     options: [
@@ -50,7 +50,7 @@ static HIDDEN_REQUIRED: Archive<'static> = declare! {
     positionals: [at_least_once(Word::File, "FILE")],
 };
 
-// Whether this is the usage line of a declaration at this width.
+// Whether a declaration has this usage line at this width.
 fn is_usage(
     alloc: Global,
     declaration: &Archive<'static>,
@@ -63,7 +63,7 @@ fn is_usage(
     }
 }
 
-// Usage lines, each at some width.
+// Declarations, widths and usage lines.
 fn usages() -> [(&'static Archive<'static>, usize, &'static str); 7] {
     [
         (
@@ -99,7 +99,7 @@ fn usages() -> [(&'static Archive<'static>, usize, &'static str); 7] {
     ]
 }
 
-// The first of these rows that does not hold, or none.
+// The place of the first row that does not hold, if there is one.
 fn first_wrong(alloc: Global) -> Result<Option<usize>, AllocError> {
     for (row, (declaration, width, wanted)) in usages().into_iter().enumerate() {
         if !is_usage(alloc, declaration, width, wanted)? {

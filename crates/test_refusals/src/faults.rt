@@ -1,4 +1,4 @@
-//! Readers and writers that fail, that are slow and that never end, and scripts that a case file
+//! Scripts whose readers and writers fail, are slow or never end, and scripts that a case file
 //! cannot express.
 use lexopt::replay::{RunError, run};
 use std::alloc::{AllocError, Global};
@@ -7,7 +7,8 @@ use std::io::{Read, Write};
 use std::test::Fail;
 use test_helpers::scripts::{SCRIPT, WRITTEN};
 
-// Gives one byte at a time, and fails at this read, counted from 1; at 0 none fails.
+// Reads one byte at a time, and fails at this read, counted from 1. If `fails_at` is 0, no read
+// fails.
 #[derive(Drop)]
 struct Slow<'a> {
     left: &'a [u8],
@@ -32,7 +33,7 @@ impl Read for Slow<'_> {
     }
 }
 
-// Never ends.
+// A reader of line feeds that never ends.
 #[derive(Drop)]
 struct Endless;
 
@@ -50,7 +51,7 @@ enum Full {
     Fails,
 }
 
-// Takes this many bytes, one at a time; the flush may fail.
+// Takes `room` bytes, one at a time. The flush fails if `flushes` is false.
 #[derive(Drop)]
 struct Narrow {
     taken: Vec<u8>,
@@ -81,18 +82,18 @@ impl Write for Narrow {
     }
 }
 
-// Whether a script that is read from here ends with this result, and this is written for it.
-fn comes_to<R: Read>(
+// Whether the script of a reader has this result, and this output.
+fn runs_to<R: Read>(
     alloc: Global,
     reader: &mut R,
-    answer: Result<(), RunError>,
+    wanted: Result<(), RunError>,
     written: &[u8],
 ) -> bool {
     let mut text = Vec::new(alloc);
-    run(alloc, reader, &mut text) == answer && text.as_slice() == written
+    run(alloc, reader, &mut text) == wanted && text.as_slice() == written
 }
 
-// The stored script, of which this read fails.
+// A reader of the stored script that fails at this read.
 fn script_with_a_failing_read(fails_at: usize) -> Slow<'static> {
     Slow {
         left: SCRIPT,
@@ -104,18 +105,18 @@ fn script_with_a_failing_read(fails_at: usize) -> Slow<'static> {
 #[test]
 fn reads_that_fail(rt: HostRuntime) {
     for fails_at in 1..SCRIPT.len() + 2 {
-        let answer = Err(RunError::ReadFailed);
+        let wanted = Err(RunError::ReadFailed);
         assert!(rt;
-            comes_to(
+            runs_to(
                 rt.alloc(),
                 &mut script_with_a_failing_read(fails_at),
-                answer,
+                wanted,
                 b""
             )
         );
     }
     assert!(rt;
-        comes_to(
+        runs_to(
             rt.alloc(),
             &mut script_with_a_failing_read(0),
             Ok(()),
@@ -124,14 +125,14 @@ fn reads_that_fail(rt: HostRuntime) {
     );
 }
 
-// Whether the stored script ends with this result where its writer has this much room, and what
-// that took is a front of what is to be written.
-fn goes_out(
+// Whether the stored script has this result if its writer takes this many bytes, and the writer
+// then has as many bytes of the output.
+fn writes_front(
     alloc: Global,
     room: usize,
     full: Full,
     flushes: bool,
-    answer: Result<(), RunError>,
+    wanted: Result<(), RunError>,
 ) -> bool {
     let mut narrow = Narrow {
         taken: Vec::new(alloc),
@@ -140,7 +141,7 @@ fn goes_out(
         flushes,
     };
     let mut script = SCRIPT;
-    run(alloc, &mut script, &mut narrow) == answer
+    run(alloc, &mut script, &mut narrow) == wanted
         && Some(narrow.taken.as_slice()) == WRITTEN.get(..room)
 }
 
@@ -148,49 +149,48 @@ fn goes_out(
 fn writes_that_fail(rt: HostRuntime) {
     let failed = Err(RunError::WriteFailed);
     for room in 0..WRITTEN.len() {
-        assert!(rt; goes_out(rt.alloc(), room, Full::TakesNothing, true, failed));
-        assert!(rt; goes_out(rt.alloc(), room, Full::Fails, true, failed));
+        assert!(rt; writes_front(rt.alloc(), room, Full::TakesNothing, true, failed));
+        assert!(rt; writes_front(rt.alloc(), room, Full::Fails, true, failed));
     }
-    assert!(rt; goes_out(rt.alloc(), WRITTEN.len(), Full::Fails, true, Ok(())));
-    assert!(rt; goes_out(rt.alloc(), WRITTEN.len(), Full::Fails, false, failed));
+    assert!(rt; writes_front(rt.alloc(), WRITTEN.len(), Full::Fails, true, Ok(())));
+    assert!(rt; writes_front(rt.alloc(), WRITTEN.len(), Full::Fails, false, failed));
 }
 
-// Whether a script of this many line feeds, of which another byte takes the place of the first,
-// ends with this result.
-fn is_long(
+// Whether a script of this length, of line feeds after this first byte, has this result.
+fn has_result(
     alloc: Global,
     first: u8,
     length: usize,
-    answer: Result<(), RunError>,
+    wanted: Result<(), RunError>,
 ) -> Result<bool, AllocError> {
     let mut script = vec![in alloc; b'\n'; length]?;
     if let Some(place) = script.first_mut() {
         *place = first;
     }
-    Ok(comes_to(alloc, &mut script.as_slice(), answer, b""))
+    Ok(runs_to(alloc, &mut script.as_slice(), wanted, b""))
 }
 
 #[test]
 fn limits(rt: HostRuntime) -> Result<(), Fail> {
-    assert!(rt; comes_to(rt.alloc(), &mut Endless, Err(RunError::TooLong), b""));
-    for (first, length, answer) in [
+    assert!(rt; runs_to(rt.alloc(), &mut Endless, Err(RunError::TooLong), b""));
+    for (first, length, wanted) in [
         (b'\n', 1_048_576, Ok(())),
         (b'\n', 1_048_577, Err(RunError::TooLong)),
         (b'x', 1_048_576, Err(RunError::BadLine(1))),
         (b'x', 1_048_577, Err(RunError::TooLong)),
     ] {
         assert!(rt;
-            is_long(rt.alloc(), first, length, answer)?,
+            has_result(rt.alloc(), first, length, wanted)?,
             "{first} {length}"
         );
     }
     Ok(())
 }
 
-// Scripts that a case file cannot express.
+// Scripts without a line feed at the end, with carriage returns, and with bytes that are not UTF-8.
 #[test]
 fn line_ends_and_bytes(rt: HostRuntime) {
-    for (script, text, answer) in [
+    for (script, text, wanted) in [
         (b"".as_slice(), b"".as_slice(), Ok(())),
         (b"w a\nnext", b"Value \"a\"\n", Ok(())),
         (b"w a\r\nnext\n", b"Value \"a\\r\"\n", Ok(())),
@@ -202,7 +202,7 @@ fn line_ends_and_bytes(rt: HostRuntime) {
     ] {
         let mut reader = script;
         assert!(rt;
-            comes_to(rt.alloc(), &mut reader, answer, text),
+            runs_to(rt.alloc(), &mut reader, wanted, text),
             "{script:?}"
         );
     }

@@ -1,5 +1,5 @@
-//! Tests of refused memory, of readers and writers that fail, and of scripts that a case file
-//! cannot express. It has nothing else.
+//! Tests of calls that run out of memory, of readers and writers that fail, and of scripts that a
+//! case file cannot express.
 #![tactic(auto)]
 
 #[cfg(test)]

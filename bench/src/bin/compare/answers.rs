@@ -1,4 +1,5 @@
-//! Answers as they are compared: a letter, and after it bytes in hexadecimal digits.
+//! Results in the form in which they are compared: a letter, and after it bytes in hexadecimal
+//! digits.
 use lexopt::Error;
 use std::ffi::OsString;
 use std::os::unix::ffi::OsStrExt;
@@ -14,23 +15,23 @@ impl Answers {
         Answers { text: Vec::new() }
     }
 
-    /// What was written so far.
+    /// The text so far.
     pub fn text(&self) -> &[u8] {
         self.text.as_slice()
     }
 
-    /// An answer without bytes, or the beginning of one; also what stands between answers.
+    /// A result without bytes, or the beginning of one; also the separator of results.
     pub fn letter(&mut self, letter: u8) {
         self.text.push(letter);
     }
 
-    /// An answer with these bytes.
+    /// A result with these bytes.
     pub fn bytes(&mut self, letter: u8, bytes: &[u8]) {
         self.letter(letter);
         self.field(b':', bytes);
     }
 
-    /// A word that there may be.
+    /// A word, if there is one.
     pub fn word(&mut self, word: Option<OsString>) {
         match word {
             Some(word) => self.bytes(b'V', word.as_bytes()),
@@ -38,7 +39,7 @@ impl Answers {
         }
     }
 
-    /// An answer with all these words.
+    /// A result with all these words.
     pub fn words(&mut self, words: &[OsString]) {
         self.letter(b'W');
         for word in words {
@@ -46,14 +47,14 @@ impl Answers {
         }
     }
 
-    /// What an error holds, and its message.
+    /// The fields of an error, and its message.
     pub fn error(&mut self, error: &Error) {
         self.parts(error);
         let message = error.to_string();
         self.field(b'"', message.as_bytes());
     }
 
-    // What an error holds.
+    // The fields of an error.
     fn parts(&mut self, error: &Error) {
         match error {
             Error::MissingValue { option: None } => self.letter(b'M'),

@@ -1,5 +1,6 @@
-//! Answers calls, so that the answers can be compared. `crates/test_lists/src/answers.rt` does the same with this
-//! repository's port, and says what a case is.
+//! Makes calls and writes their results, so that these can be compared.
+//! `crates/test_lists/src/answers.rt` does the same with this repository's port, and describes the
+//! form of a case.
 
 mod answers;
 
@@ -38,7 +39,7 @@ fn number(number: Result<i32, Error>, answers: &mut Answers) {
     }
 }
 
-// A value as a number, in two ways, and then as a text, of which an error of the program's own is made.
+// A value as a number, in two ways, and then as a text, from which a custom error is made.
 fn converted(parser: &mut Parser, answers: &mut Answers) -> Result<(), Error> {
     let value = parser.value()?;
     number(value.parse(), answers);
@@ -71,7 +72,7 @@ fn try_raw(parser: &mut Parser, count: usize, answers: &mut Answers) {
     }
 }
 
-// Looks at the words that are left.
+// Looks at the unread words.
 fn look(parser: &mut Parser, answers: &mut Answers) -> Result<(), Error> {
     let view = parser.raw_args()?;
     match view.peek() {
@@ -82,7 +83,7 @@ fn look(parser: &mut Parser, answers: &mut Answers) -> Result<(), Error> {
     Ok(())
 }
 
-// Takes the next word where it is the wanted one.
+// Takes the next word if it is the wanted one.
 fn take_if(parser: &mut Parser, number: usize, answers: &mut Answers) -> Result<(), Error> {
     let wanted = *WANTED.get(number).unwrap_or(&WANTED[0]);
     let mut view = parser.raw_args()?;
@@ -97,7 +98,7 @@ fn bin_name(parser: &Parser, answers: &mut Answers) {
     }
 }
 
-// What is left: the pending value, and the words.
+// The unread line: the pending value, and the words.
 fn rest(parser: &mut Parser, answers: &mut Answers) {
     answers.word(parser.optional_value());
     match parser.try_raw_args() {
@@ -141,7 +142,7 @@ fn digit(byte: u8) -> u8 {
     }
 }
 
-// A word that is written in hexadecimal digits.
+// A word written in hexadecimal digits.
 fn word(text: &str) -> OsString {
     let mut bytes = Vec::with_capacity(text.len() / 2);
     for pair in text.as_bytes().chunks(2) {

@@ -1,7 +1,8 @@
-//! Reads words by ten options many times, so that the cost of a read can be measured. `crates/bench_options/src/main.rt` does the same
-//! with the declared options of this repository, and says what the arguments and standard input are.
+//! Reads words with ten options many times, so that the cost of a read can be measured.
+//! `crates/bench_options/src/main.rt` does the same with the declared options of this repository,
+//! and describes the arguments and standard input.
 
-mod said;
+mod parsed;
 mod seen;
 
 use seen::Seen;
@@ -14,14 +15,14 @@ use std::os::unix::ffi::OsStrExt;
 #[derive(Clone, Copy)]
 enum Work {
     Copy,
-    Said,
+    Parsed,
 }
 
 impl Work {
     fn of_name(name: &str) -> Option<Work> {
         match name {
             "copy" => Some(Work::Copy),
-            "said" => Some(Work::Said),
+            "parsed" => Some(Work::Parsed),
             _ => None,
         }
     }
@@ -38,7 +39,7 @@ fn copies(words: &[&[u8]]) -> Vec<OsString> {
 
 // Reads a line to its end.
 fn read_line(words: Vec<OsString>, seen: &mut Seen) -> bool {
-    match said::read(words) {
+    match parsed::read(words) {
         Ok(line) => {
             seen.line(&line);
             true
@@ -50,9 +51,9 @@ fn read_line(words: Vec<OsString>, seen: &mut Seen) -> bool {
 fn main() -> Result<(), Box<dyn std::error::Error>> {
     let mut args = env::args();
     let (Some(_program), Some(work), Some(times)) = (args.next(), args.next(), args.next()) else {
-        return Err("usage: options copy|said TIMES".into());
+        return Err("usage: options copy|parsed TIMES".into());
     };
-    let work = Work::of_name(&work).ok_or("the work is copy or said")?;
+    let work = Work::of_name(&work).ok_or("the work is copy or parsed")?;
     let times = times.parse::<u64>()?;
 
     let mut input = Vec::new();
@@ -68,10 +69,10 @@ fn main() -> Result<(), Box<dyn std::error::Error>> {
                 seen.copies(&copied);
                 true
             }
-            Work::Said => read_line(copied, &mut seen),
+            Work::Parsed => read_line(copied, &mut seen),
         };
         if !goes_on {
-            return Err("an error that no workload should lead to".into());
+            return Err("an error that no workload should cause".into());
         }
         seen.stop_hashing();
     }

@@ -1,5 +1,6 @@
-//! What the reads saw: counts, and a hash of the first read, since one of every read would cost more than what is measured.
-use crate::said::Said;
+//! What the reads saw: counts, and a hash of the first read. A hash of every read would cost more
+//! than what is measured.
+use crate::parsed::Parsed;
 use std::ffi::OsString;
 use std::fmt;
 use std::os::unix::ffi::OsStrExt;
@@ -28,7 +29,7 @@ impl Seen {
         }
     }
 
-    /// The first read is over.
+    /// Call this after the first read.
     pub fn stop_hashing(&mut self) {
         self.hashes = false;
     }
@@ -37,39 +38,39 @@ impl Seen {
         self.copies = self.copies.wrapping_add(words.len() as u64);
     }
 
-    /// What a line says.
-    pub fn line(&mut self, line: &[Said]) {
-        for said in line {
-            match said {
-                Said::Verbose => self.option(0),
-                Said::All => self.option(1),
-                Said::Brief => self.option(2),
-                Said::Count => self.option(3),
-                Said::Shout => self.option(4),
-                Said::Number(value) => self.one(5, value),
-                Said::Name(value) => self.one(6, value),
-                Said::Output(value) => self.one(7, value),
-                Said::Color(None) => self.option(8),
-                Said::Color(Some(value)) => self.one(8, value),
-                Said::Exclude(values) => self.several(9, values),
-                Said::File(word) => self.positional(word.as_bytes()),
+    /// The parts of a line.
+    pub fn line(&mut self, line: &[Parsed]) {
+        for parsed in line {
+            match parsed {
+                Parsed::Verbose => self.option(0),
+                Parsed::All => self.option(1),
+                Parsed::Brief => self.option(2),
+                Parsed::Count => self.option(3),
+                Parsed::Shout => self.option(4),
+                Parsed::Number(value) => self.one(5, value),
+                Parsed::Name(value) => self.one(6, value),
+                Parsed::Output(value) => self.one(7, value),
+                Parsed::Color(None) => self.option(8),
+                Parsed::Color(Some(value)) => self.one(8, value),
+                Parsed::Exclude(values) => self.several(9, values),
+                Parsed::File(word) => self.positional(word.as_bytes()),
             }
         }
     }
 
-    // The option of this index.
+    // The option with this index.
     fn option(&mut self, index: u64) {
         self.options = self.options.wrapping_add(1);
         self.text(b'o', &index.to_le_bytes());
     }
 
-    // The option of this index, with a value.
+    // The option with this index, and its value.
     fn one(&mut self, index: u64, value: &OsString) {
         self.option(index);
         self.value(value.as_bytes());
     }
 
-    // The option of this index, with several values.
+    // The option with this index, and its values.
     fn several(&mut self, index: u64, values: &[OsString]) {
         self.option(index);
         self.text(b'c', &(values.len() as u64).to_le_bytes());

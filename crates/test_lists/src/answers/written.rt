@@ -1,4 +1,4 @@
-//! Results as they are compared: a letter, and then bytes in hexadecimal digits.
+//! The text of results: a letter, and then bytes in hexadecimal digits.
 use lexopt_base::{Error, OsString};
 use std::alloc::Global;
 
@@ -16,12 +16,12 @@ impl Answers {
         }
     }
 
-    /// What was written so far.
+    /// The results so far.
     pub fn text(&self) -> &[u8] {
         self.text.as_slice()
     }
 
-    /// A result without bytes, or the beginning of one; also what separates results.
+    /// A result without bytes, the first letter of a result, or a separator of results.
     pub fn letter(&mut self, letter: u8) -> Result<(), Error> {
         self.text.push(letter)?;
         Ok(())
@@ -50,14 +50,14 @@ impl Answers {
         Ok(())
     }
 
-    /// What an error holds, and its message.
+    /// The parts of an error, and its message.
     pub fn error(&mut self, error: &Error) -> Result<(), Error> {
         self.parts(error)?;
         let message = error.to_string(*self.text.allocator())?;
         self.field(b'"', message.as_bytes())
     }
 
-    // What an error holds.
+    // The parts of an error.
     fn parts(&mut self, error: &Error) -> Result<(), Error> {
         match error {
             Error::MissingValue { option: None } => self.letter(b'M'),

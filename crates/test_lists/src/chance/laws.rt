@@ -1,14 +1,14 @@
-//! Laws of replies and of items, whatever the words are.
+//! Laws of replies and of items that hold for any words.
 use lexopt_base::OsString;
 use lexopt_calls::reply::Reply;
 use lexopt_items::items::Item;
 
-// What was handed out of the words so far.
+// What was handed out so far.
 #[derive(Clone, Copy)]
 struct Handed<'a> {
-    // The words after the last one that something was handed out of.
+    // The words after the last word of which something was handed out.
     words: &'a [OsString],
-    // How many options, values and words.
+    // How many options, values and words were handed out.
     count: usize,
     is_in_order: bool,
 }
@@ -26,7 +26,7 @@ impl<'a> Handed<'a> {
         self.count = self.count.saturating_add(1);
     }
 
-    // A value is a word, or the end of one, and comes after those that were handed out before.
+    // A value is a word or the end of a word, and comes after those that were handed out before.
     fn value(&mut self, value: &OsString) {
         self.count = self.count.saturating_add(1);
         let found = self
@@ -50,7 +50,7 @@ impl<'a> Handed<'a> {
         }
     }
 
-    // The law that is broken, if one is.
+    // The law that is broken, if there is one.
     fn broken(self, words: &[OsString]) -> Option<&'static str> {
         if !self.is_in_order {
             Some("each byte is handed out once at most, in order")
@@ -62,7 +62,7 @@ impl<'a> Handed<'a> {
     }
 }
 
-// A word gives at most an option for each byte after its dash, and at least itself.
+// At most one option for each byte of a word after its dash is handed out, or the word itself.
 fn bound(words: &[OsString]) -> usize {
     let mut bound = 0usize;
     for word in words {
@@ -83,7 +83,7 @@ pub fn broken_by_replies(words: &[OsString], replies: &[Reply]) -> Option<&'stat
             | Reply::Unexpected(_, word) => handed.value(word),
             Reply::Items(words) => handed.values(words),
             Reply::End | Reply::Maybe(None) | Reply::Busy | Reply::Done | Reply::Missing(_) => {}
-            Reply::NoMemory => return Some("memory is refused where there is enough"),
+            Reply::NoMemory => return Some("a call runs out of memory although there is enough"),
         }
     }
     handed.broken(words)
@@ -109,7 +109,7 @@ pub fn broken_by_items(words: &[OsString], items: &[Item]) -> Option<&'static st
     handed.broken(words)
 }
 
-/// Whether the replies are an optional value and the last ones of these words.
+/// Whether the replies are an optional value and the last of these words.
 pub fn is_end_of(replies: &[Reply], words: &[OsString]) -> bool {
     match replies {
         [Reply::Maybe(_), Reply::Items(left)] => words.ends_with(left),

@@ -4,8 +4,8 @@ use lexopt_calls::reply::Call;
 use lexopt_items::items::Table;
 use std::alloc::{AllocError, Global};
 
-// Bytes that mean something to a command line, and bytes that begin, continue or end a character,
-// or are part of none.
+// Bytes with a meaning on a command line, and bytes that begin, continue or end a character, or
+// belong to no character.
 const BYTES: [u8; 24] = [
     b'-', b'-', b'-', b'=', b'=', b'a', b'b', b'a', 0x00, b'\n', 0x7F, 0x80, 0x9D, 0x9E, 0xA0,
     0xB5, 0xBF, 0xC2, 0xED, 0xEF, 0xF0, 0xF4, 0xFE, 0xFF,
@@ -28,7 +28,7 @@ impl Chance {
         }
     }
 
-    /// A number below this one; 0 if there is none.
+    /// A number below this one, or 0 if that is 0.
     pub fn below(&mut self, count: usize) -> usize {
         let mut state = self.state;
         state ^= state >> 12;

@@ -1,12 +1,12 @@
-//! Clusters of a few bytes each, read by `next` with `short_equals` false: one option for each
-//! piece, and then the end.
+//! Clusters of a few bytes, read by `next` with `short_equals` false: an option for each piece, and
+//! then the end of the line.
 use crate::lines::pieces::first_piece;
 use lexopt_base::{Error, Parser};
 use std::alloc::Global;
 use test_helpers::calls::{is_at_end, reads_short};
 use test_helpers::parsers::parser_of;
 
-// The bytes at both ends of the ranges of table 3-7, and bytes that no row of it has.
+// The bytes at both ends of the ranges of table 3-7, and bytes that are in no row of the table.
 const BYTES: [u8; 20] = [
     0x41, 0x7F, 0x80, 0x8F, 0x90, 0x9F, 0xA0, 0xBF, 0xC1, 0xC2, 0xDF, 0xE0, 0xE1, 0xED, 0xEE, 0xF0,
     0xF1, 0xF4, 0xF5, 0xFF,
@@ -29,7 +29,7 @@ fn parser_of_cluster(alloc: Global, bytes: &[u8]) -> Result<Parser, Error> {
     Ok(parser)
 }
 
-// Whether the parser gives an option of the character of each piece, and then nothing.
+// Whether the parser reads an option for the character of each piece, and then the end.
 fn reads_pieces(parser: &mut Parser, bytes: &[u8]) -> Result<bool, Error> {
     let mut rest = bytes;
     for _ in 0..bytes.len() {
@@ -54,7 +54,7 @@ impl Counts {
         Ok(())
     }
 
-    // Reads these bytes, and these with one or two after them.
+    // Reads these two bytes, alone and with one or two bytes after them.
     fn read_longer(&mut self, alloc: Global, first: u8, second: u8) -> Result<(), Error> {
         self.read(alloc, &[first, second])?;
         for third in BYTES {

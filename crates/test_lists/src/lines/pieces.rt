@@ -1,7 +1,7 @@
-//! Bytes as characters, by table 3-7 of the Unicode Standard, and bytes in quotes.
+//! The pieces of bytes, by table 3-7 of the Unicode Standard, and bytes in quotes.
 use std::alloc::{AllocError, Global};
 
-// The rows of the table: the least and the greatest value of each byte of a sequence.
+// The rows of the table: the least and the greatest value of each byte of a character.
 const ROWS: [&[(u8, u8)]; 9] = [
     &[(0x00, 0x7F)],
     &[(0xC2, 0xDF), (0x80, 0xBF)],
@@ -14,8 +14,8 @@ const ROWS: [&[(u8, u8)]; 9] = [
     &[(0xF4, 0xF4), (0x80, 0x8F), (0x80, 0xBF), (0x80, 0xBF)],
 ];
 
-/// What bytes begin with: the bytes of a character, or of a damaged piece, which has no character;
-/// and what follows.
+/// The first piece of some bytes: its character, or `None` if it is damage; its bytes; and the
+/// bytes after it.
 #[derive(Clone, Copy)]
 pub struct Piece<'a> {
     pub character: Option<char>,
@@ -30,7 +30,7 @@ impl Piece<'_> {
     }
 }
 
-// How many bytes, from the first on, this row allows.
+// How many of the first bytes are in the ranges of this row.
 fn fitting(row: &[(u8, u8)], bytes: &[u8]) -> usize {
     row.iter()
         .zip(bytes)
@@ -38,8 +38,8 @@ fn fitting(row: &[(u8, u8)], bytes: &[u8]) -> usize {
         .count()
 }
 
-// The number that the bytes of a well-formed sequence stand for: 7, 5, 4 or 3 bits of the first,
-// and 6 of each other one.
+// The number of the character with these bytes: 7, 5, 4 or 3 bits of the first byte, and 6 bits of
+// each other byte.
 fn code(sequence: &[u8]) -> u32 {
     let mut code = 0u32;
     for byte in sequence {
@@ -55,7 +55,7 @@ fn code(sequence: &[u8]) -> u32 {
     code
 }
 
-// A piece of this many bytes, a character or damage.
+// A piece of the first `count` bytes, a character or damage.
 fn piece_of(bytes: &[u8], count: usize, is_character: bool) -> Piece<'_> {
     let (front, rest) = bytes.split_at(count.min(bytes.len()));
     let character = if is_character {
@@ -70,8 +70,8 @@ fn piece_of(bytes: &[u8], count: usize, is_character: bool) -> Piece<'_> {
     }
 }
 
-/// The first piece, if there is a byte: a sequence of the table, or else the longest prefix that
-/// begins one, or one byte.
+/// The first piece, if there is a byte: a character of the table, or otherwise the longest prefix
+/// of one, or otherwise one byte.
 pub fn first_piece(bytes: &[u8]) -> Option<Piece<'_>> {
     if bytes.is_empty() {
         return None;
@@ -87,7 +87,7 @@ pub fn first_piece(bytes: &[u8]) -> Option<Piece<'_>> {
     Some(piece_of(bytes, longest, false))
 }
 
-/// The bytes as text, in which each damaged piece is one U+FFFD.
+/// The lossy text of bytes: each damaged piece is one U+FFFD.
 pub fn lossy(alloc: Global, bytes: &[u8]) -> Result<String, AllocError> {
     let mut text = String::new(alloc);
     let mut rest = bytes;
@@ -101,7 +101,7 @@ pub fn lossy(alloc: Global, bytes: &[u8]) -> Result<String, AllocError> {
     Ok(text)
 }
 
-/// Adds the quoted form of the bytes.
+/// Adds the bytes in quotes.
 pub fn push_quoted(text: &mut String, bytes: &[u8]) -> Result<(), AllocError> {
     text.push('"')?;
     let mut rest = bytes;
@@ -118,7 +118,7 @@ pub fn push_quoted(text: &mut String, bytes: &[u8]) -> Result<(), AllocError> {
     text.push('"')
 }
 
-// Adds a character of a quoted form.
+// Adds a character inside quotes.
 fn push_escaped(text: &mut String, character: char) -> Result<(), AllocError> {
     match character {
         '"' => text.push_str("\\\""),
@@ -135,7 +135,7 @@ fn push_escaped(text: &mut String, character: char) -> Result<(), AllocError> {
     }
 }
 
-// Adds the bytes of a damaged piece to a quoted form.
+// Adds the bytes of a damaged piece inside quotes.
 fn push_damage(text: &mut String, bytes: &[u8]) -> Result<(), AllocError> {
     for byte in bytes {
         write!(text, "\\x{byte:02X}")?;

@@ -1,4 +1,5 @@
-//! Whole lines, read plainly: word by word, keeping what a word leaves open for the next one.
+//! A plain reader of whole lines. It reads word by word, and keeps the option that is pending after
+//! a word.
 //!
 //! It is written from the rules alone, to be compared with `read_items`, and calls nothing that
 //! `read_items` uses.
@@ -11,7 +12,7 @@ use std::mem;
 /// Why a line has no items.
 #[derive(Drop)]
 pub enum Refusal {
-    /// The words have no items, for this reason.
+    /// The message of the error.
     Message(String),
     NoMemory,
 }
@@ -28,7 +29,7 @@ impl<T: Drop> From<AllocFailed<T>> for Refusal {
     }
 }
 
-// How many values an option has.
+// How many values an option takes.
 #[derive(Clone, Copy)]
 enum Kind {
     Flag,
@@ -47,19 +48,19 @@ enum Name {
 #[derive(Clone, Copy)]
 enum After<'a> {
     Nothing,
-    // A value after `=`.
+    // A joined value.
     Joined(&'a [u8]),
-    // What is left of a cluster.
+    // The rest of a cluster.
     Attached(&'a [u8]),
 }
 
-// What the words so far leave open.
+// The option that is pending after the words so far.
 #[derive(Drop)]
-enum Open {
+enum Pending {
     Nothing,
     // The next word is the value of this option.
     Value(Name),
-    // These are values of this option, and plain words that follow are more.
+    // This option has these values, and the plain words that follow are more of them.
     Values(Name, Vec<OsString>),
 }
 
@@ -71,7 +72,7 @@ impl Name {
         }
     }
 
-    // The first kind that holds the option counts.
+    // The kind of the option: the first whose list has it.
     fn kind(&self, table: &Table) -> Kind {
         if self.is_among(&table.shorts, &table.longs) {
             Kind::One
@@ -113,7 +114,7 @@ impl Name {
     }
 }
 
-// The option needs a value, and there is none.
+// The refusal of an option that needs a value and has none.
 fn missing(alloc: Global, name: &Name) -> Result<Refusal, AllocError> {
     let mut message = String::from_str(alloc, "missing argument for option '")?;
     name.push_to(&mut message)?;
@@ -121,7 +122,7 @@ fn missing(alloc: Global, name: &Name) -> Result<Refusal, AllocError> {
     Ok(Refusal::Message(message))
 }
 
-// The option takes no value, and this one is joined to it.
+// The refusal of a flag with this joined value.
 fn unexpected(alloc: Global, name: &Name, value: &[u8]) -> Result<Refusal, AllocError> {
     let mut message = String::from_str(alloc, "unexpected argument for option '")?;
     name.push_to(&mut message)?;
@@ -130,7 +131,7 @@ fn unexpected(alloc: Global, name: &Name, value: &[u8]) -> Result<Refusal, Alloc
     Ok(Refusal::Message(message))
 }
 
-// A word that an option of several values takes.
+// Whether a word is a plain word, which an option of several values takes.
 fn is_plain(word: &[u8]) -> bool {
     match word {
         b"-" => true,
@@ -139,7 +140,7 @@ fn is_plain(word: &[u8]) -> bool {
     }
 }
 
-// What follows an option of a cluster.
+// What follows an option in its cluster.
 fn after_short(rest: &[u8], short_equals: bool) -> After<'_> {
     match rest {
         [] => After::Nothing,
@@ -164,8 +165,8 @@ struct Reader<'t> {
     short_equals: bool,
     table: &'t Table,
     items: Vec<Item>,
-    open: Open,
-    ended: bool,
+    pending: Pending,
+    after_separator: bool,
 }
 
 impl Reader<'_> {
@@ -173,12 +174,12 @@ impl Reader<'_> {
         OsString::from_bytes(self.alloc, bytes)
     }
 
-    // Ends the option that is open, if one is.
+    // Ends the pending option, if there is one.
     fn close(&mut self) -> Result<(), Refusal> {
-        match mem::replace(&mut self.open, Open::Nothing) {
-            Open::Nothing => {}
-            Open::Value(name) => return Err(missing(self.alloc, &name)?),
-            Open::Values(name, values) => {
+        match mem::replace(&mut self.pending, Pending::Nothing) {
+            Pending::Nothing => {}
+            Pending::Value(name) => return Err(missing(self.alloc, &name)?),
+            Pending::Values(name, values) => {
                 if values.is_empty() {
                     return Err(missing(self.alloc, &name)?);
                 }
@@ -188,27 +189,27 @@ impl Reader<'_> {
         Ok(())
     }
 
-    // Gives the word to the option that is open; false if none takes it.
-    fn give(&mut self, word: &[u8]) -> Result<bool, Refusal> {
-        match mem::replace(&mut self.open, Open::Nothing) {
-            Open::Nothing => Ok(false),
-            Open::Value(name) => {
+    // Whether the pending option takes the word as a value.
+    fn takes_as_value(&mut self, word: &[u8]) -> Result<bool, Refusal> {
+        match mem::replace(&mut self.pending, Pending::Nothing) {
+            Pending::Nothing => Ok(false),
+            Pending::Value(name) => {
                 let value = self.word(word)?;
                 self.items.push(name.with_value(Some(value)))?;
                 Ok(true)
             }
-            Open::Values(name, mut values) => {
+            Pending::Values(name, mut values) => {
                 let takes = is_plain(word);
                 if takes {
                     values.push(self.word(word)?)?;
                 }
-                self.open = Open::Values(name, values);
+                self.pending = Pending::Values(name, values);
                 Ok(takes)
             }
         }
     }
 
-    // Reads an option and what follows it; false if that is more of a cluster.
+    // Reads an option and what follows it in its word. Returns whether the whole word is read.
     fn read_option(&mut self, name: Name, after: After<'_>) -> Result<bool, Refusal> {
         match name.kind(self.table) {
             Kind::Flag => self.read_flag(name, after),
@@ -238,7 +239,7 @@ impl Reader<'_> {
                 let value = self.word(value)?;
                 self.items.push(name.with_value(Some(value)))?;
             }
-            After::Nothing => self.open = Open::Value(name),
+            After::Nothing => self.pending = Pending::Value(name),
         }
         Ok(true)
     }
@@ -261,9 +262,9 @@ impl Reader<'_> {
             }
             After::Attached(value) => {
                 values.push(self.word(value)?)?;
-                self.open = Open::Values(name, values);
+                self.pending = Pending::Values(name, values);
             }
-            After::Nothing => self.open = Open::Values(name, values),
+            After::Nothing => self.pending = Pending::Values(name, values),
         }
         Ok(true)
     }
@@ -290,12 +291,12 @@ impl Reader<'_> {
         Ok(())
     }
 
-    // Reads a word that no option took.
+    // Reads a word that is not a value.
     fn read_own(&mut self, word: &[u8]) -> Result<(), Refusal> {
         match word {
-            b"--" if !self.ended => self.ended = true,
-            [b'-', b'-', long @ ..] if !self.ended => self.read_long(long)?,
-            [b'-', cluster @ ..] if !self.ended && !cluster.is_empty() => {
+            b"--" if !self.after_separator => self.after_separator = true,
+            [b'-', b'-', long @ ..] if !self.after_separator => self.read_long(long)?,
+            [b'-', cluster @ ..] if !self.after_separator && !cluster.is_empty() => {
                 self.read_cluster(cluster)?;
             }
             _ => {
@@ -307,7 +308,7 @@ impl Reader<'_> {
     }
 
     fn read_word(&mut self, word: &[u8]) -> Result<(), Refusal> {
-        if self.give(word)? {
+        if self.takes_as_value(word)? {
             return Ok(());
         }
         self.close()?;
@@ -315,7 +316,7 @@ impl Reader<'_> {
     }
 }
 
-/// What the words are read as under the table.
+/// The items of the words by this table, or the refusal.
 pub fn read(
     alloc: Global,
     words: &[&[u8]],
@@ -327,8 +328,8 @@ pub fn read(
         short_equals,
         table,
         items: Vec::new(alloc),
-        open: Open::Nothing,
-        ended: false,
+        pending: Pending::Nothing,
+        after_separator: false,
     };
     for word in words {
         reader.read_word(word)?;

@@ -1,4 +1,4 @@
-//! Words and items as they are printed if something differs.
+//! The text of words and of items, which is printed if readers differ.
 use crate::lines::pieces::push_quoted;
 use lexopt_items::items::Item;
 use std::alloc::{AllocError, Global};

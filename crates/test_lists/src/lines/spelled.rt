@@ -1,11 +1,11 @@
-//! Items that are spelled, and the words read again.
+//! Items that are spelled, and whose words are read again.
 use lexopt_base::{Error, OsString};
 use lexopt_items::items::{Item, Table, read_items};
 use lexopt_spell::spell::{SpellError, spell};
 use lexopt_words::words::copies;
 use std::alloc::{AllocError, Global};
 
-/// How items are read and spelled: by this table, under this setting of `short_equals`.
+/// The table and the setting of `short_equals` by which items are read and spelled.
 #[derive(Clone, Copy)]
 pub struct Reading<'t> {
     pub alloc: Global,
@@ -14,7 +14,7 @@ pub struct Reading<'t> {
 }
 
 impl Reading<'_> {
-    // The words that spell the items, if there are any.
+    // The words that spell the items, or `None` if no words do.
     fn words(self, items: &[Item]) -> Result<Option<Vec<OsString>>, AllocError> {
         match spell(self.alloc, items, self.short_equals, self.table) {
             Ok(words) => Ok(Some(words)),
@@ -23,7 +23,7 @@ impl Reading<'_> {
         }
     }
 
-    // What the words are read as, if anything.
+    // The items of the words, or `None` if the words are refused.
     fn read(self, words: Vec<OsString>) -> Result<Option<Vec<Item>>, AllocError> {
         match read_items(self.alloc, words, self.short_equals, self.table) {
             Ok(items) => Ok(Some(items)),
@@ -32,8 +32,8 @@ impl Reading<'_> {
         }
     }
 
-    // Whether these words are read as the items, and spelling what is read gives them back.
-    fn gives_back(self, words: &[OsString], items: &[Item]) -> Result<bool, AllocError> {
+    // Whether these words are read as the items, and those are spelled by the same words.
+    fn reads_back(self, words: &[OsString], items: &[Item]) -> Result<bool, AllocError> {
         match self.read(copies(self.alloc, words)?)? {
             Some(found) => Ok(
                 found.as_slice() == items && self.words(&found)?.as_deref() == Some(words),
@@ -42,11 +42,10 @@ impl Reading<'_> {
         }
     }
 
-    /// Whether words spell the items, are read as them, and are given back by spelling what is
-    /// read.
-    pub fn comes_back(self, items: &[Item]) -> Result<bool, AllocError> {
+    /// Whether words spell the items, are read as these items, and spell them again.
+    pub fn round_trips(self, items: &[Item]) -> Result<bool, AllocError> {
         match self.words(items)? {
-            Some(words) => self.gives_back(&words, items),
+            Some(words) => self.reads_back(&words, items),
             None => Ok(false),
         }
     }

@@ -1,4 +1,4 @@
-//! The tables that the lists are read by.
+//! The tables by which the lists are read.
 use lexopt_items::items::Table;
 use std::alloc::{AllocError, Global};
 
@@ -11,7 +11,7 @@ pub struct Lists {
     several: bool,
 }
 
-// Options are in one list, or in none.
+// Options that are in one list, or in none.
 const KINDS: [Lists; 4] = [
     Lists {
         name: "none",
@@ -39,7 +39,7 @@ const KINDS: [Lists; 4] = [
     },
 ];
 
-/// Options are in lists of two or three kinds.
+/// Options that are in lists of two or three kinds.
 pub const OVERLAPS: [Lists; 4] = [
     Lists {
         name: "one and optional",
@@ -67,7 +67,7 @@ pub const OVERLAPS: [Lists; 4] = [
     },
 ];
 
-// Options, short and long.
+// A group of short and long options.
 #[derive(Clone, Copy)]
 struct Options {
     shorts: &'static str,
@@ -89,7 +89,7 @@ const MARKS: Options = Options {
     longs: &["", "-"],
 };
 
-/// A table: which lists the letter, the character of damage, and the marks are in.
+/// A table: the lists that have the letter, the character U+FFFD, and the marks.
 #[derive(Clone, Copy)]
 pub struct Choice {
     letter: Lists,
@@ -97,7 +97,7 @@ pub struct Choice {
     marks: Lists,
 }
 
-/// How many choices of one list each, or none, there are.
+/// The number of choices of at most one list for each group.
 pub const CHOICES: usize = 64;
 
 fn add_to(
@@ -116,7 +116,7 @@ fn add_to(
 }
 
 impl Lists {
-    // Adds these options to these lists of the table.
+    // Adds these options to these lists of a table.
     fn add(self, alloc: Global, options: Options, table: &mut Table) -> Result<(), AllocError> {
         if self.one {
             add_to(alloc, options, &mut table.shorts, &mut table.longs)?;
@@ -142,7 +142,7 @@ impl Lists {
 }
 
 impl Choice {
-    /// The choice of this number, of one list each, or none.
+    /// The choice with this number, of at most one list for each group.
     pub fn of_kinds(number: usize) -> Choice {
         Choice {
             letter: KINDS[number / 16 % 4],
@@ -151,7 +151,7 @@ impl Choice {
         }
     }
 
-    /// All options are in the same lists.
+    /// The choice of the same lists for all groups.
     pub fn same(lists: Lists) -> Choice {
         Choice {
             letter: lists,
@@ -169,7 +169,7 @@ impl Choice {
         Ok(table)
     }
 
-    /// What is printed about it.
+    /// The name that is printed before its counts.
     pub fn name(self, alloc: Global) -> Result<String, AllocError> {
         let letter = self.letter.name;
         let damage = self.damage.name;

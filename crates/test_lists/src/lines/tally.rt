@@ -1,7 +1,7 @@
-//! Counts of what agreed and what differed.
+//! Counts of comparisons that agreed and that differed.
 use std::io;
 
-/// How many agreed and differed, and the first that differed.
+/// How many comparisons agreed and differed, and the first that differed.
 #[derive(Drop)]
 pub struct Tally {
     agreed: u64,
@@ -18,12 +18,12 @@ impl Tally {
         }
     }
 
-    /// Counts one that agreed.
+    /// Counts a comparison that agreed.
     pub fn agree(&mut self) {
         self.agreed = self.agreed.saturating_add(1);
     }
 
-    /// Counts one that differed, and keeps how to show it if it is the first.
+    /// Counts a comparison that differed, and keeps its text if it is the first.
     pub fn differ(&mut self, shown: String) {
         self.differed = self.differed.saturating_add(1);
         if self.first.is_none() {
@@ -31,7 +31,7 @@ impl Tally {
         }
     }
 
-    /// Adds the counts of another.
+    /// Adds the counts of another tally.
     pub fn add(&mut self, other: &Tally) {
         self.agreed = self.agreed.saturating_add(other.agreed);
         self.differed = self.differed.saturating_add(other.differed);

@@ -1,13 +1,13 @@
-//! What the calls that look at a line return.
+//! The calls that look at a line: `raw_args`, `try_raw_args` and `optional_value`.
 use crate::sequences::step::Step;
 use lexopt_base::{Error, OsString, Parser};
 use lexopt_calls::reply::Reply;
 use lexopt_words::words::copies;
 use std::alloc::Global;
 
-// If there was no view: there is none again, `raw_args` refuses the value once, and it is an
-// optional value.
-fn is_busy(parser: &mut Parser) -> Result<bool, Error> {
+// After `try_raw_args` returned `None`: whether it does so again, `raw_args` refuses the pending
+// value once, and `optional_value` returns it.
+fn agrees_if_pending(parser: &mut Parser) -> Result<bool, Error> {
     if has_view(parser) {
         return Ok(false);
     }
@@ -18,7 +18,7 @@ fn is_busy(parser: &mut Parser) -> Result<bool, Error> {
     Ok(parser.clone()?.optional_value().is_some())
 }
 
-// Whether `try_raw_args` gives a view.
+// Whether `try_raw_args` returns a view.
 fn has_view(parser: &mut Parser) -> bool {
     match parser.try_raw_args() {
         Some(_view) => true,
@@ -26,7 +26,7 @@ fn has_view(parser: &mut Parser) -> bool {
     }
 }
 
-// Whether `raw_args` gives a view.
+// Whether `raw_args` returns a view.
 fn has_words(parser: &mut Parser) -> bool {
     match parser.raw_args() {
         Ok(_view) => true,
@@ -42,9 +42,9 @@ fn refuses_a_value(parser: &mut Parser) -> bool {
     }
 }
 
-// If there was a view, with these words: there is no optional value, and `raw_args` shows the same
-// words.
-fn is_free(parser: &mut Parser, words: &[OsString]) -> Result<bool, Error> {
+// After `try_raw_args` returned a view of these words: whether there is no optional value, and
+// `raw_args` returns a view of the same words.
+fn agrees_if_not_pending(parser: &mut Parser, words: &[OsString]) -> Result<bool, Error> {
     if parser.optional_value().is_some() {
         return Ok(false);
     }
@@ -52,20 +52,20 @@ fn is_free(parser: &mut Parser, words: &[OsString]) -> Result<bool, Error> {
     Ok(view.as_slice() == words)
 }
 
-/// Whether `try_raw_args`, `raw_args` and `optional_value` agree. The line stays as it is.
+/// Whether `try_raw_args`, `raw_args` and `optional_value` agree. The line is unchanged.
 pub fn is_sound(alloc: Global, parser: &mut Parser) -> Result<bool, Error> {
     let words = match parser.try_raw_args() {
         Some(view) => Some(copies(alloc, view.as_slice())?),
         None => None,
     };
     match words {
-        Some(words) => is_free(parser, &words),
-        None => is_busy(parser),
+        Some(words) => agrees_if_not_pending(parser, &words),
+        None => agrees_if_pending(parser),
     }
 }
 
-/// Whether no word is left if `next` found nothing more or `value` no word, and whether `values`
-/// gave at least one.
+/// Whether no word is left after `next` returned `None` or `value` found no value, and `values`
+/// gave at least one value.
 pub fn agrees_with(step: Step, reply: &Reply, parser: &mut Parser) -> Result<bool, Error> {
     match (step, reply) {
         (Step::Next, Reply::End) | (Step::Value, Reply::Missing(_)) => {

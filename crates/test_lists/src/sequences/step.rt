@@ -1,11 +1,12 @@
-//! One call, by itself, by `replay`, and by what whole lines and declared options are read with.
+//! A call, made by itself, by `replay`, and by the calls with which whole lines and declared
+//! options are read.
 use lexopt_base::parser::Found;
 use lexopt_base::{Arg, Error, Parser};
 use lexopt_calls::replay::replay;
 use lexopt_calls::reply::{Call, Reply};
 use std::alloc::Global;
 
-// More values than any list has words.
+// More values than a list has words.
 const ALL: usize = 4;
 
 /// A call that a sequence makes.
@@ -19,8 +20,7 @@ pub enum Step {
 
 pub const STEPS: [Step; 4] = [Step::Next, Step::Value, Step::Optional, Step::Values];
 
-// The reply that an error of the parser means. Any other error is handed on, and so is
-// `OutOfMemory`.
+// The reply for an error of the parser. Any other error, such as `OutOfMemory`, is returned.
 fn refusal(error: Error) -> Result<Reply, Error> {
     match error {
         Error::MissingValue { option } => Ok(Reply::Missing(option)),
@@ -46,7 +46,7 @@ fn made_values(alloc: Global, parser: &mut Parser) -> Result<Reply, Error> {
     }
 }
 
-/// The reply to a call made by itself.
+/// The reply of a call that is made by itself.
 pub fn made(alloc: Global, parser: &mut Parser, step: Step) -> Result<Reply, Error> {
     match step {
         Step::Next => made_next(alloc, parser),
@@ -59,7 +59,7 @@ pub fn made(alloc: Global, parser: &mut Parser, step: Step) -> Result<Reply, Err
     }
 }
 
-/// The reply to the same call made by `replay`.
+/// The reply of the same call by `replay`.
 pub fn replayed(alloc: Global, parser: &mut Parser, step: Step) -> Result<Reply, Error> {
     let call = match step {
         Step::Next => Call::Next,
@@ -93,7 +93,7 @@ fn begun(alloc: Global, parser: &mut Parser) -> Result<Reply, Error> {
     }
 }
 
-/// The reply to the same call made by `advance` and `long_name`, by `take` or by `begin_values`.
+/// The reply of the same call by `advance` and `long_name`, by `take` or by `begin_values`.
 pub fn taken(alloc: Global, parser: &mut Parser, step: Step) -> Result<Reply, Error> {
     match step {
         Step::Next => advanced(alloc, parser),

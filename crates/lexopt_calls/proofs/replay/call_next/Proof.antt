@@ -1,5 +1,5 @@
--- `call_next` lends the parser to `next` for a new lifetime, copies the reply out under it, and
--- ends it. So the parser is back at what `next` ensures of it.
+-- `call_next` lends the parser to `next` for a new lifetime, copies the reply while that lasts, and
+-- ends it. So the parser has the line that the clause of `next` states.
 use Rattle.std.proofs.Common.{◌≡◌, ℕ, Some, refl}
 use Rattle.std.specs.Prelude.{IfOk, IsSome}
 use Rattle.std.proofs.raw_atomic.Walks.{proved}
@@ -64,7 +64,7 @@ Al = Global-type.the_row
 abbrev stayed : Stays f.ended.signature.params f.ended.kept
 stayed = (stay_dropped (plain (λ _. Al)) yes, (stay_ref (0 ∷ []) tt (plain (λ _. R)), tt))
 
--- what `call_next` gives
+-- the result type of `call_next`
 abbrev Tr : RattleType
 Tr = Result-type.the_row Reply-type.the_row AllocError-type.the_row
 

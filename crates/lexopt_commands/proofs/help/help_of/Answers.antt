@@ -1,7 +1,7 @@
 use Rattle.std.proofs.Common.{◌∙◌, List, ℕ, subst, string_bytes}
 use Rattle.std.specs.List.{AllZip}
 use Rattle.lexopt_options_spec.specs.Declaration as spec
-use Rattle.lexopt_options_spec.specs.Help.{IsEntry, IsParagraph, described, label, told_of, visible}
+use Rattle.lexopt_options_spec.specs.Help.{IsEntry, IsParagraph, described, label, with_list, visible}
 use Rattle.lexopt_commands.proofs.Entries.{appended, in_parts}
 use Rattle.lexopt_commands.proofs.help.help_of.Goals as goal
 
@@ -25,9 +25,9 @@ returns g c =
       epilogue = e.0;
       usage_first = c.in_ok-text.ensures;
       about_next = subst (λ content. IsParagraph width content a.0) c.about.ensures a.1;
-      each_positional = subst (λ (l : List spec.Positional). AllZip (λ (p : spec.Positional). IsEntry width p.placeholder (told_of p.help p.words)) (described l) ps.0) c.positionals.ensures.view ps.1;
+      each_positional = subst (λ (l : List spec.Positional). AllZip (λ (p : spec.Positional). IsEntry width p.placeholder (with_list p.help p.words)) (described l) ps.0) c.positionals.ensures.view ps.1;
       each_command = cs.1;
-      each_option = subst (λ (l : List spec.Declared). AllZip (λ (o : spec.Declared). IsEntry width (label o) (told_of o.help o.words)) (visible l) os.0) c.options.ensures.view os.1;
+      each_option = subst (λ (l : List spec.Declared). AllZip (λ (o : spec.Declared). IsEntry width (label o) (with_list o.help o.words)) (visible l) os.0) c.options.ensures.view os.1;
       each_paragraph = subst (λ (l : List (List ℕ)). AllZip (IsParagraph width) l e.0) c.epilogue.ensures e.1;
       written = in_parts _ a.0 _ _ _ _ _ _ _ _ _ a.2 positionals commands options e.2;
     }

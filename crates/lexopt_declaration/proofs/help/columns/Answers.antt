@@ -11,7 +11,7 @@ use Rattle.lexopt_declaration.proofs.help.columns.Goals as goal
 abbrev Steps : Graphemes → Option (Bor (List ℕ)) → Graphemes → Type 0
 Steps = GivesFirstSpan IsTextOf graphemes_source byte_graphemes_left
 
--- one for each cluster that is left
+-- one element for each cluster that is left
 abbrev units : Graphemes → List (Unit {0})
 units s = map (λ _. tt {0}) (byte_graphemes_left s)
 

@@ -7,7 +7,7 @@ use Rattle.lexopt_declaration.proofs.help.push_help.Goals as goal
 appended : (old part text new : List ℕ) → new ≡ old ++ set_apart part → part ≡ text → new ≡ old ++ set_apart text
 appended old part text new e f = e ∙ ap (λ l. old ++ set_apart l) f
 
--- parts one after another
+-- the parts, one after another
 in_parts : (before usage about positionals options epilogue one two three four five : List ℕ) → one ≡ before ++ usage → two ≡ one ++ about → three ≡ two ++ positionals → four ≡ three ++ options → five ≡ four ++ epilogue
     → five ≡ before ++ (usage ++ about ++ positionals ++ options ++ epilogue)
 in_parts before usage about positionals options epilogue one two three four five e f g h i =

@@ -15,4 +15,4 @@ pub returns-clause-word_item : goal.returns-clause-word_item
 returns-clause-word_item c = λ u v item is given. word_item_line u v item is given
 
 pub returns-clause-next_if : goal.returns-clause-next_if
-returns-clause-next_if c = λ answer u v item is taken. word_if_line (λ word said. said ≡ answer) u v item is taken
+returns-clause-next_if c = λ answer u v item is taken. word_if_line (λ word parsed. parsed ≡ answer) u v item is taken

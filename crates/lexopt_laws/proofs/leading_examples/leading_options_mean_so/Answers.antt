@@ -22,4 +22,4 @@ pub returns-clause-mistake_before_a_word : goal.returns-clause-mistake_before_a_
 returns-clause-mistake_before_a_word c = unknown_before
 
 pub returns-clause-not_with_a_mistake : goal.returns-clause-not_with_a_mistake
-returns-clause-not_with_a_mistake c = λ l rest says. nothing_leads _ sample_sound _ _ l rest _ unknown_before says
+returns-clause-not_with_a_mistake c = λ l rest means. nothing_leads _ sample_sound _ _ l rest _ unknown_before means

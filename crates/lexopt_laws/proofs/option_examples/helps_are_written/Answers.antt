@@ -1,6 +1,6 @@
 use Rattle.std.proofs.Common.{List, ℕ, [], ◌∷◌, ◌++◌, true, codes, refl, lit≤, lit<}
 use Rattle.bstr.proofs.Computing.{computing}
-use Rattle.lexopt_options_spec.specs.Help.{columns, label, told_of, IsParagraph, IsEntry, IsUsage}
+use Rattle.lexopt_options_spec.specs.Help.{columns, label, with_list, IsParagraph, IsEntry, IsUsage}
 use Rattle.lexopt_laws.specs.Sample.{listed_mode, mode_in_list, verbose, output, backup, exclude, asks_for_help, sample, sample_options, files, described_files, mode, target}
 use Rattle.lexopt_laws.proofs.WorkedLines.{fits}
 use Rattle.lexopt_laws.proofs.option_examples.helps_are_written.Goals as goal
@@ -190,7 +190,7 @@ usage_of_a_list = record {
   written = refl;
 }
 
-list_entry : IsEntry 80 (label listed_mode) (told_of listed_mode.help listed_mode.words) (codes "  -m, --mode=MODE       how to pack: one of fast, slow\n")
+list_entry : IsEntry 80 (label listed_mode) (with_list listed_mode.help listed_mode.words) (codes "  -m, --mode=MODE       how to pack: one of fast, slow\n")
 unfolding columns computing
 list_entry = record {
   lines = (codes "how" ∷ codes "to" ∷ codes "pack:" ∷ codes "one" ∷ codes "of" ∷ codes "fast," ∷ codes "slow" ∷ []) ∷ [];
@@ -236,7 +236,7 @@ usage_of_mode = record {
   written = refl;
 }
 
-mode_entry : IsEntry 80 mode_in_list.placeholder (told_of mode_in_list.help mode_in_list.words) (codes "  MODE                  one of fast, slow\n")
+mode_entry : IsEntry 80 mode_in_list.placeholder (with_list mode_in_list.help mode_in_list.words) (codes "  MODE                  one of fast, slow\n")
 unfolding columns computing
 mode_entry = record {
   lines = (codes "one" ∷ codes "of" ∷ codes "fast," ∷ codes "slow" ∷ []) ∷ [];

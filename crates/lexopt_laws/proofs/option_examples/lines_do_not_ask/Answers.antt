@@ -8,12 +8,12 @@ use Rattle.lexopt_line_spec.proofs.Computing.{computing}
 use Rattle.lexopt_line_spec.proofs.Worked.{reads_first, reads_joined, reads_name}
 use Rattle.lexopt_options_spec.specs.Asking.{AskFor}
 use Rattle.lexopt_options_spec.specs.Declaration.{for_version}
-use Rattle.lexopt_options_spec.specs.Legal.{Says, option, positional}
+use Rattle.lexopt_options_spec.specs.Legal.{Means, option, positional}
 use Rattle.lexopt_options_spec.specs.Stops.{StopsAt, unexpected_value, unknown_option, value_of_flag, not_declared}
 use Rattle.lexopt_laws.specs.Sample.{asking_sample, files}
 use Rattle.lexopt_laws.proofs.AskedOnce.{asked_of_list, asked_of_stop, one_asked}
 use Rattle.lexopt_laws.proofs.WorkedAsking.{asks_first}
-use Rattle.lexopt_laws.proofs.WorkedSays.{whole_of}
+use Rattle.lexopt_laws.proofs.WorkedMeans.{whole_of}
 use Rattle.lexopt_laws.proofs.WorkedStops.{at_first, after_flag}
 use Rattle.lexopt_laws.proofs.WorkedValues.{asking_medium, value_before_the_help}
 use Rattle.lexopt_laws.proofs.option_examples.lines_do_not_ask.Goals as goal
@@ -57,9 +57,9 @@ returns-clause-after_a_mistake c a ask =
 pub returns-clause-after_the_separator : goal.returns-clause-after_the_separator
 unfolding kind computing
 returns-clause-after_the_separator c a ask =
-    let says : Says (asking_sample (files ∷ []) true) (codes "--" ∷ codes "--help" ∷ []) (positional (codes "--help") ∷ []) =
+    let means : Means (asking_sample (files ∷ []) true) (codes "--" ∷ codes "--help" ∷ []) (positional (codes "--help") ∷ []) =
     whole_of refl (spec.positional (codes "--help") ∷ []) (separator (codes "--help" ∷ [])) refl tt (lit≤ tt) refl refl in
-    let e : None ≡ Some a = asked_of_list _ _ _ a says ask in cc
+    let e : None ≡ Some a = asked_of_list _ _ _ a means ask in cc
 
 -- `--mode=medium --help`
 pub returns-clause-after_a_value : goal.returns-clause-after_a_value

@@ -6,15 +6,15 @@ use Rattle.lexopt_line_spec.proofs.Computing.{computing}
 use Rattle.lexopt_line_spec.proofs.Worked.{reads_first, reads_plain}
 use Rattle.lexopt_options_spec.specs.Legal.{positional}
 use Rattle.lexopt_options_spec.specs.Stops.{StopsAt, unknown_option, missing_argument, not_declared, too_few}
-use Rattle.lexopt_options_spec.proofs.Fronts.{nothing_said}
+use Rattle.lexopt_options_spec.proofs.Fronts.{nothing_parsed}
 use Rattle.lexopt_laws.specs.Sample.{sample, mode}
 use Rattle.lexopt_laws.proofs.OneStop.{one_stop}
-use Rattle.lexopt_laws.proofs.WorkedSays.{two_positionals}
+use Rattle.lexopt_laws.proofs.WorkedMeans.{two_positionals}
 use Rattle.lexopt_laws.proofs.WorkedStops.{at_first, after_positional}
 use Rattle.lexopt_laws.proofs.option_examples.lines_do_not_stop_elsewhere.Goals as goal
 
 pub returns-clause-nowhere : goal.returns-clause-nowhere
-returns-clause-nowhere c l m stops = nothing_said _ _ l m stops (positional (codes "a") ∷ positional (codes "b") ∷ []) two_positionals
+returns-clause-nowhere c l m stops = nothing_parsed _ _ l m stops (positional (codes "a") ∷ positional (codes "b") ∷ []) two_positionals
 
 -- `-z --verbose=1`
 pub returns-clause-at_the_first_mistake : goal.returns-clause-at_the_first_mistake

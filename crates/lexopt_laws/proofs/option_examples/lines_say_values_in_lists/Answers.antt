@@ -4,12 +4,12 @@ use Rattle.lexopt_line_spec.specs.Table.{short, long, kind}
 use Rattle.lexopt_line_spec.specs.Spelling.{nothing, attached, attached_value, joined_optional, joined_value, no_optional, no_words, nothing_more, several_words}
 use Rattle.lexopt_line_spec.proofs.Computing.{computing}
 use Rattle.lexopt_line_spec.proofs.Worked.{last_of, value_after, cluster_line, joined_line, plain_line, plain_front_is, some}
-use Rattle.lexopt_laws.proofs.WorkedSays.{whole_of}
-use Rattle.lexopt_laws.proofs.WorkedValues.{front_medium, says_fast}
+use Rattle.lexopt_laws.proofs.WorkedMeans.{whole_of}
+use Rattle.lexopt_laws.proofs.WorkedValues.{front_medium, means_fast}
 use Rattle.lexopt_laws.proofs.option_examples.lines_say_values_in_lists.Goals as goal
 
 pub returns-clause-joined : goal.returns-clause-joined
-returns-clause-joined c = says_fast
+returns-clause-joined c = means_fast
 
 -- `-mslow`
 pub returns-clause-attached : goal.returns-clause-attached

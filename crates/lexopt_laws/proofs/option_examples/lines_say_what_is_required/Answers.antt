@@ -5,7 +5,7 @@ use Rattle.lexopt_line_spec.specs.Spelling.{nothing, attached, no_value, joined_
 use Rattle.lexopt_line_spec.proofs.Computing.{computing}
 use Rattle.lexopt_line_spec.proofs.Worked.{last_of, value_after, cluster_line, joined_line, plain_line}
 use Rattle.lexopt_laws.proofs.WorkedRequired.{has_user, open_without_user}
-use Rattle.lexopt_laws.proofs.WorkedSays.{whole_of}
+use Rattle.lexopt_laws.proofs.WorkedMeans.{whole_of}
 use Rattle.lexopt_laws.proofs.option_examples.lines_say_what_is_required.Goals as goal
 
 pub returns-clause-character : goal.returns-clause-character

@@ -13,7 +13,7 @@ returns-clause-after_a_positional c role =
     let e : argument 1 ≡ argument 0 = worked.plain_is (sample (files ∷ []) true) (codes "a" ∷ []) (positional (codes "a") ∷ []) (positional []) worked.positional_empty (argument 0) role in cc
 
 pub returns-clause-no_more_positionals : goal.returns-clause-no_more_positionals
-returns-clause-no_more_positionals c role (before, s, says, is) = worked.no_flag_empty (before ++ s ∷ []) says
+returns-clause-no_more_positionals c role (before, s, means, is) = worked.no_flag_empty (before ++ s ∷ []) means
 
 pub returns-clause-after_an_optional_value : goal.returns-clause-after_an_optional_value
 returns-clause-after_an_optional_value c role =
@@ -34,4 +34,4 @@ pub returns-clause-after_the_separator : goal.returns-clause-after_the_separator
 returns-clause-after_the_separator c none = none [] (positional []) worked.separator_empty
 
 pub returns-clause-after_a_mistake : goal.returns-clause-after_a_mistake
-returns-clause-after_a_mistake c role (before, s, says, is) = worked.no_unknown ([] ∷ []) (before ++ s ∷ []) says
+returns-clause-after_a_mistake c role (before, s, means, is) = worked.no_unknown ([] ∷ []) (before ++ s ∷ []) means

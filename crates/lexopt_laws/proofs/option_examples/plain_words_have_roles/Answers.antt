@@ -10,7 +10,7 @@ pub returns-clause-after_a_positional : goal.returns-clause-after_a_positional
 returns-clause-after_a_positional c = (positional (codes "a") ∷ [], positional [], worked.positional_empty, refl)
 
 pub returns-clause-no_more_positionals : goal.returns-clause-no_more_positionals
-returns-clause-no_more_positionals c before s says = worked.no_flag_empty (before ++ s ∷ []) says
+returns-clause-no_more_positionals c before s means = worked.no_flag_empty (before ++ s ∷ []) means
 
 pub returns-clause-after_an_optional_value : goal.returns-clause-after_an_optional_value
 returns-clause-after_an_optional_value c = (option 2 None ∷ [], positional [], worked.optional_empty, refl)
@@ -28,4 +28,4 @@ pub returns-clause-after_the_separator : goal.returns-clause-after_the_separator
 returns-clause-after_the_separator c = ([], positional [], worked.separator_empty, refl)
 
 pub returns-clause-after_a_mistake : goal.returns-clause-after_a_mistake
-returns-clause-after_a_mistake c before s says = worked.no_unknown ([] ∷ []) (before ++ s ∷ []) says
+returns-clause-after_a_mistake c before s means = worked.no_unknown ([] ∷ []) (before ++ s ∷ []) means

@@ -1,7 +1,7 @@
 use Rattle.std.proofs.Common.{◌≡◌, [], ◌∷◌, true, false, codes, refl, sym, lit<, lit≤, true≢false}
 use Rattle.std.proofs.lemmas.Str.{IsUtf8-from_is_utf8}
 use Rattle.lexopt_line_spec.proofs.Computing.{computing}
-use Rattle.lexopt_options_spec.proofs.Offered.{offered_stands}
+use Rattle.lexopt_options_spec.proofs.Offered.{offered_occurs}
 use Rattle.lexopt_laws.proofs.AnyWords.{any_filled}
 use Rattle.lexopt_laws.proofs.WorkedOpen as worked
 use Rattle.lexopt_laws.proofs.WorkedOpen.{sample_named, sample_text, not_offered, no_utf8}
@@ -13,7 +13,7 @@ unfolding computing
 returns-clause-front c = record {
   text = IsUtf8-from_is_utf8 (codes "--out") refl;
   begins = refl;
-  stands = offered_stands _ _ _ _ refl sample_text sample_named worked.at_the_start refl (any_filled refl refl (lit≤ tt)) (3, lit< tt, refl);
+  possible = offered_occurs _ _ _ _ refl sample_text sample_named worked.at_the_start refl (any_filled refl refl (lit≤ tt)) (3, lit< tt, refl);
 }
 
 pub returns-clause-whole : goal.returns-clause-whole
@@ -21,7 +21,7 @@ unfolding computing
 returns-clause-whole c = record {
   text = IsUtf8-from_is_utf8 (codes "-v") refl;
   begins = refl;
-  stands = offered_stands _ _ _ _ refl sample_text sample_named worked.at_the_start refl (any_filled refl refl (lit≤ tt)) (0, lit< tt, refl);
+  possible = offered_occurs _ _ _ _ refl sample_text sample_named worked.at_the_start refl (any_filled refl refl (lit≤ tt)) (0, lit< tt, refl);
 }
 
 pub returns-clause-nothing : goal.returns-clause-nothing
@@ -29,7 +29,7 @@ unfolding computing
 returns-clause-nothing c = record {
   text = IsUtf8-from_is_utf8 [] refl;
   begins = refl;
-  stands = offered_stands _ _ _ _ refl sample_text sample_named worked.after_a_flag refl (any_filled refl refl (lit≤ tt)) (5, lit< tt, refl);
+  possible = offered_occurs _ _ _ _ refl sample_text sample_named worked.after_a_flag refl (any_filled refl refl (lit≤ tt)) (5, lit< tt, refl);
 }
 
 pub returns-clause-required : goal.returns-clause-required
@@ -37,7 +37,7 @@ unfolding computing
 returns-clause-required c = record {
   text = IsUtf8-from_is_utf8 (codes "--us") refl;
   begins = refl;
-  stands = offered_stands _ _ _ _ refl demanding_text demanding_named open_without_user refl (any_filled refl refl (lit≤ tt)) (9, lit< tt, refl);
+  possible = offered_occurs _ _ _ _ refl demanding_text demanding_named open_without_user refl (any_filled refl refl (lit≤ tt)) (9, lit< tt, refl);
 }
 
 pub returns-clause-another : goal.returns-clause-another
@@ -46,7 +46,7 @@ returns-clause-another c is = let e : false ≡ true = is.begins in true≢false
 
 pub returns-clause-no_option : goal.returns-clause-no_option
 unfolding computing
-returns-clause-no_option c is = not_offered _ _ (codes "-z") refl is.stands
+returns-clause-no_option c is = not_offered _ _ (codes "-z") refl is.possible
 
 pub returns-clause-part_of_a_character : goal.returns-clause-part_of_a_character
 unfolding computing

@@ -6,4 +6,4 @@ pub returns-clause-one : goal.returns-clause-one
 returns-clause-one c = one_leading
 
 pub returns-clause-none : goal.returns-clause-none
-returns-clause-none c = λ d words before l rest mistake sound at says. nothing_leads d sound words before l rest mistake at says
+returns-clause-none c = λ d words before l rest mistake sound at means. nothing_leads d sound words before l rest mistake at means

@@ -14,7 +14,7 @@ returns-in-Some-clause-counted c = counted_last _ c.last_place.result c.last_pla
 
 pub returns-in-Some-clause-role : goal.returns-in-Some-clause-role
 returns-in-Some-clause-role c = λ o words opens dashed.
-    some_dashed o words c.in-Some.said.items c.last_place.result (subst (Opens o words) c.if-opens.false opens) (subst (IsPart o (words ++ dashes ∷ [])) c.in-Some.is dashed) (subst (λ (l : List Indexed). IsLastPlace l c.last_place.result) c.deref.ensures.value c.last_place.ensures)
+    some_dashed o words c.in-Some.parsed.items c.last_place.result (subst (Opens o words) c.if-opens.false opens) (subst (IsPart o (words ++ dashes ∷ [])) c.in-Some.is dashed) (subst (λ (l : List Indexed). IsLastPlace l c.last_place.result) c.deref.ensures.value c.last_place.ensures)
 
 pub returns-in-None-clause-role : goal.returns-in-None-clause-role
 returns-in-None-clause-role c = λ o words opens dashed. unsaid_dashed o words (subst (IsPart o (words ++ dashes ∷ [])) c.in-None.is dashed)

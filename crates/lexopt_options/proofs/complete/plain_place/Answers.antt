@@ -10,7 +10,7 @@ returns-in-Some-clause-counted c = counted_last _ c.last_place.result c.last_pla
 
 pub returns-in-Some-clause-role : goal.returns-in-Some-clause-role
 returns-in-Some-clause-role c = λ o words plain.
-    some_role o words c.in-Some.said.items c.last_place.result (subst (IsPart o (words ++ [] ∷ [])) c.in-Some.is plain) (subst (λ (l : List Indexed). IsLastPlace l c.last_place.result) c.deref.ensures.value c.last_place.ensures)
+    some_role o words c.in-Some.parsed.items c.last_place.result (subst (IsPart o (words ++ [] ∷ [])) c.in-Some.is plain) (subst (λ (l : List Indexed). IsLastPlace l c.last_place.result) c.deref.ensures.value c.last_place.ensures)
 
 pub returns-in-None-clause-role : goal.returns-in-None-clause-role
-returns-in-None-clause-role c = λ o words plain before s says. (subst (IsPart o (words ++ [] ∷ [])) c.in-None.is plain) (before ++ s ∷ []) says
+returns-in-None-clause-role c = λ o words plain before s means. (subst (IsPart o (words ++ [] ∷ [])) c.in-None.is plain) (before ++ s ∷ []) means

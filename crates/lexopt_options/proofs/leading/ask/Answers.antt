@@ -6,7 +6,7 @@ use Rattle.lexopt_options_spec.specs.Legal as legal
 use Rattle.lexopt_options_spec.specs.Stops as stops
 use Rattle.lexopt_base.specs.Refusals.{refusal_reply}
 use Rattle.lexopt_options.specs.Declarations.{declaration_of, options_of}
-use Rattle.lexopt_options.specs.Keys.{AreSaid}
+use Rattle.lexopt_options.specs.Keys.{AreParsedAs}
 use Rattle.lexopt_options.proofs.LeadingRead.{asked_alone}
 use Rattle.lexopt_options.proofs.ReadKeys.{asks_alone}
 use Rattle.lexopt_options.proofs.ReadNext.{never_missing}
@@ -17,7 +17,7 @@ pub returns-in-Ok : goal.returns-in-Ok
 returns-in-Ok g c = λ words l s read alone none asks are accepted. record {
   asks = record {
     before = l;
-    said = s;
+    parsed = s;
     there = c.args.parser.now;
     read = read;
     none_before = none;
@@ -46,8 +46,8 @@ returns-in-UnexpectedValue g c = λ words l s read alone none asks are accepted.
         stops = at_option tt (stops.value_of_flag (string_bytes c.in-UnexpectedValue.option) c.in-UnexpectedValue.value c.advance.new.self step);
         accepted = accepted;
       };
-      own = subst (λ (m : List legal.Said). first_asked d.options m ≡ None) (sym (last_dropped l s)) none;
-      before = subst (λ (m : List legal.Said). AreSaid (options_of c.args.options.now) m c.args.said.items) (sym (last_dropped l s)) are;
+      own = subst (λ (m : List legal.Parsed). first_asked d.options m ≡ None) (sym (last_dropped l s)) none;
+      before = subst (λ (m : List legal.Parsed). AreParsedAs (options_of c.args.options.now) m c.args.parsed.items) (sym (last_dropped l s)) are;
     }
 
 pub unreachable-requires : goal.unreachable-requires

@@ -6,7 +6,7 @@ use Rattle.lexopt_options_spec.specs.Legal.{is_required}
 use Rattle.lexopt_options_spec.specs.Stops.{ReadsUpTo}
 use Rattle.lexopt_options_spec.proofs.LeadingOptions.{leading_front, leading_whole}
 use Rattle.lexopt_options_spec.proofs.Listed.{accepted_append}
-use Rattle.lexopt_options.specs.declared.said.Told.TheVariants as told
+use Rattle.lexopt_options.specs.declared.parsed.ByKey.TheVariants as told
 use Rattle.lexopt_options.specs.Declarations.{declaration_of}
 use Rattle.lexopt_options.specs.Reading.{AreSeen, noted}
 use Rattle.lexopt_options.proofs.LeadingRead.{nothing_pending}
@@ -15,12 +15,12 @@ use Rattle.lexopt_options.proofs.ReadNext.{one_more}
 use Rattle.lexopt_options.proofs.leading.read_options.Goals as goal
 
 pub loop-seen-init : goal.loop-seen-init
-loop-seen-init g c = at_start c.args.options.now c.args.parser.now c.requires c.in_ok-said.ensures.items c.new-seen.ensures.items
+loop-seen-init g c = at_start c.args.options.now c.args.parser.now c.requires c.in_ok-parsed.ensures.items c.new-seen.ensures.items
 
 pub loop-seen-smaller : goal.loop-seen-smaller
 loop-seen-smaller g c =
     let next = rw c.in-Option.is at c.in_ok-index.ensures in
-    let is : c.in_ok-own-in-Option.field-0 ≡ Ok (told.Said c.in-Ok-Said.own) = cc in
+    let is : c.in_ok-own-in-Option.field-0 ≡ Ok (told.Parsed c.in-Ok-Parsed.own) = cc in
     let read = rw is at c.in_ok-own-in-Option.ensures 0 c.loop-seen.parser next.0 next.1 next.2 in
     read.1.shorter
 
@@ -28,11 +28,11 @@ pub loop-seen-preserved : goal.loop-seen-preserved
 loop-seen-preserved g c =
     let o = c.args.options.now in
     let next = rw c.in-Option.is at c.in_ok-index.ensures in
-    let is : c.in_ok-own-in-Option.field-0 ≡ Ok (told.Said c.in-Ok-Said.own) = cc in
+    let is : c.in_ok-own-in-Option.field-0 ≡ Ok (told.Parsed c.in-Ok-Parsed.own) = cc in
     let read = rw is at c.in_ok-own-in-Option.ensures 0 c.loop-seen.parser next.0 next.1 next.2 in
-    has_option o c.args.parser.now c.loop-seen.parser c.read_told.new.parser 0 c.in-Option.index c.loop-seen.seen.items c.note.new.seen.items c.loop-seen.said.items c.push.new.self.items read.0 c.in-Ok-Said.own
+    has_option o c.args.parser.now c.loop-seen.parser c.read_by_key.new.parser 0 c.in-Option.index c.loop-seen.seen.items c.note.new.seen.items c.loop-seen.parsed.items c.push.new.self.items read.0 c.in-Ok-Parsed.own
     c.loop-seen.invariant read.1 read.2.0 read.2.1 read.3 read.4 read.5
-    (c.in_ok-note-in-Ok-Said.ensures ∙ ap (λ (os : List spec.Declared). noted (is_required os c.in-Option.index) c.in-Option.index c.loop-seen.seen.items) c.options.ensures.view) c.in_ok-push-in-Ok-Said.ensures.items
+    (c.in_ok-note-in-Ok-Parsed.ensures ∙ ap (λ (os : List spec.Declared). noted (is_required os c.in-Option.index) c.in-Option.index c.loop-seen.seen.items) c.options.ensures.view) c.in_ok-push-in-Ok-Parsed.ensures.items
 
 pub returns-in-Ok-Asked : goal.returns-in-Ok-Asked
 returns-in-Ok-Asked g c = λ words is_start.
@@ -42,7 +42,7 @@ returns-in-Ok-Asked g c = λ words is_start.
     let is : c.in_ok-own-in-Option.field-0 ≡ Ok (told.Asked c.in-Ok-Asked.asked) = cc in
     let read = rw is at c.in_ok-own-in-Option.ensures 0 c.loop-seen.parser next.0 next.1 next.2 in
     c.ask.ensures words had.l read.0
-    (subst (λ (u : UnreadLine). ReadsUpTo d u (had.l ++ read.0 ∷ []) c.read_told.new.parser) is_start (one_more d c.args.parser.now c.loop-seen.parser c.read_told.new.parser had.l 0 read.0 had.read had.counted read.1))
+    (subst (λ (u : UnreadLine). ReadsUpTo d u (had.l ++ read.0 ∷ []) c.read_by_key.new.parser) is_start (one_more d c.args.parser.now c.loop-seen.parser c.read_by_key.new.parser had.l 0 read.0 had.read had.counted read.1))
     (sym had.counted) had.none read.2 had.are (accepted_append d.options had.l (read.0 ∷ []) had.accepted (one_unrefused d.options read.0 read.5))
 
 pub returns-in-Err : goal.returns-in-Err

@@ -3,7 +3,7 @@ use Rattle.lexopt_options.proofs.ReadKeys.{HasRead}
 use Rattle.lexopt_options.proofs.leading.read_options.Given as goal
 
 abbrev pub invariant-loop-seen : goal.invariant-loop-seen
-invariant-loop-seen g l = HasRead l.options l.initial.parser l.parser 0 l.seen.items l.said.items
+invariant-loop-seen g l = HasRead l.options l.initial.parser l.parser 0 l.seen.items l.parsed.items
 
 abbrev pub decreases-loop-seen : goal.decreases-loop-seen
 decreases-loop-seen g l = bound l.parser

@@ -5,7 +5,7 @@ use Rattle.lexopt_options_spec.specs.Legal as legal
 use Rattle.lexopt_options_spec.specs.Stops as stops
 use Rattle.lexopt_base.specs.Refusals.{refusal_reply}
 use Rattle.lexopt_options.specs.Declarations.{declaration_of, options_of}
-use Rattle.lexopt_options.specs.Keys.{AreSaid}
+use Rattle.lexopt_options.specs.Keys.{AreParsedAs}
 use Rattle.lexopt_options.proofs.ReadKeys.{asks_alone}
 use Rattle.lexopt_options.proofs.ReadNext.{never_missing}
 use Rattle.lexopt_options.proofs.WholeLines.{last_dropped}
@@ -14,7 +14,7 @@ use Rattle.lexopt_options.proofs.read.ask.Goals as goal
 pub returns-in-Ok : goal.returns-in-Ok
 returns-in-Ok g c = λ words l s read none asks are first accepted. record {
   before = l;
-  said = s;
+  parsed = s;
   there = c.args.parser.now;
   read = read;
   none_before = none;
@@ -30,8 +30,8 @@ returns-in-UnexpectedValue g c = λ words l s read none asks are first accepted.
     let why = stops.unexpected_value (string_bytes c.in-UnexpectedValue.option) c.in-UnexpectedValue.value in
     c.refuse.ensures words why (l ++ s ∷ []) refl
     (record { there = c.args.parser.now; read = read; stops = stops.value_of_flag (string_bytes c.in-UnexpectedValue.option) c.in-UnexpectedValue.value c.advance.new.self step; accepted = accepted })
-    (subst (λ (m : List legal.Said). first_asked d.options m ≡ None) (sym (last_dropped l s)) none)
-    (subst (λ (m : List legal.Said). AreSaid (options_of c.args.options.now) m c.args.said.items) (sym (last_dropped l s)) are) first
+    (subst (λ (m : List legal.Parsed). first_asked d.options m ≡ None) (sym (last_dropped l s)) none)
+    (subst (λ (m : List legal.Parsed). AreParsedAs (options_of c.args.options.now) m c.args.parsed.items) (sym (last_dropped l s)) are) first
 
 pub unreachable-requires : goal.unreachable-requires
 unreachable-requires g c =

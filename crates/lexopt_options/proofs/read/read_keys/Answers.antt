@@ -5,7 +5,7 @@ use Rattle.lexopt_options_spec.specs.Declaration as spec
 use Rattle.lexopt_declaration.specs.Models.{positional_view}
 use Rattle.lexopt_options_spec.specs.Legal.{IsWithin, is_required, most}
 use Rattle.lexopt_options_spec.specs.Stops.{ReadsUpTo}
-use Rattle.lexopt_options.specs.declared.said.Told.TheVariants as told
+use Rattle.lexopt_options.specs.declared.parsed.ByKey.TheVariants as told
 use Rattle.lexopt_options.specs.Declarations.{declaration_of}
 use Rattle.lexopt_options.specs.Keys.{HasKey}
 use Rattle.lexopt_options.specs.Reading.{AreSeen, noted}
@@ -16,17 +16,17 @@ use Rattle.lexopt_options.proofs.WholeLines.{line_stopped}
 use Rattle.lexopt_options.proofs.read.read_keys.Goals as goal
 
 pub loop-seen-init : goal.loop-seen-init
-loop-seen-init g c = at_start c.args.options.now c.args.parser.now c.requires c.in_ok-said.ensures.items c.new-seen.ensures.items
+loop-seen-init g c = at_start c.args.options.now c.args.parser.now c.requires c.in_ok-parsed.ensures.items c.new-seen.ensures.items
 
 pub overflow_add-count : goal.overflow_add-count
 overflow_add-count g c =
-    let small = count_within c.args.options.now c.args.parser.now c.loop-seen.parser c.loop-seen.count c.loop-seen.seen.items c.loop-seen.said.items c.loop-seen.invariant in
-    omega (arith, small, c.loop-seen.said.small)
+    let small = count_within c.args.options.now c.args.parser.now c.loop-seen.parser c.loop-seen.count c.loop-seen.seen.items c.loop-seen.parsed.items c.loop-seen.invariant in
+    omega (arith, small, c.loop-seen.parsed.small)
 
 pub loop-seen-smaller-in-Continue-branch-8 : goal.loop-seen-smaller-in-Continue-branch-8
 loop-seen-smaller-in-Continue-branch-8 g c =
     let next = rw c.in-Option.is at c.in_ok-index.ensures in
-    let is : c.in_ok-own-in-Option.field-0 ≡ Ok (told.Said c.in-Ok-Said.own) = cc in
+    let is : c.in_ok-own-in-Option.field-0 ≡ Ok (told.Parsed c.in-Ok-Parsed.own) = cc in
     let read = rw is at c.in_ok-own-in-Option.ensures c.loop-seen.count c.loop-seen.parser next.0 next.1 next.2 in
     read.1.shorter
 
@@ -34,11 +34,11 @@ pub loop-seen-preserved-in-Continue-branch-8 : goal.loop-seen-preserved-in-Conti
 loop-seen-preserved-in-Continue-branch-8 g c =
     let o = c.args.options.now in
     let next = rw c.in-Option.is at c.in_ok-index.ensures in
-    let is : c.in_ok-own-in-Option.field-0 ≡ Ok (told.Said c.in-Ok-Said.own) = cc in
+    let is : c.in_ok-own-in-Option.field-0 ≡ Ok (told.Parsed c.in-Ok-Parsed.own) = cc in
     let read = rw is at c.in_ok-own-in-Option.ensures c.loop-seen.count c.loop-seen.parser next.0 next.1 next.2 in
-    has_option o c.args.parser.now c.loop-seen.parser c.read_told.new.parser c.loop-seen.count c.in-Option.index c.loop-seen.seen.items c.note.new.seen.items c.loop-seen.said.items c.push.new.self.items read.0 c.in-Ok-Said.own
+    has_option o c.args.parser.now c.loop-seen.parser c.read_by_key.new.parser c.loop-seen.count c.in-Option.index c.loop-seen.seen.items c.note.new.seen.items c.loop-seen.parsed.items c.push.new.self.items read.0 c.in-Ok-Parsed.own
     c.loop-seen.invariant read.1 read.2.0 read.2.1 read.3 read.4 read.5
-    (c.in_ok-note-in-Ok-Said.ensures ∙ ap (λ (os : List spec.Declared). noted (is_required os c.in-Option.index) c.in-Option.index c.loop-seen.seen.items) c.options.ensures.view) c.in_ok-push-in-Ok-Said.ensures.items
+    (c.in_ok-note-in-Ok-Parsed.ensures ∙ ap (λ (os : List spec.Declared). noted (is_required os c.in-Option.index) c.in-Option.index c.loop-seen.seen.items) c.options.ensures.view) c.in_ok-push-in-Ok-Parsed.ensures.items
 
 pub returns-in-Ok-Asked : goal.returns-in-Ok-Asked
 returns-in-Ok-Asked g c = λ words is_start.
@@ -48,7 +48,7 @@ returns-in-Ok-Asked g c = λ words is_start.
     let is : c.in_ok-own-in-Option.field-0 ≡ Ok (told.Asked c.in-Ok-Asked.asked) = cc in
     let read = rw is at c.in_ok-own-in-Option.ensures c.loop-seen.count c.loop-seen.parser next.0 next.1 next.2 in
     c.ask.ensures words had.l read.0
-    (subst (λ (u : UnreadLine). ReadsUpTo d u (had.l ++ read.0 ∷ []) c.read_told.new.parser) is_start (one_more d c.args.parser.now c.loop-seen.parser c.read_told.new.parser had.l c.loop-seen.count read.0 had.read had.counted read.1))
+    (subst (λ (u : UnreadLine). ReadsUpTo d u (had.l ++ read.0 ∷ []) c.read_by_key.new.parser) is_start (one_more d c.args.parser.now c.loop-seen.parser c.read_by_key.new.parser had.l c.loop-seen.count read.0 had.read had.counted read.1))
     had.none read.2 had.are had.firsts (accepted_append d.options had.l (read.0 ∷ []) had.accepted (one_unrefused d.options read.0 read.5))
 
 pub returns-in-Err : goal.returns-in-Err
@@ -80,7 +80,7 @@ loop-seen-preserved g c =
     let d = declaration_of o in
     let next = rw c.in-Positional.is at c.in_ok-index.ensures in
     let reads = by_room d c.most-limit.result c.loop-seen.count c.loop-seen.parser c.read_next.new.parser c.in-Positional.word c.most-limit.ensures next in
-    has_positional o c.args.parser.now c.loop-seen.parser c.read_next.new.parser c.loop-seen.count c.loop-seen.seen.items c.loop-seen.said.items c.push-in-Positional.new.self.items c.in-Positional.word c.first_key-key.result
+    has_positional o c.args.parser.now c.loop-seen.parser c.read_next.new.parser c.loop-seen.count c.loop-seen.seen.items c.loop-seen.parsed.items c.push-in-Positional.new.self.items c.in-Positional.word c.first_key-key.result
     c.loop-seen.invariant reads (subst (λ ps. HasKey ps 0 c.first_key-key.result) c.positionals.ensures.same c.first_key-key.ensures) c.in_ok-push-in-Positional.ensures.items
 
 pub returns-in-End : goal.returns-in-End

@@ -1,5 +1,5 @@
 use Rattle.std.proofs.Common.{subst, sym}
-use Rattle.lexopt_options_spec.specs.Asking.{said_before}
+use Rattle.lexopt_options_spec.specs.Asking.{parsed_before}
 use Rattle.lexopt_options.specs.Declarations.{options_of}
 use Rattle.lexopt_options.specs.Keys.{CanHaveKeys, HaveKeys}
 use Rattle.lexopt_options.proofs.KeysGiven.{can_have_before}
@@ -16,7 +16,7 @@ returns g c = λ words why l told stops none are first.
       read = l;
       stops = stops;
       own = none;
-      before = c.give_keys.ensures.same (options_of o) (said_before why l) are;
-      keys = subst (λ ps. HaveKeys ps c.give_keys.new.said.items) c.positionals.ensures.same
+      before = c.give_keys.ensures.same (options_of o) (parsed_before why l) are;
+      keys = subst (λ ps. HaveKeys ps c.give_keys.new.parsed.items) c.positionals.ensures.same
           (c.give_keys.ensures.keys (subst (λ ps. CanHaveKeys ps c.args.before.items) (sym c.positionals.ensures.same) (can_have_before o l why c.args.before.items stops.read.within are first)));
     }

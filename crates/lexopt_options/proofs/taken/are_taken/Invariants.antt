@@ -8,4 +8,4 @@ use Rattle.lexopt_options.proofs.taken.are_taken.Given as goal
 
 abbrev pub invariant-loop-own : goal.invariant-loop-own
 invariant-loop-own g l = let ps = map positional_view l.positionals in
-    (l.index ≤ l.own-index) × IsAt ps (owners 0 (greedy ps l.spare)) (indexed_words l.said) (indexed_words (drop l.own-index l.said)) l.index
+    (l.index ≤ l.own-index) × IsAt ps (owners 0 (greedy ps l.spare)) (indexed_words l.parsed) (indexed_words (drop l.own-index l.parsed)) l.index

@@ -7,4 +7,4 @@ use Rattle.lexopt_options.proofs.taken.can_be_taken.Given as goal
 
 abbrev pub invariant-loop-spare : goal.invariant-loop-spare
 invariant-loop-spare g l = let ps = map positional_view l.positionals in (s : ℕ) → l.count - least ps ≤ s → s < l.spare
-    → ¬ (refused_word ps (owners 0 (greedy ps s)) (indexed_words l.said) ≡ None)
+    → ¬ (refused_word ps (owners 0 (greedy ps s)) (indexed_words l.parsed) ≡ None)

@@ -2,10 +2,10 @@ use Rattle.std.proofs.Common.{◌≤◌, drop, map}
 use Rattle.lexopt_declaration.specs.Models.{positional_view}
 use Rattle.lexopt_options_spec.specs.Places.{owners}
 use Rattle.lexopt_options_spec.proofs.Shares.{greedy}
-use Rattle.lexopt_options.specs.Keys.{said_words}
+use Rattle.lexopt_options.specs.Keys.{parsed_words}
 use Rattle.lexopt_options.proofs.TakenWords.{IsAt}
 use Rattle.lexopt_options.proofs.taken.first_refusal.Given as goal
 
 abbrev pub invariant-loop-own : goal.invariant-loop-own
 invariant-loop-own g l = let ps = map positional_view l.positionals in
-    (l.index ≤ l.own-index) × IsAt ps (owners 0 (greedy ps l.spare)) (said_words l.said) (said_words (drop l.own-index l.said)) l.index
+    (l.index ≤ l.own-index) × IsAt ps (owners 0 (greedy ps l.spare)) (parsed_words l.parsed) (parsed_words (drop l.own-index l.parsed)) l.index

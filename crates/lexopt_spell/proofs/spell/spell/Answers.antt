@@ -31,8 +31,8 @@ returns-clause-spelled c = words_spell (table_view c.args.table.now) c.args.shor
 pub returns-clause-read : goal.returns-clause-read
 returns-clause-read c = words_read (table_view c.args.table.now) c.args.short_equals c.loop-index.words.items (map item_view c.args.items.now) (returns-clause-spelled c)
 
-pub returns-clause-said : goal.returns-clause-said
-returns-clause-said c = λ final l reading.
+pub returns-clause-parsed : goal.returns-clause-parsed
+returns-clause-parsed c = λ final l reading.
     words_said (table_view c.args.table.now) c.args.short_equals c.loop-index.words.items (map item_view c.args.items.now) l final (returns-clause-spelled c) reading
 
 pub returns-in-Err-clause-at_fault : goal.returns-in-Err-clause-at_fault

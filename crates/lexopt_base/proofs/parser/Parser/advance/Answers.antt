@@ -1,7 +1,7 @@
 use Rattle.std.proofs.Common.{◌≡◌, ◌<◌, ◌-◌, true, List, ℕ, Bool, Some, drop, length, sym, ap, subst, ◌∙◌, inl, true≢false, arith, length-drop}
 use Rattle.lexopt_spec.specs.UnreadLine.{UnreadLine, pending, pending_in, rest_of, short_option}
 use Rattle.lexopt_spec.specs.Steps.{short, NextStep, ReadsPositional, ReadsWord, next_in_cluster, after_separator, next_word}
-use Rattle.lexopt_spec.proofs.LineLemmas.{goes_on, rest_of-some, same_parts}
+use Rattle.lexopt_spec.proofs.LineLemmas.{continues, rest_of-some, same_parts}
 use Rattle.lexopt_base.specs.Models.{tail_of, ended_of, IsPlaced, IsShortRead}
 use Rattle.lexopt_base.specs.Found.{found_as, advance_reply}
 use Rattle.lexopt_base.specs.declared.parser.State.{State}
@@ -26,7 +26,7 @@ returns-in-PendingValue c =
     let pends = ap pending (sym c.self.view_is) ∙ ap (λ (s : State). pending_in p.short_equals (tail_of word s)) c.in-PendingValue.is in
     refuses c.args.self.now c.refuse.new.self (drop c.in-PendingValue.position word) c.refuse.result pends c.refuse.ensures
 
--- what is pending in a cluster
+-- the pending value in a cluster
 pends_at : (c : After-pending_at-start) → pending c.args.self.now ≡ Some (drop c.pending_at-start.result.0 c.current-word.result.now, c.pending_at-start.result.1)
 pends_at c =
     let p = c.self.inside in
@@ -61,7 +61,7 @@ returns-else-is_joined c =
     let pends = pends_at (goal.at.returns-else-is_joined c).After-pending_at-start in
     let read = subst (λ (l : List ℕ). IsShortRead l at c.read_short-option.result.0 c.read_short-option.result.1) c.current-word.ensures c.read_short-option.ensures in
     inl (next_in_cluster bytes tail
-    (goes_on u bytes tail (λ value known. true≢false (sym (ap flag_in (sym pends ∙ known)) ∙ c.if-is_joined.false)))
+    (continues u bytes tail (λ value known. true≢false (sym (ap flag_in (sym pends ∙ known)) ∙ c.if-is_joined.false)))
     (record {
       some = λ none. let e : length bytes ≡ 0 = ap length none in omega arith;
       reply_is = ap short read.shown_is;

@@ -1,4 +1,5 @@
--- `next` is a call of `advance`, and then lends itself for reading alone. So it ends at what `advance` left.
+-- `next` calls `advance`, and then lends the parser for reading only. So it leaves the line that
+-- `advance` left.
 use Rattle.std.proofs.Common.{◌≡◌, ℕ, Some, refl}
 use Rattle.std.proofs.raw_atomic.Walks.{proved}
 use mathlib.Core.List.{List, [], ◌∷◌}
@@ -61,7 +62,7 @@ use Rattle.lexopt_base.proofs.parser.Parser.next.Code as code
 abbrev stayed : Stays f.ended.signature.params f.ended.kept
 stayed = (stay_dropped (mut_ref_to (0 ∷ []) tt (plain (λ _. R))) no, tt)
 
--- what `advance` gives, and what `next` gives
+-- the result type of `advance`, and its laws
 abbrev Fr : RattleType
 Fr = Result-type.the_row Found-type.the_row Refusal-type.the_row
 
@@ -102,7 +103,8 @@ next_spec 𝓤 𝓛 𝓜 𝓡 wired =
     let typed = ((Fr-laws.lawful 𝓛).typed x (v ∷ []) is).0 in
     lands_as ! refl refl typed $ move ! (3 ∷ []) $ pick ! (λ ws. split ! $ move ! (1 ∷ []) $ heard ! _ (λ steps. fsplit ! $ fsplit ! $
     let w = ws.0 in
-    -- [the loan's last value; its borrow; nothing; what was found; α is over; nothing; what the lender keeps]
+    -- [the loan's last value; its borrow; nothing; what was found; α is over; nothing; what the
+    -- lender keeps]
     move ! (4 ∷ 6 ∷ 0 ∷ []) $ use3 𝓛 (later (‵ (Ref κ (record r { now = w })) ⊛ ‵ (flft κ q)))
     (comes_back 𝓛 R (named 0) κ (α ∷ []) q γ b o δ r.now w) $ await ! tt $ split ! $
     -- [self; the token of κ; the loan's borrow; nothing; what was found; nothing]
@@ -111,12 +113,14 @@ next_spec 𝓤 𝓛 𝓜 𝓡 wired =
     fsplit ! $ move ! (1 ∷ 2 ∷ []) $
     use2 𝓛 (later (‵ ((owned.ShrRef erased κ R).own_val (record { ref_ptr = (b, o); now = w })) ⊛ (‵ (fres γ (R.coded.code w)) ⊛ ‵ (flft κ q))))
     (ref_Share 𝓛 R b o γ w R-laws.the_row_laws.shr_laws κ q (λ y κ' ts b' o' inside. R-laws.the_row_laws.shares 𝓛 y κ' ts b' o' (⊑_static (span ts)))) $ await ! tt $ split ! $ move ! (1 ∷ []) $ split ! $
-    -- [the last value of self; the token of κ; what is shared; self's pointer; the loan's borrow; nothing; what was found; nothing]
+    -- [the last value of self; the token of κ; what is shared; self's pointer; the loan's borrow;
+    -- nothing; what was found; nothing]
     move ! (2 ∷ []) $ feq_i ! (List Val) (vptr b o ∷ []) (vptr b o ∷ []) refl $ fjoin ! $
     let H = triple_of 𝓛 h.signature (h.spec 𝓛 𝓜.mem 𝓡.returns) in
     let lent : Bor UnreadLine = record { ref_ptr = (b, o); now = w } in
     let zz : H.Ghost = (((κ, tt), (q, tt), tt, (lent, (x, tt)), (vptr b o ∷ [], (v ∷ [], tt))), tt) in
-    -- [the `&`; the last value; the token; self's pointer; the loan's borrow; nothing; what was found; nothing]
+    -- [the `&`; the last value; the token; self's pointer; the loan's borrow; nothing; what was
+    -- found; nothing]
     nothing ! $ move ! (7 ∷ 0 ∷ []) $ join ! $ move ! (1 ∷ 0 ∷ []) $ join ! $ nothing ! $ move ! (3 ∷ 0 ∷ []) $ join ! $ join ! $
     nothing ! $ move ! (1 ∷ 0 ∷ []) $ use2 𝓛 (raw (H.pre zz)) (id⊢ 𝓤 _) $
     calls_at ! (framed 𝓤 𝓛.H 𝓜 (tables 𝓤 𝓛.H 𝓜 𝓡 𝓡.env)) H (lend_met 𝓤 𝓛 𝓜 𝓡 (code.calls-lexopt_base::parser::Parser::lend 𝓡.env wired)) zz

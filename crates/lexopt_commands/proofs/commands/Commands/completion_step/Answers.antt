@@ -8,7 +8,7 @@ use Rattle.lexopt_commands.proofs.commands.Commands.completion_step.Goals as goa
 pub returns-in-Some : goal.returns-in-Some
 returns-in-Some g c =
     let read = subst (λ ws. IsLeadingRead c.options.result ws c.in_ok-leading.leading) c.in_ok-copies.ensures c.in_ok-leading.ensures.leading in
-    IfOk-weaker c.placed_step.result _ _ (λ it placed. inl (placed_after c.args.self.now c.options.result c.args.words.now c.args.typed c.in_ok-leading.leading c.in-Some.said c.in-Some.rest it c.options.ensures c.in-Some.ensures read placed)) c.placed_step.ensures
+    IfOk-weaker c.placed_step.result _ _ (λ it placed. inl (placed_after c.args.self.now c.options.result c.args.words.now c.args.typed c.in_ok-leading.leading c.in-Some.parsed c.in-Some.rest it c.options.ensures c.in-Some.ensures read placed)) c.placed_step.ensures
 
 pub returns : goal.returns
 returns g c =

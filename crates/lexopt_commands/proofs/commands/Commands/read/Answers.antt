@@ -2,37 +2,37 @@ use Rattle.std.proofs.Common.{◌∷◌}
 use Rattle.lexopt_options_spec.specs.Asking.{first_asked}
 use Rattle.lexopt_options.specs.Declarations.{declaration_of}
 use Rattle.std.proofs.lemmas.Result.{IfOk-weaker}
-use Rattle.lexopt_commands.proofs.LinesRead.{none_asked, of_asked, of_each, of_name, of_said}
+use Rattle.lexopt_commands.proofs.LinesRead.{none_asked, of_asked, of_each, of_name, of_parsed}
 use Rattle.lexopt_commands.proofs.commands.Commands.read.Goals as goal
 
-pub returns-in-Said-clause-answered : goal.returns-in-Said-clause-answered
-returns-in-Said-clause-answered g c = λ l rest says.
+pub returns-in-Parsed-clause-answered : goal.returns-in-Parsed-clause-answered
+returns-in-Parsed-clause-answered g c = λ l rest means.
     let s = c.args.self.now in
-    let of = of_each c.options.result s.options c.args.words.items _ _ c.options.ensures c.in-Said.is c.in_ok-said.ensures.answered l rest says in
-    IfOk-weaker c.end.result _ _ (λ it after. of_said s l rest c.in-Said.rest.items c.in-Said.said.items it of.0 of.1 of.2 after) c.end.ensures
+    let of = of_each c.options.result s.options c.args.words.items _ _ c.options.ensures c.in-Parsed.is c.in_ok-parsed.ensures.answered l rest means in
+    IfOk-weaker c.end.result _ _ (λ it after. of_parsed s l rest c.in-Parsed.rest.items c.in-Parsed.parsed.items it of.0 of.1 of.2 after) c.end.ensures
 
 pub returns-in-Asked-clause-answered : goal.returns-in-Asked-clause-answered
-returns-in-Asked-clause-answered g c = λ l rest says.
+returns-in-Asked-clause-answered g c = λ l rest means.
     let s = c.args.self.now in
-    of_asked s l rest c.in-Asked.asked (of_each c.options.result s.options c.args.words.items _ _ c.options.ensures c.in-Asked.is c.in_ok-said.ensures.answered l rest says)
+    of_asked s l rest c.in-Asked.asked (of_each c.options.result s.options c.args.words.items _ _ c.options.ensures c.in-Asked.is c.in_ok-parsed.ensures.answered l rest means)
 
 pub returns-in-Refused-clause-answered : goal.returns-in-Refused-clause-answered
-returns-in-Refused-clause-answered g c = λ l rest says.
+returns-in-Refused-clause-answered g c = λ l rest means.
     let s = c.args.self.now in
-    absurd (of_each c.options.result s.options c.args.words.items _ _ c.options.ensures c.in-Refused.is c.in_ok-said.ensures.answered l rest says)
+    absurd (of_each c.options.result s.options c.args.words.items _ _ c.options.ensures c.in-Refused.is c.in_ok-parsed.ensures.answered l rest means)
 
-pub returns-in-Said-clause-named : goal.returns-in-Said-clause-named
-returns-in-Said-clause-named g c = λ i own key l rest at is says none.
+pub returns-in-Parsed-clause-named : goal.returns-in-Parsed-clause-named
+returns-in-Parsed-clause-named g c = λ i own key l rest at is means none.
     let s = c.args.self.now in
-    let of = of_each c.options.result s.options c.args.words.items _ _ c.options.ensures c.in-Said.is c.in_ok-said.ensures.answered l (own.name.now ∷ rest) says in
-    IfOk-weaker c.end.result _ _ (λ it after. of_name s i own key l rest c.in-Said.rest.items c.in-Said.said.items it at is of.1 of.2 after) c.end.ensures
+    let of = of_each c.options.result s.options c.args.words.items _ _ c.options.ensures c.in-Parsed.is c.in_ok-parsed.ensures.answered l (own.name.now ∷ rest) means in
+    IfOk-weaker c.end.result _ _ (λ it after. of_name s i own key l rest c.in-Parsed.rest.items c.in-Parsed.parsed.items it at is of.1 of.2 after) c.end.ensures
 
 pub returns-in-Asked-clause-named : goal.returns-in-Asked-clause-named
-returns-in-Asked-clause-named g c = λ i own key l rest at is says none.
+returns-in-Asked-clause-named g c = λ i own key l rest at is means none.
     let s = c.args.self.now in
-    absurd (none_asked (first_asked (declaration_of s.options).options l) _ none (of_each c.options.result s.options c.args.words.items _ _ c.options.ensures c.in-Asked.is c.in_ok-said.ensures.answered l (own.name.now ∷ rest) says))
+    absurd (none_asked (first_asked (declaration_of s.options).options l) _ none (of_each c.options.result s.options c.args.words.items _ _ c.options.ensures c.in-Asked.is c.in_ok-parsed.ensures.answered l (own.name.now ∷ rest) means))
 
 pub returns-in-Refused-clause-named : goal.returns-in-Refused-clause-named
-returns-in-Refused-clause-named g c = λ i own key l rest at is says none.
+returns-in-Refused-clause-named g c = λ i own key l rest at is means none.
     let s = c.args.self.now in
-    absurd (of_each c.options.result s.options c.args.words.items _ _ c.options.ensures c.in-Refused.is c.in_ok-said.ensures.answered l (own.name.now ∷ rest) says)
+    absurd (of_each c.options.result s.options c.args.words.items _ _ c.options.ensures c.in-Refused.is c.in_ok-parsed.ensures.answered l (own.name.now ∷ rest) means)

@@ -8,12 +8,12 @@ use Rattle.lexopt_options.proofs.options.Options.has_positional.Goals as goal
 pub returns-in-Some : goal.returns-in-Some
 returns-in-Some g c =
     let d = declaration_of c.args.self.now in
-    let says = subst (IsPart d c.in_ok-copies.field-0.items) c.in-Some.is c.in_ok-said.ensures in
-    let both = some_positional d c.args.words.now c.in_ok-copies.field-0.items c.in-Some.said.items c.deref.result.now c.word_count.result c.in_ok-copies.ensures c.deref.ensures.value says c.word_count.ensures in
+    let means = subst (IsPart d c.in_ok-copies.field-0.items) c.in-Some.is c.in_ok-parsed.ensures in
+    let both = some_positional d c.args.words.now c.in_ok-copies.field-0.items c.in-Some.parsed.items c.deref.result.now c.word_count.result c.in_ok-copies.ensures c.deref.ensures.value means c.word_count.ensures in
     ((λ yes. both.0 (ltb-true 0 c.word_count.result yes)), (λ there. lt-ltb 0 c.word_count.result (both.1 there)))
 
 pub returns-in-None : goal.returns-in-None
 returns-in-None g c =
     let d = declaration_of c.args.self.now in
-    let none = subst (IsPart d c.in_ok-copies.field-0.items) c.in-None.is c.in_ok-said.ensures in
+    let none = subst (IsPart d c.in_ok-copies.field-0.items) c.in-None.is c.in_ok-parsed.ensures in
     ((λ yes. absurd (false≢true yes)), (λ there. absurd (no_positional d c.args.words.now c.in_ok-copies.field-0.items c.in_ok-copies.ensures none there)))

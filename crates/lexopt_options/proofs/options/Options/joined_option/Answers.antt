@@ -1,5 +1,5 @@
 use Rattle.std.proofs.Common.{◌∷◌, [], map, subst, sym}
-use Rattle.lexopt_options_spec.specs.Legal.{SaysFront}
+use Rattle.lexopt_options_spec.specs.Legal.{MeansFront}
 use Rattle.lexopt_options.specs.Completions.{Opens}
 use Rattle.lexopt_options.specs.Declarations.{declaration_of}
 use Rattle.lexopt_options.specs.Fronts.{IsPart}
@@ -15,10 +15,10 @@ pub returns-in-Some : goal.returns-in-Some
 returns-in-Some g c =
     let d = declaration_of c.args.self.now in
     let one = c.in_ok-one_word.field-0.items in
-    let says = subst (IsPart d one) c.in-Some.is c.in_ok-said.ensures in
-    let read = subst (λ l. SaysFront d (c.args.typed.now ∷ []) (map indexed_view l)) (sym c.deref.ensures.value) (subst (λ ws. SaysFront d ws (map indexed_view c.in-Some.said.items)) c.in_ok-one_word.ensures says) in
+    let means = subst (IsPart d one) c.in-Some.is c.in_ok-parsed.ensures in
+    let read = subst (λ l. MeansFront d (c.args.typed.now ∷ []) (map indexed_view l)) (sym c.deref.ensures.value) (subst (λ ws. MeansFront d ws (map indexed_view c.in-Some.parsed.items)) c.in_ok-one_word.ensures means) in
     joined_so_far d c.args.typed.now c.args.opens joined_view _ c.if-not-opens.false (λ words opens. c.joined_value.ensures d words opens read)
 
 pub returns-in-None : goal.returns-in-None
 returns-in-None g c = λ words opens.
-    unsaid_joined (declaration_of c.args.self.now) words c.in_ok-one_word.field-0.items c.args.typed.now c.in_ok-one_word.ensures (subst (IsPart (declaration_of c.args.self.now) c.in_ok-one_word.field-0.items) c.in-None.is c.in_ok-said.ensures)
+    unsaid_joined (declaration_of c.args.self.now) words c.in_ok-one_word.field-0.items c.args.typed.now c.in_ok-one_word.ensures (subst (IsPart (declaration_of c.args.self.now) c.in_ok-one_word.field-0.items) c.in-None.is c.in_ok-parsed.ensures)

@@ -6,5 +6,5 @@ pub returns-clause-line : goal.returns-clause-line
 returns-clause-line g c = c.read_keys.ensures c.args.words.items c.parser_of-parser.ensures
 
 pub returns-clause-answered : goal.returns-clause-answered
-returns-clause-answered g c = λ l says.
-    IfOk-weaker c.read_keys.result _ _ (λ line read. line_of c.args.self.now c.args.words.items line read l says) (c.read_keys.ensures c.args.words.items c.parser_of-parser.ensures)
+returns-clause-answered g c = λ l means.
+    IfOk-weaker c.read_keys.result _ _ (λ line read. line_of c.args.self.now c.args.words.items line read l means) (c.read_keys.ensures c.args.words.items c.parser_of-parser.ensures)

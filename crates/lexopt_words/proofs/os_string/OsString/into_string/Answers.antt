@@ -1,4 +1,4 @@
--- A text is UTF-8, and so are the bytes that it was made of.
+-- A text is UTF-8, and so are the bytes that it was made from.
 use Rattle.std.proofs.Common.{rules, ◌≡◌, string_bytes, IsUtf8, refl, ap, subst, ◌∙◌}
 use Rattle.std.proofs.lemmas.Str.{IsUtf8-string_bytes}
 use Rattle.lexopt_words.proofs.os_string.OsString.into_string.Goals as goal

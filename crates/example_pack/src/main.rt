@@ -1,0 +1,60 @@
+//! Prints what it is called with: `example_pack [-v|--verbose] [-o|--output=FILE] [FILE]..`.
+#![tactic(auto)]
+
+use lexopt_options::{Answer, Declaration, Names, Options, OsString, Parsed, USAGE_ERROR, declare};
+use std::io;
+use std::process::ExitCode;
+
+#[derive(Clone, Copy)]
+enum Flag {
+    Verbose,
+}
+
+#[derive(Clone, Copy)]
+enum Value {
+    Output,
+}
+
+#[derive(Clone, Copy)]
+enum Word {
+    File,
+}
+
+static DECLARATION: Declaration<'static, Flag, Value, Word> = declare! {
+    program: "pack",
+    options: [
+        flag(Flag::Verbose, Names::Both('v', "verbose"), "tell more"),
+        value(Value::Output, Names::Both('o', "output"), "FILE", "the archive"),
+        help(Names::Both('h', "help")),
+        version(Names::Long("version"), "pack 1.0"),
+    ],
+    positionals: [any_number(Word::File, "FILE")],
+};
+
+#[derive(Debug, Drop)]
+struct Settings {
+    verbose: bool,
+    output: Option<OsString>,
+    files: Vec<OsString>,
+}
+
+fn main(rt: HostRuntime) -> io::Result<ExitCode> {
+    let line = match Options::new(&DECLARATION).from_env(&rt)? {
+        Answer::Parsed(line) => line,
+        Answer::Text(text) => return rt.print(text).map(|()| ExitCode::SUCCESS),
+        Answer::Refused(why) => return rt.eprintln(why).map(|()| ExitCode::from(USAGE_ERROR)),
+    };
+    let mut settings = Settings {
+        verbose: false,
+        output: None,
+        files: Vec::new(rt.alloc()),
+    };
+    for parsed in line {
+        match parsed {
+            Parsed::Flag(Flag::Verbose) => settings.verbose = true,
+            Parsed::Value(Value::Output, file) => settings.output = Some(file),
+            Parsed::Positional(Word::File, file) => settings.files.push(file)?,
+        }
+    }
+    println!(rt; "{settings:?}").map(|()| ExitCode::SUCCESS)
+}

@@ -1,0 +1,55 @@
+//! Callers that exist for the prover, over any general options and commands. Their clauses state what
+//! a line means, and what the program does about a request, by the meaning of the words.
+ghost use Rattle.std.specs.Prelude.{◌≡◌, ◌∷◌, ℕ, IfOk, List, None, Some, slice_get, true};
+ghost use Rattle.lexopt_options_spec.specs.Asking.{first_asked};
+ghost use Rattle.lexopt_options_spec.specs.Declaration as spec;
+ghost use Rattle.lexopt_options_spec.specs.Leading.{MeansLeading};
+ghost use Rattle.lexopt_options_spec.specs.Legal as legal;
+ghost use Rattle.lexopt_options.specs.Declarations.{declaration_of, options_of};
+ghost use Rattle.lexopt_commands.specs.declared.command.Command as one;
+ghost use Rattle.lexopt_commands.specs.declared.command.Runs.TheVariants as runs;
+ghost use Rattle.lexopt_commands.specs.Names.{can_be_declared, names_of};
+ghost use Rattle.test_commands.specs.AnyCommands.{IsAskedFor, IsNamed, LineTells, RequestTells};
+
+use lexopt_commands::{Command, CommandLine, Commands, Step};
+use lexopt_options::{Options, OsString, Request};
+use std::alloc::{AllocError, Global};
+
+/// Reads a line.
+pub fn read_line<'a, C: Copy, F: Copy, V: Copy, P: Copy, M: Copy, S: Copy>(
+    alloc: Global,
+    options: Options<'a, F, V, P, M, S>,
+    commands: &'a [Command<'a, C>],
+    words: Vec<OsString>,
+) -> Result<CommandLine<'a, C, F, V, P, M, S>, AllocError>
+    requires { can_be_declared (names_of commands.now) ≡ true }
+    ensures line { IfOk result (λ line.
+        LineTells options.entry commands.now words.items line) }
+    ensures asked { (l : List legal.Parsed) (rest : List (List ℕ)) (asked : spec.Asked)
+        → MeansLeading (declaration_of options.entry) words.items l rest
+        → first_asked (declaration_of options.entry).options l ≡ Some asked
+        → IfOk result (λ line. IsAskedFor asked line) }
+    ensures named { (i : ℕ) (own : one.Command C) (key : C) (l : List legal.Parsed)
+        (rest : List (List ℕ)) → slice_get commands.now i ≡ Some own
+        → own.runs ≡ runs.Command key
+        → MeansLeading (declaration_of options.entry) words.items l (own.name.now ∷ rest)
+        → first_asked (declaration_of options.entry).options l ≡ None
+        → IfOk result (λ line. IsNamed (options_of options.entry) l key rest line) }
+{
+    Commands::new(options, commands).read(alloc, words)
+}
+
+/// Returns what the program does about a request.
+pub fn answer_request<'a, C: Copy, F: Copy, V: Copy, P: Copy, M: Copy, S: Copy>(
+    alloc: Global,
+    options: Options<'a, F, V, P, M, S>,
+    commands: &'a [Command<'a, C>],
+    request: Request,
+    width: usize,
+) -> Result<Step<'a, C, F, V, P, M, S>, AllocError>
+    requires { can_be_declared (names_of commands.now) ≡ true }
+    ensures { IfOk result (λ step.
+        RequestTells options.entry commands.now request width step) }
+{
+    Commands::new(options, commands).answer_request(alloc, request, width)
+}

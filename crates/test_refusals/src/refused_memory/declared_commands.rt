@@ -1,0 +1,126 @@
+//! Declared commands. If an allocation fails, `answer_request` returns an `AllocError`, and nothing
+//! of the line.
+use crate::refused_memory::{Flag, Outcome, PACK, Value, Word, check_outcome, out_of_memory_in};
+use lexopt_commands::{Command, Commands, Step, declare_commands};
+use lexopt_options::{Options, Request};
+use std::alloc::{AllocError, Global};
+use std::test::Fail;
+use test_helpers::parsers::split_words;
+
+static TASKS: &[Command<'static, u8>] = declare_commands![
+    command(1, "add", "add files"),
+    help("help"),
+];
+
+// How a call went that is expected to return the step with this text.
+fn step_outcome(
+    alloc: Global,
+    step: &Step<'_, u8, Flag, Value, Word>,
+    wanted: &str,
+) -> Result<Outcome, AllocError> {
+    let mut text = String::with_capacity(alloc, 400)?;
+    match step {
+        Step::Command(parsed, key, own) => write!(text, "{parsed:?} {key} {own:?}")?,
+        Step::Text(own) => write!(text, "{own}")?,
+        Step::Refused(refused) => write!(text, "{refused}")?,
+    }
+    Ok(Outcome::of(text.as_str() == wanted))
+}
+
+// Calls `answer_request` with this value of the variable, and these words, one on each line.
+fn check_step(alloc: Global, value: Option<&[u8]>, lines: &[u8], wanted: &str) -> Result<(), Fail> {
+    let Ok(words) = split_words(alloc, lines) else {
+        return out_of_memory_in("the list");
+    };
+    let commands = Commands::new(Options::new(&PACK), TASKS);
+    match commands.answer_request(alloc, Request::new(alloc, value, words), 40) {
+        Ok(step) => check_outcome(
+            step_outcome(alloc, &step, wanted)?,
+            "commands_answer_request",
+        ),
+        Err(_) => out_of_memory_in("commands_answer_request"),
+    }
+}
+
+#[test]
+fn commands_command(rt: HostRuntime) -> Result<(), Fail> {
+    check_step(
+        rt.alloc(),
+        None,
+        b"-vo\nx\nhelp\nadd\n-q",
+        "[Flag(Verbose), Value(Output, \"x\")] 1 Line([\"-q\", \"--help\"])",
+    )
+}
+
+#[test]
+fn commands_help(rt: HostRuntime) -> Result<(), Fail> {
+    check_step(
+        rt.alloc(),
+        None,
+        b"help",
+        "Usage: pack [OPTION]... [FILE]...\nPacks.\n\n  \
+        add        add files\n  \
+        help       print the help of a command\n\n  \
+        -v, --verbose\n             tell more\n  \
+        -o, --output=FILE\n             write to this file\n  \
+        -h, --help\n             print this help and exit\n      \
+        --version\n             print the version and exit\n",
+    )
+}
+
+#[test]
+fn commands_version(rt: HostRuntime) -> Result<(), Fail> {
+    check_step(rt.alloc(), None, b"-v\n--version\nadd", "pack 1.0\n")
+}
+
+#[test]
+fn commands_unknown(rt: HostRuntime) -> Result<(), Fail> {
+    check_step(
+        rt.alloc(),
+        None,
+        b"-v\nAdd",
+        "pack: unknown command \"Add\"; did you mean 'add'?\n\
+        Try 'pack --help' for more information.",
+    )
+}
+
+#[test]
+fn commands_missing(rt: HostRuntime) -> Result<(), Fail> {
+    check_step(
+        rt.alloc(),
+        None,
+        b"-v",
+        "pack: missing command: one of add, help\nTry 'pack --help' for more information.",
+    )
+}
+
+#[test]
+fn commands_names(rt: HostRuntime) -> Result<(), Fail> {
+    check_step(
+        rt.alloc(),
+        Some(b"bash_complete"),
+        b"-v\na",
+        "+add\tadd files\nfiles\n",
+    )
+}
+
+#[test]
+fn commands_asked(rt: HostRuntime) -> Result<(), Fail> {
+    check_step(
+        rt.alloc(),
+        Some(b"bash_complete"),
+        b"-v\nadd\n-x\n-",
+        "[Flag(Verbose)] 1 Completion([\"-x\"], \"-\")",
+    )
+}
+
+#[test]
+fn commands_request(rt: HostRuntime) -> Result<(), Fail> {
+    check_step(
+        rt.alloc(),
+        Some(b"tcsh_complete"),
+        b"-v",
+        "pack: invalid value of _PACK_COMPLETE: one of bash_source, bash_complete, zsh_source, \
+        zsh_complete, fish_source, fish_complete\nTry 'pack --help' for more information.",
+    )
+}

@@ -1,0 +1,102 @@
+//! Parsers and their names, the words of an environment, and copies of a parser.
+use crate::refused_memory::{Outcome, check_outcome, out_of_memory_in};
+use lexopt::os_string::arguments;
+use lexopt::{Error, OsString, Parser};
+use std::alloc::{AllocError, Global};
+use std::test::Fail;
+use test_helpers::calls::{has_words, reads_short};
+use test_helpers::environments::Arguments;
+use test_helpers::parsers::{named, words_from};
+
+// Whether a parser has this name, and reads this option.
+fn reads_named(parser: &mut Parser, name: &str, option: char) -> Result<bool, Error> {
+    Ok(parser.bin_name() == Some(name) && reads_short(parser, option)?)
+}
+
+#[test]
+fn named_parser(rt: HostRuntime) -> Result<(), Fail> {
+    match named(rt.alloc(), &[b"foo\xff", b"-x"]) {
+        Ok(mut parser) => {
+            assert!(rt; reads_named(&mut parser, "foo\u{FFFD}", 'x')?);
+            Ok(())
+        }
+        Err(Error::OutOfMemory) => out_of_memory_in("from_iter"),
+        Err(_) => Err(Fail::new("from_iter returned another error")),
+    }
+}
+
+#[test]
+fn parser_of_the_environment(rt: HostRuntime) -> Result<(), Fail> {
+    match Parser::from_env(&rt, rt.alloc()) {
+        Ok(parser) => {
+            assert!(rt; parser.bin_name().is_some());
+            Ok(())
+        }
+        Err(Error::OutOfMemory) => out_of_memory_in("from_env"),
+        Err(_) => Err(Fail::new("from_env returned another error")),
+    }
+}
+
+// The name and the words of an environment. They have damage, are empty, and are longer than the
+// first buffer for a word, of 256 bytes, and the second, of 512.
+const GIVEN: [&[u8]; 6] = [
+    b"tool\xff",
+    b"",
+    b"a\xff",
+    &[b'x'; 700],
+    b"-x",
+    b"--\xff=\xfe",
+];
+
+// Asks `arguments` for these words, and again if memory runs out.
+fn take_arguments(alloc: Global, words: &[OsString]) -> Result<Outcome, AllocError> {
+    let environment = Arguments { words };
+    match arguments(&environment, alloc) {
+        Ok(found) => Ok(Outcome::of(found.as_slice() == words)),
+        Err(_) => {
+            let found = arguments(&environment, alloc)?;
+            Ok(Outcome::OutOfMemory.only_if(found.as_slice() == words))
+        }
+    }
+}
+
+// Makes a parser of these words by `from_env_os`, and again if memory runs out.
+fn make_parser(alloc: Global, words: &[OsString]) -> Result<Outcome, Error> {
+    let environment = Arguments { words };
+    let mut made = Parser::from_env_os(&environment, alloc);
+    let mut outcome = Outcome::Expected;
+    if matches!(made, Err(Error::OutOfMemory)) {
+        made = Parser::from_env_os(&environment, alloc);
+        outcome = Outcome::OutOfMemory;
+    }
+    let unread = words.get(1..).unwrap_or(&[]);
+    Ok(outcome.only_if(has_words(&mut made?, Some("tool\u{FFFD}"), unread)?))
+}
+
+// All words of an environment are returned, or none if memory runs out.
+#[test]
+fn words_of_an_environment(rt: HostRuntime) -> Result<(), Fail> {
+    let Ok(words) = words_from(rt.alloc(), &GIVEN) else {
+        return out_of_memory_in("the list");
+    };
+    check_outcome(take_arguments(rt.alloc(), &words)?, "arguments")?;
+    check_outcome(make_parser(rt.alloc(), &words)?, "from_env_os")
+}
+
+// Copies a parser. The copy, if there is one, and the parser itself have the name `foo` and read
+// `-x`.
+fn copy_parser(parser: &mut Parser) -> Result<Outcome, Error> {
+    let outcome = match parser.clone() {
+        Ok(mut copy) => Outcome::of(reads_named(&mut copy, "foo", 'x')?),
+        Err(_) => Outcome::OutOfMemory,
+    };
+    Ok(outcome.only_if(reads_named(parser, "foo", 'x')?))
+}
+
+#[test]
+fn copied_parser(rt: HostRuntime) -> Result<(), Fail> {
+    let Ok(mut parser) = named(rt.alloc(), &[b"foo", b"-x"]) else {
+        return out_of_memory_in("from_iter");
+    };
+    check_outcome(copy_parser(&mut parser)?, "clone")
+}

@@ -1,0 +1,70 @@
+//! Whole lines. `read_items` returns all items, or it runs out of memory: no item is left out, and
+//! no value is another one.
+use crate::refused_memory::out_of_memory_in;
+use lexopt::Error;
+use lexopt::replay::read_items;
+use std::alloc::Global;
+use std::test::Fail;
+use test_helpers::items::table_of_each_kind;
+use test_helpers::parsers::split_words;
+
+// Reads a line. Its items, one on each line, or its error are this text.
+fn check_reading(alloc: Global, lines: &[u8], wanted: &str) -> Result<(), Fail> {
+    let Ok(table) = table_of_each_kind(alloc) else {
+        return out_of_memory_in("the table");
+    };
+    let Ok(words) = split_words(alloc, lines) else {
+        return out_of_memory_in("the list");
+    };
+    let mut text = String::with_capacity(alloc, 200)?;
+    match read_items(alloc, words, true, &table) {
+        Ok(items) => {
+            for item in items.iter() {
+                writeln!(text, "{item}")?;
+            }
+        }
+        Err(Error::OutOfMemory) => return out_of_memory_in("read_items"),
+        Err(error) => writeln!(text, "{error}")?,
+    }
+    if text.as_str() == wanted {
+        Ok(())
+    } else {
+        Err(Fail::new("read_items returned another result"))
+    }
+}
+
+#[test]
+fn whole_line(rt: HostRuntime) -> Result<(), Fail> {
+    check_reading(
+        rt.alloc(),
+        b"-vo=x\n--out\ny\n-c\n--n\xff\n--cmd\n1\n2\n3\n4\n5\n--\n-f",
+        "Short \"v\"\nShort \"o\" = \"x\"\nLong \"out\" = \"y\"\nShort \"c\"\nLong \"n\u{fffd}\"\nLong \"cmd\" = [\"1\", \"2\", \"3\", \"4\", \"5\"]\nValue \"-f\"\n",
+    )
+}
+
+#[test]
+fn line_without_a_value(rt: HostRuntime) -> Result<(), Fail> {
+    check_reading(
+        rt.alloc(),
+        b"-v\n--out",
+        "missing argument for option '--out'\n",
+    )
+}
+
+#[test]
+fn line_without_values(rt: HostRuntime) -> Result<(), Fail> {
+    check_reading(
+        rt.alloc(),
+        b"--cmd\n-v",
+        "missing argument for option '--cmd'\n",
+    )
+}
+
+#[test]
+fn line_with_an_unexpected_value(rt: HostRuntime) -> Result<(), Fail> {
+    check_reading(
+        rt.alloc(),
+        b"-v=1",
+        "unexpected argument for option '-v': \"1\"\n",
+    )
+}

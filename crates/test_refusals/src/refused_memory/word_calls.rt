@@ -1,0 +1,150 @@
+//! Words and arguments: copies, errors and conversions. Each call is made twice. At most one
+//! allocation fails, so at least one of the two calls has the expected result.
+use crate::refused_memory::{Outcome, check_outcome, out_of_memory_in};
+use lexopt::{Arg, Error, OsStr, OsString, ValueExt};
+use std::alloc::AllocError;
+use std::str::FromStr;
+use std::test::Fail;
+
+// How a call went that is expected to return the word of these bytes.
+fn word_outcome(word: Result<OsString, AllocError>, bytes: &[u8]) -> Outcome {
+    match word {
+        Ok(word) => Outcome::of(word.as_bytes() == bytes),
+        Err(_) => Outcome::OutOfMemory,
+    }
+}
+
+// How two such calls went.
+fn words_outcome(
+    first: Result<OsString, AllocError>,
+    second: Result<OsString, AllocError>,
+    bytes: &[u8],
+) -> Outcome {
+    word_outcome(first, bytes).and_again(word_outcome(second, bytes))
+}
+
+// The bytes of a text and of a view are copied whole, or memory runs out and there is no word.
+#[test]
+fn copied_bytes(rt: HostRuntime) -> Result<(), Fail> {
+    let alloc = rt.alloc();
+    let text = "\u{e9}";
+    let (first, second) = (
+        OsString::from_text(alloc, text),
+        OsString::from_text(alloc, text),
+    );
+    check_outcome(words_outcome(first, second, b"\xc3\xa9"), "from_text")?;
+    let view = OsStr::from_bytes(b"a\xff");
+    let (first, second) = (view.to_os_string(alloc), view.to_os_string(alloc));
+    check_outcome(words_outcome(first, second, b"a\xff"), "to_os_string")
+}
+
+// A value that was taken out of its word is copied without the bytes before it.
+#[test]
+fn copied_value(rt: HostRuntime) -> Result<(), Fail> {
+    let Ok(word) = OsString::from_bytes(rt.alloc(), b"--n=a\xff") else {
+        return out_of_memory_in("from_bytes");
+    };
+    let value = word.without_front(4);
+    check_outcome(
+        words_outcome(value.clone(), value.clone(), b"a\xff"),
+        "clone",
+    )
+}
+
+// How a call went that is expected to return the same argument.
+fn copy_outcome(copy: Result<Arg<'_>, AllocError>, argument: &Arg<'_>) -> Outcome {
+    match copy {
+        Ok(copy) => Outcome::of(copy == *argument),
+        Err(_) => Outcome::OutOfMemory,
+    }
+}
+
+#[test]
+fn copied_argument(rt: HostRuntime) -> Result<(), Fail> {
+    let Ok(word) = OsString::from_bytes(rt.alloc(), b"a\xff") else {
+        return out_of_memory_in("from_bytes");
+    };
+    let argument = Arg::Value(word);
+    let first = copy_outcome(argument.clone(), &argument);
+    let second = copy_outcome(argument.clone(), &argument);
+    check_outcome(first.and_again(second), "clone")
+}
+
+// How a call went that is expected to report this option as unexpected.
+fn unexpected_option(error: Error, of: &str) -> Outcome {
+    match error {
+        Error::UnexpectedOption(option) => Outcome::of(option.as_str() == of),
+        Error::OutOfMemory => Outcome::OutOfMemory,
+        _ => Outcome::Wrong,
+    }
+}
+
+#[test]
+fn unexpected_short_option(rt: HostRuntime) -> Result<(), Fail> {
+    let first = unexpected_option(Arg::Short('\u{e9}').unexpected(rt.alloc()), "-\u{e9}");
+    let second = unexpected_option(Arg::Short('\u{e9}').unexpected(rt.alloc()), "-\u{e9}");
+    check_outcome(first.and_again(second), "unexpected")
+}
+
+#[test]
+fn unexpected_long_option(rt: HostRuntime) -> Result<(), Fail> {
+    let first = unexpected_option(Arg::Long("name").unexpected(rt.alloc()), "--name");
+    let second = unexpected_option(Arg::Long("name").unexpected(rt.alloc()), "--name");
+    check_outcome(first.and_again(second), "unexpected")
+}
+
+// How a call went that is expected to refuse this word, which is not a number or not UTF-8.
+fn refused_word(error: Option<Error>, word: &OsString) -> Outcome {
+    match error {
+        Some(Error::ParsingFailed { value, .. }) => {
+            Outcome::of(word.to_str() == Some(value.as_str()))
+        }
+        Some(Error::NonUnicodeValue(copy)) => {
+            Outcome::of(word.to_str().is_none() && copy == *word)
+        }
+        Some(Error::OutOfMemory) => Outcome::OutOfMemory,
+        _ => Outcome::Wrong,
+    }
+}
+
+// Calls `parse` twice on a word that it refuses.
+fn parse_twice(word: &OsString) -> Outcome {
+    let first = refused_word(word.parse::<u8>().err(), word);
+    let second = refused_word(word.parse::<u8>().err(), word);
+    first.and_again(second)
+}
+
+// Calls `parse_with` twice on a word that it refuses.
+fn parse_with_twice(word: &OsString) -> Outcome {
+    let first = refused_word(word.parse_with(u8::from_str).err(), word);
+    let second = refused_word(word.parse_with(u8::from_str).err(), word);
+    first.and_again(second)
+}
+
+#[test]
+fn value_that_is_no_number(rt: HostRuntime) -> Result<(), Fail> {
+    let Ok(word) = OsString::from_bytes(rt.alloc(), b"1x") else {
+        return out_of_memory_in("from_bytes");
+    };
+    check_outcome(parse_twice(&word), "parse")?;
+    check_outcome(parse_with_twice(&word), "parse_with")
+}
+
+// Whether the error of `string` holds the word. It does not allocate.
+fn keeps_word(word: OsString, bytes: &[u8]) -> bool {
+    match word.string() {
+        Err(Error::NonUnicodeValue(word)) => word.as_bytes() == bytes,
+        _ => false,
+    }
+}
+
+#[test]
+fn value_that_is_no_text(rt: HostRuntime) -> Result<(), Fail> {
+    let Ok(word) = OsString::from_bytes(rt.alloc(), b"1\xff") else {
+        return out_of_memory_in("from_bytes");
+    };
+    check_outcome(parse_twice(&word), "parse")?;
+    check_outcome(parse_with_twice(&word), "parse_with")?;
+    assert!(rt; keeps_word(word, b"1\xff"));
+    Ok(())
+}
