@@ -17,7 +17,7 @@ use Rattle.lexopt_options_spec.proofs.Listed.{accepted_append}
 use Rattle.lexopt_laws.proofs.SomeAnswer.{nothing_read, one_more}
 
 -- where `next` returns this, it does not return an unexpected value
-no_value_there : (v w : UnreadLine) (r : Reply) → NextStep v r w → ((o x : List ℕ) → r ≡ steps.unexpected o x → ⊥) → (o x : List ℕ) (after : UnreadLine) → Next v (steps.unexpected o x) after → ⊥
+pub no_value_there : (v w : UnreadLine) (r : Reply) → NextStep v r w → ((o x : List ℕ) → r ≡ steps.unexpected o x → ⊥) → (o x : List ℕ) (after : UnreadLine) → Next v (steps.unexpected o x) after → ⊥
 no_value_there v w r step other o x after (inl again) = other o x (call_same next v r (steps.unexpected o x) w after step again).0
 no_value_there v w r step other o x after (inr refused) = let e : steps.unexpected o x ≡ steps.no_memory = refused.reply_is in cc
 
@@ -39,7 +39,7 @@ asks_first {d = d} {words = words} name i v w r k parsed asks within step after 
     }
 
 -- an option after others, which ask for nothing and have accepted values
-pub asks_then : {d : Declaration} {words : List (List ℕ)} {a : Asked} (before : List Parsed) (name : Name) (i : ℕ) (v w x : UnreadLine) (r : Reply) → ReadsUpTo d (start d.short_equals words) before v
+unfoldable pub asks_then : {d : Declaration} {words : List (List ℕ)} {a : Asked} (before : List Parsed) (name : Name) (i : ℕ) (v w x : UnreadLine) (r : Reply) → ReadsUpTo d (start d.short_equals words) before v
     → first_asked d.options before ≡ None → are_accepted d.options before ≡ true → kind (table d.options) name ≡ flag → parsed_item d.options (spec.option name None) ≡ Some (option i None)
     → asked_by d.options (option i None) ≡ Some a → IsWithin (positional_count before + 0) (most d.positionals) → NextStep v (option_reply name) w → NextStep w r x
     → ((o x : List ℕ) → r ≡ steps.unexpected o x → ⊥) → AskFor d words a
@@ -57,7 +57,7 @@ asks_then {d = d} {words = words} before name i v w x r read none accepted k par
     }
 
 -- the second option, after a flag that asks for nothing
-pub asks_second : {d : Declaration} {words : List (List ℕ)} {a : Asked} (first name : Name) (j i : ℕ) (v w x : UnreadLine) (r : Reply) → kind (table d.options) first ≡ flag
+unfoldable pub asks_second : {d : Declaration} {words : List (List ℕ)} {a : Asked} (first name : Name) (j i : ℕ) (v w x : UnreadLine) (r : Reply) → kind (table d.options) first ≡ flag
     → parsed_item d.options (spec.option first None) ≡ Some (option j None) → asked_by d.options (option j None) ≡ None → kind (table d.options) name ≡ flag
     → parsed_item d.options (spec.option name None) ≡ Some (option i None) → asked_by d.options (option i None) ≡ Some a → IsWithin 0 (most d.positionals)
     → NextStep (start d.short_equals words) (option_reply first) v → NextStep v (option_reply name) w → NextStep w r x → ((o x : List ℕ) → r ≡ steps.unexpected o x → ⊥) → AskFor d words a

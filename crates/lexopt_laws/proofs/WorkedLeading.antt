@@ -7,18 +7,20 @@ use Rattle.lexopt_spec.specs.Steps.{Next, next_word, no_word}
 use Rattle.lexopt_line_spec.specs.Readings.{first_flag, option_reply, start}
 use Rattle.lexopt_line_spec.proofs.RunAccounts.{step_line}
 use Rattle.lexopt_line_spec.specs.Table as spec
-use Rattle.lexopt_line_spec.specs.Table.{Item, Name, flag, short, kind}
+use Rattle.lexopt_line_spec.specs.Table.{Item, Name, flag, short, long, kind}
 use Rattle.lexopt_line_spec.specs.Spelling as lines
 use Rattle.lexopt_line_spec.specs.Spelling.{Spells, nothing, no_value, several_words, nothing_more, no_words, separator}
 use Rattle.lexopt_line_spec.proofs.Computing.{computing}
-use Rattle.lexopt_line_spec.proofs.Worked.{last_of, cluster_line, plain_line, plain_front_is, reads_first, reads_plain, some}
-use Rattle.lexopt_options_spec.specs.Declaration.{Declaration, is_sound, table}
-use Rattle.lexopt_options_spec.specs.Leading.{IsSplit, LeadingStopsAt, MeansLeading, StopsOptions, at_option, ends, lacks_option, positional}
+use Rattle.lexopt_line_spec.proofs.Worked.{last_of, cluster_line, plain_line, plain_front_is, reads_first, reads_name, reads_plain, some}
+use Rattle.lexopt_options_spec.specs.Asking.{AskFor}
+use Rattle.lexopt_options_spec.specs.Declaration.{Declaration, for_help, is_sound, table}
+use Rattle.lexopt_options_spec.specs.Leading.{AsksLeading, IsSplit, LeadingStopsAt, MeansLeading, StopsOptions, at_option, ends, lacks_option, positional}
 use Rattle.lexopt_options_spec.specs.Legal.{IsWithin, Parsed, most, option, positional_count, parsed_item, several}
 use Rattle.lexopt_options_spec.specs.Stops.{Mistake, missing_option, not_declared, unknown_option}
-use Rattle.lexopt_laws.specs.Sample.{demanding_sample, sample}
+use Rattle.lexopt_laws.specs.Sample.{asking_sample, demanding_sample, files, sample}
 use Rattle.lexopt_laws.proofs.Missing.{are_complete, is_first_missing}
 use Rattle.lexopt_laws.proofs.SomeAnswer.{nothing_read, one_more}
+use Rattle.lexopt_laws.proofs.WorkedAsking.{asks_first, asks_second, asks_then}
 
 word_same : (w v : List ℕ) (ws vs : List (List ℕ)) → w ∷ ws ≡ v ∷ vs → w ≡ v
 word_same w v ws vs is = cc
@@ -130,6 +132,25 @@ word_leads = record { split = word_alone; complete = are_complete (sample [] tru
 
 pub user_leads : MeansLeading (demanding_sample [] true) (codes "-u" ∷ codes "me" ∷ codes "a" ∷ []) (option 4 (Some (codes "me")) ∷ []) (codes "a" ∷ [])
 user_leads = record { split = user_then_word; complete = are_complete (demanding_sample [] true).options (option 4 (Some (codes "me")) ∷ []) refl; accepted = refl }
+
+-- `-v --help -z`
+pub flag_then_help : AsksLeading (asking_sample [] true) (codes "-v" ∷ codes "--help" ∷ codes "-z" ∷ []) for_help
+unfolding kind computing asks_second asks_then
+flag_then_help = record {
+  asks = asks_second (short 0x76) (long (codes "help")) 0 4 _ _ _ _ refl refl refl refl refl refl (lit≤ tt) (reads_first _ 0x76 [] (codes "--help" ∷ codes "-z" ∷ []) refl refl refl refl)
+      (reads_name _ 0x68 (codes "elp") (codes "-z" ∷ []) refl refl refl refl) (reads_first _ 0x7A [] [] refl refl refl refl) (λ o x is. cc);
+  alone = refl;
+}
+
+-- `--help --version`
+pub help_then_version : AskFor (asking_sample [] true) (codes "--help" ∷ codes "--version" ∷ []) for_help
+unfolding kind computing
+help_then_version = asks_first (long (codes "help")) 4 _ _ _ refl refl refl (lit≤ tt) (reads_name _ 0x68 (codes "elp") (codes "--version" ∷ []) refl refl refl refl)
+    (reads_name _ 0x76 (codes "ersion") [] refl refl refl refl) (λ o x is. cc)
+
+-- `a --help`
+pub word_then_help : IsSplit (asking_sample (files ∷ []) true) (codes "a" ∷ codes "--help" ∷ []) [] (codes "a" ∷ codes "--help" ∷ [])
+word_then_help = split_at [] (codes "a") (codes "--help" ∷ []) [] refl no_words (plain_line (codes "a") refl no_words) refl refl
 
 -- the options of the samples can be declared together
 pub sample_sound : is_sound (sample [] true).options ≡ true

@@ -1,13 +1,15 @@
 //! Worked examples of the leading options, before the first positional, and of the rest, under the
 //! options of `Sample`: v|verbose is a flag and x|exclude has several values. In some, u|user,
-//! which has one value, is required.
-ghost use Rattle.std.specs.Prelude.{◌∷◌, ℕ, [], List, None, Some, codes, true};
+//! which has one value, is required, and some ask for the help and the version.
+ghost use Rattle.std.specs.Prelude.{◌≡◌, ◌∷◌, ℕ, [], List, None, Some, codes, true};
 ghost use Rattle.lexopt_spec.specs.UnreadLine.{no_tail};
 ghost use Rattle.lexopt_line_spec.specs.Table.{short};
-ghost use Rattle.lexopt_options_spec.specs.Leading.{IsSplit, LeadingStopsAt, MeansLeading};
+ghost use Rattle.lexopt_options_spec.specs.Declaration.{Asked, for_help};
+ghost use Rattle.lexopt_options_spec.specs.Leading.{AsksLeading, IsSplit, LeadingStopsAt};
+ghost use Rattle.lexopt_options_spec.specs.Leading.{MeansLeading};
 ghost use Rattle.lexopt_options_spec.specs.Legal.{Parsed, option, positional, several};
 ghost use Rattle.lexopt_options_spec.specs.Stops.{Mistake, missing_option, unknown_option};
-ghost use Rattle.lexopt_laws.specs.Sample.{demanding_sample, sample};
+ghost use Rattle.lexopt_laws.specs.Sample.{asking_sample, demanding_sample, files, sample};
 
 /// The rest begins with the first positional. The separator ends the options and is not part of the
 /// rest. An option of several values takes the words that it takes in a whole line. What comes
@@ -61,4 +63,16 @@ pub fn leading_options_mean_so()
         (unknown_option (short 0x71) no_tail) }
     ensures not_with_a_mistake { (l : List Parsed) (rest : List (List ℕ)) → MeansLeading (sample [] true)
         (codes "-v" ∷ codes "-q" ∷ codes "a" ∷ []) l rest → ⊥ }
+{}
+
+/// The leading options ask for what the first of them that asks for anything asks for, whatever
+/// comes after it. An option after the first positional asks for nothing, although it does in a
+/// whole line.
+pub fn leading_options_ask_so()
+    ensures before_a_mistake { AsksLeading (asking_sample [] true)
+        (codes "-v" ∷ codes "--help" ∷ codes "-z" ∷ []) for_help }
+    ensures for_the_first { (a : Asked) → AsksLeading (asking_sample [] true)
+        (codes "--help" ∷ codes "--version" ∷ []) a → a ≡ for_help }
+    ensures not_after_a_word { (a : Asked) → AsksLeading (asking_sample (files ∷ []) true)
+        (codes "a" ∷ codes "--help" ∷ []) a → ⊥ }
 {}
