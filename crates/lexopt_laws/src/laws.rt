@@ -33,8 +33,9 @@ ghost use Rattle.lexopt_spec.specs.Views.{Stage, TakesIf, ValueItem, ValueItems,
 ghost use Rattle.lexopt_spec.specs.Views.{WordItems, at_end, available, going_on, plain_front};
 ghost use Rattle.lexopt_spec.specs.Views.{values_left};
 
-/// The first piece that the definitions compute is the one that table 3-7 of the Unicode Standard
-/// allows, read for all prefixes of the bytes; and no other piece is.
+/// The first piece of some bytes, which the definitions compute, is one that table 3-7 of the
+/// Unicode Standard allows, if there is at least one byte. The table allows no other: not with
+/// other bytes, and not with another character.
 pub fn first_piece_is_by_the_table(bytes: &[u8])
     ensures by_the_table { 0 < length bytes.now
         → IsFirstPiece bytes.now (length (first_piece bytes.now).bytes)
@@ -44,15 +45,16 @@ pub fn first_piece_is_by_the_table(bytes: &[u8])
         × (char ≡ (first_piece bytes.now).char) }
 {}
 
-/// The pieces of some bytes are the first piece, and then the pieces of the bytes after it.
+/// If there are no bytes, there are no pieces. The pieces of any other bytes are the first piece
+/// and then the pieces of the bytes after it.
 pub fn pieces_are_in_a_row(bytes: &[u8])
     ensures none { bytes.now ≡ [] → pieces bytes.now ≡ [] }
     ensures more { 0 < length bytes.now
         → pieces bytes.now ≡ first_piece bytes.now ∷ pieces (after_first_piece bytes.now) }
 {}
 
-/// While there is memory, each call has exactly one result: a reply, and a line after it. That
-/// holds for each line that a parser can be, and for each list of calls.
+/// If memory does not run out, each call on a line that a parser can have gives exactly one reply
+/// and leaves exactly one line. The same holds for each list of calls.
 pub fn each_call_has_one_answer()
     ensures some_answer { (call : Call) (u : UnreadLine) → IsLine u → (r : Reply) × (v : UnreadLine)
         × StepWithMemory call u r v }
@@ -66,8 +68,10 @@ pub fn each_call_has_one_answer()
         → ¬ IsAmong replies no_memory → ¬ IsAmong others no_memory → (replies ≡ others) × (v ≡ w) }
 {}
 
-/// A call that runs out of memory leaves the line as it was. It runs out of memory only in place of
-/// a long option, or of an error that names an option, so some calls never do.
+/// A call that runs out of memory leaves the line as it was. With enough memory, the same call
+/// returns a long option, or an error that names an option. `optional_value`, `try_raw_args` and
+/// `set_short_equals` never run out of memory. Nor does `raw_args` if no value is pending, or
+/// `values` if at least one value is available.
 pub fn some_calls_are_never_refused()
     ensures only { (call : Call) (u v : UnreadLine) → Step call u no_memory v → (v ≡ u)
         × ((r : Reply) × (w : UnreadLine) × StepWithMemory call u r w
@@ -84,8 +88,10 @@ pub fn some_calls_are_never_refused()
         → ⊥ }
 {}
 
-/// A line has a tail only if it has a last option, and never after the separator. That holds at the
-/// start, and after each call and each item of a view, even if memory runs out.
+/// A line that a parser can have has a tail only if it has a last option and its separator has not
+/// been read, and a tail that is the rest of a cluster is not empty. A new line is such a line,
+/// under either setting of `short_equals`. A line stays one after each call, each list of calls,
+/// each item of a view and each `next_if`, even if memory runs out.
 pub fn lines_stay_lines()
     ensures start { (words : List (List ℕ)) (on : Bool)
         → IsLine (record (fresh words) { short_equals = on }) }
@@ -103,9 +109,10 @@ pub fn lines_stay_lines()
         → TakesIf (λ word parsed. parsed ≡ answer) u item v → IsLine v }
 {}
 
-/// What no rule names stays as it was: the binary name always; `short_equals`, unless the call sets
-/// it; the last option, unless the reply is an option, which is then the last option. Once the
-/// separator was read that stays so, and only `next` reads it.
+/// No call changes the binary name. `set_short_equals` sets `short_equals`, and no other call
+/// changes it. A call whose reply is not an option does not change the last option; if `next`
+/// returns an option, that is the last option from then on. Once the separator has been read, it
+/// stays read. Only `next` reads it.
 pub fn other_parts_stay()
     ensures bin_name { (call : Call) (u v : UnreadLine) (r : Reply) → Step call u r v
         → v.bin_name ≡ u.bin_name }
@@ -123,7 +130,9 @@ pub fn other_parts_stay()
         → call ≢ next → v.ended ≡ u.ended }
 {}
 
-/// The words that can be values are the longest prefix of plain words, and no other prefix.
+/// The test whether a word is plain, which the definitions compute, is true for exactly the plain
+/// words. The words that `values` can take are the longest prefix of the unread words in which each
+/// word is plain. There is only one such prefix.
 pub fn plain_words_are_the_longest_front()
     ensures test { (ended : Bool) (w : List ℕ) → (is_plain ended w ≡ true → IsPlain ended w)
         × (IsPlain ended w → is_plain ended w ≡ true) }
@@ -133,9 +142,13 @@ pub fn plain_words_are_the_longest_front()
         → IsPlainFront ended words front after → plain_front ended words ≡ front }
 {}
 
-/// A view that is asked for an item has exactly one result. Items that are asked for one by one are
-/// those of the call that asks for as many. If fewer items came, all came. What comes is the first
-/// of what is left. Once no item came, none comes and nothing changes.
+/// A view that is asked for an item has exactly one result, and leaves exactly one line. A value
+/// that a view yields is the first of the values that were left, and the others are left after it.
+/// If a view of values yields nothing, the line stays as it was, and the view never yields anything
+/// again. If a view is asked for n items one by one, these are the items of one call with n items,
+/// and the line after them is the same, provided that `values` has a value available, or that
+/// nothing is pending for `raw_args` and `try_raw_args`. If `values` with n items gives fewer than
+/// n, it has given all values that were available.
 pub fn items_make_the_call()
     ensures some_value { (stage : Stage) (u : UnreadLine) → (item : Option (List ℕ))
         × (v : UnreadLine) × (now : Stage) × ValueItem stage u item v now }
@@ -164,10 +177,11 @@ pub fn items_make_the_call()
         → WordItems n u came v → StepWithMemory (try_raw n) u (items came) v }
 {}
 
-/// `try_raw_args` returns no view if and only if `optional_value` returns a value. After `raw_args`
-/// refused a value, none is pending. A view that is not asked changes nothing. There are values for
-/// `values` if and only if a value is pending or the next word is normal, and then its view gives
-/// an item when it is first asked.
+/// `try_raw_args` returns no view if and only if `optional_value` would return a value. After
+/// `raw_args` has refused a value, none is pending. A view of `values` or of `try_raw_args` that is
+/// asked for nothing leaves the line as it was. `values` has a value available if and only if a
+/// value is pending or the next word is plain. In that case the first item that its view yields is
+/// a value.
 pub fn views_agree()
     ensures busy { (n : ℕ) (u v : UnreadLine) → StepWithMemory (try_raw n) u busy v
         → (value : List ℕ)
@@ -187,9 +201,12 @@ pub fn views_agree()
         → ValueItem going_on u None v now → ⊥ }
 {}
 
-/// Whatever is called, under either setting of `short_equals`, and even if memory runs out: each
-/// byte is in one segment or unread, in order; the replies hand out what the segments show; and the
-/// words left are a suffix.
+/// These hold for each list of calls, under either setting of `short_equals`, and even if memory
+/// runs out. The bytes of the line at the start are those of the segments that the calls read, in
+/// order, followed by the unread bytes. The bytes that the replies hand out are those that the
+/// segments show. The words left are a suffix of the words at the start. If the reply to a call is
+/// not an option, its values and words are exactly the given segments of that call. With enough
+/// memory, a call on a line has only one list of segments.
 pub fn no_byte_is_lost()
     ensures bytes { (u v : UnreadLine) (calls : List Call) (replies : List Reply)
         (run : Run u calls replies v)
@@ -208,9 +225,10 @@ pub fn no_byte_is_lost()
         → (gone : List (List ℕ)) × (u.words ≡ gone ++ v.words) }
 {}
 
-/// A prefix of a list of calls is a part of the list, also with some items of the next call, but
-/// never with more items than that asks for. There are no other parts. The words that a part leaves
-/// are a suffix.
+/// The line that a part of a list of calls leaves is the one that some prefix of the calls leaves,
+/// or the one that the prefix and then the next call leave, where the next call may be asked for
+/// fewer items than the list says, and never gives more. Each line of that sort is the line that a
+/// part leaves. The words left after a part are a suffix of the words at the start.
 pub fn calls_cut_short_are_a_part()
     ensures front { (u v : UnreadLine) (calls more : List Call) (replies : List Reply)
         → Run u calls replies v → Part u (calls ++ more) v }
@@ -232,9 +250,10 @@ pub fn calls_cut_short_are_a_part()
         × (u.words ≡ gone ++ v.words) }
 {}
 
-/// The words bound what a run returns. So `next` reaches the end, whatever is called between: if it
-/// is called more often than the bound, not counting calls that run out of memory, one call returns
-/// the end.
+/// Whatever is called, the options, positionals, values and words in the replies are at most as
+/// many as the bound of the line at the start, less the bound of the line at the end. If `next` is
+/// called more often than the bound at the start, not counting calls that run out of memory, one of
+/// these calls returns the end of the line.
 pub fn replies_are_bounded()
     ensures bounded { (u v : UnreadLine) (calls : List Call) (replies : List Reply)
         → Run u calls replies v
@@ -244,9 +263,11 @@ pub fn replies_are_bounded()
         → IsAmong (next_replies calls replies) end }
 {}
 
-/// A cluster without a `=` after its first byte, or with `short_equals` false, is read by one call
-/// of `next` for each of its pieces: each returns the lossy character of its piece, and memory
-/// never runs out.
+/// Let nothing be pending, let the separator not have been read, and let the next word be a
+/// cluster. If `short_equals` is false, or the cluster has no `=` after its first byte, then one
+/// call of `next` for each piece of the cluster returns the lossy character of that piece as a
+/// short option, and no such call runs out of memory. After these calls nothing is pending, and
+/// exactly that word is gone. There are as many lossy characters as pieces, whatever the bytes are.
 pub fn clusters_are_read_by_pieces()
     ensures run { (u v : UnreadLine) (b : ℕ) (bs : List ℕ) (words : List (List ℕ))
         (replies : List Reply)
@@ -258,9 +279,9 @@ pub fn clusters_are_read_by_pieces()
     ensures as_many { (bytes : List ℕ) → length (lossy_characters bytes) ≡ length (pieces bytes) }
 {}
 
-/// A whole line read by a table: a reading that reaches the end gives what the words show. If words
-/// show something, a reading gives it, and every reading reaches the end and gives it; so no
-/// reading ends in an error.
+/// If a reading of some words by a table reaches the end of the line, the words show the items that
+/// it gives. If words show a list of items, some reading gives that list, and every reading reaches
+/// the end and gives that list. So no reading of such words ends in an error.
 pub fn readings_mean_what_words_show()
     ensures parsed { (t : Table) (short_equals : Bool) (words : List (List ℕ)) (l : List Item)
         → IsReading t (start short_equals words) end l → Shows t short_equals words l }
@@ -272,8 +293,8 @@ pub fn readings_mean_what_words_show()
         → Shows t short_equals words l → IsReading t (start short_equals words) end l }
 {}
 
-/// Under every table, each line that a parser can be has a reading, to the end or to an error.
-/// Every other reading of the line ends in the same way and gives the same items.
+/// Under each table, each line that a parser can have has a reading, which ends at the end of the
+/// line or in an error. All readings of a line end in the same way and give the same items.
 pub fn each_line_has_one_reading()
     ensures some_reading { (t : Table) (u : UnreadLine) → IsLine u
         → (final : Reply) × (l : List Item) × IsReading t u final l }
@@ -281,13 +302,14 @@ pub fn each_line_has_one_reading()
         → IsReading t u final l → IsReading t u other m → (final ≡ other) × (l ≡ m) }
 {}
 
-/// Words show at most one list of items.
+/// Under each table and each setting of `short_equals`, words show at most one list of items.
 pub fn words_show_one_list()
     ensures { (t : Table) (short_equals : Bool) (words : List (List ℕ)) (l m : List Item)
         → Shows t short_equals words l → Shows t short_equals words m → l ≡ m }
 {}
 
-/// Words show what they spell; and they spell what they show if no option has U+FFFD in its name.
+/// Words show every list of items that they spell. They spell every list that they show, if no
+/// option in the list has U+FFFD in its name.
 pub fn whole_names_are_spelled()
     ensures shows { (t : Table) (short_equals : Bool) (words : List (List ℕ)) (l : List Item)
         → Spells t short_equals words l → Shows t short_equals words l }
@@ -295,8 +317,9 @@ pub fn whole_names_are_spelled()
         → Shows t short_equals words l → HaveWholeNames l → Spells t short_equals words l }
 {}
 
-/// Under a table without options of optional or several values, the rules for such tables mean the
-/// same as the rules for all tables.
+/// `lexopt_laws` has rules of its own for tables in which each option is a flag or has one value.
+/// By these rules, words spell the same lists of items as by the rules for all tables, and show the
+/// same lists.
 pub fn one_value_tables_agree()
     ensures spelled { (t : OneValueTable) (short_equals : Bool) (words : List (List ℕ))
         (l : List Item)
@@ -308,8 +331,8 @@ pub fn one_value_tables_agree()
         × (Shows (widened t) short_equals words l → OneValueShows t short_equals words l) }
 {}
 
-/// Each list of items has exactly one result: words, or an item that cannot be spelled and a
-/// reason.
+/// Each list of items has exactly one result: either the words that the rules of `spell` choose, or
+/// an item that cannot be spelled and a reason.
 pub fn items_have_one_answer()
     ensures some { (t : Table) (short_equals : Bool) (l : List Item)
         → ((words : List (List ℕ)) × SpelledAs t short_equals l words)
@@ -322,7 +345,8 @@ pub fn items_have_one_answer()
         (f : Fault) → SpelledAs t short_equals l words → HasFault t short_equals l f → ⊥ }
 {}
 
-/// What the definitions compute in the worked examples is that result.
+/// What the definitions compute for a list of items, and the worked examples show, is exactly the
+/// result that the rules of `spell` describe: the same words, or the same item and reason.
 pub fn tables_compute_the_answer()
     ensures words { (t : Table) (short_equals : Bool) (l : List Item) (words : List (List ℕ))
         → (SpelledAs t short_equals l words → spelled t short_equals l ≡ Ok words)
@@ -332,9 +356,10 @@ pub fn tables_compute_the_answer()
         × (spelled t short_equals l ≡ Err f → HasFault t short_equals l f) }
 {}
 
-/// If some words spell the items, or show them, the items have a form (`SpelledAs`), which spells
-/// them. Otherwise exactly one item is at fault: those before it can be spelled, and with it they
-/// cannot.
+/// The words that the rules of `spell` choose for some items spell these items. If any words show
+/// the items, the rules choose words for them. If the rules name an item, it is the item at fault:
+/// some words spell the items before it, and no words spell these items and it. At most one item is
+/// at fault, and if one is, no words spell the whole list.
 pub fn items_are_spelled_or_one_is_at_fault()
     ensures spells { (t : Table) (short_equals : Bool) (words : List (List ℕ)) (l : List Item)
         → SpelledAs t short_equals l words → Spells t short_equals words l }
@@ -350,18 +375,19 @@ pub fn items_are_spelled_or_one_is_at_fault()
         → IsAtFault t short_equals l i → Spells t short_equals words l → ⊥ }
 {}
 
-/// If the same words spell the items under both settings of `short_equals`, the result is the same
-/// under both.
+/// If there are words that spell the items under both settings of `short_equals`, the rules of
+/// `spell` choose the same words for the items under both settings.
 pub fn both_settings_have_one_form()
     ensures { (t : Table) (words : List (List ℕ)) (l : List Item) → Spells t true words l
         → Spells t false words l
         → (others : List (List ℕ)) × SpelledAs t true l others × SpelledAs t false l others }
 {}
 
-/// The reason of an item at fault is about the item or about its place. If it is about the item, no
-/// words spell a list with that item. If it is about its place, some words spell the item right
-/// after any flag of one character but `-`. If it is the separator, no option can be spelled at
-/// that place.
+/// The reasons `PastSeparator` and `DashWithoutFlag` are about the place of the item at fault: some
+/// words spell the item right after a flag of one character, whichever flag other than `-` that is.
+/// Every other reason is about the item itself: no words spell any list that has the item in it. If
+/// the reason is `PastSeparator`, no words spell the items before the one at fault and then an
+/// option, whichever option that is.
 pub fn reasons_are_of_the_item_or_of_its_place()
     ensures item { (t : Table) (short_equals : Bool) (l : List Item) (f : Fault) (it : Item)
         (others : List Item) → HasFault t short_equals l f

@@ -18,8 +18,10 @@ ghost use Rattle.lexopt_options_spec.specs.Places.{refused_word, takes_at};
 ghost use Rattle.lexopt_options_spec.specs.Stops.{Mistake, StopsAt, invalid_argument};
 ghost use Rattle.lexopt_laws.specs.ListedValues.{IsFirstOutside, IsFirstRefused, values_of};
 
-/// Words mean at most one list, and their reading stops at most at one mistake, and not both. If
-/// the options can be declared together, one of the two holds.
+/// By a declaration, words mean at most one list. There is at most one mistake at which the reading
+/// of the words stops, and at most one list that is read before it. Words that mean a list have no
+/// such mistake. If the options can be declared together, words either mean a list or have such a
+/// mistake.
 pub fn each_line_means_something_or_stops()
     ensures some { (d : Declaration) (words : List (List ℕ)) → is_sound d.options ≡ true
         → ((l : List Parsed) × Means d words l)
@@ -32,10 +34,10 @@ pub fn each_line_means_something_or_stops()
         → Means d words l → StopsAt d words k m → ⊥ }
 {}
 
-/// A line asks for at most one thing. If its words mean a list, it asks only for what the first
-/// option in the list that asks for anything asks for. If its reading stops at a mistake, the same
-/// holds for what was read before that, without an option that has an unexpected value. So a line
-/// that asks is neither read as a list that asks for nothing nor refused after nothing asked.
+/// A line asks for at most one thing, such as the help. If the line means a list, it can only ask
+/// for what the first option in that list that asks for anything asks for. If its reading stops at
+/// a mistake, it can only ask for what the first such option before the mistake asks for, where an
+/// option with an unexpected value does not count.
 pub fn each_line_asks_for_one_thing()
     ensures one_asked { (d : Declaration) (words : List (List ℕ)) (a b : Asked)
         → AskFor d words a → AskFor d words b → a ≡ b }
@@ -46,9 +48,10 @@ pub fn each_line_asks_for_one_thing()
         → first_asked d.options (parsed_before m l) ≡ Some a }
 {}
 
-/// Each of some options that can be declared together accepts some value, whatever list it has. So
-/// each can occur in a legal line, whichever options are required, if each has a name, names are
-/// text, and the lists of the positionals can be declared.
+/// If some options can be declared together, each of them accepts some value. If, besides, each
+/// option has a name, the names are text, and the lists of the positionals can be declared, then
+/// for each name of an option there is a legal line in which the first option with that name
+/// occurs, whichever options are required.
 pub fn each_option_can_occur()
     ensures value { (options : List Declared) (o : Declared) → is_sound options ≡ true
         → Contains options o → (value : List ℕ) × (accepts o.words value ≡ true) }
@@ -59,8 +62,9 @@ pub fn each_option_can_occur()
         → (words : List (List ℕ)) × (l : List Parsed) × Means d words l × (occurs i l ≡ true) }
 {}
 
-/// An option with a list refuses the first of its values that is not in the list; it refuses none
-/// if and only if each is in the list. An option without a list refuses none.
+/// If an option that was read has a list, the value that it refuses is the first of its values that
+/// is not in the list. It refuses no value if and only if each of its values is in the list. An
+/// option without a list refuses no value.
 pub fn the_first_value_outside_a_list_is_refused()
     ensures refused { (options : List Declared) (o : Declared) (i : ℕ) (list : List (List ℕ))
         (s : Parsed) (value : List ℕ) → slice_get options i ≡ Some o → o.words ≡ listed list
@@ -81,9 +85,9 @@ pub fn the_first_value_outside_a_list_is_refused()
         → is_option i s ≡ true → refused_value options s ≡ None }
 {}
 
-/// If words belong to positionals, the refused word is the first that its positional does not
-/// accept. That positional has a list, and the word is not in it. If no word is refused, each
-/// positional accepts its words.
+/// If words belong to certain positionals, the word that is refused is the first that its
+/// positional does not accept. No word is refused if and only if each positional accepts its words.
+/// A positional that refuses a word has a list, and the word is not in that list.
 pub fn the_first_word_outside_a_list_is_refused()
     ensures first { (ps : List Positional) (places : List ℕ) (words : List (List ℕ)) (i : ℕ)
         (word : List ℕ) → refused_word ps places words ≡ Some (i, word)
@@ -103,10 +107,10 @@ pub fn the_first_word_outside_a_list_is_refused()
         → refused_word ps places words ≡ None }
 {}
 
-/// In a legal line each word of a positional with a list is in the list, and no word is refused. If
-/// words mean something, enough of them are positionals, and each option accepts its values, the
-/// reading of the line stops at the first word that is refused, whichever required options are
-/// missing.
+/// In a legal line each word that belongs to a positional with a list is in that list, so no word
+/// is refused. The reading of a line stops at the first word that is refused, if the options can be
+/// declared together, the words spell declared options that accept their values, and there are
+/// neither too few nor too many positionals. This holds even if required options are missing.
 pub fn legal_lines_have_words_in_lists()
     ensures in_lists { (d : Declaration) (words : List (List ℕ)) (l : List Parsed)
         (places : List ℕ) (n i : ℕ) (word : List ℕ) (p : Positional) (list : List (List ℕ))
@@ -123,10 +127,10 @@ pub fn legal_lines_have_words_in_lists()
         → StopsAt d words l (invalid_argument i word) }
 {}
 
-/// Words belong to the positionals of a declaration in exactly one way. If there are at least as
-/// many words as are required, and at most as many as are allowed, each positional has a share of
-/// them, and there is one list of shares. If there are at most as many as are allowed, each word
-/// has a place, even if some are missing, and there is one list of places.
+/// If there are at least as many words as the positionals require, and at most as many as they
+/// allow, there is exactly one way to say how many of the words belong to each positional. If there
+/// are at most as many words as the positionals allow, there is exactly one way to say which
+/// positional each word belongs to, even if required ones are missing.
 pub fn words_belong_to_one_positional()
     ensures some { (ps : List Positional) (n : ℕ) → least ps ≤ n → IsWithin n (most ps)
         → (shares : List ℕ) × AreShares ps n shares }
@@ -138,8 +142,8 @@ pub fn words_belong_to_one_positional()
         → ArePlaces ps n places → ArePlaces ps n others → places ≡ others }
 {}
 
-/// There is at most one list of the positionals that a word can belong to, by its index and by its
-/// role: each that it can belong to and no other, in the order of the declaration.
+/// There is at most one list of the positionals that the word at an index can belong to, and at
+/// most one list of those that a word with a certain role can belong to.
 pub fn words_can_belong_to_one_list_of_positionals()
     ensures no_other { (ps : List Positional) (n : ℕ) (owners others : List ℕ)
         → AreOwners ps n owners → AreOwners ps n others → owners ≡ others }
@@ -147,8 +151,9 @@ pub fn words_can_belong_to_one_list_of_positionals()
         → AreOwnersIn ps role owners → AreOwnersIn ps role others → owners ≡ others }
 {}
 
-/// Words have at most one list of leading options and one rest. If the options can be declared
-/// together, and their reading stops at a mistake, the words have none.
+/// There is at most one way to split words into leading options and a rest. If the options can be
+/// declared together, and the reading of the leading options stops at a mistake, then the words do
+/// not mean any leading options and rest.
 pub fn words_have_one_list_of_leading_options()
     ensures one { (d : Declaration) (words : List (List ℕ)) (l m : List Parsed)
         (rest others : List (List ℕ)) → IsSplit d words l rest → IsSplit d words m others

@@ -12,8 +12,9 @@ ghost use Rattle.lexopt_options_spec.specs.Help.{columns, gap, help_column, labe
 ghost use Rattle.lexopt_options_spec.specs.Help.{line_feed};
 ghost use Rattle.lexopt_options_spec.specs.Help.{usage_column};
 
-/// The test that the prover computes holds for exactly the options that can be declared together,
-/// if their names are text, as each `char` and `&str` is.
+/// The prover computes a test for the options that `Options::new` is given. If the names of the
+/// options are text, as each `char` and each `&str` is, this test holds if and only if the options
+/// can be declared together.
 pub fn declarable_options_are_sound()
     ensures sound { (options : List Declared) → AreText options → can_be_declared options ≡ true
         → is_sound options ≡ true }
@@ -21,9 +22,10 @@ pub fn declarable_options_are_sound()
         → can_be_declared options ≡ true }
 {}
 
-/// What the help shows can be typed. If the options can be declared together, each form that a
-/// label shows, with the placeholder as the value, is legal under either setting of `short_equals`,
-/// and means that option with the placeholder as its value.
+/// What the help shows can be typed. If the options can be declared together, and the names of an
+/// option are text, then the words of each form that its label shows, with the placeholder as the
+/// value, legally spell that form's item and nothing else, under either setting of `short_equals`.
+/// The item is the option, with the placeholder as its value unless the form has no value.
 pub fn labels_are_spelled()
     ensures { (options : List Declared) (o : Declared) (short_equals : Bool)
         (shown : List ℕ) (words : List (List ℕ)) (item : Item)
@@ -31,16 +33,17 @@ pub fn labels_are_spelled()
         → LabelForm o shown words item → Spells (table options) short_equals words (item ∷ []) }
 {}
 
-/// The text by which a label shows a form is part of the label.
+/// The text by which a label shows a form is part of that label.
 pub fn labels_show_forms()
     ensures { (o : Declared) (shown : List ℕ) (words : List (List ℕ)) (item : Item)
         → LabelForm o shown words item
         → (before : List ℕ) × (after : List ℕ) × (label o ≡ before ++ shown ++ after) }
 {}
 
-/// A label shows the names of its option and nothing else: the character alone; the long name
-/// alone, after four blanks; or both, with a comma and a blank between them. The text for each name
-/// shows all that the option can spell by that name, with the placeholder as the value.
+/// The label of an option with a character alone is the text for the character. With a long name
+/// alone, it is four blanks and the text for that name. With both, it is the text for the
+/// character, a comma, a blank, and the text for the long name. The text for a name shows all that
+/// the option can spell by that name without a value, or with the placeholder as its only value.
 pub fn labels_show_their_names()
     ensures short { (o : Declared) (c : ℕ) → o.short_name ≡ Some c → o.long_name ≡ None
         → ShowsName o (short c) (label o) }
@@ -53,7 +56,7 @@ pub fn labels_show_their_names()
         × (label o ≡ first ++ codes ", " ++ second) }
 {}
 
-/// For each width a declaration has exactly one usage line and exactly one help.
+/// For each width, a declaration has exactly one usage line and exactly one help.
 pub fn each_declaration_has_one_help()
     ensures some_usage { (d : Declaration) (width : ℕ) → (text : List ℕ) × IsUsage width d text }
     ensures no_other_usage { (d : Declaration) (width : ℕ) (text other : List ℕ)
@@ -63,10 +66,11 @@ pub fn each_declaration_has_one_help()
         → IsHelp d width other → text ≡ other }
 {}
 
-/// The words on a line end within the width, unless they are one word. The words of the usage line
-/// begin at its column, those of a paragraph (what the program does, or a part of the epilogue) at
-/// column 0, and those of the help text of an option or a positional at its column: beside the
-/// label, after at least two blanks, or below it. This holds if no line feed is among the words.
+/// The words on a line of the usage line end within the width, if they begin at column 7, and so do
+/// those on a line of a paragraph, if they begin at column 0, and those on a line of a help text,
+/// if they begin at the column of help texts. A line that is one word may be wider. A help text
+/// begins at its column: on the line of its label if at least two blanks then come between them,
+/// and otherwise on the next line. A line feed inside a word is not counted as the end of a line.
 pub fn lines_are_in_columns()
     ensures usage { (width : ℕ) (d : Declaration) (text : List ℕ) (u : IsUsage width d text)
         (line : Line) → Contains u.lines line
