@@ -65,8 +65,9 @@ OF_ERRORS = (
     "for each line."
 )
 OF_EMPTY_WORDS = (
-    "A word that is taken leaves an empty word in its place, which is written, and dropped at the end: some 10 instructions. The "
-    "owning iterator of a `Vec` would leave none, but that of Rattle's std cannot lend the unread words as one slice."
+    "A word that is taken leaves an empty word in its place, which is written, and dropped at the end. This costs some 10 "
+    "instructions. The owning iterator of a `Vec` would leave no word, but that of Rattle's std cannot lend the unread words as "
+    "one slice."
 )
 
 
