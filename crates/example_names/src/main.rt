@@ -1,14 +1,14 @@
-//! Shows what it is called with: `example_names [-v|--verbose] [-o|--output=FILE] [FILE]..`.
+//! Prints the options and files that it is called with.
 #![tactic(auto)]
 
 use lexopt_base::prelude::{Long, Short, Value};
 use lexopt_base::{Error, OsString, Parser};
 use std::env::Env;
+use std::io;
 use std::process::ExitCode;
 
 const HELP: &str = "Usage: example_names [-v|--verbose] [-o|--output=FILE] [FILE]..";
 
-// A file name may be of any bytes.
 #[derive(Debug, Drop)]
 struct Options {
     verbose: bool,
@@ -16,7 +16,7 @@ struct Options {
     files: Vec<OsString>,
 }
 
-// What the program was called with, or nothing where help is asked for.
+// The options, or nothing if help is asked for.
 fn read_options(rt: &(impl Env + AllocGlobal)) -> Result<Option<Options>, Error> {
     let mut parser = Parser::from_env_os(rt, rt.alloc())?;
     let mut options = Options {
@@ -37,21 +37,15 @@ fn read_options(rt: &(impl Env + AllocGlobal)) -> Result<Option<Options>, Error>
     Ok(Some(options))
 }
 
-fn main(rt: HostRuntime) -> ExitCode {
-    let printed = match read_options(&rt) {
-        Ok(Some(options)) => println!(rt; "{options:?}"),
-        Ok(None) => rt.println(HELP),
+fn main(rt: HostRuntime) -> io::Result<ExitCode> {
+    match read_options(&rt) {
+        Ok(Some(options)) => println!(rt; "{options:?}")?,
+        Ok(None) => rt.println(HELP)?,
         Err(error) => {
             let _ = eprintln!(rt; "example_names: {error}");
             let _ = eprintln!(rt; "Try 'example_names --help' for more information.");
-            return ExitCode::from(2);
-        }
-    };
-    match printed {
-        Ok(()) => ExitCode::SUCCESS,
-        Err(error) => {
-            let _ = eprintln!(rt; "example_names: {error}");
-            ExitCode::FAILURE
+            return Ok(ExitCode::from(2));
         }
     }
+    Ok(ExitCode::SUCCESS)
 }

@@ -1,4 +1,4 @@
-//! Prints what it is called with: `example_pack [-v|--verbose] [-o|--output=FILE] [FILE]..`.
+//! Prints the options and files that it is called with.
 #![tactic(auto)]
 
 use lexopt_options::{Answer, Declaration, Names, Options, OsString, Parsed, USAGE_ERROR, declare};
@@ -21,12 +21,11 @@ enum Word {
 }
 
 static DECLARATION: Declaration<'static, Flag, Value, Word> = declare! {
-    program: "pack",
+    program: "example_pack",
     options: [
         flag(Flag::Verbose, Names::Both('v', "verbose"), "tell more"),
         value(Value::Output, Names::Both('o', "output"), "FILE", "the archive"),
         help(Names::Both('h', "help")),
-        version(Names::Long("version"), "pack 1.0"),
     ],
     positionals: [any_number(Word::File, "FILE")],
 };

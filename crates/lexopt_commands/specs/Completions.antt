@@ -13,7 +13,8 @@ use Rattle.lexopt_options.specs.declared.leading.Leading.{Leading}
 use Rattle.lexopt_options.specs.declared.leading.Leading.TheVariants as leading
 use Rattle.lexopt_options.specs.declared.request.Request.TheVariants as request
 use Rattle.lexopt_options.specs.declared.parsed.Parsed.{Parsed}
-use Rattle.lexopt_options.specs.Answers.{IsCompletionText, on_one_line}
+use Rattle.lexopt_declaration.specs.Texts.{on_one_line}
+use Rattle.lexopt_options.specs.Answers.{IsCompletionText}
 use Rattle.lexopt_options.specs.Completions.{HasPositional}
 use Rattle.lexopt_options.specs.Declarations.{declaration_of, options_of}
 use Rattle.lexopt_options.specs.Keys.{AreParsedAs}

@@ -3,6 +3,7 @@
 use Rattle.std.specs.Prelude.{ℕ, List, ◌++◌, Some, None, codes, map, string_bytes}
 use Rattle.lexopt_spec.specs.Text.{quoted}
 use Rattle.lexopt_options_spec.specs.Help.{list_text}
+use Rattle.lexopt_declaration.specs.Texts.{escaped_text}
 use Rattle.lexopt_options.specs.Messages as options
 use Rattle.lexopt_commands.specs.declared.command.CommandError.{CommandError}
 use Rattle.lexopt_commands.specs.declared.command.Reason.{Reason}
@@ -24,7 +25,7 @@ reason_text SameName = codes "a command before it has its name"
 -- which command cannot be declared, and why
 abbrev pub command_error_text : CommandError → List ℕ
 command_error_text error =
-    codes "command '" ++ (error.name.now ++ (codes "': " ++ reason_text error.reason))
+    codes "command '" ++ (escaped_text error.name.now ++ (codes "': " ++ reason_text error.reason))
 
 -- what is wrong with a line
 abbrev pub message : Mistake → List ℕ

@@ -7,9 +7,9 @@ ghost use Rattle.lexopt_commands.specs.Answers.{IsAskedText};
 use crate::commands::Commands;
 use crate::read::general;
 use crate::refused::{CommandLine, Refused};
-use lexopt_options::answer::{columns, request_from};
-use lexopt_options::{Asked, Parsed, Request, variable};
-use lexopt_words::os_string::{OsString, arguments};
+use lexopt_options::answer::columns;
+use lexopt_options::{Asked, Parsed, Request};
+use lexopt_words::os_string::OsString;
 use std::alloc::{AllocError, Global};
 use std::convert::Infallible;
 use std::env::Env;
@@ -193,9 +193,7 @@ impl<'a, C: Copy, F: Copy, V: Copy, P: Copy, M: Copy, S: Copy> Commands<'a, C, F
             × IsRequestStep self.now request width step) }
     {
         let alloc = rt.alloc();
-        let words = arguments(rt, alloc)?.into_iter().skip(1).collect(alloc)?;
-        let name = variable(alloc, self.options().program())?;
-        let request = request_from(rt, alloc, name.as_str(), words);
+        let request = Request::from_env(rt, alloc, self.options().program())?;
         self.answer_request(alloc, request, columns(rt))
     }
 }

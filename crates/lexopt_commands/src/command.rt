@@ -6,6 +6,7 @@ ghost use Rattle.lexopt_options_spec.specs.Declaration as spec;
 ghost use Rattle.lexopt_options_spec.specs.Declarable.{has_replacement};
 ghost use Rattle.lexopt_commands.specs.Names.{fault, first_fault, name_fault, names_of};
 
+use lexopt_declaration::message::Escaped;
 use std::fmt;
 
 /// What the name of a command does.
@@ -84,7 +85,8 @@ impl fmt::Display for CommandError<'_> {
     ghost output = { λ error. Some (command_error_text error) };
 
     fn fmt<W: fmt::Write>(&self, f: &mut fmt::Formatter<W>) -> fmt::Result {
-        let CommandError { name, reason } = self;
+        let name = Escaped(self.name);
+        let reason = self.reason;
         write!(f, "command '{name}': {reason}")
     }
 }

@@ -14,7 +14,7 @@ use crate::answer::Step;
 use crate::command::{Command, Runs};
 use crate::commands::Commands;
 use crate::read::{runs_of, take_first};
-use lexopt_options::answer::push_help;
+use lexopt_declaration::message::push_help;
 use lexopt_options::{Leading, Parsed, Request};
 use lexopt_words::os_string::OsString;
 use lexopt_words::words::copies;

@@ -24,7 +24,7 @@ pub mod command;
 pub mod commands;
 mod complete;
 mod declare;
-pub mod examples;
+mod examples;
 pub mod help;
 pub mod mistake;
 pub mod read;

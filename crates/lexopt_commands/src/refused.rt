@@ -2,7 +2,7 @@
 //! file of this name in `lexopt_options` has the same for declared options.
 use crate::mistake::Mistake;
 use lexopt_declaration::declaration::Names;
-use lexopt_options::refused::write_help;
+use lexopt_declaration::message::write_help;
 use lexopt_options::{Asked, Parsed};
 use lexopt_words::os_string::OsString;
 use std::convert::Infallible;

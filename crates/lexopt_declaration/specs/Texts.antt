@@ -1,5 +1,10 @@
--- The text of an option's names, and the messages about what cannot be declared.
-use Rattle.std.specs.Prelude.{ℕ, List, ◌++◌, codes, encode_utf8}
+-- How messages and completions show what is declared, and the messages about what cannot be
+-- declared. The source is `docs/formats.md`.
+use Rattle.std.specs.Prelude.{ℕ, List, [], ◌++◌, Option, Some, None, codes, encode_utf8}
+use Rattle.std.specs.Prelude.{nat_lt, ◌==◌, ◌||◌, if◌then◌else◌}
+use Rattle.std.specs.List.{flat_map}
+use Rattle.std.specs.Str.{chars}
+use Rattle.lexopt_spec.specs.Text.{quoted_character}
 use Rattle.lexopt_declaration.specs.declared.declaration.DeclarationError.{DeclarationError}
 use Rattle.lexopt_declaration.specs.declared.declaration.DeclarationError.TheVariants as error
 use Rattle.lexopt_declaration.specs.declared.declaration.Reason.{Reason}
@@ -12,11 +17,29 @@ use Rattle.lexopt_declaration.specs.declared.declaration.Reason.TheVariants.{Bad
 use Rattle.lexopt_declaration.specs.declared.declaration.Names.{Names}
 use Rattle.lexopt_declaration.specs.declared.declaration.Names.TheVariants.{Short, Long, Both}
 
+-- a character of a name: a control character of ASCII is escaped as in the quoted form of bytes
+abbrev pub escaped : ℕ → List ℕ
+escaped c = if nat_lt c 0x20 || c == 0x7F then quoted_character c [] else encode_utf8 c
+
+-- a name or a placeholder
+abbrev pub escaped_text : List ℕ → List ℕ
+escaped_text text = flat_map escaped (chars text)
+
 -- an option with its dashes: by its name, if it has one
 abbrev pub names_text : Names → List ℕ
-names_text (Short c) = codes "-" ++ encode_utf8 c
-names_text (Long name) = codes "--" ++ name.now
-names_text (Both c name) = codes "--" ++ name.now
+names_text (Short c) = codes "-" ++ escaped c
+names_text (Long name) = codes "--" ++ escaped_text name.now
+names_text (Both c name) = codes "--" ++ escaped_text name.now
+
+-- where the help is, if an option for it is declared
+abbrev pub help_line : List ℕ → Option Names → List ℕ
+help_line program None = []
+help_line program (Some names) = codes "\nTry '"
+    ++ (program ++ (codes " " ++ (names_text names ++ codes "' for more information.")))
+
+-- a character of a help text on one line: a blank for a control character of ASCII
+abbrev pub on_one_line : ℕ → List ℕ
+on_one_line c = if nat_lt c 0x20 || c == 0x7F then codes " " else encode_utf8 c
 
 -- why an option cannot be declared
 abbrev pub reason_text : Reason → List ℕ
@@ -36,6 +59,6 @@ abbrev pub declaration_error_text : DeclarationError → List ℕ
 declaration_error_text (error.Option option reason) =
     codes "option '" ++ (names_text option ++ (codes "': " ++ reason_text reason))
 declaration_error_text (error.Positional placeholder) = codes "positional argument "
-    ++ (placeholder.now ++ codes ": one before it may occur more than once too")
-declaration_error_text (error.BadList placeholder) =
-    codes "positional argument " ++ (placeholder.now ++ (codes ": " ++ reason_text BadList))
+    ++ (escaped_text placeholder.now ++ codes ": one before it may occur more than once too")
+declaration_error_text (error.BadList placeholder) = codes "positional argument "
+    ++ (escaped_text placeholder.now ++ (codes ": " ++ reason_text BadList))

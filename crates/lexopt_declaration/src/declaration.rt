@@ -12,6 +12,7 @@ ghost use Rattle.lexopt_declaration.specs.Faults.{IsDeclarationError, IsOptionEr
 ghost use Rattle.lexopt_declaration.specs.Models.{arity_kind, arity_placeholder, option_view};
 ghost use Rattle.lexopt_declaration.specs.Models.{positional_view, reason_view, words_view};
 
+use crate::message::{Escaped, write_escaped};
 use crate::positionals::{first_bad_list, second_repeated};
 use std::convert::Infallible;
 use std::fmt;
@@ -34,10 +35,17 @@ impl fmt::Display for Names<'_> {
     ghost output = { λ names. Some (names_text names) };
 
     /// Writes the option with its dashes: by its name if it has one, otherwise by its character.
+    /// Control characters of ASCII are escaped, as in the quoted form of bytes.
     fn fmt<W: fmt::Write>(&self, f: &mut fmt::Formatter<W>) -> fmt::Result {
         match self {
-            Names::Short(character) => write!(f, "-{character}"),
-            Names::Long(name) | Names::Both(_, name) => write!(f, "--{name}"),
+            Names::Short(character) => {
+                f.write_str("-")?;
+                write_escaped(*character, f)
+            }
+            Names::Long(name) | Names::Both(_, name) => {
+                let name = Escaped(name);
+                write!(f, "--{name}")
+            }
         }
     }
 }
@@ -713,11 +721,15 @@ impl fmt::Display for DeclarationError<'_> {
             DeclarationError::Option { option, reason } => {
                 write!(f, "option '{option}': {reason}")
             }
-            DeclarationError::Positional(placeholder) => write!(
-                f,
-                "positional argument {placeholder}: one before it may occur more than once too"
-            ),
+            DeclarationError::Positional(placeholder) => {
+                let placeholder = Escaped(placeholder);
+                write!(
+                    f,
+                    "positional argument {placeholder}: one before it may occur more than once too"
+                )
+            }
             DeclarationError::BadList(placeholder) => {
+                let placeholder = Escaped(placeholder);
                 write!(f, "positional argument {placeholder}: {}", Reason::BadList)
             }
         }

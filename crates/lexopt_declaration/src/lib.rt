@@ -12,6 +12,7 @@ pub mod declaration;
 pub mod help;
 pub mod listed;
 pub mod lookup;
+pub mod message;
 pub mod nearest;
 pub mod positionals;
 pub mod shell;

@@ -1,8 +1,8 @@
 -- What a program has to do about its words, or about a request of a shell. The source is
 -- `docs/behaviour.md`.
-use Rattle.std.specs.Prelude.{◌≡◌, ◌<◌, ◌^◌, ◌||◌, ℕ, List, [], ◌∷◌, ◌++◌, String, encode_utf8}
+use Rattle.std.specs.Prelude.{◌≡◌, ◌<◌, ◌^◌, ℕ, List, [], ◌∷◌, ◌++◌, String}
 use Rattle.std.specs.Prelude.{Bool, true, false, ◌==◌, if◌then◌else◌, Option, Some, None, codes}
-use Rattle.std.specs.Prelude.{nat_lt, option_map, slice_get, string_bytes, unwrap_or}
+use Rattle.std.specs.Prelude.{option_map, slice_get, string_bytes, unwrap_or}
 use Rattle.std.specs.Global.{Global}
 use Rattle.std.specs.List.{flat_map, list_any}
 use Rattle.std.specs.Str.{IsUtf8, chars}
@@ -31,6 +31,7 @@ use Rattle.lexopt_declaration.specs.declared.spellings.Spelling.{Spelling}
 use Rattle.lexopt_declaration.specs.Lookups.{help_names}
 use Rattle.lexopt_declaration.specs.Models.{spelling_view}
 use Rattle.lexopt_declaration.specs.Scripts.{shell_script, variable_name}
+use Rattle.lexopt_declaration.specs.Texts.{on_one_line}
 use Rattle.lexopt_options.specs.Completions.{IsCompletion}
 use Rattle.lexopt_options.specs.Declarations.{declaration_of, options_of, positionals_of}
 use Rattle.lexopt_options.specs.Lines.{IsRefused, LineMeans}
@@ -85,10 +86,6 @@ value_line (Listed values) before = []
 abbrev pub joined_line : {F V M S : Type 0} → Option (Joined F V M S) → List ℕ
 joined_line None = []
 joined_line (Some joined) = value_line joined.option.now.words (string_bytes joined.before)
-
--- a character of a text on one line: a blank for a control character of ASCII
-abbrev pub on_one_line : ℕ → List ℕ
-on_one_line c = if nat_lt c 0x20 || c == 0x7F then codes " " else encode_utf8 c
 
 -- the line for a spelling: the spelling, a tab, and the help text of its option
 abbrev pub spelling_line : List ℕ × List ℕ → List ℕ

@@ -1,12 +1,9 @@
 -- The messages about a line that is refused. The source is `docs/formats.md`.
-use Rattle.std.specs.Prelude.{ℕ, List, [], ◌++◌, Option, Some, None, codes, encode_utf8, string_bytes}
-use Rattle.std.specs.Prelude.{nat_lt, ◌==◌, ◌||◌, if◌then◌else◌, map}
-use Rattle.std.specs.List.{flat_map}
-use Rattle.std.specs.Str.{chars}
-use Rattle.lexopt_spec.specs.Text.{quoted, quoted_character, unexpected_argument_message}
+use Rattle.std.specs.Prelude.{ℕ, List, ◌++◌, Option, Some, None, codes, map, string_bytes}
+use Rattle.lexopt_spec.specs.Text.{quoted, unexpected_argument_message}
 use Rattle.lexopt_spec.specs.Text.{unexpected_option_message, unexpected_value_message}
 use Rattle.lexopt_options_spec.specs.Help.{list_text}
-use Rattle.lexopt_declaration.specs.Texts.{names_text}
+use Rattle.lexopt_declaration.specs.Texts.{escaped, escaped_text, help_line, names_text}
 use Rattle.lexopt_declaration.specs.declared.declaration.Names.{Names}
 use Rattle.lexopt_options.specs.declared.mistake.Mistake.{Mistake}
 use Rattle.lexopt_options.specs.declared.mistake.Mistake.TheVariants.{UnknownOption}
@@ -18,14 +15,10 @@ use Rattle.lexopt_options.specs.declared.mistake.Mistake.TheVariants.{InvalidVar
 use Rattle.lexopt_options.specs.declared.mistake.OptionName.{OptionName}
 use Rattle.lexopt_options.specs.declared.mistake.OptionName.TheVariants.{Short, Long}
 
--- a character of a name: a control character of ASCII is escaped as in the quoted form of bytes
-abbrev pub escaped : ℕ → List ℕ
-escaped c = if nat_lt c 0x20 || c == 0x7F then quoted_character c [] else encode_utf8 c
-
 -- a name with its dashes
 abbrev pub name_text : OptionName → List ℕ
 name_text (Short c) = codes "-" ++ escaped c
-name_text (Long name) = codes "--" ++ flat_map escaped (chars (string_bytes name))
+name_text (Long name) = codes "--" ++ escaped_text (string_bytes name)
 
 abbrev pub message : Mistake → List ℕ
 message (UnknownOption name None) = unexpected_option_message (name_text name)
@@ -33,25 +26,19 @@ message (UnknownOption name (Some hint)) = unexpected_option_message (name_text 
     ++ (codes "; did you mean '--" ++ (hint.now ++ codes "'?"))
 message (UnexpectedValue option value) = unexpected_value_message (string_bytes option) value
 message (MissingValue option placeholder) = codes "missing argument "
-    ++ (placeholder.now ++ (codes " for option '" ++ (string_bytes option ++ codes "'")))
+    ++ (escaped_text placeholder.now ++ (codes " for option '" ++ (string_bytes option ++ codes "'")))
 message (InvalidValue option value values) = codes "invalid value " ++ (quoted value
     ++ (codes " for '" ++ (names_text option
     ++ (codes "': one of " ++ list_text (map (λ own. own.now) values.now)))))
 message (UnexpectedArgument word) = unexpected_argument_message word
-message (MissingArgument placeholder) = codes "missing argument " ++ placeholder.now
+message (MissingArgument placeholder) = codes "missing argument " ++ escaped_text placeholder.now
 message (InvalidArgument placeholder word values) = codes "invalid argument " ++ (quoted word
-    ++ (codes " for " ++ (placeholder.now
+    ++ (codes " for " ++ (escaped_text placeholder.now
     ++ (codes ": one of " ++ list_text (map (λ own. own.now) values.now)))))
 message (MissingOption names) = codes "missing option '" ++ (names_text names ++ codes "'")
 message (InvalidVariable name) = codes "invalid value of " ++ (string_bytes name
     ++ (codes ": one of bash_source, bash_complete, zsh_source, zsh_complete, fish_source, "
     ++ codes "fish_complete"))
-
--- where help is, if an option for it is declared
-abbrev pub help_line : List ℕ → Option Names → List ℕ
-help_line program None = []
-help_line program (Some names) = codes "\nTry '"
-    ++ (program ++ (codes " " ++ (names_text names ++ codes "' for more information.")))
 
 -- the name of the program and the message, and where the help is
 abbrev pub refusal_text : List ℕ → Option Names → List ℕ → List ℕ

@@ -12,11 +12,10 @@ use Rattle.lexopt_words.specs.declared.error.Error.TheVariants.{OutOfMemory}
 use Rattle.lexopt_declaration.specs.declared.declaration.Names.{Names}
 use Rattle.lexopt_words.specs.Conversions.{IsNotUnicode, IsParsed}
 use Rattle.lexopt_declaration.specs.Lookups.{names_at}
-use Rattle.lexopt_declaration.specs.Texts.{names_text}
+use Rattle.lexopt_declaration.specs.Texts.{help_line, names_text}
 use Rattle.lexopt_declaration.specs.declared.declaration.Declared.{Declared}
 use Rattle.lexopt_declaration.specs.declared.declaration.Kind.{Kind}
 use Rattle.lexopt_declaration.specs.declared.declaration.Kind.TheVariants as kind
-use Rattle.lexopt_options.specs.Messages.{help_line}
 use Rattle.lexopt_options.specs.declared.usage.Report.{Report}
 use Rattle.lexopt_options.specs.declared.usage.UsageError.{UsageError}
 use Rattle.lexopt_options.specs.declared.usage.UsageError.TheVariants as usage

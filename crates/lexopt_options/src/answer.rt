@@ -1,14 +1,12 @@
 //! What a program has to do about its command line or about the request of a shell: do its own
 //! work, print a text, or refuse the line.
-ghost use Rattle.std.specs.Prelude.{◌≡◌, ◌++◌, ℕ, IfOk, List, OnOk, Option, string_bytes};
+ghost use Rattle.std.specs.Prelude.{◌≡◌, ◌++◌, IfOk, OnOk, string_bytes};
 ghost use Rattle.std.specs.List.{flat_map, list_any};
-ghost use Rattle.std.specs.Str.{chars};
 ghost use Rattle.lexopt_declaration.specs.Models.{spelling_view};
-ghost use Rattle.lexopt_options.specs.Answers.{IsWidth, completion_text, joined_line, on_one_line};
+ghost use Rattle.lexopt_options.specs.Answers.{IsWidth, completion_text, joined_line};
 ghost use Rattle.lexopt_options.specs.Answers.{are_at, are_directories, are_files, arguments_line};
 ghost use Rattle.lexopt_options.specs.Answers.{listed_line, names_line, spelling_line};
 ghost use Rattle.lexopt_options.specs.Answers.{spelling_lines, value_line, word_line};
-ghost use Rattle.lexopt_options.specs.Requests.{IsRequest};
 
 use crate::complete::{Completion, Joined, Role};
 use crate::mistake::Mistake;
@@ -18,12 +16,13 @@ use crate::refused::{Line, Refused};
 use crate::request::Request;
 use lexopt_declaration::declaration::{Positional, Words};
 use lexopt_declaration::help::WIDTH;
+use lexopt_declaration::message::push_help;
 use lexopt_declaration::shell::{Script, Shell, variable};
 use lexopt_declaration::spellings::Spelling;
-use lexopt_words::os_string::{OsString, arguments};
+use lexopt_words::os_string::OsString;
 use std::alloc::{AllocError, Global};
 use std::convert::Infallible;
-use std::env::{Env, FillError};
+use std::env::Env;
 use std::str;
 
 /// What a program has to do about a line or a request.
@@ -115,33 +114,6 @@ fn word_line<F, V, P, M, S>(
         Some(Role::Argument) => arguments_line(positionals, arguments),
         None => "",
     }
-}
-
-// Adds a character of a help text; a blank for a control character of ASCII, so that the text stays
-// on one line.
-fn push_on_one_line(text: &mut String, character: char) -> Result<(), AllocError>
-    ensures { OnOk result
-        (string_bytes text.new ≡ string_bytes text.old ++ on_one_line character) }
-{
-    match character {
-        '\0'..='\x1f' | '\x7f' => text.push(' '),
-        _ => text.push(character),
-    }
-}
-
-/// Adds a help text to `text`, on one line: with a blank for each control character of ASCII.
-///
-/// # Errors
-///
-/// Returns `AllocError` if an allocation fails.
-pub fn push_help(text: &mut String, help: &str) -> Result<(), AllocError>
-    ensures { OnOk result (string_bytes text.new
-        ≡ string_bytes text.old ++ flat_map on_one_line (chars help.now)) }
-{
-    for character in help.chars() {
-        push_on_one_line(text, character)?;
-    }
-    Ok(())
 }
 
 // Adds a line for a spelling: the spelling, a tab, and the help text of its option.
@@ -277,26 +249,6 @@ pub fn columns<R: Env>(rt: &R) -> usize {
     match rt.var("COLUMNS", &mut room) {
         Ok(count) => width_of(&room[..count]),
         Err(_) => WIDTH,
-    }
-}
-
-// The most bytes that are read of the variable by which a shell asks. Every request is shorter.
-const REQUEST_ROOM: usize = 16;
-
-/// Returns the request that [`Request::new`] makes of the environment variable `name` and these
-/// words.
-///
-/// A value of more than 16 bytes is [`Request::Unknown`]. No clause can state what is in the
-/// environment, so this one is about some value.
-pub fn request_from<R: Env>(rt: &R, alloc: Global, name: &str, words: Vec<OsString>) -> Request
-    ensures { (value : Option (List ℕ)) × IsRequest value words.items result }
-{
-    let mut room = [0u8; REQUEST_ROOM];
-    match rt.var(name, &mut room) {
-        Ok(count) => Request::new(alloc, Some(&room[..count]), words),
-        Err(FillError::NotPresent) => Request::new(alloc, None, words),
-        // The value is longer than any request.
-        Err(FillError::TooLong) => Request::new(alloc, Some(b"?"), words),
     }
 }
 
@@ -554,9 +506,7 @@ impl<'a, F: Copy, V: Copy, P: Copy, M: Copy, S: Copy> Options<'a, F, V, P, M, S>
             × IsRequestAnswer self.now request width answer) }
     {
         let alloc = rt.alloc();
-        let words = arguments(rt, alloc)?.into_iter().skip(1).collect(alloc)?;
-        let name = variable(alloc, self.program())?;
-        let request = request_from(rt, alloc, name.as_str(), words);
+        let request = Request::from_env(rt, alloc, self.program())?;
         self.answer_request(alloc, request, columns(rt))
     }
 }

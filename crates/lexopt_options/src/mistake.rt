@@ -4,15 +4,12 @@ ghost use Rattle.lexopt_spec.specs.UnreadLine as unread;
 ghost use Rattle.lexopt_spec.specs.UnreadLine.{Tail};
 ghost use Rattle.lexopt_line_spec.specs.Table.{long, short};
 ghost use Rattle.lexopt_options_spec.specs.Nearest.{IsHint};
-ghost use Rattle.std.specs.Fmt.{WritesOnOk};
-ghost use Rattle.std.specs.List.{flat_map};
-ghost use Rattle.std.specs.Str.{chars};
-ghost use Rattle.lexopt_options.specs.Messages.{escaped};
 ghost use Rattle.lexopt_declaration.specs.Models.{option_view};
 
 use lexopt_declaration::declaration::{Declared, Names};
 use lexopt_declaration::listed::Listed;
 use lexopt_declaration::lookup::long_name_of;
+use lexopt_declaration::message::{Escaped, write_escaped};
 use lexopt_declaration::nearest::{nearest, only_ending, only_longer};
 use lexopt_words::message::write_unexpected_value;
 use lexopt_words::os_string::{OsString, Quoted};
@@ -26,34 +23,6 @@ pub enum OptionName {
     Short(char),
     /// A long option: its name.
     Long(String),
-}
-
-// Writes a character of a name: a control character of ASCII is escaped as in the quoted form of
-// bytes, any other is written as it is.
-fn write_escaped<W: fmt::Write>(character: char, f: &mut fmt::Formatter<W>) -> fmt::Result
-    ensures { WritesOnOk W.write_str_gives f.old result (escaped character) f.new }
-{
-    match character {
-        '\t' => f.write_str("\\t"),
-        '\n' => f.write_str("\\n"),
-        '\r' => f.write_str("\\r"),
-        '\0' => f.write_str("\\0"),
-        '\x01'..='\x1f' | '\x7f' => {
-            let code = u32::from(character);
-            write!(f, "\\u{{{code:x}}}")
-        }
-        _ => f.write_char(character),
-    }
-}
-
-// Writes each character of a name.
-fn write_name<W: fmt::Write>(name: &str, f: &mut fmt::Formatter<W>) -> fmt::Result
-    ensures { WritesOnOk W.write_str_gives f.old result (flat_map escaped (chars name.now)) f.new }
-{
-    for character in name.chars() {
-        write_escaped(character, f)?;
-    }
-    Ok(())
 }
 
 impl fmt::Display for OptionName {
@@ -71,8 +40,8 @@ impl fmt::Display for OptionName {
                 write_escaped(*character, f)
             }
             OptionName::Long(name) => {
-                f.write_str("--")?;
-                write_name(name, f)
+                let name = Escaped(name.as_str());
+                write!(f, "--{name}")
             }
         }
     }
@@ -163,7 +132,10 @@ impl fmt::Display for Mistake<'_> {
             Mistake::MissingValue {
                 option,
                 placeholder,
-            } => { write!(f, "missing argument {placeholder} for option '{option}'") }
+            } => {
+                let placeholder = Escaped(placeholder);
+                write!(f, "missing argument {placeholder} for option '{option}'")
+            }
             Mistake::InvalidValue {
                 option,
                 value,
@@ -177,13 +149,17 @@ impl fmt::Display for Mistake<'_> {
                 let word = Quoted::new(word.as_bytes());
                 write!(f, "unexpected argument {word}")
             }
-            Mistake::MissingArgument(placeholder) => write!(f, "missing argument {placeholder}"),
+            Mistake::MissingArgument(placeholder) => {
+                let placeholder = Escaped(placeholder);
+                write!(f, "missing argument {placeholder}")
+            }
             Mistake::InvalidArgument {
                 placeholder,
                 word,
                 values,
             } => {
                 let word = Quoted::new(word.as_bytes());
+                let placeholder = Escaped(placeholder);
                 let values = Listed(values);
                 write!(
                     f,

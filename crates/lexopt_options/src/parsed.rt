@@ -47,7 +47,7 @@ pub enum Asked<'a> {
 
 // What an option means: something for the program, or a request for the help or the version.
 #[derive(Drop)]
-pub enum ByKey<'a, F, V, P, M, S> {
+pub(crate) enum ByKey<'a, F, V, P, M, S> {
     // Something for the program.
     Parsed(Parsed<F, V, P, M, S>),
     // A request for the help or the version.

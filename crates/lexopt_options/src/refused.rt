@@ -1,11 +1,9 @@
 //! The result of reading a line, and a line that was refused. The file of this name in
 //! `lexopt_commands` has the same for a line with commands.
-ghost use Rattle.std.specs.Fmt.{WritesOnOk};
-ghost use Rattle.lexopt_options.specs.Messages.{help_line};
-
 use crate::mistake::Mistake;
 use crate::parsed::{Asked, Parsed};
 use lexopt_declaration::declaration::Names;
+use lexopt_declaration::message::write_help;
 use std::convert::Infallible;
 use std::fmt;
 use std::fmt::Debug;
@@ -30,20 +28,6 @@ pub struct Refused<'a, F, V = Infallible, P = Infallible, M = Infallible, S = In
     pub before: Vec<Parsed<F, V, P, M, S>>,
     /// The mistake.
     pub mistake: Mistake<'a>,
-}
-
-/// Writes a line feed, and where the help is, if an option for it is declared.
-pub fn write_help<W: fmt::Write>(
-    program: &str,
-    help: Option<Names<'_>>,
-    f: &mut fmt::Formatter<W>,
-) -> fmt::Result
-    ensures { WritesOnOk W.write_str_gives f.old result (help_line program.now help.entry) f.new }
-{
-    match help {
-        Some(names) => write!(f, "\nTry '{program} {names}' for more information."),
-        None => Ok(()),
-    }
 }
 
 impl<F, V, P, M, S> fmt::Display for Refused<'_, F, V, P, M, S> {

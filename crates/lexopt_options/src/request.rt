@@ -1,10 +1,11 @@
 //! What a program is asked for, by its user or by a shell.
-ghost use Rattle.std.specs.Prelude.{◌≢◌, [], Some};
+ghost use Rattle.std.specs.Prelude.{◌≢◌, ℕ, [], List, Option, Some};
 ghost use Rattle.lexopt_options.specs.Requests.{IsCompletionRequest, IsRequest};
 
-use lexopt_declaration::shell::{Shell, ShellRequest};
-use lexopt_words::os_string::OsString;
-use std::alloc::Global;
+use lexopt_declaration::shell::{Shell, ShellRequest, variable};
+use lexopt_words::os_string::{OsString, arguments};
+use std::alloc::{AllocError, Global};
+use std::env::{Env, FillError};
 
 /// What a program is asked for, by its user or by a shell.
 #[derive(Debug, Drop)]
@@ -43,8 +44,25 @@ fn asked_by(alloc: Global, value: &[u8], words: Vec<OsString>) -> Request
     }
 }
 
+// The most bytes that are read of the variable by which a shell asks. Every request is shorter.
+const REQUEST_ROOM: usize = 16;
+
+// The request by the environment variable of this name and these words. No clause can state what is
+// in the environment, so this one is about some value.
+fn request_by<R: Env>(rt: &R, alloc: Global, name: &str, words: Vec<OsString>) -> Request
+    ensures { (value : Option (List ℕ)) × IsRequest value words.items result }
+{
+    let mut room = [0u8; REQUEST_ROOM];
+    match rt.var(name, &mut room) {
+        Ok(count) => Request::new(alloc, Some(&room[..count]), words),
+        Err(FillError::NotPresent) => Request::new(alloc, None, words),
+        // The value is longer than any request.
+        Err(FillError::TooLong) => Request::new(alloc, Some(b"?"), words),
+    }
+}
+
 impl Request {
-    ghost use Rattle.std.specs.Prelude.{option_map};
+    ghost use Rattle.std.specs.Prelude.{ℕ, IfOk, List, Option, option_map};
     ghost use Rattle.lexopt_options.specs.Requests.{IsRequest};
 
     /// Returns what a program is asked for, by the value of the variable by which shells ask and by
@@ -79,5 +97,34 @@ impl Request {
             }
             None => Request::Line(words),
         }
+    }
+
+    /// Returns what a program is asked for by its own words, and by the environment variable by
+    /// which shells ask the program of this name ([`variable`]).
+    ///
+    /// The first word is taken for the name that the program was called by, and is not part of the
+    /// request. A value of the variable of more than 16 bytes is [`Request::Unknown`]. Otherwise
+    /// the request is that of [`Request::new`].
+    ///
+    /// The clause is about some value and some words. No clause can state that they are those of
+    /// the environment.
+    ///
+    /// # Errors
+    ///
+    /// Returns `AllocError` if an allocation fails.
+    ///
+    /// # Examples
+    ///
+    /// ```rust
+    /// let request = Request::from_env(rt, alloc, options.program())?;
+    /// let answer = options.answer_request(alloc, request, WIDTH)?;
+    /// ```
+    pub fn from_env<R: Env>(rt: &R, alloc: Global, program: &str) -> Result<Request, AllocError>
+        ensures { IfOk result (λ request. (value : Option (List ℕ)) × (words : List (List ℕ))
+            × IsRequest value words request) }
+    {
+        let words = arguments(rt, alloc)?.into_iter().skip(1).collect(alloc)?;
+        let name = variable(alloc, program)?;
+        Ok(request_by(rt, alloc, name.as_str(), words))
     }
 }

@@ -6,9 +6,10 @@ ghost use Rattle.lexopt_options.specs.Usage.{for_option, invalid_message, named,
 ghost use Rattle.lexopt_options.specs.Usage.{what_message, why_message};
 
 use crate::options::Options;
-use crate::refused::{USAGE_ERROR, write_help};
+use crate::refused::USAGE_ERROR;
 use lexopt_declaration::declaration::{Declared, Kind, Names};
 use lexopt_declaration::lookup::names_of;
+use lexopt_declaration::message::write_help;
 use lexopt_words::error::Error;
 use lexopt_words::message::write_no_memory;
 use lexopt_words::os_string::{OsString, Quoted};

@@ -7,6 +7,6 @@
 //! nothing depends on them.
 #![tactic(auto)]
 
-pub mod help_examples;
+mod help_examples;
 pub mod laws;
-pub mod list_examples;
+mod list_examples;

@@ -38,10 +38,18 @@ use Rattle.lexopt_options.specs.declared.usage.UsageError.TheVariants as usage
 
 -- ---- names, and an option that cannot be declared
 
+-- a control character of ASCII is printed as it is in quotes
+abbrev pub printed : ℕ → List ℕ
+printed c = if nat_lt c 0x20 || c == 0x7F then quoted_character c [] else encode_utf8 c
+
+-- a name or a placeholder
+abbrev pub printed_text : List ℕ → List ℕ
+printed_text text = flat_map printed (chars text)
+
 abbrev pub names_line : Names → List ℕ
-names_line (Short c) = codes "-" ++ encode_utf8 c
-names_line (Long name) = codes "--" ++ name.now
-names_line (Both c name) = codes "--" ++ name.now
+names_line (Short c) = codes "-" ++ printed c
+names_line (Long name) = codes "--" ++ printed_text name.now
+names_line (Both c name) = codes "--" ++ printed_text name.now
 
 -- the reason why a list cannot be declared
 abbrev pub list_reason : List ℕ
@@ -64,19 +72,15 @@ abbrev pub declaration_line : DeclarationError → List ℕ
 declaration_line (refusal.Option option reason) =
     codes "option '" ++ (names_line option ++ (codes "': " ++ reason_line reason))
 declaration_line (refusal.Positional placeholder) = codes "positional argument "
-    ++ (placeholder.now ++ codes ": one before it may occur more than once too")
+    ++ (printed_text placeholder.now ++ codes ": one before it may occur more than once too")
 declaration_line (refusal.BadList placeholder) =
-    codes "positional argument " ++ (placeholder.now ++ (codes ": " ++ list_reason))
+    codes "positional argument " ++ (printed_text placeholder.now ++ (codes ": " ++ list_reason))
 
 -- ---- a line that is refused
 
--- a control character of ASCII is printed as it is in quotes
-abbrev pub printed : ℕ → List ℕ
-printed c = if nat_lt c 0x20 || c == 0x7F then quoted_character c [] else encode_utf8 c
-
 abbrev pub typed_name : OptionName → List ℕ
 typed_name (typed.Short c) = codes "-" ++ printed c
-typed_name (typed.Long name) = codes "--" ++ flat_map printed (chars (string_bytes name))
+typed_name (typed.Long name) = codes "--" ++ printed_text (string_bytes name)
 
 abbrev pub mistake_line : Mistake → List ℕ
 mistake_line (mistake.UnknownOption name None) =
@@ -87,14 +91,16 @@ mistake_line (mistake.UnknownOption name (Some hint)) =
 mistake_line (mistake.UnexpectedValue option value) = codes "unexpected argument for option '"
     ++ (string_bytes option ++ (codes "': " ++ quoted value))
 mistake_line (mistake.MissingValue option placeholder) = codes "missing argument "
-    ++ (placeholder.now ++ (codes " for option '" ++ (string_bytes option ++ codes "'")))
+    ++ (printed_text placeholder.now
+    ++ (codes " for option '" ++ (string_bytes option ++ codes "'")))
 mistake_line (mistake.InvalidValue option value values) = codes "invalid value "
     ++ (quoted value ++ (codes " for '" ++ (names_line option
     ++ (codes "': one of " ++ list_text (map (λ v. v.now) values.now)))))
 mistake_line (mistake.UnexpectedArgument word) = codes "unexpected argument " ++ quoted word
-mistake_line (mistake.MissingArgument placeholder) = codes "missing argument " ++ placeholder.now
+mistake_line (mistake.MissingArgument placeholder) =
+    codes "missing argument " ++ printed_text placeholder.now
 mistake_line (mistake.InvalidArgument placeholder word values) = codes "invalid argument "
-    ++ (quoted word ++ (codes " for " ++ (placeholder.now
+    ++ (quoted word ++ (codes " for " ++ (printed_text placeholder.now
     ++ (codes ": one of " ++ list_text (map (λ v. v.now) values.now)))))
 mistake_line (mistake.MissingOption names) =
     codes "missing option '" ++ (names_line names ++ codes "'")
@@ -280,7 +286,7 @@ IsUsageOf width character help first second values text =
 abbrev pub IsErrorOf : ℕ → List ℕ → Count → Count → List (List ℕ) → List ℕ → Type 0
 IsErrorOf character help first second values text = ((reason : Reason)
     × IsFirstFault (one_option character help) 0 (reason_of reason)
-    × (text ≡ codes "option '-" ++ (encode_utf8 character ++ (codes "': " ++ reason_line reason))))
+    × (text ≡ codes "option '-" ++ (printed character ++ (codes "': " ++ reason_line reason))))
     ⊎ ((is_sound (one_option character help) ≡ true) × ((repeats first && repeats second) ≡ true)
     × (text ≡ codes "positional argument TO: one before it may occur more than once too"))
     ⊎ ((is_sound (one_option character help) ≡ true) × ((repeats first && repeats second) ≡ false)

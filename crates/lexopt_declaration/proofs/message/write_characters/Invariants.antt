@@ -1,7 +1,7 @@
 use Rattle.std.proofs.Common.{flat_map}
 use Rattle.std.specs.Fmt.{HasWritten, IsPlainFormatter}
-use Rattle.lexopt_options.specs.Messages.{escaped}
-use Rattle.lexopt_options.proofs.mistake.write_name.Given as goal
+use Rattle.lexopt_declaration.specs.Texts.{escaped}
+use Rattle.lexopt_declaration.proofs.message.write_characters.Given as goal
 
 abbrev pub invariant-loop-character : goal.invariant-loop-character
 invariant-loop-character g l =

@@ -3,8 +3,8 @@ use Rattle.std.proofs.Output.{has_written_append, has_written_of_eq}
 use Rattle.std.proofs.lemmas.Iterator.{YieldsList-from_chars}
 use Rattle.std.proofs.lemmas.Iterator.Consumers.{YieldsList-end}
 use Rattle.std.proofs.lemmas.List.{flat_map_more}
-use Rattle.lexopt_options.specs.Messages.{escaped}
-use Rattle.lexopt_options.proofs.mistake.write_name.Goals as goal
+use Rattle.lexopt_declaration.specs.Texts.{escaped}
+use Rattle.lexopt_declaration.proofs.message.write_characters.Goals as goal
 
 pub loop-character-preserved : goal.loop-character-preserved
 loop-character-preserved g c = λ plain.
@@ -14,5 +14,5 @@ loop-character-preserved g c = λ plain.
 
 pub returns : goal.returns
 returns g c = λ plain _.
-    let end = YieldsList-end (YieldsList-from_chars c.args.name.now c.utf8.name cc) c.loop-character.yielded _ c.loop-character.yielded_by _ _ c.in-None.is c.next.ensures.steps in
+    let end = YieldsList-end (YieldsList-from_chars c.args.text.now c.utf8.text cc) c.loop-character.yielded _ c.loop-character.yielded_by _ _ c.in-None.is c.next.ensures.steps in
     has_written_of_eq _ _ _ _ _ (ap (flat_map escaped) (sym (map-id c.loop-character.yielded) ∙ end.0)) (c.loop-character.invariant plain)

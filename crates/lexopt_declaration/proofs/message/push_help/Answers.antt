@@ -2,8 +2,8 @@ use Rattle.std.proofs.Common.{[], ◌∷◌, ◌++◌, append-nil, append_assoc,
 use Rattle.std.proofs.lemmas.Grind.{flat_map-append}
 use Rattle.std.proofs.lemmas.Iterator.{YieldsList-from_chars}
 use Rattle.std.proofs.lemmas.Iterator.Consumers.{YieldsList-end}
-use Rattle.lexopt_options.specs.Answers.{on_one_line}
-use Rattle.lexopt_options.proofs.answer.push_help.Goals as goal
+use Rattle.lexopt_declaration.specs.Texts.{on_one_line}
+use Rattle.lexopt_declaration.proofs.message.push_help.Goals as goal
 
 pub loop-character-preserved : goal.loop-character-preserved
 loop-character-preserved c =
