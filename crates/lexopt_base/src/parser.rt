@@ -215,16 +215,17 @@ impl Parser {
     }
 
     /// Creates a parser from the words that the program was called with, if all of them are UTF-8.
+    /// For words that may not be UTF-8, such as the names of files, call [`Parser::from_env_os`]
+    /// instead.
     ///
-    /// The first word is the binary name. The words come from `std::env::args`. A program that
-    /// takes file names, which may be any bytes, calls [`Parser::from_env_os`]. No contract states
+    /// The first word is the binary name. The words come from `std::env::args`. No contract states
     /// which words these are; only tests show that.
     ///
     /// # Errors
     ///
     /// - `OutOfMemory` if memory runs out.
-    /// - `Custom` with the message `arguments unavailable` if `std::env::args` fails otherwise, as
-    ///   for a word that is not UTF-8.
+    /// - `Custom` with the message `arguments unavailable` if `std::env::args` fails for another
+    ///   reason, such as a word that is not UTF-8.
     ///
     /// # Examples
     ///

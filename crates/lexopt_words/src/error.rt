@@ -87,9 +87,13 @@ impl<'a> Clone for Arg<'a> {
 /// An error of a command line.
 ///
 /// It prints as a message for the user, by both `{error}` and `{error:?}`. Values in messages are
-/// in double quotes, escaped as [`Quoted`] does. `Error::from` makes `Custom` from a text,
-/// `NonUnicodeValue` from an `OsString`, and `OutOfMemory` from an `AllocError` or an
+/// in double quotes, escaped as [`Quoted`] does. `Error::from`, and so `?`, makes `Custom` from a
+/// text, `NonUnicodeValue` from an `OsString`, and `OutOfMemory` from an `AllocError` or an
 /// `AllocFailed`.
+///
+/// The causes in `Custom` and `ParsingFailed` are `anyhow::Error`s. One that is made from a text,
+/// or from an error by what it prints, has a message of at most 120 bytes: a longer text is cut,
+/// and then ends in three dots.
 ///
 /// # Examples
 ///
@@ -108,23 +112,30 @@ pub enum Error {
     /// The value of this option, which is given with its dashes, was not taken: `x` of `--flag=x`
     /// if the program does not take a value for `--flag`.
     UnexpectedValue { option: String, value: OsString },
-    /// A value could not be converted to its type, for the reason `error`.
+    /// A value could not be converted to its type, for the reason `error`, whose message has at most
+    /// 120 bytes. `value` is the whole text of the value.
     ParsingFailed { value: String, error: anyhow::Error },
     /// A value has to be a text, and is not UTF-8.
     NonUnicodeValue(OsString),
-    /// An error of the program's own. `Error::from` makes it from a text.
+    /// An error of the program's own. `Error::from` makes it from a text, of which it keeps at most
+    /// 120 bytes.
     Custom(anyhow::Error),
-    /// An allocation failed. If a call of a parser returns it, the line is unchanged, and the call
-    /// can be made again. The items of a constructor, and the argument of `Arg::unexpected`, are
-    /// gone.
+    /// An allocation failed. If `next`, `value`, `values` or `raw_args` of a parser returns it, the
+    /// line is unchanged, and the call can be made again. If a constructor of a parser returns it,
+    /// the items that it was given are gone; so is the argument of `Arg::unexpected`. If `?` made
+    /// it from the error of `take_values`, or of `collect` over a view, the words that were taken
+    /// from the line are gone.
     OutOfMemory,
 }
 
 impl Error {
     ghost use Rattle.lexopt_words.specs.Message.{cause_of};
 
-    /// Returns the cause of `ParsingFailed` or `Custom`, as `anyhow` keeps it. Other errors have
-    /// none.
+    /// Returns the cause of `ParsingFailed` or `Custom`. Other errors have none.
+    ///
+    /// If `anyhow` made the cause from a text or from another error, as `Error::from`,
+    /// `ValueExt::parse` and `ValueExt::parse_with` have it do, its message has at most 120 bytes: a
+    /// longer text is cut, and then ends in three dots.
     ///
     /// # Examples
     ///
@@ -196,6 +207,8 @@ impl From<String> for Error {
 
     ghost from_gives = { λ text e. IsCustom (string_bytes text) e };
 
+    /// Makes `Custom` from a text. Its message has at most 120 bytes: a longer text is cut, and then
+    /// ends in three dots.
     fn from(text: String) -> Error {
         Error::Custom(anyhow::Error::msg(text))
     }
@@ -206,6 +219,8 @@ impl From<&str> for Error {
 
     ghost from_gives = { λ text e. IsCustom text.now e };
 
+    /// Makes `Custom` from a text. Its message has at most 120 bytes: a longer text is cut, and then
+    /// ends in three dots.
     fn from(text: &str) -> Error {
         Error::Custom(anyhow::Error::msg(text))
     }
@@ -217,6 +232,7 @@ impl From<OsString> for Error {
 
     ghost from_gives = { λ word e. e ≡ NonUnicodeValue word };
 
+    /// Makes `NonUnicodeValue` of the word, whatever its bytes are.
     fn from(word: OsString) -> Error {
         Error::NonUnicodeValue(word)
     }

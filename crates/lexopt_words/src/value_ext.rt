@@ -32,8 +32,11 @@ pub trait ValueExt: private::Sealed {
     /// # Errors
     ///
     /// - `NonUnicodeValue` with a copy of the word if it is not UTF-8.
-    /// - `ParsingFailed` with the text and the cause if `FromStr` fails.
-    /// - `OutOfMemory` in place of these two.
+    /// - `ParsingFailed` with the whole text and a cause if `FromStr` fails. `Into<anyhow::Error>`
+    ///   makes the cause from the error of `FromStr`. If `anyhow` makes it from what the error
+    ///   prints, as it does from every `std::error::Error`, its message has at most 120 bytes: a
+    ///   longer text is cut, and then ends in three dots.
+    /// - `OutOfMemory` in place of either of these.
     ///
     /// # Examples
     ///
@@ -56,9 +59,11 @@ pub trait ValueExt: private::Sealed {
     /// # Errors
     ///
     /// - `NonUnicodeValue` with a copy of the word if it is not UTF-8.
-    /// - `ParsingFailed` with the text and the cause if `func` fails. The cause is what `anyhow`
-    ///   keeps of the error of `func`: at most 120 bytes of its text.
-    /// - `OutOfMemory` in place of these two.
+    /// - `ParsingFailed` with the whole text and a cause if `func` fails. `Into<anyhow::Error>` makes
+    ///   the cause from the error of `func`, as for [`ValueExt::parse`]. Its message has at most 120
+    ///   bytes: a longer text is cut, and then ends in three dots. An `anyhow::Error` that `bail!`
+    ///   made is cut in the same way.
+    /// - `OutOfMemory` in place of either of these.
     ///
     /// # Examples
     ///
