@@ -5,9 +5,10 @@
 //! decides whether it has a value. The crate `lexopt` re-exports this crate, except the module
 //! `refusal` and, at its root, `Quoted`; it also has whole lines, lists of calls and scripts.
 //!
-//! # Example
+//! # A whole program
 //!
-//! This program greets a thing. `crates/example_hello` is a longer version of it.
+//! The program `hello` is the file `crates/hello/src/main.rt`, and its line in `crates.txt` is
+//! `hello: lexopt_base`. `crates/example_hello` is a longer version of it.
 //!
 //! ```rust
 //! #![tactic(auto)]
@@ -15,87 +16,98 @@
 //! use lexopt_base::prelude::{Long, Short, Value, ValueExt};
 //! use lexopt_base::{Error, Parser};
 //! use std::env::Env;
-//! use std::io;
 //! use std::process::ExitCode;
 //!
+//! const HELP: &str = "Usage: hello [-n|--number=NUM] THING";
+//!
 //! #[derive(Drop)]
-//! struct Greeting {
-//!     thing: String,
-//!     number: u32,
-//!     shout: bool,
+//! enum Request {
+//!     Help,
+//!     Greet(String, u32),
 //! }
 //!
-//! fn read_greeting(rt: &(impl Env + AllocGlobal)) -> Result<Greeting, Error> {
+//! fn read_request(rt: &(impl Env + AllocGlobal)) -> Result<Request, Error> {
 //!     let mut parser = Parser::from_env_os(rt, rt.alloc())?;
 //!     let mut thing = None;
 //!     let mut number = 1;
-//!     let mut shout = false;
 //!     for _ in 0..u64::MAX {
 //!         match parser.next()? {
 //!             Some(Short('n') | Long("number")) => number = parser.value()?.parse()?,
-//!             Some(Long("shout")) => shout = true,
+//!             Some(Short('h') | Long("help")) => return Ok(Request::Help),
 //!             Some(Value(word)) if thing.is_none() => thing = Some(word.string()?),
 //!             Some(argument) => return Err(argument.unexpected(rt.alloc())),
 //!             None => break,
 //!         }
 //!     }
-//!     let Some(thing) = thing else {
-//!         return Err(Error::from("missing argument THING"));
-//!     };
-//!     Ok(Greeting {
-//!         thing,
-//!         number,
-//!         shout,
-//!     })
-//! }
-//!
-//! fn greet(rt: &(impl Print + AllocGlobal), greeting: Greeting) -> io::Result<()> {
-//!     let Greeting {
-//!         mut thing,
-//!         number,
-//!         shout,
-//!     } = greeting;
-//!     if shout {
-//!         thing = thing.to_uppercase(rt.alloc())?;
+//!     match thing {
+//!         Some(thing) => Ok(Request::Greet(thing, number)),
+//!         None => Err(Error::from("missing argument THING")),
 //!     }
-//!     for _ in 0..number {
-//!         println!(rt; "Hello {thing}")?;
-//!     }
-//!     Ok(())
 //! }
 //!
 //! fn main(rt: HostRuntime) -> ExitCode {
-//!     let greeting = match read_greeting(&rt) {
-//!         Ok(greeting) => greeting,
+//!     let (thing, number) = match read_request(&rt) {
+//!         Ok(Request::Greet(thing, number)) => (thing, number),
+//!         Ok(Request::Help) => {
+//!             let _ = println!(rt; "{HELP}");
+//!             return ExitCode::SUCCESS;
+//!         }
 //!         Err(error) => {
 //!             let _ = eprintln!(rt; "hello: {error}");
+//!             let _ = eprintln!(rt; "Try 'hello --help' for more information.");
 //!             return ExitCode::from(2);
 //!         }
 //!     };
-//!     match greet(&rt, greeting) {
-//!         Ok(()) => ExitCode::SUCCESS,
-//!         Err(error) => {
-//!             let _ = eprintln!(rt; "hello: {error}");
-//!             ExitCode::FAILURE
-//!         }
+//!     for _ in 0..number {
+//!         let _ = println!(rt; "Hello {thing}");
 //!     }
+//!     ExitCode::SUCCESS
 //! }
 //! ```
 //!
-//! - [`Parser::from_env_os`] reads the words that the program was called with.
+//! In the folder `crates/hello`, `rt try -- -n2 world` prints
+//!
+//! ```text
+//! Hello world
+//! Hello world
+//! ```
+//!
+//! `rt try -- -n x world` exits with the status 2, after it has printed on standard error
+//!
+//! ```text
+//! hello: cannot parse argument "x": invalid digit found in string
+//! Try 'hello --help' for more information.
+//! ```
+//!
+//! # What a program calls
+//!
+//! - [`Parser::from_env_os`] reads the words that the program was called with, whatever their bytes
+//!   are. [`Parser::from_vec`], [`Parser::from_args`] and [`Parser::from_iter`] make a parser of
+//!   words of the program's own, as a test does. [`Parser::from_env`] refuses words that are not
+//!   UTF-8.
 //! - [`Parser::next`] is called until it returns `None`. Rattle proves that each loop ends, so a
 //!   counted loop takes the place of Rust's `while let`.
-//! - `Short` and `Long` are options, such as `-n` and `--number`. A long option's name is without
-//!   its dashes. The parser lends it, and can be called again once it is no longer used.
+//! - `Short` and `Long` of [`prelude`] are options, such as `-n` and `--number`. A long option's
+//!   name is without its dashes. The parser lends it, and can be called again once it is no longer
+//!   used.
+//! - `Value` is a positional, which is an [`OsString`]. With the guard `if thing.is_none()` a
+//!   second positional falls through to the arm for unexpected arguments.
 //! - [`Parser::value`] takes the value of an option, such as `10` of `-n 10`. This call is how the
-//!   parser learns that `-n` has a value. The value is an [`OsString`], a list of bytes.
-//! - `Value` is a positional, also an [`OsString`]. With the guard `if thing.is_none()` a second
-//!   positional falls through to the arm for unexpected arguments.
-//! - [`ValueExt::parse`] converts a word by the type's `FromStr`, and [`ValueExt::string`] turns it
-//!   into a `String`. A word that is not UTF-8 is an error for both.
+//!   parser learns that `-n` has a value. [`Parser::optional_value`] takes a value that may be left
+//!   out, as in `--color=auto`. [`Parser::values`] takes several values, as a [`ValuesIter`].
+//! - [`OsString`] is a list of bytes, and [`OsStr`] a view of one. [`ValueExt::parse`] converts a
+//!   word by the type's `FromStr`, [`ValueExt::parse_with`] by a function, and [`ValueExt::string`]
+//!   turns it into a `String`. A word that is not UTF-8 is an error for each of them.
 //! - [`Arg::unexpected`] makes the error for an argument that the program does not know.
-//! - `Error::from` makes an error of a text. An [`Error`] prints as a message for the user.
-//! - A call that allocates returns an error if memory runs out; no call aborts.
+//! - [`Error`] prints as a message for the user. `Error::from` makes one of a text, of which it
+//!   keeps at most 120 bytes. [`Quoted`] prints a word in double quotes, as the messages do.
+//! - [`Parser::raw_args`] takes words as they are, as a [`RawArgs`]: for example the words of
+//!   another program. [`Parser::try_raw_args`] does so where no value of an option is left over.
+//! - [`Parser::set_short_equals`] has `-d=` mean the value `=`, and [`Parser::bin_name`] is the
+//!   name that the program was called by.
+//! - [`Parser::advance`], [`Parser::take`] and [`Parser::begin_values`] are for libraries.
+//!
+//! A call that allocates returns an error if memory runs out; no call aborts.
 //!
 //! In the other examples `rt` is a reference to the runtime that `main` gets, `alloc` is
 //! `rt.alloc()`, and `parser` is a [`Parser`]. Those that are not whole functions belong in one

@@ -362,8 +362,8 @@ impl Parser {
 
     /// Takes a value for the last option, and returns it.
     ///
-    /// The value is the one in the option's own word, if there is one; after `=` it may be empty.
-    /// Otherwise it is the next word, whatever it looks like: even `--`, which then does not end
+    /// The value is the one in the option's own word, if there is one; after `=`, which is consumed
+    /// with it, it may be empty. Otherwise it is the next word, whatever it looks like: even `--`, which then does not end
     /// the options. Call this right after `next` returned an option that has a value; this is how
     /// the parser learns that the option has one. The value keeps its bytes. Only the error
     /// allocates.
@@ -424,8 +424,8 @@ impl Parser {
 
     /// Takes the value in the last option's own word, if there is one, and returns it.
     ///
-    /// `None` means that there is none; nothing is consumed. This never takes the next word, and
-    /// never allocates.
+    /// A `=` before the value is consumed with it. `None` means that there is no such value; then
+    /// nothing is consumed. This never takes the next word, and never allocates.
     ///
     /// # Examples
     ///

@@ -6,7 +6,9 @@ use lexopt_words::os_string::{OsStr, OsString};
 /// A view of the unread words, made by [`Parser::raw_args`] and [`Parser::try_raw_args`].
 ///
 /// It is an iterator: each call of `next` takes one word, whatever it looks like. Words that are
-/// not taken stay with the parser. No call of it allocates.
+/// not taken stay with the parser. `next`, `peek`, `next_if` and `as_slice` do not allocate.
+/// `collect` allocates a list: if memory runs out, it returns an error, and the words that it had
+/// taken are gone.
 #[derive(Drop)]
 pub struct RawArgs<'a> {
     parser: &'a mut Parser,
@@ -22,7 +24,8 @@ impl Parser {
     ///
     /// A `--` that the view yields is a word like any other, and does not end the options. Words
     /// that are not taken from the view stay with the parser. If no word is left, the view is
-    /// empty.
+    /// empty. If memory runs out while `collect` makes a list of the words, those that it had taken
+    /// are gone.
     ///
     /// # Errors
     ///

@@ -20,7 +20,8 @@ enum Stage {
 /// A view of the values of one option, made by [`Parser::values`].
 ///
 /// It is an iterator: each call of `next` takes one value. Values that are not taken stay with the
-/// parser. No call of it allocates.
+/// parser. `next` does not allocate. `collect` and [`take_values`] allocate a list: if memory runs
+/// out, they return an error, and the values that they had taken are gone.
 #[derive(Drop)]
 pub struct ValuesIter<'a> {
     parser: &'a mut Parser,
@@ -38,6 +39,9 @@ impl Parser {
     /// to the first option or separator. A value joined by `=` is the only one. After the
     /// separator, every word is a value. The view takes nothing until it is asked: at `-a b c`, a
     /// view that is asked once leaves `c`. Only the error allocates.
+    ///
+    /// To take some or all of the values into a list, call [`take_values`] or `collect`. If memory
+    /// for that list runs out, the values that were taken are gone.
     ///
     /// # Errors
     ///
@@ -154,7 +158,8 @@ impl ValuesIter<'_> {
 ///
 /// # Errors
 ///
-/// `AllocError` if memory for the list runs out. The values that were taken are gone.
+/// `AllocError` if memory for the list runs out. The values that were taken are gone; the others
+/// stay with the parser.
 ///
 /// # Examples
 ///

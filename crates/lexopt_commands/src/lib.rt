@@ -1,22 +1,191 @@
 //! Declared commands: reads lines such as `git -C dir add -f x`, which have general options, the
 //! name of a command, and the words of that command.
 //!
-//! A program declares its general options with `declare!` of `lexopt_options`, its commands with
-//! [`declare_commands!`](crate::declare_commands), makes [`Commands`] of both, and calls
-//! [`Commands::from_env`]. The declaration of each command reads the words after its name.
+//! A program declares its general options and the options of each command with `declare!` of
+//! `lexopt_options`, and its commands with [`declare_commands!`](crate::declare_commands). It makes
+//! [`Commands`] of the general declaration and the commands, and calls [`Commands::from_env`]. The
+//! declaration of a command reads the words after its name.
+//!
+//! # A whole program
+//!
+//! The program `notes` is the file `crates/notes/src/main.rt`, and its line in `crates.txt` is
+//! `notes: lexopt_commands lexopt_options`. `lexopt_options` explains `declare!` and keys.
 //!
 //! ```rust
-//! match Commands::new(Options::new(&GENERAL), COMMANDS).from_env(rt)? {
-//!     Step::Command(general, Task::Add, request) => add(rt, general, request),
-//!     Step::Command(general, Task::Remote, request) => remote(rt, general, request),
-//!     Step::Text(text) => rt.print(text),
-//!     Step::Refused(refused) => refuse(rt, &refused),
+//! #![tactic(auto)]
+//!
+//! use lexopt_commands::{Command, Commands, Step, USAGE_ERROR, columns, declare_commands};
+//! use lexopt_options::{Answer, Declaration, Names, Options, Parsed, Request, declare};
+//! use std::convert::Infallible;
+//! use std::fmt::Display;
+//! use std::io;
+//! use std::process::ExitCode;
+//!
+//! #[derive(Clone, Copy)]
+//! enum GeneralFlag {
+//!     Quiet,
+//! }
+//!
+//! #[derive(Clone, Copy)]
+//! enum Task {
+//!     Add,
+//!     List,
+//! }
+//!
+//! static GENERAL: Declaration<'static, GeneralFlag, Infallible, ()> = declare! {
+//!     program: "notes",
+//!     about: "Keeps notes.",
+//!     options: [
+//!         flag(GeneralFlag::Quiet, Names::Both('q', "quiet"), "tell less"),
+//!         help(Names::Both('h', "help")),
+//!     ],
+//!     positionals: [once((), "COMMAND").text(), any_number((), "ARGUMENT")],
+//! };
+//!
+//! static COMMANDS: &[Command<'static, Task>] = declare_commands![
+//!     command(Task::Add, "add", "add notes"),
+//!     command(Task::List, "list", "list the notes"),
+//!     help("help"),
+//! ];
+//!
+//! #[derive(Clone, Copy)]
+//! enum AddWord {
+//!     Note,
+//! }
+//!
+//! static ADD: Declaration<'static, Infallible, Infallible, AddWord> = declare! {
+//!     program: "notes add",
+//!     options: [help(Names::Both('h', "help"))],
+//!     positionals: [at_least_once(AddWord::Note, "NOTE", "what to note").text()],
+//! };
+//!
+//! static LIST: Declaration<'static, Infallible> = declare! {
+//!     program: "notes list",
+//!     options: [help(Names::Both('h', "help"))],
+//! };
+//!
+//! fn refuse(rt: &HostRuntime, refused: &impl Display) -> io::Result<ExitCode> {
+//!     eprintln!(rt; "{refused}").map(|()| ExitCode::from(USAGE_ERROR))
+//! }
+//!
+//! fn add(rt: &HostRuntime, is_quiet: bool, request: Request) -> io::Result<ExitCode> {
+//!     match Options::new(&ADD).answer_request(rt.alloc(), request, columns(rt))? {
+//!         Answer::Parsed(line) => {
+//!             for parsed in line {
+//!                 let Parsed::Positional(AddWord::Note, note) = parsed;
+//!                 if !is_quiet {
+//!                     println!(rt; "add {note:?}")?;
+//!                 }
+//!             }
+//!             Ok(ExitCode::SUCCESS)
+//!         }
+//!         Answer::Text(text) => rt.print(text).map(|()| ExitCode::SUCCESS),
+//!         Answer::Refused(refused) => refuse(rt, &refused),
+//!     }
+//! }
+//!
+//! fn list(rt: &HostRuntime, request: Request) -> io::Result<ExitCode> {
+//!     match Options::new(&LIST).answer_request(rt.alloc(), request, columns(rt))? {
+//!         Answer::Parsed(_) => rt.println("list").map(|()| ExitCode::SUCCESS),
+//!         Answer::Text(text) => rt.print(text).map(|()| ExitCode::SUCCESS),
+//!         Answer::Refused(refused) => refuse(rt, &refused),
+//!     }
+//! }
+//!
+//! fn main(rt: HostRuntime) -> io::Result<ExitCode> {
+//!     match Commands::new(Options::new(&GENERAL), COMMANDS).from_env(&rt)? {
+//!         Step::Command(general, task, request) => {
+//!             let is_quiet = general.iter().any(|parsed| matches!(
+//!                 parsed,
+//!                 Parsed::Flag(GeneralFlag::Quiet)
+//!             ));
+//!             match task {
+//!                 Task::Add => add(&rt, is_quiet, request),
+//!                 Task::List => list(&rt, request),
+//!             }
+//!         }
+//!         Step::Text(text) => rt.print(text).map(|()| ExitCode::SUCCESS),
+//!         Step::Refused(refused) => refuse(&rt, &refused),
+//!     }
 //! }
 //! ```
 //!
-//! In the examples `rt` is a reference to the runtime that `main` gets, `alloc` is `rt.alloc()`,
-//! and `commands` is a [`Commands`]. The program has the functions `add`, `remote`, `remote_add`
-//! and `refuse`.
+//! In the folder `crates/notes`, `rt try -- add milk tea` prints
+//!
+//! ```text
+//! add "milk"
+//! add "tea"
+//! ```
+//!
+//! `rt try -- ad milk` and `rt try -- add` exit with the status 2, after they have printed on
+//! standard error
+//!
+//! ```text
+//! notes: unknown command "ad"; did you mean 'add'?
+//! Try 'notes --help' for more information.
+//! ```
+//!
+//! and
+//!
+//! ```text
+//! notes add: missing argument NOTE
+//! Try 'notes add --help' for more information.
+//! ```
+//!
+//! `rt try -- --help` prints
+//!
+//! ```text
+//! Usage: notes [OPTION]... COMMAND [ARGUMENT]...
+//! Keeps notes.
+//!
+//!   add                   add notes
+//!   list                  list the notes
+//!   help                  print the help of a command
+//!
+//!   -q, --quiet           tell less
+//!   -h, --help            print this help and exit
+//! ```
+//!
+//! # What to declare
+//!
+//! - The general declaration has the name under which the program is installed, and the options
+//!   that come before the name of a command. To accept such an option after the name too, declare
+//!   it for the command as well. Declare the positionals `COMMAND` and `ARGUMENT` as above: the
+//!   usage line and completion use them. When a line is read they are ignored, so their keys are
+//!   never returned.
+//! - [`declare_commands!`](crate::declare_commands) has a line for each [`Command`]: `command` with
+//!   the key, the name and the help text, or `help` with the name that asks for the help.
+//! - The declaration of a command has the name that messages and the help show, such as `notes
+//!   add`. It should have an option with the long name `help`, since `notes help add` means `notes
+//!   add --help`.
+//!
+//! # What to call
+//!
+//! - [`Commands::new`] takes general options and commands in a `static`, which the prover checks.
+//!   [`Commands::try_new`] takes commands that are made when the program runs, and may return a
+//!   [`CommandError`].
+//! - [`Commands::from_env`] reads the program's own line up to the name of a command, or the
+//!   request of a shell. It returns a [`Step`]. `Step::Command` has what the general options mean,
+//!   the key of the command, and a `Request` of `lexopt_options` with the words after the name.
+//!   `Step::Text` has a text to print. `Step::Refused` has a mistake, to be printed on standard
+//!   error before the program exits with [`USAGE_ERROR`], which is 2.
+//! - Pass the request to `Options::answer_request` of the command's own declaration, whatever the
+//!   request is, with [`columns`] as the width of the help. So the same code runs the command,
+//!   prints its help and completes its words.
+//! - Print nothing before `answer_request` has returned, unless the request is `Request::Line`: any
+//!   other request comes from a shell, which reads what the program prints.
+//! - A command that has commands of its own, such as `remote add`, makes [`Commands`] of them in
+//!   its function, and passes the request to [`Commands::answer_request`].
+//! - [`Commands::answer`] reads words of the program's own, as a test does; [`Commands::read`]
+//!   returns the request for the help, and the [`Mistake`], as values; and [`Commands::help`]
+//!   returns the help.
+//!
+//! A shell completes the lines of `notes` after `source <(_NOTES_COMPLETE=bash_source notes)` in
+//! the start-up file of bash; `lexopt_options` has the lines for zsh and fish.
+//!
+//! In the other examples `rt` is a reference to the runtime that `main` gets, `alloc` is
+//! `rt.alloc()`, and `commands` is a [`Commands`]. `add`, `remote`, `remote_add` and `refuse` are
+//! functions of the program.
 #![tactic(auto)]
 
 pub mod answer;

@@ -186,7 +186,7 @@ pub struct Declared<'a, F, V = Infallible, M = Infallible, S = Infallible> {
     pub kind: Kind<'a, F, V, M, S>,
     /// Its help text: words with single blanks between them.
     pub help: &'a str,
-    /// Whether the help leaves it out.
+    /// Whether the help and its usage line leave it out. Lines may have it all the same.
     pub hidden: bool,
     /// Whether every legal line has it.
     pub required: bool,
@@ -372,7 +372,10 @@ impl<'a, F, V, M, S> Declared<'a, F, V, M, S> {
         }
     }
 
-    /// Leaves the option out of the help. In all else it is like any other option.
+    /// Leaves the option out of the help, and of the usage line.
+    ///
+    /// In all else it is like any other option: a line may have it, shells complete its names and
+    /// values, and the hint after an unknown option may name it.
     ///
     /// # Examples
     ///
@@ -747,7 +750,13 @@ impl std::error::Error for DeclarationError<'_> {}
 /// program has none of that kind.
 #[derive(Debug, Clone, Copy)]
 pub struct Declaration<'a, F, V = Infallible, P = Infallible, M = Infallible, S = Infallible> {
-    /// The name of the program.
+    /// The name under which the program is installed.
+    ///
+    /// Messages, the help, the environment variable by which shells ask and the scripts for shells
+    /// have this name, whatever the name is by which the program is called. It should have only
+    /// ASCII letters, digits, `-`, `_`, `.` and `+`, since the scripts have it unquoted and in names
+    /// of functions. Nothing checks that. The declaration of a command may have a blank in its name,
+    /// as in `git add`: a program with commands makes its scripts of the general declaration alone.
     pub program: &'a str,
     /// What the program does, in a sentence or two; maybe the empty text.
     pub about: &'a str,

@@ -117,8 +117,9 @@ pub fn variable(alloc: Global, program: &str) -> Result<String, AllocError>
 pub struct Script<'a> {
     /// The shell that reads the script.
     pub shell: Shell,
-    /// The name that the program is called by. It may have only ASCII letters, digits, `-`, `_`,
-    /// `.` and `+`: the script has it unquoted, and in names of functions.
+    /// The name of the program, which is the command that the script completes. It should have only
+    /// ASCII letters, digits, `-`, `_`, `.` and `+`, since the script has it unquoted and in names
+    /// of functions. Nothing checks that.
     pub program: &'a str,
     /// The environment variable by which the shell asks: what [`variable`] returns for the program.
     pub variable: &'a str,

@@ -303,7 +303,8 @@ impl<F, V, P, M, S> Options<'_, F, V, P, M, S> {
     /// Returns the script by which this shell completes the lines of the program, with a line feed
     /// at its end.
     ///
-    /// [`Script`] describes the script, and which names of programs it works for.
+    /// [`Script`] describes the script, and which names of programs it works for. The script
+    /// completes the command that has the name of the declaration.
     ///
     /// # Errors
     ///

@@ -4,17 +4,198 @@
 //! A program declares its options with [`declare!`](crate::declare), makes [`Options`] of the
 //! declaration and calls [`Options::from_env`]. The result has the program's own keys.
 //!
+//! # A whole program
+//!
+//! The program `pack` is the file `crates/pack/src/main.rt`, and its line in `crates.txt` is `pack:
+//! lexopt_options`.
+//!
 //! ```rust
-//! match Options::new(&DECLARATION).from_env(rt)? {
-//!     Answer::Parsed(line) => work(rt, line),
-//!     Answer::Text(text) => rt.print(text),
-//!     Answer::Refused(refused) => refuse(rt, &refused),
+//! #![tactic(auto)]
+//!
+//! use lexopt_options::{
+//!     Answer, Declaration, Names, Options, OsString, Parsed, USAGE_ERROR, UsageError, declare,
+//! };
+//! use std::alloc::Global;
+//! use std::io;
+//! use std::process::ExitCode;
+//!
+//! #[derive(Clone, Copy)]
+//! enum Flag {
+//!     Verbose,
+//! }
+//!
+//! // `parse_value` compares the keys of options with values.
+//! #[derive(Clone, Copy, PartialEq)]
+//! enum Value {
+//!     Output,
+//!     Jobs,
+//! }
+//!
+//! #[derive(Clone, Copy)]
+//! enum Word {
+//!     File,
+//! }
+//!
+//! static DECLARATION: Declaration<'static, Flag, Value, Word> = declare! {
+//!     program: "pack",
+//!     about: "Prints what it would pack.",
+//!     options: [
+//!         flag(Flag::Verbose, Names::Both('v', "verbose"), "tell more"),
+//!         value(Value::Output, Names::Both('o', "output"), "FILE", "the archive").required(),
+//!         value(Value::Jobs, Names::Both('j', "jobs"), "COUNT", "how many at a time").text(),
+//!         help(Names::Both('h', "help")),
+//!         version(Names::Long("version"), "pack 1.0"),
+//!     ],
+//!     positionals: [at_least_once(Word::File, "FILE", "what to pack")],
+//! };
+//!
+//! #[derive(Debug, Drop)]
+//! struct Settings {
+//!     verbose: bool,
+//!     output: OsString,
+//!     jobs: u32,
+//!     files: Vec<OsString>,
+//! }
+//!
+//! fn settings_of(
+//!     alloc: Global,
+//!     options: &Options<'static, Flag, Value, Word>,
+//!     line: Vec<Parsed<Flag, Value, Word>>,
+//! ) -> Result<Settings, UsageError<'static>> {
+//!     let mut settings = Settings {
+//!         verbose: false,
+//!         output: OsString::new(alloc),
+//!         jobs: 1,
+//!         files: Vec::new(alloc),
+//!     };
+//!     for parsed in line {
+//!         match parsed {
+//!             Parsed::Flag(Flag::Verbose) => settings.verbose = true,
+//!             Parsed::Value(Value::Output, word) => settings.output = word,
+//!             Parsed::Value(Value::Jobs, word) => {
+//!                 settings.jobs = options.parse_value(Value::Jobs, &word)?;
+//!             }
+//!             Parsed::Positional(Word::File, word) => settings.files.push(word)?,
+//!         }
+//!     }
+//!     if settings.jobs == 0 {
+//!         return Err(UsageError::from("at least one job is needed"));
+//!     }
+//!     Ok(settings)
+//! }
+//!
+//! fn main(rt: HostRuntime) -> io::Result<ExitCode> {
+//!     let options = Options::new(&DECLARATION);
+//!     let line = match options.from_env(&rt)? {
+//!         Answer::Parsed(line) => line,
+//!         Answer::Text(text) => return rt.print(text).map(|()| ExitCode::SUCCESS),
+//!         Answer::Refused(why) => return rt.eprintln(why).map(|()| ExitCode::from(USAGE_ERROR)),
+//!     };
+//!     match settings_of(rt.alloc(), &options, line) {
+//!         Ok(settings) => println!(rt; "{settings:?}").map(|()| ExitCode::SUCCESS),
+//!         Err(error) => {
+//!             let report = options.report(error);
+//!             eprintln!(rt; "{report}").map(|()| ExitCode::from(report.status()))
+//!         }
+//!     }
 //! }
 //! ```
 //!
-//! In the examples `rt` is a reference to the runtime that `main` gets, `alloc` is `rt.alloc()`,
-//! and `options` is an [`Options`]. The program has the functions `work`, `refuse` and
-//! `print_parsed`.
+//! In the folder `crates/pack`, `rt try -- -vo out.zip --jobs=4 a b` prints
+//!
+//! ```text
+//! Settings { verbose: true, output: "out.zip", jobs: 4, files: ["a", "b"] }
+//! ```
+//!
+//! `rt try -- --verbsoe a` and `rt try -- -o x --jobs=many a` exit with the status 2, after they
+//! have printed on standard error
+//!
+//! ```text
+//! pack: invalid option '--verbsoe'; did you mean '--verbose'?
+//! Try 'pack --help' for more information.
+//! ```
+//!
+//! and
+//!
+//! ```text
+//! pack: invalid value "many" for '--jobs': invalid digit found in string
+//! Try 'pack --help' for more information.
+//! ```
+//!
+//! `rt try -- --help` prints
+//!
+//! ```text
+//! Usage: pack [OPTION]... --output=FILE FILE...
+//! Prints what it would pack.
+//!
+//!   FILE                  what to pack
+//!
+//!   -v, --verbose         tell more
+//!   -o, --output=FILE     the archive
+//!   -j, --jobs=COUNT      how many at a time
+//!   -h, --help            print this help and exit
+//!       --version         print the version and exit
+//! ```
+//!
+//! # What to declare
+//!
+//! - `program` is the name under which the program is installed. Messages, the help and completion
+//!   use this name, whatever the name by which the program is called ([`Declaration`] has the
+//!   rules).
+//! - [`Names`] are the names of an option, without their dashes: `Names::Short('v')`,
+//!   `Names::Long("verbose")`, or `Names::Both('v', "verbose")`.
+//! - Keys are values of the program's own types, such as `Flag::Verbose`, which tell it what was
+//!   read. [`Declaration`], [`Options`] and [`Parsed`] have a type of keys for each kind, in this
+//!   order: flags, options of one value, positionals, options whose value may be left out, and
+//!   options of several values. Write `Infallible` of `std::convert` for a kind that the program
+//!   does not have, or leave it out at the end. Keys are `Clone` and `Copy`; those that are given
+//!   to [`Options::parse_value`] are also `PartialEq`.
+//! - [`declare!`](crate::declare) lists what a line of the declaration can be. `.required()` is for
+//!   an option that each line must have, `.one_of(&["fast", "slow"])` for values in a list,
+//!   `.hidden()` for an option that the help leaves out. Shells complete values and positionals by
+//!   the names of files, or of directories after `.directories()`, or by nothing after `.text()`.
+//!
+//! # What to call
+//!
+//! - [`Options::new`] takes a declaration in a `static`, which the prover checks.
+//!   [`Options::try_new`] takes one that is made when the program runs, and may return a
+//!   [`DeclarationError`].
+//! - [`Options::from_env`] reads the program's own line, or the request of a shell. It returns an
+//!   [`Answer`]. `Answer::Parsed` has what the line means, in the order in which it was typed.
+//!   `Answer::Text` has the help, the version or what a shell asked for, to be printed.
+//!   `Answer::Refused` has the mistake, to be printed on standard error before the program exits
+//!   with [`USAGE_ERROR`], which is 2. A shell reads what the program prints, so print nothing
+//!   before.
+//! - [`Parsed`] is an option or a positional that was read: its key, with its values as
+//!   [`OsString`]s, which may be any bytes. An option that was typed twice is there twice.
+//! - [`Options::parse_value`] converts a value by the type's `FromStr`, and its error names the
+//!   option. [`Options::parse_maybe`] and [`Options::parse_values`] do so for the other kinds of
+//!   options, and [`ValueExt::parse`] and [`ValueExt::string`] for positionals.
+//! - [`UsageError`] is the error of a function that finds mistakes itself. `?` and
+//!   `UsageError::from` make it. [`Options::report`] makes of it what to print, and
+//!   [`Report::status`] is the status to exit with.
+//! - [`Options::answer`] reads words of the program's own, as a test does, and [`Options::read`]
+//!   returns the request for the help, and the mistake, as values. [`Options::help`] and
+//!   [`Options::usage`] return texts; [`columns`](crate::answer::columns) is the width for them.
+//! - [`Options::read_leading`] is for a line that goes on with the words of another program.
+//!
+//! # Completion in a shell
+//!
+//! A shell completes the lines of `pack` after one of these lines in its start-up file:
+//!
+//! ```text
+//! source <(_PACK_COMPLETE=bash_source pack)   # bash
+//! source <(_PACK_COMPLETE=zsh_source pack)    # zsh, after compinit
+//! _PACK_COMPLETE=fish_source pack | source    # fish
+//! ```
+//!
+//! [`variable`] returns the name of that variable. The program needs no more code for completion:
+//! [`Options::from_env`] answers the shell. [`Request`], [`Options::complete`] and [`Script`] are
+//! for a program that answers it by itself.
+//!
+//! In the other examples `rt` is a reference to the runtime that `main` gets, `alloc` is
+//! `rt.alloc()`, and `options` is an [`Options`]. `work`, `refuse` and `print_parsed` are functions
+//! of the program.
 #![tactic(auto)]
 
 pub mod answer;

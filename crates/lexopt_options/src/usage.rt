@@ -21,11 +21,12 @@ use std::str::FromStr;
 /// A mistake that a program itself finds in what was read, such as a number out of range.
 ///
 /// It is the error of functions that turn what was read into values of the program's own. `?`
-/// converts to it the errors of `ValueExt::parse`, `push`, `collect` and `format!`, and a text,
-/// whether from the source or made by `format!`.
+/// converts the errors of `ValueExt::parse`, `push`, `collect` and `format!` to it, and
+/// `UsageError::from` makes it of a text, such as a literal or what `format!` returns. A text is
+/// kept whole.
 ///
-/// `Display` writes what is wrong. What [`Options::report`] returns also has the name of the
-/// program, and where the help is.
+/// `Display` writes what is wrong, without a line feed at the end. What [`Options::report`] returns
+/// also has the name of the program, and where the help is.
 ///
 /// # Examples
 ///
@@ -48,12 +49,14 @@ pub enum UsageError<'a> {
         /// The names of the option that has the value; `None` if no option is named, as for a
         /// positional.
         option: Option<Names<'a>>,
-        /// The reason.
+        /// The reason. For a value that could not be converted it is [`Error::ParsingFailed`],
+        /// whose cause has a message of at most 120 bytes: a longer text is cut, and then ends in
+        /// three dots.
         error: Error,
     },
-    /// A message.
+    /// A message. It is kept whole.
     Text(&'a str),
-    /// A message that the program made, as by `format!`.
+    /// A message that the program made, as by `format!`. It is kept whole.
     Formatted(String),
     /// An allocation failed.
     OutOfMemory,
@@ -105,7 +108,9 @@ impl From<Error> for UsageError<'_> {
 
     ghost from_gives = { λ error usage. usage ≡ invalid None error };
 
-    /// Names no option. [`Error::OutOfMemory`] becomes [`UsageError::OutOfMemory`].
+    /// Makes [`UsageError::Invalid`] of the error, which names no option; and
+    /// [`UsageError::OutOfMemory`] of [`Error::OutOfMemory`]. An error that was made of a text has
+    /// at most 120 bytes of that text, so make a `UsageError` of a longer text directly.
     fn from(error: Error) -> Self {
         invalid(None, error)
     }
@@ -117,6 +122,7 @@ impl From<String> for UsageError<'_> {
 
     ghost from_gives = { λ text error. error ≡ Formatted text };
 
+    /// Makes [`UsageError::Formatted`] of a text, which is kept whole.
     fn from(text: String) -> Self {
         UsageError::Formatted(text)
     }
@@ -128,6 +134,7 @@ impl<'a> From<&'a str> for UsageError<'a> {
 
     ghost from_gives = { λ text error. error ≡ Text text };
 
+    /// Makes [`UsageError::Text`] of a text, which is kept whole.
     fn from(text: &'a str) -> Self {
         UsageError::Text(text)
     }
@@ -337,7 +344,8 @@ impl<'a, F, V: Copy + PartialEq, P, M, S> Options<'a, F, V, P, M, S> {
     /// # Errors
     ///
     /// - [`UsageError::Invalid`] if the word is not UTF-8 or `FromStr` fails. It has the names of
-    ///   the first declared option of one value with this key, if there is one.
+    ///   the first declared option of one value with this key, if there is one. The message about
+    ///   an error of `FromStr` has at most 120 bytes of what that error prints.
     /// - [`UsageError::OutOfMemory`] if an allocation fails.
     ///
     /// # Examples

@@ -91,9 +91,8 @@ impl<'a> Clone for Arg<'a> {
 /// text, `NonUnicodeValue` from an `OsString`, and `OutOfMemory` from an `AllocError` or an
 /// `AllocFailed`.
 ///
-/// The causes in `Custom` and `ParsingFailed` are `anyhow::Error`s. One that is made from a text,
-/// or from an error by what it prints, has a message of at most 120 bytes: a longer text is cut,
-/// and then ends in three dots.
+/// `Custom` and `ParsingFailed` have an `anyhow::Error`, which keeps at most 120 bytes of the text
+/// that it is made from: a longer text is cut, and then ends in three dots.
 ///
 /// # Examples
 ///
@@ -133,9 +132,8 @@ impl Error {
 
     /// Returns the cause of `ParsingFailed` or `Custom`. Other errors have none.
     ///
-    /// If `anyhow` made the cause from a text or from another error, as `Error::from`,
-    /// `ValueExt::parse` and `ValueExt::parse_with` have it do, its message has at most 120 bytes: a
-    /// longer text is cut, and then ends in three dots.
+    /// The cause keeps at most 120 bytes of the text that it is made from: a longer text is cut, and
+    /// then ends in three dots.
     ///
     /// # Examples
     ///

@@ -32,10 +32,9 @@ pub trait ValueExt: private::Sealed {
     /// # Errors
     ///
     /// - `NonUnicodeValue` with a copy of the word if it is not UTF-8.
-    /// - `ParsingFailed` with the whole text and a cause if `FromStr` fails. `Into<anyhow::Error>`
-    ///   makes the cause from the error of `FromStr`. If `anyhow` makes it from what the error
-    ///   prints, as it does from every `std::error::Error`, its message has at most 120 bytes: a
-    ///   longer text is cut, and then ends in three dots.
+    /// - `ParsingFailed` with the whole text of the word and a cause if `FromStr` fails. The cause
+    ///   is an `anyhow::Error`, which keeps at most 120 bytes of what the error of `FromStr` prints:
+    ///   a longer text is cut, and then ends in three dots.
     /// - `OutOfMemory` in place of either of these.
     ///
     /// # Examples
@@ -59,10 +58,9 @@ pub trait ValueExt: private::Sealed {
     /// # Errors
     ///
     /// - `NonUnicodeValue` with a copy of the word if it is not UTF-8.
-    /// - `ParsingFailed` with the whole text and a cause if `func` fails. `Into<anyhow::Error>` makes
-    ///   the cause from the error of `func`, as for [`ValueExt::parse`]. Its message has at most 120
-    ///   bytes: a longer text is cut, and then ends in three dots. An `anyhow::Error` that `bail!`
-    ///   made is cut in the same way.
+    /// - `ParsingFailed` with the whole text of the word and a cause if `func` fails. The cause is an
+    ///   `anyhow::Error`, which keeps at most 120 bytes of what the error of `func` prints: a longer
+    ///   text is cut, and then ends in three dots.
     /// - `OutOfMemory` in place of either of these.
     ///
     /// # Examples
