@@ -3,14 +3,23 @@
 
 /// Makes a slice of [`Command`](crate::Command)s, as the value of a constant, a static or a local.
 ///
-/// - `command` has the program's key, the name and the help text.
-/// - `help` has the name that asks for the help. Its help text is `print the help of a command`.
+/// A line is one of these:
 ///
-/// The macro does not check the names; [`Commands::new`](crate::Commands::new) does.
+/// - `command(key, name, help text)`: a command. The key is the program's own value for it, which
+///   [`Step::Command`](crate::Step::Command) returns.
+/// - `help(name)`: a name that asks for the help. Its help text is `print the help of a command`.
+///
+/// The macro does not check the names; [`Commands::new`](crate::Commands::new) does. A name is not
+/// empty, does not begin with `-`, has no blank, control character of ASCII or U+FFFD in it, and is
+/// not the name of a command before it.
 ///
 /// # Examples
 ///
 /// ```rust
+/// use lexopt_commands::{Command, declare_commands};
+/// use lexopt_options::{Declaration, Names, declare};
+/// use std::convert::Infallible;
+///
 /// #[derive(Clone, Copy)]
 /// enum Task {
 ///     Add,
@@ -33,7 +42,8 @@
 /// ];
 /// ```
 ///
-/// They declare lines such as `-C dir add -f x`, `remote add` and `help add`.
+/// They declare lines such as `-C dir add -f x`, `remote add` and `help add`. What `-f x` means is
+/// declared by another declaration, that of the command `add`.
 #[macro_export]
 macro_rules! declare_commands {
     ($($what:ident $given:tt),* $(,)?) => {

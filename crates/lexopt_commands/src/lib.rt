@@ -155,9 +155,9 @@
 //!   never returned.
 //! - [`declare_commands!`](crate::declare_commands) has a line for each [`Command`]: `command` with
 //!   the key, the name and the help text, or `help` with the name that asks for the help.
-//! - The declaration of a command has the name that messages and the help show, such as `notes
-//!   add`. It should have an option with the long name `help`, since `notes help add` means `notes
-//!   add --help`.
+//! - The declaration of a command has the name that messages and the help show, such as
+//!   `notes add`. It should have an option with the long name `help`, since `notes help add` means
+//!   `notes add --help`.
 //!
 //! # What to call
 //!

@@ -2,28 +2,53 @@
 
 /// Makes a [`Declaration`](crate::Declaration), as the value of a constant, a static or a local.
 ///
-/// - `program` and `options` are required. `about`, `positionals`, `epilogue` and `short_equals`
-///   may be left out. All come in the order `program`, `about`, `options`, `positionals`,
-///   `epilogue`, `short_equals`.
-/// - A line of `options` is a call of a function of [`Declared`](crate::Declared): `flag`, `value`,
-///   `maybe`, `values`, `help` or `version`.
-/// - After that come any of these, in any order. `.hidden()` leaves the option out of the help.
-///   `.required()` makes it an option that every line has to have. `.one_of(&["fast", "slow"])`
-///   lists the values that it accepts, which shells offer. After `.directories()` shells complete
-///   its values by the names of directories, and after `.text()` not at all. Without `.one_of`,
-///   `.directories` and `.text`, they complete the values by the names of files; with several of
-///   these, the last one counts.
-/// - A line of `positionals` is a call of a function of [`Positional`](crate::Positional): `once`,
-///   `at_most_once`, `any_number` or `at_least_once`. Its help text may be left out. `.one_of(..)`,
-///   `.directories()` or `.text()` may come after it.
+/// `program` and `options` are required. `about`, `positionals`, `epilogue` and `short_equals` may
+/// be left out. All of them come in the order of this list:
+///
+/// - `program` is the name under which the program is installed
+///   ([`Declaration::program`](crate::Declaration::program)), or the name of the program and of a
+///   command, such as `git add`.
+/// - `about` says what the program does, in a sentence or two.
+/// - `options` has a line for each option, as described below.
+/// - `positionals` has a line for each positional, as described below.
 /// - `epilogue: ["..", ".."]` has paragraphs for the end of the help.
-/// - After `short_equals: false`, `=` in a cluster is a character like any other.
+/// - `short_equals: false` makes `=` in a cluster a character like any other, so that `-d=` has the
+///   value `=`. Otherwise `=` separates a short option from its value, as in `-o=file`.
+///
+/// A line of `options` is one of these. The key is the program's own value for the option, the
+/// names are [`Names`](crate::Names), and the placeholder is what the help shows for a value, such
+/// as `FILE`.
+///
+/// - `flag(key, names, help text)`: an option without values.
+/// - `value(key, names, placeholder, help text)`: an option of one value.
+/// - `maybe(key, names, placeholder, help text)`: an option whose value may be left out.
+/// - `values(key, names, placeholder, help text)`: an option of several values, at least one.
+/// - `help(names)`: an option that asks for the help.
+/// - `version(names, text)`: an option that asks for the version, which is this text.
+///
+/// After that come any of these, in any order:
+///
+/// - `.hidden()` leaves the option out of the help. Shells still complete it.
+/// - `.required()` makes it an option that every line has to have.
+/// - `.one_of(&["fast", "slow"])` lists the values that it accepts, which shells offer.
+/// - `.directories()` has shells complete its values by the names of directories.
+/// - `.text()` has shells complete its values by nothing.
+///
+/// Without `.one_of`, `.directories` and `.text`, shells complete the values by the names of files.
+/// If there are several of these three, the last one counts.
+///
+/// A line of `positionals` has a key, a placeholder and a help text, which may be left out:
+/// `once(key, placeholder, help text)`, `at_most_once(..)`, `any_number(..)` or
+/// `at_least_once(..)`. At most one positional may be declared by `any_number` or `at_least_once`.
+/// After it may come `.one_of(..)`, `.directories()` or `.text()`.
 ///
 /// The macro does not check the declaration; [`Options::new`](crate::Options::new) does.
 ///
 /// # Examples
 ///
 /// ```rust
+/// use lexopt_options::{Declaration, Names, declare};
+///
 /// #[derive(Clone, Copy)]
 /// enum Flag {
 ///     Verbose,

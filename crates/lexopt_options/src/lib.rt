@@ -6,8 +6,8 @@
 //!
 //! # A whole program
 //!
-//! The program `pack` is the file `crates/pack/src/main.rt`, and its line in `crates.txt` is `pack:
-//! lexopt_options`.
+//! The program `pack` is the file `crates/pack/src/main.rt`, and its line in `crates.txt` is
+//! `pack: lexopt_options`.
 //!
 //! ```rust
 //! #![tactic(auto)]
@@ -177,7 +177,8 @@
 //! - [`Options::answer`] reads words of the program's own, as a test does, and [`Options::read`]
 //!   returns the request for the help, and the mistake, as values. [`Options::help`] and
 //!   [`Options::usage`] return texts; [`columns`](crate::answer::columns) is the width for them.
-//! - [`Options::read_leading`] is for a line that goes on with the words of another program.
+//! - [`Options::read_leading`] is for a line that goes on with the words of another program, as
+//!   that of `env` does. A program with commands names `lexopt_commands` too.
 //!
 //! # Completion in a shell
 //!
