@@ -363,10 +363,10 @@ impl Parser {
     /// Takes a value for the last option, and returns it.
     ///
     /// The value is the one in the option's own word, if there is one; after `=`, which is consumed
-    /// with it, it may be empty. Otherwise it is the next word, whatever it looks like: even `--`, which then does not end
-    /// the options. Call this right after `next` returned an option that has a value; this is how
-    /// the parser learns that the option has one. The value keeps its bytes. Only the error
-    /// allocates.
+    /// with it, it may be empty. Otherwise it is the next word, whatever it looks like: even `--`,
+    /// which then does not end the options. Call this right after `next` returned an option that
+    /// has a value; this is how the parser learns that the option has one. The value keeps its
+    /// bytes. Only the error allocates.
     ///
     /// # Errors
     ///

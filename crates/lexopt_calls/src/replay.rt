@@ -189,7 +189,7 @@ fn reply_to(alloc: Global, parser: &mut Parser, call: &Call) -> Result<Reply, Al
 ///
 /// `OutOfMemory` if memory runs out for the list of replies or for what is copied into it. Then
 /// some prefix of the calls was made, and perhaps part of the next call, which may have taken some
-/// of its items. The replies are gone.
+/// of its items. The replies are gone, with the words that these calls had taken from the line.
 ///
 /// # Examples
 ///

@@ -14,7 +14,8 @@ use std::alloc::{AllocError, Global};
 use std::convert::Infallible;
 use std::env::Env;
 
-/// What a program with commands has to do about a line or a request.
+/// What a program with commands has to do about a line or a request. `C` is the type of the
+/// program's keys for commands; the other types of keys are those of the general declaration.
 #[derive(Debug, Drop)]
 pub enum Step<'a, C, F, V = Infallible, P = Infallible, M = Infallible, S = Infallible> {
     /// Run this command: what the general options before its name mean, its key, and a request,
@@ -110,13 +111,14 @@ impl<'a, C: Copy, F: Copy, V: Copy, P: Copy, M: Copy, S: Copy> Commands<'a, C, F
     ///   command whose name begins with what was typed.
     /// - [`Request::Completion`] where no positional is among the words: print such a line for each
     ///   command whose name can come there, and then what `Options::completion_text` returns by the
-    ///   general declaration.
+    ///   general declaration. No name can come there while a required general option is missing.
     /// - [`Request::Completion`] anywhere else: print nothing.
     /// - [`Request::Script`]: print what `Options::script` returns.
     /// - [`Request::Unknown`]: refuse it.
     ///
     /// The line for a command is `+`, the name, a tab, and its help text. This call consumes the
-    /// request.
+    /// request. Unless it is a [`Request::Line`], a shell reads what the program prints, so print
+    /// nothing before the call for the command has returned.
     ///
     /// The first positional of the general declaration represents the name of the command. Declare
     /// it with `.text()`, or shells offer the names of files there too.

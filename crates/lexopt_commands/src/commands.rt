@@ -11,7 +11,8 @@ use std::convert::Infallible;
 ///
 /// [`Commands::new`] and [`Commands::try_new`] make it. It borrows the commands and is `Copy`. The
 /// names of the commands are distinct. None is empty or begins with `-`, and none has a blank, a
-/// control character of ASCII or U+FFFD in it.
+/// control character of ASCII or U+FFFD in it. `C` is the type of the program's keys for commands;
+/// the other types of keys are those of the general declaration.
 pub struct Commands<'a, C, F, V = Infallible, P = Infallible, M = Infallible, S = Infallible> {
     options: Options<'a, F, V, P, M, S>,
     commands: &'a [Command<'a, C>],
@@ -28,8 +29,8 @@ impl<'a, C, F, V, P, M, S> Commands<'a, C, F, V, P, M, S> {
     /// built.
     ///
     /// The prover computes for a constant or a static that the commands can be declared together.
-    /// So a program with a faulty list of commands is refused, and this call cannot fail when the
-    /// program runs. [`Reason`](crate::Reason) lists the faults.
+    /// So `rt check` refuses a program with a faulty list of commands, and this call cannot fail
+    /// when a proved program runs. [`Reason`](crate::Reason) lists the faults.
     ///
     /// # Examples
     ///

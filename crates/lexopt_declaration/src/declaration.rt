@@ -34,8 +34,8 @@ impl fmt::Display for Names<'_> {
 
     ghost output = { λ names. Some (names_text names) };
 
-    /// Writes the option with its dashes: by its name if it has one, otherwise by its character.
-    /// Control characters of ASCII are escaped, as in the quoted form of bytes.
+    /// Writes the option with its dashes: by its long name if it has one, otherwise by its
+    /// character. Control characters of ASCII are escaped, as in the quoted form of bytes.
     fn fmt<W: fmt::Write>(&self, f: &mut fmt::Formatter<W>) -> fmt::Result {
         match self {
             Names::Short(character) => {
@@ -167,13 +167,13 @@ impl<'a, F, V, M, S> Kind<'a, F, V, M, S> {
 /// What the values of an option or the words of a positional may be, and how shells complete them.
 #[derive(Debug, Clone, Copy)]
 pub enum Words<'a> {
-    /// Anything. Shells complete the names of files.
+    /// Anything. Shells offer the names of files.
     Files,
-    /// Anything. Shells complete the names of directories.
+    /// Anything. Shells offer the names of directories.
     Directories,
-    /// Anything. Shells complete nothing.
+    /// Anything. Shells offer nothing.
     Text,
-    /// What is in this list, and nothing else. Shells complete it.
+    /// What is in this list, and nothing else. Shells offer it.
     Listed(&'a [&'a str]),
 }
 
@@ -182,7 +182,8 @@ pub enum Words<'a> {
 pub struct Declared<'a, F, V = Infallible, M = Infallible, S = Infallible> {
     /// Its names.
     pub names: Names<'a>,
-    /// What it is.
+    /// What kind of option it is: a flag, an option with values, or a request for the help or the
+    /// version.
     pub kind: Kind<'a, F, V, M, S>,
     /// Its help text: words with single blanks between them.
     pub help: &'a str,
@@ -423,7 +424,7 @@ impl<'a, F, V, M, S> Declared<'a, F, V, M, S> {
         }
     }
 
-    /// Has shells complete the values of the option by nothing.
+    /// Has shells offer nothing for the values of the option.
     ///
     /// # Examples
     ///
@@ -439,8 +440,8 @@ impl<'a, F, V, M, S> Declared<'a, F, V, M, S> {
         }
     }
 
-    /// Makes the option accept only the values in this list, which shells complete and the help
-    /// shows.
+    /// Makes the option accept only the values in this list, which shells offer and the help shows.
+    /// [`Reason::BadList`] says which lists cannot be declared.
     ///
     /// # Examples
     ///
@@ -479,8 +480,8 @@ pub struct Positional<'a, P> {
     pub placeholder: &'a str,
     /// How often it may occur.
     pub count: Count,
-    /// Its help text. The help has no entry for a positional without a list whose help text has no
-    /// word.
+    /// Its help text, which may be empty. If it has no word, and the positional has no list, the
+    /// help has no entry for the positional.
     pub help: &'a str,
     /// What its words may be. The help shows a list.
     pub words: Words<'a>,
@@ -605,7 +606,7 @@ impl<'a, P> Positional<'a, P> {
         }
     }
 
-    /// Has shells complete the words of the positional by nothing.
+    /// Has shells offer nothing for the words of the positional.
     ///
     /// # Examples
     ///
@@ -621,8 +622,8 @@ impl<'a, P> Positional<'a, P> {
         }
     }
 
-    /// Makes the positional accept only the words in this list, which shells complete and the help
-    /// shows.
+    /// Makes the positional accept only the words in this list, which shells offer and the help
+    /// shows. [`DeclarationError::BadList`] says which lists cannot be declared.
     ///
     /// # Examples
     ///
@@ -754,9 +755,10 @@ pub struct Declaration<'a, F, V = Infallible, P = Infallible, M = Infallible, S 
     ///
     /// Messages, the help, the environment variable by which shells ask and the scripts for shells
     /// have this name, whatever the name is by which the program is called. It should have only
-    /// ASCII letters, digits, `-`, `_`, `.` and `+`, since the scripts have it unquoted and in names
-    /// of functions. Nothing checks that. The declaration of a command may have a blank in its name,
-    /// as in `git add`: a program with commands makes its scripts of the general declaration alone.
+    /// ASCII letters, digits, `-`, `_`, `.` and `+`, since the scripts have it unquoted and in
+    /// names of functions. Nothing checks that. The declaration of a command may have a blank in
+    /// its name, as in `git add`: a program with commands makes its scripts of the general
+    /// declaration alone.
     pub program: &'a str,
     /// What the program does, in a sentence or two; maybe the empty text.
     pub about: &'a str,

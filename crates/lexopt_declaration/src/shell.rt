@@ -94,9 +94,10 @@ pub fn variable(alloc: Global, program: &str) -> Result<String, AllocError>
 /// feed at the end of its last line.
 ///
 /// A shell that has read the script calls the program with the words before the one that is typed,
-/// and what was typed of that word. The variable then has the value `bash_complete`, `zsh_complete`
-/// or `fish_complete`. Redirections are not among the words. The script reads the lines that the
-/// program prints, those of `Options::completion_text`:
+/// and what was typed of that word. The environment variable [`Script::variable`] then has the
+/// value `bash_complete`, `zsh_complete` or `fish_complete`. Redirections are not among the words.
+/// The program then prints the lines of `Options::completion_text` of `lexopt_options`, which the
+/// script reads:
 ///
 /// - Of a line that begins with a dash or `+`, it offers the text up to a tab, without the `+`. zsh
 ///   and fish show what comes after the tab.

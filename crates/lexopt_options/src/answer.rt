@@ -25,7 +25,8 @@ use std::convert::Infallible;
 use std::env::Env;
 use std::str;
 
-/// What a program has to do about a line or a request.
+/// What a program has to do about a line or a request. The types of keys are those of
+/// [`Declaration`](crate::Declaration).
 #[derive(Debug, Drop)]
 pub enum Answer<'a, F, V = Infallible, P = Infallible, M = Infallible, S = Infallible> {
     /// Do the program's own work. This is what the line means, in order.
@@ -423,7 +424,8 @@ impl<'a, F: Copy, V: Copy, P: Copy, M: Copy, S: Copy> Options<'a, F, V, P, M, S>
     /// - [`Request::Unknown`]: refuse it, by [`Options::unknown_request`].
     ///
     /// This call consumes the request. A program with commands calls this for the request that a
-    /// command gets.
+    /// command gets. Unless that is a [`Request::Line`], a shell reads what the program prints, so
+    /// print nothing before this call has returned.
     ///
     /// # Errors
     ///
@@ -462,7 +464,8 @@ impl<'a, F: Copy, V: Copy, P: Copy, M: Copy, S: Copy> Options<'a, F, V, P, M, S>
     /// The first word is taken for the name that the program was called by, and is not read. The
     /// width of the help is [`columns`]. A shell asks by the environment variable that [`variable`]
     /// names, such as `_EXAMPLE_ARCHIVE_COMPLETE` for `example_archive`, with the values of
-    /// Python's click:
+    /// Python's click. The name is that of the declaration, whatever the name by which the program
+    /// was called. These are the values:
     ///
     /// - `bash_source`, `zsh_source` and `fish_source` ask for the script of that shell.
     /// - `bash_complete`, `zsh_complete` and `fish_complete` ask what can come. Then the last word

@@ -58,9 +58,10 @@ pub struct Completion<'a, F, V = Infallible, M = Infallible, S = Infallible> {
     /// The spellings of declared options that can come there and begin with what was typed, in the
     /// order of the declaration. There are none if what was typed is not UTF-8.
     pub spellings: Vec<Spelling<'a>>,
-    /// Values in lists that begin with what was typed, in the order of the lists: values of the
-    /// option that a word would be a value of; then words of the positionals that it can belong to;
-    /// then, if a value is typed in the word of its option, that word with each value of its list.
+    /// What lists offer there, and begins with what was typed, in the order of the lists. First
+    /// come the values of the option of which a word would be a value there; then the words of the
+    /// positionals to which it can belong; then, if the value of an option is typed in the word
+    /// itself, that word with each value in the list of this option.
     pub values: Vec<String>,
     /// What a word that is not an option would be there, if one can come. It is judged by the empty
     /// word, or by the word `--` if a dash was typed first.

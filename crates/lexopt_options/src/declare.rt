@@ -31,10 +31,10 @@
 /// - `.hidden()` leaves the option out of the help. Shells still complete it.
 /// - `.required()` makes it an option that every line has to have.
 /// - `.one_of(&["fast", "slow"])` lists the values that it accepts, which shells offer.
-/// - `.directories()` has shells complete its values by the names of directories.
-/// - `.text()` has shells complete its values by nothing.
+/// - `.directories()` has shells offer the names of directories for its values.
+/// - `.text()` has shells offer nothing for its values.
 ///
-/// Without `.one_of`, `.directories` and `.text`, shells complete the values by the names of files.
+/// Without `.one_of`, `.directories` and `.text`, shells offer the names of files for its values.
 /// If there are several of these three, the last one counts.
 ///
 /// A line of `positionals` has a key, a placeholder and a help text, which may be left out:

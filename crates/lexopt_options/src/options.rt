@@ -88,9 +88,9 @@ impl<'a, F, V, P, M, S> Options<'a, F, V, P, M, S> {
 
     /// Returns the options of a declaration that is known when the program is built.
     ///
-    /// The prover computes for a constant or a static that all of it can be declared together. So a
-    /// program with a faulty declaration is refused, and this call cannot fail when the program
-    /// runs. [`DeclarationError`] and [`Reason`](crate::Reason) list the faults.
+    /// The prover computes for a constant or a static that all of it can be declared together. So
+    /// `rt check` refuses a program with a faulty declaration, and this call cannot fail when a
+    /// proved program runs. [`DeclarationError`] and [`Reason`](crate::Reason) list the faults.
     ///
     /// # Examples
     ///

@@ -5,8 +5,9 @@ use std::convert::Infallible;
 /// An option or a positional that was read from a line.
 ///
 /// An option has the program's key for it, whichever of its names was typed. A positional has the
-/// key of the declared positional that the word belongs to. Values and words have the bytes that
-/// were typed, whether or not they are UTF-8.
+/// key of the declared positional that the word belongs to. The types of keys are those of
+/// [`Declaration`](crate::Declaration). Values and words have the bytes that were typed, whether or
+/// not they are UTF-8.
 ///
 /// # Examples
 ///

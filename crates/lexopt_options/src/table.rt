@@ -58,8 +58,8 @@ fn add_option<F, V, M, S>(
 }
 
 impl<F, V, P, M, S> Options<'_, F, V, P, M, S> {
-    /// Returns the table of the options, by which `read_items` and `spell` know how many values
-    /// each has.
+    /// Returns the table of the options, by which `read_items` and `spell` of the crate `lexopt`
+    /// know how many values each has.
     ///
     /// # Errors
     ///

@@ -111,8 +111,8 @@ pub enum Error {
     /// The value of this option, which is given with its dashes, was not taken: `x` of `--flag=x`
     /// if the program does not take a value for `--flag`.
     UnexpectedValue { option: String, value: OsString },
-    /// A value could not be converted to its type, for the reason `error`, whose message has at most
-    /// 120 bytes. `value` is the whole text of the value.
+    /// A value could not be converted to its type, for the reason `error`, whose message has at
+    /// most 120 bytes. `value` is the whole text of the value.
     ParsingFailed { value: String, error: anyhow::Error },
     /// A value has to be a text, and is not UTF-8.
     NonUnicodeValue(OsString),
@@ -132,8 +132,8 @@ impl Error {
 
     /// Returns the cause of `ParsingFailed` or `Custom`. Other errors have none.
     ///
-    /// The cause keeps at most 120 bytes of the text that it is made from: a longer text is cut, and
-    /// then ends in three dots.
+    /// The cause keeps at most 120 bytes of the text that it is made from: a longer text is cut,
+    /// and then ends in three dots.
     ///
     /// # Examples
     ///
@@ -205,8 +205,8 @@ impl From<String> for Error {
 
     ghost from_gives = { λ text e. IsCustom (string_bytes text) e };
 
-    /// Makes `Custom` from a text. Its message has at most 120 bytes: a longer text is cut, and then
-    /// ends in three dots.
+    /// Makes `Custom` from a text. Its message has at most 120 bytes: a longer text is cut, and
+    /// then ends in three dots.
     fn from(text: String) -> Error {
         Error::Custom(anyhow::Error::msg(text))
     }
@@ -217,8 +217,8 @@ impl From<&str> for Error {
 
     ghost from_gives = { λ text e. IsCustom text.now e };
 
-    /// Makes `Custom` from a text. Its message has at most 120 bytes: a longer text is cut, and then
-    /// ends in three dots.
+    /// Makes `Custom` from a text. Its message has at most 120 bytes: a longer text is cut, and
+    /// then ends in three dots.
     fn from(text: &str) -> Error {
         Error::Custom(anyhow::Error::msg(text))
     }

@@ -101,7 +101,8 @@ impl OsString {
 
     /// Returns the word without its first `count` bytes. It never allocates, and moves no byte.
     ///
-    /// This requires that the word has at least `count` bytes, which the prover checks at each call.
+    /// This requires that the word has at least `count` bytes, which the prover checks at each
+    /// call.
     ///
     /// # Examples
     ///

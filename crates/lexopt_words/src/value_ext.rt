@@ -33,8 +33,8 @@ pub trait ValueExt: private::Sealed {
     ///
     /// - `NonUnicodeValue` with a copy of the word if it is not UTF-8.
     /// - `ParsingFailed` with the whole text of the word and a cause if `FromStr` fails. The cause
-    ///   is an `anyhow::Error`, which keeps at most 120 bytes of what the error of `FromStr` prints:
-    ///   a longer text is cut, and then ends in three dots.
+    ///   is an `anyhow::Error`, which keeps at most 120 bytes of what the error of `FromStr`
+    ///   prints: a longer text is cut, and then ends in three dots.
     /// - `OutOfMemory` in place of either of these.
     ///
     /// # Examples
@@ -58,9 +58,9 @@ pub trait ValueExt: private::Sealed {
     /// # Errors
     ///
     /// - `NonUnicodeValue` with a copy of the word if it is not UTF-8.
-    /// - `ParsingFailed` with the whole text of the word and a cause if `func` fails. The cause is an
-    ///   `anyhow::Error`, which keeps at most 120 bytes of what the error of `func` prints: a longer
-    ///   text is cut, and then ends in three dots.
+    /// - `ParsingFailed` with the whole text of the word and a cause if `func` fails. The cause is
+    ///   an `anyhow::Error`, which keeps at most 120 bytes of what the error of `func` prints: a
+    ///   longer text is cut, and then ends in three dots.
     /// - `OutOfMemory` in place of either of these.
     ///
     /// # Examples
