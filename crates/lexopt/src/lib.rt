@@ -25,6 +25,7 @@
 //! use lexopt::{Arg, OsString};
 //! use std::alloc::Global;
 //! use std::env::Env;
+//! use std::io;
 //! use std::process::ExitCode;
 //!
 //! const HELP: &str = "Usage: forward [-v|--verbose] [-j|--jobs=COUNT] [FILE]...";
@@ -61,20 +62,14 @@
 //!     Ok(Some(spell(alloc, &items, true, &table)?))
 //! }
 //!
-//! fn main(rt: HostRuntime) -> ExitCode {
+//! fn main(rt: HostRuntime) -> io::Result<ExitCode> {
 //!     match words_to_forward(&rt) {
-//!         Ok(Some(words)) => {
-//!             let _ = println!(rt; "{words:?}");
-//!             ExitCode::SUCCESS
-//!         }
-//!         Ok(None) => {
-//!             let _ = println!(rt; "{HELP}");
-//!             ExitCode::SUCCESS
-//!         }
+//!         Ok(Some(words)) => println!(rt; "{words:?}").map(|()| ExitCode::SUCCESS),
+//!         Ok(None) => rt.println(HELP).map(|()| ExitCode::SUCCESS),
 //!         Err(error) => {
-//!             let _ = eprintln!(rt; "forward: {error}");
-//!             let _ = eprintln!(rt; "Try 'forward --help' for more information.");
-//!             ExitCode::from(2)
+//!             eprintln!(rt; "forward: {error}")?;
+//!             eprintln!(rt; "Try 'forward --help' for more information.")?;
+//!             Ok(ExitCode::from(2))
 //!         }
 //!     }
 //! }

@@ -16,6 +16,7 @@
 //! use lexopt_base::prelude::{Long, Short, Value, ValueExt};
 //! use lexopt_base::{Error, Parser};
 //! use std::env::Env;
+//! use std::io;
 //! use std::process::ExitCode;
 //!
 //! const HELP: &str = "Usage: hello [-n|--number=NUM] THING";
@@ -45,23 +46,21 @@
 //!     }
 //! }
 //!
-//! fn main(rt: HostRuntime) -> ExitCode {
-//!     let (thing, number) = match read_request(&rt) {
-//!         Ok(Request::Greet(thing, number)) => (thing, number),
-//!         Ok(Request::Help) => {
-//!             let _ = println!(rt; "{HELP}");
-//!             return ExitCode::SUCCESS;
+//! fn main(rt: HostRuntime) -> io::Result<ExitCode> {
+//!     match read_request(&rt) {
+//!         Ok(Request::Greet(thing, number)) => {
+//!             for _ in 0..number {
+//!                 println!(rt; "Hello {thing}")?;
+//!             }
+//!             Ok(ExitCode::SUCCESS)
 //!         }
+//!         Ok(Request::Help) => rt.println(HELP).map(|()| ExitCode::SUCCESS),
 //!         Err(error) => {
-//!             let _ = eprintln!(rt; "hello: {error}");
-//!             let _ = eprintln!(rt; "Try 'hello --help' for more information.");
-//!             return ExitCode::from(2);
+//!             eprintln!(rt; "hello: {error}")?;
+//!             eprintln!(rt; "Try 'hello --help' for more information.")?;
+//!             Ok(ExitCode::from(2))
 //!         }
-//!     };
-//!     for _ in 0..number {
-//!         let _ = println!(rt; "Hello {thing}");
 //!     }
-//!     ExitCode::SUCCESS
 //! }
 //! ```
 //!
@@ -103,15 +102,16 @@
 //!   keeps at most 120 bytes. [`Quoted`] prints a word in double quotes, as the messages do.
 //! - [`Parser::raw_args`] takes words as they are, as a [`RawArgs`]: for example the words of
 //!   another program. [`Parser::try_raw_args`] does so where no value of an option is left over.
-//! - [`Parser::set_short_equals`] has `-d=` mean the value `=`, and [`Parser::bin_name`] is the
-//!   name that the program was called by.
-//! - [`Parser::advance`], [`Parser::take`] and [`Parser::begin_values`] are for libraries.
+//! - `parser.set_short_equals(false)` makes `-d=` mean that `-d` has the value `=`.
+//!   [`Parser::bin_name`] is the name that the program was called by.
+//! - [`Parser::advance`], [`Parser::take`] and [`Parser::begin_values`] are for libraries that
+//!   build on the parser. They return the errors of [`refusal`].
 //!
 //! A call that allocates returns an error if memory runs out; no call aborts.
 //!
 //! In the other examples `rt` is a reference to the runtime that `main` gets, `alloc` is
-//! `rt.alloc()`, and `parser` is a [`Parser`]. Those that are not whole functions belong in one
-//! that returns a `Result` with an [`Error`].
+//! `rt.alloc()`, and `parser` is a [`Parser`]. An example that is not a whole function belongs in a
+//! function that returns a `Result` with an [`Error`].
 #![tactic(auto)]
 
 pub use crate::parser::Parser;
