@@ -92,13 +92,16 @@ pub(crate) struct Pending {
 /// # Examples
 ///
 /// ```rust
-/// let mut parser = Parser::from_env_os(rt, rt.alloc())?;
+/// let mut parser = Parser::from_env_os(rt, alloc)?;
+/// let mut verbose = false;
+/// let mut output = None;
+/// let mut files = Vec::new(alloc);
 /// for _ in 0..u64::MAX {
 ///     match parser.next()? {
 ///         Some(Short('v') | Long("verbose")) => verbose = true,
 ///         Some(Short('o') | Long("output")) => output = Some(parser.value()?),
 ///         Some(Value(file)) => files.push(file)?,
-///         Some(argument) => return Err(argument.unexpected(rt.alloc())),
+///         Some(argument) => return Err(argument.unexpected(alloc)),
 ///         None => break,
 ///     }
 /// }
@@ -197,7 +200,10 @@ impl Parser {
     /// # Examples
     ///
     /// ```rust
-    /// // The items of `words` are `ls` and `-l`: `bin_name` returns `ls`, and `next` reads `-l`.
+    /// let mut words = Vec::new(alloc);
+    /// words.push(OsString::from_text(alloc, "ls")?)?;
+    /// words.push(OsString::from_text(alloc, "-l")?)?;
+    /// // `bin_name` returns `ls`, and `next` reads `-l`.
     /// let mut parser = Parser::from_iter(alloc, words)?;
     /// ```
     pub fn from_iter<I>(alloc: Global, args: I) -> Result<Parser, Error>
@@ -230,7 +236,7 @@ impl Parser {
     /// # Examples
     ///
     /// ```rust
-    /// let mut parser = Parser::from_env(rt, rt.alloc())?;
+    /// let mut parser = Parser::from_env(rt, alloc)?;
     /// ```
     pub fn from_env<R: Env + AllocGlobal>(rt: &R, alloc: Global) -> Result<Parser, Error>
         ensures ok { IfOk result (λ parser. (words : List (List ℕ)) × (parser ≡ invoked words)) }
@@ -260,10 +266,7 @@ impl Parser {
     /// # Examples
     ///
     /// ```rust
-    /// fn read_options(rt: &(impl Env + AllocGlobal)) -> Result<Options, Error> {
-    ///     let mut parser = Parser::from_env_os(rt, rt.alloc())?;
-    ///     read_line(rt.alloc(), &mut parser)
-    /// }
+    /// let mut parser = Parser::from_env_os(rt, alloc)?;
     /// ```
     pub fn from_env_os<R: Env>(rt: &R, alloc: Global) -> Result<Parser, Error>
         ensures ok { IfOk result (λ parser. (words : List (List ℕ)) × (parser ≡ invoked words)) }
@@ -302,7 +305,8 @@ impl Parser {
     ///
     /// ```rust
     /// // Off for one option: `-d=` has the value `=`.
-    /// Some(Short('d') | Long("delimiter")) => {
+    /// let mut delimiter = None;
+    /// if let Some(Short('d') | Long("delimiter")) = parser.next()? {
     ///     parser.set_short_equals(false);
     ///     delimiter = Some(parser.value()?);
     ///     parser.set_short_equals(true);
@@ -337,6 +341,9 @@ impl Parser {
     /// # Examples
     ///
     /// ```rust
+    /// let mut verbose = false;
+    /// let mut output = None;
+    /// let mut files = Vec::new(alloc);
     /// for _ in 0..u64::MAX {
     ///     match parser.next()? {
     ///         Some(Short('v') | Long("verbose")) => verbose = true,
@@ -377,7 +384,10 @@ impl Parser {
     ///
     /// ```rust
     /// // `-n10`, `-n=10`, `-n 10`, `--number=10` and `--number 10` all give the value `10`.
-    /// Some(Short('n') | Long("number")) => number = parser.value()?.parse::<u32>()?,
+    /// let mut number = 1;
+    /// if let Some(Short('n') | Long("number")) = parser.next()? {
+    ///     number = parser.value()?.parse::<u32>()?;
+    /// }
     /// ```
     #[inline(always)]
     pub fn value(&mut self) -> Result<OsString, Error>
@@ -432,7 +442,10 @@ impl Parser {
     /// ```rust
     /// // `--color=auto` gives `auto`. `--color` and `--color auto` give `None`; in the latter,
     /// // `auto` is read as a positional.
-    /// Some(Long("color")) => color = parser.optional_value(),
+    /// let mut color = None;
+    /// if let Some(Long("color")) = parser.next()? {
+    ///     color = parser.optional_value();
+    /// }
     /// ```
     ///
     /// `-i.bak` and `-i=.bak` give `.bak`; `-i` and `-i .bak` give `None`.
@@ -490,14 +503,16 @@ impl Parser {
     /// # Examples
     ///
     /// ```rust
+    /// use lexopt_base::parser::Found;
+    ///
+    /// let mut shorts = Vec::new(alloc);
+    /// let mut longs = Vec::new(alloc);
+    /// let mut words = Vec::new(alloc);
     /// match parser.advance()? {
-    ///     Found::Short(option) => read_short(parser, option)?,
-    ///     Found::Long => {
-    ///         let name = String::from_str(alloc, parser.long_name())?;
-    ///         read_long(parser, name)?;
-    ///     }
+    ///     Found::Short(option) => shorts.push(option)?,
+    ///     Found::Long => longs.push(String::from_str(alloc, parser.long_name())?)?,
     ///     Found::Value(word) => words.push(word)?,
-    ///     Found::End => return Ok(()),
+    ///     Found::End => {}
     /// }
     /// ```
     ///

@@ -52,6 +52,7 @@ impl Parser {
     ///
     /// ```rust
     /// // `--files a b -v` and `--files a b --` give `a` and `b`; `--files=a b` gives `a`.
+    /// let mut files = Vec::new(alloc);
     /// for file in parser.values()? {
     ///     files.push(file)?;
     /// }
@@ -86,6 +87,8 @@ impl Parser {
     /// # Examples
     ///
     /// ```rust
+    /// use lexopt_base::values::take_values;
+    ///
     /// // After `advance` returned `Found::Short('a')` for `-a b c -d`, this takes `b` and `c`.
     /// let mut view = parser.begin_values()?;
     /// let values = take_values(alloc, &mut view, usize::MAX)?;
@@ -164,6 +167,8 @@ impl ValuesIter<'_> {
 /// # Examples
 ///
 /// ```rust
+/// use lexopt_base::values::take_values;
+///
 /// // Of `--dim 10 20 file`, this takes `10` and `20`, and leaves `file`.
 /// let mut view = parser.values()?;
 /// let sides = take_values(alloc, &mut view, 2)?;

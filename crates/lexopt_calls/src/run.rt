@@ -171,6 +171,12 @@ fn output(alloc: Global, script: &[u8]) -> Result<String, RunError>
 /// # Examples
 ///
 /// ```rust
+/// #![tactic(auto)]
+///
+/// use lexopt::replay::run;
+/// use std::io;
+/// use std::process::ExitCode;
+///
 /// fn main(rt: HostRuntime) -> ExitCode {
 ///     match run(rt.alloc(), &mut rt.reader(), &mut io::writer(&rt)) {
 ///         Ok(()) => ExitCode::SUCCESS,

@@ -27,7 +27,13 @@ impl RunError {
     /// # Examples
     ///
     /// ```rust
-    /// return ExitCode::from(error.status());
+    /// use std::io;
+    /// use std::process::ExitCode;
+    ///
+    /// let status = match run(alloc, &mut rt.reader(), &mut io::writer(rt)) {
+    ///     Ok(()) => ExitCode::SUCCESS,
+    ///     Err(error) => ExitCode::from(error.status()),
+    /// };
     /// ```
     pub fn status(&self) -> u8
         ensures { result ≡ status_of self.now }

@@ -76,11 +76,15 @@ impl<'a, C: Copy, F: Copy, V: Copy, P: Copy, M: Copy, S: Copy> Commands<'a, C, F
     /// `-C dir add -f x` are the command `add` with the line `-f x`:
     ///
     /// ```rust
-    /// match commands.answer(alloc, words, WIDTH)? {
-    ///     Step::Command(general, Task::Add, request) => add(rt, general, request),
-    ///     Step::Command(general, Task::Remote, request) => remote(rt, general, request),
-    ///     Step::Text(text) => rt.print(text),
-    ///     Step::Refused(refused) => refuse(rt, &refused),
+    /// let mut words = Vec::new(alloc);
+    /// for word in ["-C", "dir", "add", "-f", "x"] {
+    ///     words.push(OsString::from_text(alloc, word)?)?;
+    /// }
+    /// match commands.answer(alloc, words, columns(rt))? {
+    ///     Step::Command(_general, Task::Add, _request) => rt.println("add")?,
+    ///     Step::Command(_general, Task::Remote, _request) => rt.println("remote")?,
+    ///     Step::Text(text) => rt.print(text)?,
+    ///     Step::Refused(refused) => rt.eprintln(refused)?,
     /// }
     /// ```
     pub fn answer(
@@ -132,12 +136,38 @@ impl<'a, C: Copy, F: Copy, V: Copy, P: Copy, M: Copy, S: Copy> Commands<'a, C, F
     /// The command `remote` has commands of its own:
     ///
     /// ```rust
-    /// fn remote(rt: &HostRuntime, request: Request) -> io::Result<ExitCode> {
+    /// use std::convert::Infallible;
+    /// use std::io;
+    ///
+    /// static REMOTE: Declaration<'static, Infallible, Infallible, ()> = declare! {
+    ///     program: "git remote",
+    ///     options: [help(Names::Both('h', "help"))],
+    ///     positionals: [once((), "COMMAND").text(), any_number((), "ARGUMENT")],
+    /// };
+    ///
+    /// static REMOTE_COMMANDS: &[Command<'static, ()>] =
+    ///     declare_commands![command((), "add", "add a remote")];
+    ///
+    /// static REMOTE_ADD: Declaration<'static, Infallible, Infallible, ()> = declare! {
+    ///     program: "git remote add",
+    ///     options: [help(Names::Both('h', "help"))],
+    ///     positionals: [once((), "NAME"), once((), "URL")],
+    /// };
+    ///
+    /// fn remote(rt: &HostRuntime, request: Request) -> io::Result<()> {
     ///     let commands = Commands::new(Options::new(&REMOTE), REMOTE_COMMANDS);
     ///     match commands.answer_request(rt.alloc(), request, columns(rt))? {
     ///         Step::Command(_, (), own) => remote_add(rt, own),
-    ///         Step::Text(text) => rt.print(text).map(|()| ExitCode::SUCCESS),
-    ///         Step::Refused(refused) => Ok(refuse(rt, &refused)),
+    ///         Step::Text(text) => rt.print(text),
+    ///         Step::Refused(refused) => rt.eprintln(refused),
+    ///     }
+    /// }
+    ///
+    /// fn remote_add(rt: &HostRuntime, request: Request) -> io::Result<()> {
+    ///     match Options::new(&REMOTE_ADD).answer_request(rt.alloc(), request, columns(rt))? {
+    ///         Answer::Parsed(line) => println!(rt; "{} words", line.len()),
+    ///         Answer::Text(text) => rt.print(text),
+    ///         Answer::Refused(refused) => rt.eprintln(refused),
     ///     }
     /// }
     /// ```
@@ -176,11 +206,30 @@ impl<'a, C: Copy, F: Copy, V: Copy, P: Copy, M: Copy, S: Copy> Commands<'a, C, F
     /// # Examples
     ///
     /// ```rust
-    /// match Commands::new(Options::new(&GENERAL), COMMANDS).from_env(rt)? {
-    ///     Step::Command(general, Task::Add, request) => add(rt, general, request),
-    ///     Step::Command(general, Task::Remote, request) => remote(rt, general, request),
-    ///     Step::Text(text) => rt.print(text),
-    ///     Step::Refused(refused) => refuse(rt, &refused),
+    /// use std::convert::Infallible;
+    /// use std::io;
+    ///
+    /// static ADD: Declaration<'static, Infallible, Infallible, ()> = declare! {
+    ///     program: "git add",
+    ///     options: [help(Names::Both('h', "help"))],
+    ///     positionals: [at_least_once((), "FILE")],
+    /// };
+    ///
+    /// fn add(rt: &HostRuntime, request: Request) -> io::Result<()> {
+    ///     match Options::new(&ADD).answer_request(rt.alloc(), request, columns(rt))? {
+    ///         Answer::Parsed(line) => println!(rt; "{} files", line.len()),
+    ///         Answer::Text(text) => rt.print(text),
+    ///         Answer::Refused(refused) => rt.eprintln(refused),
+    ///     }
+    /// }
+    ///
+    /// fn run(rt: &HostRuntime) -> io::Result<()> {
+    ///     match Commands::new(Options::new(&GENERAL), COMMANDS).from_env(rt)? {
+    ///         Step::Command(_general, Task::Add, request) => add(rt, request),
+    ///         Step::Command(_general, Task::Remote, _request) => rt.println("remote"),
+    ///         Step::Text(text) => rt.print(text),
+    ///         Step::Refused(refused) => rt.eprintln(refused),
+    ///     }
     /// }
     /// ```
     ///

@@ -59,15 +59,12 @@ impl<'a, C, F, V, P, M, S> Commands<'a, C, F, V, P, M, S> {
     /// # Examples
     ///
     /// ```rust
-    /// let commands = match Commands::try_new(options, &commands) {
-    ///     Ok(commands) => commands,
-    ///     Err(error) => {
-    ///         // If two commands have the name `add`, this prints:
-    ///         // git: command 'add': a command before it has its name
-    ///         let _ = eprintln!(rt; "git: {error}");
-    ///         return ExitCode::FAILURE;
-    ///     }
-    /// };
+    /// match Commands::try_new(Options::new(&GENERAL), COMMANDS) {
+    ///     Ok(commands) => rt.print(commands.help(alloc, columns(rt))?)?,
+    ///     // If two commands have the name `add`, this prints:
+    ///     // git: command 'add': a command before it has its name
+    ///     Err(error) => eprintln!(rt; "git: {error}")?,
+    /// }
     /// ```
     pub fn try_new(
         options: Options<'a, F, V, P, M, S>,

@@ -233,16 +233,17 @@ impl<'a, C: Copy, F: Copy, V: Copy, P: Copy, M: Copy, S: Copy> Commands<'a, C, F
     /// With the declarations of [`declare_commands!`](crate::declare_commands):
     ///
     /// ```rust
-    /// // The words `-C dir add -f x`.
+    /// let mut words = Vec::new(alloc);
+    /// for word in ["-C", "dir", "add", "-f", "x"] {
+    ///     words.push(OsString::from_text(alloc, word)?)?;
+    /// }
     /// match commands.read(alloc, words)? {
     ///     CommandLine::Command(general, task, own) => {
     ///         // `general` is Value((), "dir"), `task` is Task::Add, and `own` is `-f`, `x`.
     ///     }
     ///     CommandLine::Asked(Asked::Help) => rt.print(commands.help(alloc, columns(rt))?)?,
     ///     CommandLine::Asked(Asked::Version(version)) => rt.println(version)?,
-    ///     CommandLine::Refused(refused) => {
-    ///         let _ = eprintln!(rt; "{refused}");
-    ///     }
+    ///     CommandLine::Refused(refused) => rt.eprintln(refused)?,
     /// }
     /// ```
     pub fn read(

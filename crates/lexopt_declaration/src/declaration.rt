@@ -203,7 +203,8 @@ impl<'a, F, V, M, S> Declared<'a, F, V, M, S> {
     /// # Examples
     ///
     /// ```rust
-    /// Declared::flag(Flag::Verbose, Names::Both('v', "verbose"), "tell more")
+    /// let option: Declared<'_, Flag> =
+    ///     Declared::flag(Flag::Verbose, Names::Both('v', "verbose"), "tell more");
     /// ```
     pub fn flag(key: F, names: Names<'a>, help: &'a str) -> Declared<'a, F, V, M, S>
         ensures { result ≡ record {
@@ -230,7 +231,8 @@ impl<'a, F, V, M, S> Declared<'a, F, V, M, S> {
     /// # Examples
     ///
     /// ```rust
-    /// Declared::value(Value::Output, Names::Both('o', "output"), "FILE", "the archive")
+    /// let option: Declared<'_, Flag, Value> =
+    ///     Declared::value(Value::Output, Names::Both('o', "output"), "FILE", "the archive");
     /// ```
     pub fn value(
         key: V,
@@ -262,7 +264,8 @@ impl<'a, F, V, M, S> Declared<'a, F, V, M, S> {
     /// # Examples
     ///
     /// ```rust
-    /// Declared::maybe(Maybe::Color, Names::Both('c', "color"), "WHEN", "use colours")
+    /// let option: Declared<'_, Flag, Value, Maybe> =
+    ///     Declared::maybe(Maybe::Color, Names::Both('c', "color"), "WHEN", "use colours");
     /// ```
     pub fn maybe(
         key: M,
@@ -294,7 +297,8 @@ impl<'a, F, V, M, S> Declared<'a, F, V, M, S> {
     /// # Examples
     ///
     /// ```rust
-    /// Declared::values(Values::Exclude, Names::Both('x', "exclude"), "PATTERN", "leave these out")
+    /// let option: Declared<'_, Flag, Value, Maybe, Values> =
+    ///     Declared::values(Values::Exclude, Names::Both('x', "exclude"), "PATTERN", "leave out");
     /// ```
     pub fn values(
         key: S,
@@ -327,7 +331,7 @@ impl<'a, F, V, M, S> Declared<'a, F, V, M, S> {
     /// # Examples
     ///
     /// ```rust
-    /// Declared::help(Names::Both('h', "help"))
+    /// let option: Declared<'_, Flag> = Declared::help(Names::Both('h', "help"));
     /// ```
     pub fn help(names: Names<'a>) -> Declared<'a, F, V, M, S>
         ensures names { result.names ≡ names.entry }
@@ -353,7 +357,7 @@ impl<'a, F, V, M, S> Declared<'a, F, V, M, S> {
     /// # Examples
     ///
     /// ```rust
-    /// Declared::version(Names::Long("version"), "pack 1.0")
+    /// let option: Declared<'_, Flag> = Declared::version(Names::Long("version"), "pack 1.0");
     /// ```
     pub fn version(names: Names<'a>, text: &'a str) -> Declared<'a, F, V, M, S>
         ensures names { result.names ≡ names.entry }
@@ -381,7 +385,8 @@ impl<'a, F, V, M, S> Declared<'a, F, V, M, S> {
     /// # Examples
     ///
     /// ```rust
-    /// Declared::flag(Flag::Trace, Names::Long("trace"), "").hidden()
+    /// let option: Declared<'_, Flag> =
+    ///     Declared::flag(Flag::Trace, Names::Long("trace"), "").hidden();
     /// ```
     pub fn hidden(self) -> Declared<'a, F, V, M, S>
         ensures { result ≡ record self.entry { hidden = true } }
@@ -397,7 +402,8 @@ impl<'a, F, V, M, S> Declared<'a, F, V, M, S> {
     /// # Examples
     ///
     /// ```rust
-    /// Declared::value(Value::Output, Names::Long("output"), "FILE", "the archive").required()
+    /// let option: Declared<'_, Flag, Value> =
+    ///     Declared::value(Value::Output, Names::Long("output"), "FILE", "the archive").required();
     /// ```
     pub fn required(self) -> Declared<'a, F, V, M, S>
         ensures { result ≡ record self.entry { required = true } }
@@ -413,7 +419,9 @@ impl<'a, F, V, M, S> Declared<'a, F, V, M, S> {
     /// # Examples
     ///
     /// ```rust
-    /// Declared::value(Value::Folder, Names::Short('C'), "DIR", "where files are").directories()
+    /// let option: Declared<'_, Flag, Value> =
+    ///     Declared::value(Value::Folder, Names::Short('C'), "DIR", "where files are")
+    ///         .directories();
     /// ```
     pub fn directories(self) -> Declared<'a, F, V, M, S>
         ensures { result ≡ record self.entry { words = Words.Directories } }
@@ -429,7 +437,9 @@ impl<'a, F, V, M, S> Declared<'a, F, V, M, S> {
     /// # Examples
     ///
     /// ```rust
-    /// Declared::value(Value::Owner, Names::Long("owner"), "USER", "who owns the files").text()
+    /// let option: Declared<'_, Flag, Value> =
+    ///     Declared::value(Value::Owner, Names::Long("owner"), "USER", "who owns the files")
+    ///         .text();
     /// ```
     pub fn text(self) -> Declared<'a, F, V, M, S>
         ensures { result ≡ record self.entry { words = Words.Text } }
@@ -446,7 +456,9 @@ impl<'a, F, V, M, S> Declared<'a, F, V, M, S> {
     /// # Examples
     ///
     /// ```rust
-    /// Declared::value(Value::Mode, Names::Long("mode"), "MODE", "how").one_of(&["fast", "slow"])
+    /// let option: Declared<'_, Flag, Value> =
+    ///     Declared::value(Value::Mode, Names::Long("mode"), "MODE", "how")
+    ///         .one_of(&["fast", "slow"]);
     /// ```
     pub fn one_of(self, values: &'a [&'a str]) -> Declared<'a, F, V, M, S>
         ensures { result ≡ record self.entry { words = Words.Listed values.entry } }
@@ -495,7 +507,7 @@ impl<'a, P> Positional<'a, P> {
     /// # Examples
     ///
     /// ```rust
-    /// Positional::once(Word::Dest, "DEST", "where to")
+    /// let positional = Positional::once(Word::Dest, "DEST", "where to");
     /// ```
     pub fn once(key: P, placeholder: &'a str, help: &'a str) -> Positional<'a, P>
         ensures { result ≡ record {
@@ -520,7 +532,7 @@ impl<'a, P> Positional<'a, P> {
     /// # Examples
     ///
     /// ```rust
-    /// Positional::at_most_once(Word::Target, "TARGET", "what to build")
+    /// let positional = Positional::at_most_once(Word::Target, "TARGET", "what to build");
     /// ```
     pub fn at_most_once(key: P, placeholder: &'a str, help: &'a str) -> Positional<'a, P>
         ensures { result ≡ record {
@@ -545,7 +557,7 @@ impl<'a, P> Positional<'a, P> {
     /// # Examples
     ///
     /// ```rust
-    /// Positional::any_number(Word::File, "FILE", "what to pack")
+    /// let positional = Positional::any_number(Word::File, "FILE", "what to pack");
     /// ```
     pub fn any_number(key: P, placeholder: &'a str, help: &'a str) -> Positional<'a, P>
         ensures { result ≡ record {
@@ -570,7 +582,7 @@ impl<'a, P> Positional<'a, P> {
     /// # Examples
     ///
     /// ```rust
-    /// Positional::at_least_once(Word::Source, "SOURCE", "what to copy")
+    /// let positional = Positional::at_least_once(Word::Source, "SOURCE", "what to copy");
     /// ```
     pub fn at_least_once(key: P, placeholder: &'a str, help: &'a str) -> Positional<'a, P>
         ensures { result ≡ record {
@@ -595,7 +607,7 @@ impl<'a, P> Positional<'a, P> {
     /// # Examples
     ///
     /// ```rust
-    /// Positional::once(Word::Dest, "DEST", "where to").directories()
+    /// let positional = Positional::once(Word::Dest, "DEST", "where to").directories();
     /// ```
     pub fn directories(self) -> Positional<'a, P>
         ensures { result ≡ record self.entry { words = Words.Directories } }
@@ -611,7 +623,7 @@ impl<'a, P> Positional<'a, P> {
     /// # Examples
     ///
     /// ```rust
-    /// Positional::once(Word::Name, "NAME", "whom to greet").text()
+    /// let positional = Positional::once(Word::Name, "NAME", "whom to greet").text();
     /// ```
     pub fn text(self) -> Positional<'a, P>
         ensures { result ≡ record self.entry { words = Words.Text } }
@@ -628,7 +640,7 @@ impl<'a, P> Positional<'a, P> {
     /// # Examples
     ///
     /// ```rust
-    /// Positional::once(Word::Mode, "MODE", "how").one_of(&["fast", "slow"])
+    /// let positional = Positional::once(Word::Mode, "MODE", "how").one_of(&["fast", "slow"]);
     /// ```
     pub fn one_of(self, values: &'a [&'a str]) -> Positional<'a, P>
         ensures { result ≡ record self.entry { words = Words.Listed values.entry } }

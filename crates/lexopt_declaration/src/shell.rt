@@ -111,7 +111,11 @@ pub fn variable(alloc: Global, program: &str) -> Result<String, AllocError>
 ///
 /// ```rust
 /// let name = variable(alloc, "pack")?;
-/// let script = Script { shell: Shell::Fish, program: "pack", variable: name.as_str() };
+/// let script = Script {
+///     shell: Shell::Fish,
+///     program: "pack",
+///     variable: name.as_str(),
+/// };
 /// println!(rt; "{script}")?;
 /// ```
 #[derive(Clone, Copy, PartialEq, Eq, Debug)]

@@ -271,7 +271,15 @@ fn error_of(refusal: Refusal) -> Result<Vec<Item>, Error>
 /// # Examples
 ///
 /// ```rust
-/// // In the table `o` and `out` have one value, `color` has one or none, and `d` has several.
+/// let mut table = Table::new(alloc);
+/// table.shorts.push('o')?;
+/// table.longs.push(String::from_str(alloc, "out")?)?;
+/// table.optional_longs.push(String::from_str(alloc, "color")?)?;
+/// table.several_shorts.push('d')?;
+/// let mut words = Vec::new(alloc);
+/// for word in ["-vo=x", "--out", "y", "--color=z", "-d", "1", "2", "--", "file"] {
+///     words.push(OsString::from_text(alloc, word)?)?;
+/// }
 /// let items = read_items(alloc, words, true, &table)?;
 /// ```
 ///

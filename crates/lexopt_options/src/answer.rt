@@ -391,10 +391,14 @@ impl<'a, F: Copy, V: Copy, P: Copy, M: Copy, S: Copy> Options<'a, F, V, P, M, S>
     /// # Examples
     ///
     /// ```rust
+    /// let mut words = Vec::new(alloc);
+    /// for word in ["-o", "out.zip", "a"] {
+    ///     words.push(OsString::from_text(alloc, word)?)?;
+    /// }
     /// match options.answer(alloc, words, WIDTH)? {
-    ///     Answer::Parsed(line) => work(rt, line),
-    ///     Answer::Text(text) => rt.print(text),
-    ///     Answer::Refused(refused) => refuse(rt, &refused),
+    ///     Answer::Parsed(line) => println!(rt; "{} options and files", line.len())?,
+    ///     Answer::Text(text) => rt.print(text)?,
+    ///     Answer::Refused(refused) => rt.eprintln(refused)?,
     /// }
     /// ```
     ///
@@ -434,10 +438,11 @@ impl<'a, F: Copy, V: Copy, P: Copy, M: Copy, S: Copy> Options<'a, F, V, P, M, S>
     /// # Examples
     ///
     /// ```rust
-    /// match options.answer_request(alloc, request, WIDTH)? {
-    ///     Answer::Parsed(line) => work(rt, line),
-    ///     Answer::Text(text) => rt.print(text),
-    ///     Answer::Refused(refused) => refuse(rt, &refused),
+    /// let words = arguments(rt, alloc)?.into_iter().skip(1).collect(alloc)?;
+    /// match options.answer_request(alloc, Request::new(alloc, None, words), WIDTH)? {
+    ///     Answer::Parsed(line) => println!(rt; "{} options and files", line.len())?,
+    ///     Answer::Text(text) => rt.print(text)?,
+    ///     Answer::Refused(refused) => rt.eprintln(refused)?,
     /// }
     /// ```
     pub fn answer_request(
@@ -482,17 +487,19 @@ impl<'a, F: Copy, V: Copy, P: Copy, M: Copy, S: Copy> Options<'a, F, V, P, M, S>
     /// # Examples
     ///
     /// ```rust
-    /// match Options::new(&DECLARATION).from_env(rt)? {
-    ///     Answer::Parsed(line) => {
-    ///         for parsed in &line {
-    ///             print_parsed(rt, parsed)?;
+    /// use std::io;
+    /// use std::process::ExitCode;
+    ///
+    /// fn run(rt: &HostRuntime) -> io::Result<ExitCode> {
+    ///     match Options::new(&DECLARATION).from_env(rt)? {
+    ///         Answer::Parsed(line) => println!(rt; "{} options and files", line.len())?,
+    ///         Answer::Text(text) => rt.print(text)?,
+    ///         Answer::Refused(refused) => {
+    ///             rt.eprintln(refused)?;
+    ///             return Ok(ExitCode::from(USAGE_ERROR));
     ///         }
     ///     }
-    ///     Answer::Text(text) => rt.print(text)?,
-    ///     Answer::Refused(refused) => {
-    ///         let _ = eprintln!(rt; "{refused}");
-    ///         return Ok(ExitCode::from(USAGE_ERROR));
-    ///     }
+    ///     Ok(ExitCode::SUCCESS)
     /// }
     /// ```
     ///

@@ -589,6 +589,7 @@ impl<'a, F, V, P, M, S> Options<'a, F, V, P, M, S> {
     /// With the declaration of [`declare!`](crate::declare), after `-v`:
     ///
     /// ```rust
+    /// let words = vec![in alloc; OsString::from_text(alloc, "-v")?]?;
     /// let typed = OsString::from_text(alloc, "--")?;
     /// let completion = options.complete(alloc, &words, &typed)?;
     /// for spelling in &completion.spellings {

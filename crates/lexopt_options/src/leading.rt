@@ -218,7 +218,10 @@ impl<'a, F: Copy, V: Copy, P: Copy, M: Copy, S: Copy> Options<'a, F, V, P, M, S>
     /// With the options `v|verbose`, a flag, and `C|directory` of one value:
     ///
     /// ```rust
-    /// // The words `-vC dir add -v file`.
+    /// let mut words = Vec::new(alloc);
+    /// for word in ["-vC", "dir", "add", "-v", "file"] {
+    ///     words.push(OsString::from_text(alloc, word)?)?;
+    /// }
     /// if let Leading::Parsed(parsed, rest) = options.read_leading(alloc, words)? {
     ///     // `parsed` is Flag(Verbose), Value(Directory, "dir"); `rest` is `add`, `-v`, `file`.
     /// }

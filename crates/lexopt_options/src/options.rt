@@ -129,15 +129,12 @@ impl<'a, F, V, P, M, S> Options<'a, F, V, P, M, S> {
     /// # Examples
     ///
     /// ```rust
-    /// let options = match Options::try_new(&declaration) {
-    ///     Ok(options) => options,
-    ///     Err(error) => {
-    ///         // If two options have the name `output`, this prints:
-    ///         // pack: option '--output': an option before it has one of its names
-    ///         let _ = eprintln!(rt; "pack: {error}");
-    ///         return ExitCode::FAILURE;
-    ///     }
-    /// };
+    /// match Options::try_new(&DECLARATION) {
+    ///     Ok(options) => rt.print(options.help(alloc, WIDTH)?)?,
+    ///     // If two options have the name `output`, this prints:
+    ///     // pack: option '--output': an option before it has one of its names
+    ///     Err(error) => eprintln!(rt; "pack: {error}")?,
+    /// }
     /// ```
     pub fn try_new(
         declaration: &'a Declaration<'a, F, V, P, M, S>,

@@ -14,12 +14,18 @@ use std::convert::Infallible;
 /// With the declaration of [`declare!`](crate::declare):
 ///
 /// ```rust
-/// for parsed in line {
-///     match parsed {
-///         Parsed::Flag(Flag::Verbose) => verbose = true,
-///         Parsed::Value(Value::Output, word) => output = Some(word),
-///         Parsed::Value(Value::Mode, word) => mode = Some(word),
-///         Parsed::Positional(Word::File, word) => files.push(word)?,
+/// let mut verbose = false;
+/// let mut output = None;
+/// let mut mode = None;
+/// let mut files = Vec::new(alloc);
+/// if let Answer::Parsed(line) = options.from_env(rt)? {
+///     for parsed in line {
+///         match parsed {
+///             Parsed::Flag(Flag::Verbose) => verbose = true,
+///             Parsed::Value(Value::Output, word) => output = Some(word),
+///             Parsed::Value(Value::Mode, word) => mode = Some(word),
+///             Parsed::Positional(Word::File, word) => files.push(word)?,
+///         }
 ///     }
 /// }
 /// ```

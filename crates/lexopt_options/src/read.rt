@@ -707,7 +707,10 @@ impl<'a, F: Copy, V: Copy, P: Copy, M: Copy, S: Copy> Options<'a, F, V, P, M, S>
     /// With the declaration of [`declare!`](crate::declare):
     ///
     /// ```rust
-    /// // The words `-vo=x --mode fast a -- -b`.
+    /// let mut words = Vec::new(alloc);
+    /// for word in ["-vo=x", "--mode", "fast", "a", "--", "-b"] {
+    ///     words.push(OsString::from_text(alloc, word)?)?;
+    /// }
     /// match options.read(alloc, words)? {
     ///     Line::Parsed(parsed) => {
     ///         // Flag(Verbose), Value(Output, "x"), Value(Mode, "fast"),
@@ -715,9 +718,7 @@ impl<'a, F: Copy, V: Copy, P: Copy, M: Copy, S: Copy> Options<'a, F, V, P, M, S>
     ///     }
     ///     Line::Asked(Asked::Help) => rt.print(options.help(alloc, WIDTH)?)?,
     ///     Line::Asked(Asked::Version(version)) => rt.println(version)?,
-    ///     Line::Refused(refused) => {
-    ///         let _ = eprintln!(rt; "{refused}");
-    ///     }
+    ///     Line::Refused(refused) => rt.eprintln(refused)?,
     /// }
     /// ```
     pub fn read(

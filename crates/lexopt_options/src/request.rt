@@ -80,7 +80,10 @@ impl Request {
     /// # Examples
     ///
     /// ```rust
-    /// // The words `-v --o`: `--o` was typed after `-v`.
+    /// // `--o` was typed after `-v`.
+    /// let mut words = Vec::new(alloc);
+    /// words.push(OsString::from_text(alloc, "-v")?)?;
+    /// words.push(OsString::from_text(alloc, "--o")?)?;
     /// let request = Request::new(alloc, Some(b"bash_complete"), words);
     /// let answer = options.answer_request(alloc, request, WIDTH)?;
     /// ```

@@ -68,8 +68,17 @@ impl<F, V, P, M, S> Options<'_, F, V, P, M, S> {
     /// # Examples
     ///
     /// ```rust
-    /// let table = options.table(alloc)?;
-    /// let items = read_items(alloc, words, options.has_short_equals(), &table)?;
+    /// use lexopt::replay::{Item, read_items};
+    /// use std::alloc::Global;
+    ///
+    /// fn items_of(
+    ///     alloc: Global,
+    ///     options: &Options<'_, Flag, Value, Word>,
+    ///     words: Vec<OsString>,
+    /// ) -> Result<Vec<Item>, Error> {
+    ///     let table = options.table(alloc)?;
+    ///     read_items(alloc, words, options.has_short_equals(), &table)
+    /// }
     /// ```
     pub fn table(&self, alloc: Global) -> Result<Table, AllocError>
         ensures { IfOk result (λ made.

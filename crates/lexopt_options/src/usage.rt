@@ -31,6 +31,11 @@ use std::str::FromStr;
 /// # Examples
 ///
 /// ```rust
+/// #[derive(Clone, Copy, PartialEq)]
+/// enum Value {
+///     Jobs,
+/// }
+///
 /// fn jobs_of<'a>(
 ///     options: &Options<'a, Flag, Value, Word>,
 ///     word: &OsString,
@@ -351,7 +356,23 @@ impl<'a, F, V: Copy + PartialEq, P, M, S> Options<'a, F, V, P, M, S> {
     /// # Examples
     ///
     /// ```rust
-    /// Parsed::Value(Value::Jobs, word) => jobs = options.parse_value(Value::Jobs, &word)?,
+    /// #[derive(Clone, Copy, PartialEq)]
+    /// enum Value {
+    ///     Jobs,
+    /// }
+    ///
+    /// fn jobs_of<'a>(
+    ///     options: &Options<'a, Flag, Value>,
+    ///     line: &[Parsed<Flag, Value>],
+    /// ) -> Result<u32, UsageError<'a>> {
+    ///     let mut jobs = 1;
+    ///     for parsed in line {
+    ///         if let Parsed::Value(Value::Jobs, word) = parsed {
+    ///             jobs = options.parse_value(Value::Jobs, word)?;
+    ///         }
+    ///     }
+    ///     Ok(jobs)
+    /// }
     /// ```
     ///
     /// If `jobs` is a `u32`, the message for the words `--jobs x` is
@@ -385,8 +406,18 @@ impl<'a, F, V, P, M: Copy + PartialEq, S> Options<'a, F, V, P, M, S> {
     /// # Examples
     ///
     /// ```rust
-    /// Parsed::Maybe(Maybe::Level, Some(word)) => {
-    ///     level = options.parse_maybe(Maybe::Level, &word)?;
+    /// use std::convert::Infallible;
+    ///
+    /// #[derive(Clone, Copy, PartialEq)]
+    /// enum Maybe {
+    ///     Level,
+    /// }
+    ///
+    /// fn level_of<'a>(
+    ///     options: &Options<'a, Flag, Infallible, Infallible, Maybe>,
+    ///     word: &OsString,
+    /// ) -> Result<u32, UsageError<'a>> {
+    ///     options.parse_maybe(Maybe::Level, word)
     /// }
     /// ```
     pub fn parse_maybe<T: FromStr>(&self, key: M, word: &OsString) -> Result<T, UsageError<'a>>
@@ -414,10 +445,24 @@ impl<'a, F, V, P, M, S: Copy + PartialEq> Options<'a, F, V, P, M, S> {
     /// # Examples
     ///
     /// ```rust
-    /// Parsed::Values(Values::Size, words) => {
-    ///     for word in &words {
-    ///         sizes.push(options.parse_values::<u64>(Values::Size, word)?)?;
+    /// use std::alloc::Global;
+    /// use std::convert::Infallible;
+    ///
+    /// #[derive(Clone, Copy, PartialEq)]
+    /// enum Values {
+    ///     Size,
+    /// }
+    ///
+    /// fn sizes_of<'a>(
+    ///     alloc: Global,
+    ///     options: &Options<'a, Flag, Infallible, Infallible, Infallible, Values>,
+    ///     words: &[OsString],
+    /// ) -> Result<Vec<u64>, UsageError<'a>> {
+    ///     let mut sizes = Vec::new(alloc);
+    ///     for word in words {
+    ///         sizes.push(options.parse_values(Values::Size, word)?)?;
     ///     }
+    ///     Ok(sizes)
     /// }
     /// ```
     pub fn parse_values<T: FromStr>(&self, key: S, word: &OsString) -> Result<T, UsageError<'a>>
@@ -443,10 +488,17 @@ impl<'a, F, V, P, M, S> Options<'a, F, V, P, M, S> {
     /// # Examples
     ///
     /// ```rust
-    /// Err(error) => {
+    /// use std::io;
+    /// use std::process::ExitCode;
+    ///
+    /// fn refuse<'a>(
+    ///     rt: &HostRuntime,
+    ///     options: &Options<'a, Flag, Value, Word>,
+    ///     error: UsageError<'a>,
+    /// ) -> io::Result<ExitCode> {
     ///     let report = options.report(error);
-    ///     let _ = eprintln!(rt; "{report}");
-    ///     return Ok(ExitCode::from(report.status()));
+    ///     eprintln!(rt; "{report}")?;
+    ///     Ok(ExitCode::from(report.status()))
     /// }
     /// ```
     ///

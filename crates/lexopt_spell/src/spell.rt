@@ -145,7 +145,17 @@ impl From<AllocError> for SpellError {
 /// # Examples
 ///
 /// ```rust
-/// // In the table `o` and `out` have one value, `color` has one or none, and `d` has several.
+/// let mut table = Table::new(alloc);
+/// table.shorts.push('o')?;
+/// table.several_shorts.push('d')?;
+/// let mut items = Vec::new(alloc);
+/// items.push(Item::Short('v', None))?;
+/// items.push(Item::Short('o', Some(OsString::from_text(alloc, "x")?)))?;
+/// let mut values = Vec::new(alloc);
+/// values.push(OsString::from_text(alloc, "1")?)?;
+/// values.push(OsString::from_text(alloc, "2")?)?;
+/// items.push(Item::ShortMany('d', values))?;
+/// items.push(Item::Positional(OsString::from_text(alloc, "-f")?))?;
 /// let words = spell(alloc, &items, true, &table)?;
 /// ```
 ///

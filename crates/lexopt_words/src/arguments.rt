@@ -51,6 +51,8 @@ impl<R: Env> WordSource for R {
 /// # Examples
 ///
 /// ```rust
+/// use lexopt_words::os_string::arguments;
+///
 /// // The words without the binary name.
 /// let words: Vec<OsString> = arguments(rt, alloc)?.into_iter().skip(1).collect(alloc)?;
 /// ```

@@ -49,7 +49,10 @@ impl FirstCodepoint {
 /// # Examples
 ///
 /// ```rust
+/// use lexopt_words::codepoint::first_codepoint;
+///
 /// // The bytes `66 6F FF` begin with `Character('f', 1)`, and `FF 66` with `Damage(1)`.
+/// let bytes = b"fo\xFF";
 /// let piece = first_codepoint(bytes);
 /// let rest = &bytes[piece.size()..];
 /// ```
@@ -103,8 +106,10 @@ fn decoded_codepoint(bytes: &[u8]) -> FirstCodepoint
 /// # Examples
 ///
 /// ```rust
+/// use lexopt_words::codepoint::lossy_text;
+///
 /// // The bytes `66 6F 6F FF` give `foo` and U+FFFD.
-/// let text = lossy_text(alloc, word.as_bytes())?;
+/// let text = lossy_text(alloc, b"foo\xFF")?;
 /// ```
 pub fn lossy_text(alloc: Global, bytes: &[u8]) -> Result<String, AllocError>
     ensures { IfOk result (λ text. string_bytes text ≡ lossy bytes.now) }

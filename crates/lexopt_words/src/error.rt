@@ -11,6 +11,8 @@ use std::fmt;
 /// # Examples
 ///
 /// ```rust
+/// let mut quiet = false;
+/// let mut files = Vec::new(alloc);
 /// match parser.next()? {
 ///     Some(Short('q') | Long("quiet")) => quiet = true,
 ///     Some(Value(file)) => files.push(file)?,
@@ -40,11 +42,12 @@ impl Arg<'_> {
     /// # Examples
     ///
     /// ```rust
+    /// let mut verbose = false;
     /// match parser.next()? {
     ///     Some(Short('v')) => verbose = true,
     ///     // `-x` is refused with the message `invalid option '-x'`.
     ///     Some(argument) => return Err(argument.unexpected(alloc)),
-    ///     None => break,
+    ///     None => {}
     /// }
     /// ```
     pub fn unexpected(self, alloc: Global) -> Error
@@ -97,7 +100,9 @@ impl<'a> Clone for Arg<'a> {
 /// # Examples
 ///
 /// ```rust
-/// let _ = eprintln!(rt; "hello: {error}");
+/// if let Err(error) = parser.value() {
+///     let _ = eprintln!(rt; "hello: {error}");
+/// }
 /// ```
 #[derive(Drop)]
 pub enum Error {
@@ -138,8 +143,11 @@ impl Error {
     /// # Examples
     ///
     /// ```rust
-    /// if let Some(cause) = error.cause() {
-    ///     let _ = eprintln!(rt; "caused by: {cause}");
+    /// if let Err(error) = parser.value()?.parse::<u32>() {
+    ///     let _ = eprintln!(rt; "hello: {error}");
+    ///     if let Some(cause) = error.cause() {
+    ///         let _ = eprintln!(rt; "caused by: {cause}");
+    ///     }
     /// }
     /// ```
     pub fn cause(&self) -> Option<&anyhow::Error>

@@ -108,6 +108,7 @@ impl OsString {
     ///
     /// ```rust
     /// // `--name=value` without its first 7 bytes is `value`.
+    /// let word = OsString::from_text(alloc, "--name=value")?;
     /// let value = word.without_front(7);
     /// ```
     pub fn without_front(self, count: usize) -> OsString
@@ -128,7 +129,9 @@ impl OsString {
     ///
     /// ```rust
     /// // The bytes `66 6F 6F` are `Ok` of `foo`; the bytes `66 6F 6F FF` are `Err` of the word.
-    /// match word.into_string() {
+    /// let mut texts = Vec::new(alloc);
+    /// let mut words = Vec::new(alloc);
+    /// match parser.value()?.into_string() {
     ///     Ok(text) => texts.push(text)?,
     ///     Err(word) => words.push(word)?,
     /// }
@@ -163,6 +166,7 @@ impl OsString {
     /// # Examples
     ///
     /// ```rust
+    /// let word = parser.value()?;
     /// let is_auto = word.to_str() == Some("auto");
     /// ```
     pub fn to_str(&self) -> Option<&str>

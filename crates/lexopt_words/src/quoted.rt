@@ -21,8 +21,9 @@ use std::marker::Model;
 ///
 /// ```rust
 /// // The bytes `66 6F 6F FF` print as `"foo\xFF"`.
-/// let file = Quoted::new(file.as_bytes());
-/// println!(rt; "file: {file}")?;
+/// let word = parser.value()?;
+/// let file = Quoted::new(word.as_bytes());
+/// let _ = eprintln!(rt; "file: {file}");
 /// ```
 #[derive(Drop)]
 pub struct Quoted<'a> {

@@ -41,7 +41,10 @@ pub trait ValueExt: private::Sealed {
     ///
     /// ```rust
     /// // `-n 10` sets the number to 10; `-n x` is refused.
-    /// Some(Short('n')) => number = parser.value()?.parse::<u32>()?,
+    /// let mut number = 1;
+    /// if let Some(Short('n')) = parser.next()? {
+    ///     number = parser.value()?.parse::<u32>()?;
+    /// }
     /// ```
     fn parse<T: FromStr>(&self) -> Result<T, Error>
     where
@@ -66,6 +69,8 @@ pub trait ValueExt: private::Sealed {
     /// # Examples
     ///
     /// ```rust
+    /// use anyhow::bail;
+    ///
     /// fn jobs_of(text: &str) -> anyhow::Result<u32> {
     ///     match text.parse() {
     ///         Ok(jobs @ 1..=256) => Ok(jobs),
@@ -95,7 +100,10 @@ pub trait ValueExt: private::Sealed {
     ///
     /// ```rust
     /// // The thing to greet is a text; a word that is not UTF-8 is refused.
-    /// Some(Value(word)) => thing = Some(word.string()?),
+    /// let mut thing = None;
+    /// if let Some(Value(word)) = parser.next()? {
+    ///     thing = Some(word.string()?);
+    /// }
     /// ```
     fn string(self) -> Result<String, Error>
         ensures { MatchResult result
