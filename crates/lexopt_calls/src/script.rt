@@ -1,25 +1,5 @@
 //! Parses scripts. A script has the words of a command line, the calls to make on a parser of them,
-//! and a table of options.
-//!
-//! A script is a list of bytes. Each line ends with the byte 0A, which the last line may lack. A
-//! line is empty, or one of these:
-//!
-//! - `w`: the empty word.
-//! - `w TEXT`: the word TEXT, after one space. In TEXT, `\\` is a backslash, `\n` is the byte 0A,
-//!   and `\xHH` is the byte with these two hexadecimal digits; any other backslash makes the line
-//!   bad.
-//! - `next`, `value`, `optional`: a call.
-//! - `values N`, `raw N`, `try N`: a call of `values`, `raw_args` or `try_raw_args`, which takes up
-//!   to N items from its view. N has one to nine decimal digits.
-//! - `on`, `off`: sets `short_equals`, whether `=` separates a short option from its value.
-//! - `t OPTION`, `topt OPTION`, `tmany OPTION`: adds an option to the table, with one value, one or
-//!   none, or several. OPTION is `-` and one character other than a dash, or `--` and a name, which
-//!   may be empty. It is UTF-8, without escapes.
-//! - `items`: reads all words by the table, with `short_equals` as last set. It does not change the
-//!   parser.
-//!
-//! Every other line is bad. A word or an option is also bad after the first line that reads the
-//! words.
+//! and a table of options. `docs/formats.md` has the grammar of its lines.
 ghost use Rattle.std.specs.Prelude.{◌≡◌, ◌⊎◌, ℕ, ◌+◌, ◌<◌, ◌≤◌, List, [], None, Some, IfErr};
 ghost use Rattle.std.specs.Prelude.{IfOk, MatchOption, OnOk, drop, length, map};
 ghost use Rattle.std.specs.Option.{option_map};
