@@ -9,6 +9,7 @@
 #![tactic(auto)]
 
 pub mod declaration;
+mod examples;
 pub mod help;
 pub mod listed;
 pub mod lookup;
