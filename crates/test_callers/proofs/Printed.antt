@@ -7,6 +7,7 @@ use Rattle.std.specs.Global.{Global}
 use Rattle.std.proofs.lemmas.Result.{IfOk-weaker, MatchResult-weaker}
 use Rattle.std.specs.List.{list_all}
 use Rattle.std.proofs.lemmas.Option.{slice_get-map}
+use Rattle.lexopt_line_spec.proofs.Computing.{computing}
 use Rattle.lexopt_options_spec.specs.Declaration as spec
 use Rattle.lexopt_options_spec.specs.Declaration.{IsFirstBadList, IsFirstFault, IsSecondRepeated, are_clear, are_listable, is_sound, list_fault, may_repeat}
 use Rattle.lexopt_options_spec.specs.Help.{IsUsage}
@@ -22,7 +23,7 @@ use Rattle.lexopt_declaration.specs.declared.declaration.Names.TheVariants.{Shor
 use Rattle.lexopt_declaration.specs.declared.declaration.Positional.{Positional}
 use Rattle.lexopt_declaration.specs.declared.declaration.Reason.{Reason}
 use Rattle.lexopt_declaration.specs.declared.declaration.Reason.TheVariants as reason
-use Rattle.test_callers.specs.Printed.{CanBeListed, IsErrorOf, IsErrorWith, IsUsageOf, IsUsageWith, count_of, list_reason, names_line, one_option, reason_line, reason_of, repeats, small_tool, two_words}
+use Rattle.test_callers.specs.Printed.{CanBeListed, IsErrorOf, IsErrorWith, IsUsageOf, IsUsageWith, count_of, list_reason, names_line, one_option, printed_text, reason_line, reason_of, repeats, small_tool, two_words}
 
 -- ---- how often each may occur
 
@@ -130,6 +131,11 @@ same_reason reason.BadPlaceholder = refl
 same_reason reason.BadList = refl
 same_reason reason.SameName = refl
 
+-- the placeholder is printed as it is
+to_is_printed : printed_text (codes "TO") ≡ codes "TO"
+unfolding computing
+to_is_printed = refl
+
 -- the only option has index 0
 only_one : (character : ℕ) (help : List ℕ) (index : ℕ) (r : spec.Reason) → IsFirstFault (one_option character help) index r → index ≡ 0
 only_one character help zero r is = refl
@@ -164,7 +170,7 @@ error_of character help first second values d text view names (refusal.Positiona
     inr (inl (
       subst (λ (own : spec.Declaration). is_sound own.options ≡ true) view sound,
       second_is.1,
-      is ∙ ap (λ (t : List ℕ). codes "positional argument " ++ (t ++ codes ": one before it may occur more than once too")) name,
+      is ∙ ap (λ (t : List ℕ). codes "positional argument " ++ (t ++ codes ": one before it may occur more than once too")) (ap printed_text name ∙ to_is_printed),
     ))
 error_of character help first second values d text view names (refusal.BadList own, (sound, clear, (index, bad_is, at)), is) =
     let second_is : (index ≡ 1) × (¬ CanBeListed values) = bad_one help first second values index (subst (λ (own : spec.Declaration). IsFirstBadList own.positionals index) view bad_is) in
@@ -173,7 +179,7 @@ error_of character help first second values d text view names (refusal.BadList o
       subst (λ (own : spec.Declaration). is_sound own.options ≡ true) view sound,
       not_both help first second values (subst (λ (own : spec.Declaration). are_clear own.positionals ≡ true) view clear),
       second_is.1,
-      is ∙ ap (λ (t : List ℕ). codes "positional argument " ++ (t ++ (codes ": " ++ list_reason))) name,
+      is ∙ ap (λ (t : List ℕ). codes "positional argument " ++ (t ++ (codes ": " ++ list_reason))) (ap printed_text name ∙ to_is_printed),
     ))
 
 pub usage_or_error_of : {F V P M S E : Type 0} (width character : ℕ) (help : List ℕ) (first second : Count) (values : List (List ℕ)) (result : Result (Result (String Global) (String Global)) E) (d : Declaration F V P M S)

@@ -39,6 +39,7 @@ pub fn refused_text<F, V, P, M, S>(
 }
 
 /// Prints that an option is missing.
+#[tactic(auto, unfolding(lexopt_line_spec::proofs::Computing::computing))]
 pub fn missing_option_text(alloc: Global) -> Result<String, AllocError>
     ensures { IfOk result (λ text. string_bytes text ≡ codes "missing option '--user'") }
 {
