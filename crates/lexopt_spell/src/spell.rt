@@ -147,10 +147,16 @@ impl From<AllocError> for SpellError {
 /// ```rust
 /// let mut table = Table::new(alloc);
 /// table.shorts.push('o')?;
+/// table.longs.push(String::from_str(alloc, "out")?)?;
+/// table.optional_longs.push(String::from_str(alloc, "color")?)?;
 /// table.several_shorts.push('d')?;
 /// let mut items = Vec::new(alloc);
 /// items.push(Item::Short('v', None))?;
 /// items.push(Item::Short('o', Some(OsString::from_text(alloc, "x")?)))?;
+/// for (name, value) in [("out", "y"), ("color", "z")] {
+///     let value = OsString::from_text(alloc, value)?;
+///     items.push(Item::Long(String::from_str(alloc, name)?, Some(value)))?;
+/// }
 /// let mut values = Vec::new(alloc);
 /// values.push(OsString::from_text(alloc, "1")?)?;
 /// values.push(OsString::from_text(alloc, "2")?)?;
