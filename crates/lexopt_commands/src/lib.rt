@@ -184,8 +184,9 @@
 //! the start-up file of bash; `lexopt_options` has the lines for zsh and fish.
 //!
 //! In the other examples `rt` is a reference to the runtime that `main` gets, `alloc` is
-//! `rt.alloc()`, and `commands` is a [`Commands`]. `add`, `remote`, `remote_add` and `refuse` are
-//! functions of the program.
+//! `rt.alloc()`, and `commands` is a [`Commands`] of the declarations that
+//! [`declare_commands!`](crate::declare_commands) shows, with their keys. They belong in a function
+//! that returns a `std::io::Result`.
 #![tactic(auto)]
 
 pub mod answer;

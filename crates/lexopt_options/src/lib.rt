@@ -195,8 +195,8 @@
 //! for a program that answers it by itself.
 //!
 //! In the other examples `rt` is a reference to the runtime that `main` gets, `alloc` is
-//! `rt.alloc()`, and `options` is an [`Options`]. `work`, `refuse` and `print_parsed` are functions
-//! of the program.
+//! `rt.alloc()`, and `options` is an [`Options`] of the declaration that [`declare!`](crate::declare)
+//! shows, with its keys. They belong in a function that returns a `std::io::Result`.
 #![tactic(auto)]
 
 pub mod answer;
