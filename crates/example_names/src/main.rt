@@ -16,7 +16,6 @@ struct Options {
     files: Vec<OsString>,
 }
 
-// The options, or nothing if help is asked for.
 fn read_options(rt: &(impl Env + AllocGlobal)) -> Result<Option<Options>, Error> {
     let mut parser = Parser::from_env_os(rt, rt.alloc())?;
     let mut options = Options {
