@@ -191,7 +191,7 @@
 //! ```
 //!
 //! [`variable`] returns the name of that variable. The program needs no more code for completion:
-//! [`Options::from_env`] answers the shell. [`Request`], [`Options::complete`] and [`Script`] are
+//! [`Options::from_env`] responds to the shell. [`Request`], [`Options::complete`] and [`Script`] are
 //! for a program that answers it by itself.
 //!
 //! In the other examples `rt` is a reference to the runtime that `main` gets, `alloc` is
