@@ -152,7 +152,7 @@
 //!   that come before the name of a command. To accept such an option after the name too, declare
 //!   it for the command as well. Declare the positionals `COMMAND` and `ARGUMENT` as above: the
 //!   usage line and completion use them. When a line is read they are ignored, so their keys are
-//!   never returned.
+//!   never returned, but a `match` by value still needs the arm `Parsed::Positional((), _) => {}`.
 //! - [`declare_commands!`](crate::declare_commands) has a line for each [`Command`]: `command` with
 //!   the key, the name and the help text, or `help` with the name that asks for the help.
 //! - The declaration of a command has the name that messages and the help show, such as
@@ -171,7 +171,8 @@
 //!   error before the program exits with [`USAGE_ERROR`], which is 2.
 //! - Pass the request to `Options::answer_request` of the command's own declaration, whatever the
 //!   request is, with [`columns`] as the width of the help. So the same code runs the command,
-//!   prints its help and completes its words.
+//!   prints its help and completes its words. A mistake that the command finds itself is printed by
+//!   `report` of the same `Options`, which names the command.
 //! - Print nothing before `answer_request` has returned, unless the request is `Request::Line`: any
 //!   other request comes from a shell, which reads what the program prints.
 //! - A command that has commands of its own, such as `remote add`, makes [`Commands`] of them in
@@ -207,5 +208,4 @@ pub use mistake::Mistake;
 pub use refused::{CommandLine, Refused};
 
 // What else a program that declares commands needs.
-pub use lexopt_options::USAGE_ERROR;
-pub use lexopt_options::answer::columns;
+pub use lexopt_options::{USAGE_ERROR, columns};

@@ -115,8 +115,7 @@ pub enum Arity<'a> {
 ///
 /// Each kind has its own type of keys: `F` for flags, `V` for options of one value, `M` for those
 /// whose value may be left out, `S` for those of several values. Two options may have the same key.
-/// Then a program cannot tell them apart, and a message about a key names the first. The `Kind` of
-/// `lexopt_items` has no key and no placeholder: it is only how many values an option has.
+/// Then a program cannot tell them apart, and a message about a key names the first.
 #[derive(Debug, Clone, Copy)]
 pub enum Kind<'a, F, V = Infallible, M = Infallible, S = Infallible> {
     /// No value: `-v`, `--verbose`.
@@ -653,7 +652,7 @@ impl<'a, P> Positional<'a, P> {
 }
 
 /// Why an option cannot be declared. `Display` writes it, such as `its name is empty`. The `Reason`
-/// of `lexopt_commands` is about the names of commands, that of `lexopt_spell` about items.
+/// of `lexopt_commands` is about the names of commands.
 #[derive(Debug, Clone, Copy, PartialEq, Eq)]
 pub enum Reason {
     /// Its character is `-`: the word `--` is the separator, and `--name` is a long option.

@@ -157,9 +157,9 @@
 //!
 //! # What to call
 //!
-//! - [`Options::new`] takes a declaration in a `static`, which the prover checks.
-//!   [`Options::try_new`] takes one that is made when the program runs, and may return a
-//!   [`DeclarationError`].
+//! - [`Options::new`] takes a declaration in a `static`. `rt check` and `rt run` refuse a program
+//!   whose declaration is faulty; `rt try` does not notice it. [`Options::try_new`] takes a
+//!   declaration that is made when the program runs, and may return a [`DeclarationError`].
 //! - [`Options::from_env`] reads the program's own line, or the request of a shell. It returns an
 //!   [`Answer`]. `Answer::Parsed` has what the line means, in the order in which it was typed.
 //!   `Answer::Text` has the help, the version or what a shell asked for, to be printed.
@@ -167,16 +167,20 @@
 //!   with [`USAGE_ERROR`], which is 2. A shell reads what the program prints, so print nothing
 //!   before.
 //! - [`Parsed`] is an option or a positional that was read: its key, with its values as
-//!   [`OsString`]s, which may be any bytes. An option that was typed twice is there twice.
+//!   [`OsString`]s, which may be any bytes. An option that was typed twice is there twice. Print a
+//!   word by `{word:?}` or by [`Quoted`], which escape control characters and damage, and compare
+//!   its bytes: `word.as_bytes() == b"high"`.
 //! - [`Options::parse_value`] converts a value by the type's `FromStr`, and its error names the
 //!   option. [`Options::parse_maybe`] and [`Options::parse_values`] do so for the other kinds of
-//!   options, and [`ValueExt::parse`] and [`ValueExt::string`] for positionals.
+//!   options, and [`ValueExt::parse`] and [`ValueExt::string`] for positionals. A value from a list
+//!   of `.one_of(..)` is converted so too, if the program has an enum with `FromStr` for it. The
+//!   error of that `FromStr` is any type that is a `std::error::Error`.
 //! - [`UsageError`] is the error of a function that finds mistakes itself. `?` and
 //!   `UsageError::from` make it. [`Options::report`] makes of it what to print, and
 //!   [`Report::status`] is the status to exit with.
 //! - [`Options::answer`] reads words of the program's own, as a test does, and [`Options::read`]
 //!   returns the request for the help, and the mistake, as values. [`Options::help`] and
-//!   [`Options::usage`] return texts; [`columns`](crate::answer::columns) is the width for them.
+//!   [`Options::usage`] return texts; [`columns`] is the width for them.
 //! - [`Options::read_leading`] is for a line that goes on with the words of another program, as
 //!   that of `env` does. A program with commands names `lexopt_commands` too.
 //!
@@ -189,6 +193,10 @@
 //! source <(_PACK_COMPLETE=zsh_source pack)    # zsh, after compinit
 //! _PACK_COMPLETE=fish_source pack | source    # fish
 //! ```
+//!
+//! To see what a shell gets, prove the program by `rt run` and call what that leaves in `out`, since
+//! `rt try` passes on no environment variable: `_PACK_COMPLETE=bash_complete out/pack --ou` prints
+//! `--output`, a tab and its help text.
 //!
 //! [`variable`] returns the name of that variable. The program needs no more code for completion:
 //! [`Options::from_env`] responds to the shell. [`Request`], [`Options::complete`] and [`Script`] are
@@ -216,7 +224,7 @@ mod table;
 mod taken;
 pub mod usage;
 
-pub use answer::Answer;
+pub use answer::{Answer, columns};
 pub use complete::{Completion, Joined, Role};
 pub use leading::Leading;
 pub use mistake::{Mistake, OptionName};
