@@ -49,7 +49,7 @@ static NAMES: [(&str, &str, &str); 12] = [
     (
         "add",
         "a\x7F",
-        "command 'a\x7F': its name has a blank or a control character in it",
+        "command 'a\\u{7f}': its name has a blank or a control character in it",
     ),
     (
         "add",
