@@ -23,7 +23,8 @@ pub enum Runs<C> {
 pub struct Command<'a, C> {
     /// Its name.
     pub name: &'a str,
-    /// Its help text: words with single blanks between them.
+    /// Its help text. The help wraps it at spaces, of which several count as one. Shells show it as
+    /// it is, with a space for each control character.
     pub help: &'a str,
     /// What its name does.
     pub runs: Runs<C>,

@@ -7,3 +7,4 @@ pub mod Rows
 pub mod Candidates
 pub mod Scripts
 pub mod Parts
+pub mod Combined

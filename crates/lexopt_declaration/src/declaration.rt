@@ -184,7 +184,8 @@ pub struct Declared<'a, F, V = Infallible, M = Infallible, S = Infallible> {
     /// What kind of option it is: a flag, an option with values, or a request for the help or the
     /// version.
     pub kind: Kind<'a, F, V, M, S>,
-    /// Its help text: words with single blanks between them.
+    /// Its help text. The help wraps it at spaces, of which several count as one. Shells show it as
+    /// it is, with a space for each control character.
     pub help: &'a str,
     /// Whether the help and its usage line leave it out. Lines may have it all the same.
     pub hidden: bool,

@@ -8,6 +8,7 @@
 //! variants are its keys.
 #![tactic(auto)]
 
+pub mod combined;
 pub mod declaration;
 mod examples;
 pub mod help;

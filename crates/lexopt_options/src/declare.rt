@@ -1,4 +1,5 @@
-//! `declare!`: a declaration with a line for each option.
+//! `declare!` and `declare_group!`: a declaration, or a group of options, with a line for each
+//! option.
 
 /// Makes a [`Declaration`](crate::Declaration), as the value of a constant, a static or a local.
 ///
@@ -165,4 +166,28 @@ macro_rules! declare {
     (@at_least_once) => { $crate::Count::AtLeastOnce };
     (@or $default:expr) => { $default };
     (@or $default:expr, $given:expr) => { $given };
+}
+
+/// Makes a [`Group`](crate::Group) of options, as the value of a constant, a static or a local.
+/// `options` has the lines that it has in [`declare!`](crate::declare).
+///
+/// # Examples
+///
+/// ```rust
+/// use lexopt_options::{Group, Names, declare_group};
+///
+/// static OUTPUT: Group<'static, Flag, Value> = declare_group! {
+///     options: [
+///         flag(Flag::Quiet, Names::Both('q', "quiet"), "print nothing"),
+///         value(Value::Color, Names::Long("color"), "WHEN", "when to use colors"),
+///     ],
+/// };
+/// ```
+#[macro_export]
+macro_rules! declare_group {
+    (options: [$($option:ident $given:tt $(.$mark:ident $marked:tt)*),* $(,)?] $(,)?) => {
+        $crate::Group {
+            options: &[$($crate::declare!(@$option $given $(.$mark $marked)*)),*],
+        }
+    };
 }

@@ -235,6 +235,7 @@ pub use request::Request;
 pub use usage::{Report, UsageError};
 
 // The parts of a declaration, and the scripts for shells.
+pub use lexopt_declaration::combined::{Combined, Group};
 pub use lexopt_declaration::declaration::{
     Arity, Count, Declaration, DeclarationError, Declared, Kind, Names, Positional, Reason, Words,
 };

@@ -73,12 +73,12 @@ fn checked<'a, F, V, P, M, S>(
 }
 
 impl<'a, F, V, P, M, S> Options<'a, F, V, P, M, S> {
-    ghost use Rattle.std.specs.Prelude.{◌≡◌, IfOk, MatchResult, map, string_bytes, true};
+    ghost use Rattle.std.specs.Prelude.{◌≡◌, IfOk, MatchResult, None, map, string_bytes, true};
     ghost use Rattle.std.specs.List.{list_any};
     ghost use Rattle.lexopt_options_spec.specs.Legal as legal;
     ghost use Rattle.lexopt_options_spec.specs.Places as places;
     ghost use Rattle.lexopt_options.specs.Taken.{has_list};
-    ghost use Rattle.lexopt_options_spec.specs.Declarable.{can_be_declared};
+    ghost use Rattle.lexopt_options_spec.specs.Declarable.{first_fault};
     ghost use Rattle.lexopt_options_spec.specs.Declaration.{are_clear, are_listable, is_sound};
     ghost use Rattle.lexopt_options_spec.specs.Help.{IsHelp, IsUsage};
     ghost use Rattle.lexopt_declaration.specs.Models.{option_view, positional_view};
@@ -90,7 +90,12 @@ impl<'a, F, V, P, M, S> Options<'a, F, V, P, M, S> {
     ///
     /// The prover computes for a constant or a static that all of it can be declared together. So
     /// `rt check` refuses a program with a faulty declaration, and this call cannot fail when a
-    /// proved program runs. [`DeclarationError`] and [`Reason`](crate::Reason) list the faults.
+    /// proved program runs. [`DeclarationError`] and [`Reason`](crate::Reason) list the faults. If
+    /// an option is at fault, the message of `rt check` has its index, counted from 0, and the
+    /// reason.
+    ///
+    /// A program with more than some eighty options declares them in groups, and combines these by
+    /// [`Combined`](crate::Combined).
     ///
     /// # Examples
     ///
@@ -101,7 +106,7 @@ impl<'a, F, V, P, M, S> Options<'a, F, V, P, M, S> {
     /// ```
     #[tactic(auto, using(lexopt_options_spec::proofs::Declarable::declarable_sound))]
     pub fn new(declaration: &'a Declaration<'a, F, V, P, M, S>) -> Options<'a, F, V, P, M, S>
-        requires options { can_be_declared (map option_view declaration.now.options.now) ≡ true }
+        requires options { first_fault (map option_view declaration.now.options.now) ≡ None }
         requires positionals { are_clear (map positional_view declaration.now.positionals.now)
             ≡ true }
         requires lists { are_listable (map positional_view declaration.now.positionals.now) ≡ true }

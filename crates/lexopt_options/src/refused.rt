@@ -23,8 +23,8 @@ pub struct Refused<'a, F, V = Infallible, P = Infallible, M = Infallible, S = In
     pub program: &'a str,
     /// The names of the first option that asks for the help, if one is declared.
     pub help: Option<Names<'a>>,
-    /// What the line means before the mistake. An option with an unexpected or an invalid value is
-    /// not part of it.
+    /// What the line means before the mistake. An option whose value is missing, unexpected or
+    /// invalid is not part of it.
     pub before: Vec<Parsed<F, V, P, M, S>>,
     /// The mistake.
     pub mistake: Mistake<'a>,

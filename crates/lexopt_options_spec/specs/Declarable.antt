@@ -1,13 +1,13 @@
 -- Which options can be declared, as a test that the prover computes for the options of a program.
-use Rattle.std.specs.Prelude.{ℕ, Bool, true, false, nat_eq, ◌==◌, ◌||◌, ◌&&◌, not, List, [], ◌∷◌}
-use Rattle.std.specs.Prelude.{Option, Some, None}
-use Rattle.std.specs.List.{list_all, list_any, starts_with}
-use Rattle.lexopt_spec.specs.Pieces.{replacement}
-use Rattle.lexopt_spec.specs.UnreadLine.{dash, equals}
-use Rattle.lexopt_line_spec.specs.Table.{Kind, flag}
-use Rattle.lexopt_options_spec.specs.Declaration.{Declared, has, is_blank_or_control, is_empty}
-use Rattle.lexopt_options_spec.specs.Declaration.{is_listable, is_placeholder, shares_name}
-use Rattle.lexopt_options_spec.specs.Declaration.{Words, listed}
+use Rattle.std.specs.Prelude.{ℕ, suc, Bool, false, nat_eq, ◌||◌, List, [], ◌∷◌}
+use Rattle.std.specs.Prelude.{Option, Some, None, if◌then◌else◌}
+use Rattle.std.specs.List.{list_any, starts_with}
+use Rattle.lexopt_spec.specs.UnreadLine.{equals}
+use Rattle.lexopt_options_spec.specs.Declaration.{Declared, Reason, empty_name, equals_in_name}
+use Rattle.lexopt_options_spec.specs.Declaration.{replacement_in_name, blank_or_control_in_name}
+use Rattle.lexopt_options_spec.specs.Declaration.{same_name, has, is_blank_or_control, is_empty}
+use Rattle.lexopt_options_spec.specs.Declaration.{or_else, short_fault, placeholder_fault}
+use Rattle.lexopt_options_spec.specs.Declaration.{list_fault, shares_name}
 
 -- the bytes of U+FFFD are among these, one after another
 abbrev pub has_replacement : List ℕ → Bool
@@ -15,35 +15,33 @@ has_replacement [] = false
 has_replacement (b ∷ bs) =
     starts_with nat_eq (b ∷ bs) (0xEF ∷ 0xBF ∷ 0xBD ∷ []) || has_replacement bs
 
--- the character can be declared, if there is one
-abbrev pub is_good_short : Option ℕ → Bool
-is_good_short None = true
-is_good_short (Some c) = not (c == dash) && not (c == replacement) && not (is_blank_or_control c)
+-- what is wrong with a name, found in its bytes
+abbrev pub name_fault : Option (List ℕ) → Option Reason
+name_fault None = None
+name_fault (Some name) = if is_empty name then Some empty_name
+    else (if has equals name then Some equals_in_name
+    else (if has_replacement name then Some replacement_in_name
+    else (if list_any is_blank_or_control name then Some blank_or_control_in_name else None)))
 
--- the name can be declared, if there is one
-abbrev pub is_good_long : Option (List ℕ) → Bool
-is_good_long None = true
-is_good_long (Some name) = not (is_empty name) && not (has equals name)
-    && not (has_replacement name) && not (list_any is_blank_or_control name)
+-- why this option cannot be declared beside these
+abbrev pub fault_beside : List Declared → Declared → Option Reason
+fault_beside others o = or_else (short_fault o.short_name) (or_else (name_fault o.long_name)
+    (or_else (placeholder_fault o.kind o.placeholder) (or_else (list_fault o.words)
+    (if list_any (shares_name o) others then Some same_name else None))))
 
--- the placeholder can be declared, if the option has values
-abbrev pub is_good_placeholder : Kind → List ℕ → Bool
-is_good_placeholder flag placeholder = true
-is_good_placeholder k placeholder = is_placeholder placeholder
+-- this index and reason, if there is a reason; otherwise those that were found later
+abbrev pub or_later : ℕ → Option Reason → Option (ℕ × Reason) → Option (ℕ × Reason)
+or_later index (Some reason) later = Some (index, reason)
+or_later index None later = later
 
--- the list can be declared, if there is one
-abbrev pub are_good_words : Words → Bool
-are_good_words (listed []) = false
-are_good_words (listed words) = list_all is_listable words
-are_good_words words = true
+-- the first of these options that cannot be declared beside the given ones and those before it,
+-- where the first of these options has this index
+abbrev pub fault_from : ℕ → List Declared → List Declared → Option (ℕ × Reason)
+fault_from index others [] = None
+fault_from index others (o ∷ os) =
+    or_later index (fault_beside others o) (fault_from (suc index) (o ∷ others) os)
 
--- the option can be declared, if there is no other
-abbrev pub is_good : Declared → Bool
-is_good o = is_good_short o.short_name && is_good_long o.long_name
-    && is_good_placeholder o.kind o.placeholder && are_good_words o.words
-
--- each of these options can be declared, and no two have a name in common
-abbrev pub can_be_declared : List Declared → Bool
-can_be_declared [] = true
-can_be_declared (o ∷ os) =
-    is_good o && not (list_any (λ later. shares_name later o) os) && can_be_declared os
+-- the index of the first option that cannot be declared after those before it, counted from 0, and
+-- the reason
+abbrev pub first_fault : List Declared → Option (ℕ × Reason)
+first_fault options = fault_from 0 [] options

@@ -4,22 +4,26 @@ ghost use Rattle.std.specs.Prelude.{ℕ, codes, length, true};
 ghost use Rattle.lexopt_line_spec.specs.Table.{Item, long, short};
 ghost use Rattle.lexopt_line_spec.specs.Spelling.{Spells};
 ghost use Rattle.lexopt_options_spec.specs.Completion.{AreText};
-ghost use Rattle.lexopt_options_spec.specs.Declarable.{can_be_declared};
-ghost use Rattle.lexopt_options_spec.specs.Declaration.{Declaration, Declared, is_sound, table};
+ghost use Rattle.lexopt_options_spec.specs.Declarable.{first_fault};
+ghost use Rattle.lexopt_options_spec.specs.Declaration.{Declaration, Declared, IsFirstFault, Reason};
+ghost use Rattle.lexopt_options_spec.specs.Declaration.{is_sound, table};
 ghost use Rattle.lexopt_options_spec.specs.Help.{HasTextNames, IsEntry, IsHelp, IsParagraph};
 ghost use Rattle.lexopt_options_spec.specs.Help.{IsUsage, LabelForm, Line, ShowsName, blanks};
 ghost use Rattle.lexopt_options_spec.specs.Help.{columns, gap, help_column, label, line_columns};
 ghost use Rattle.lexopt_options_spec.specs.Help.{line_feed};
 ghost use Rattle.lexopt_options_spec.specs.Help.{usage_column};
 
-/// The prover computes a test for the options that `Options::new` is given. If the names of the
-/// options are text, as each `char` and each `&str` is, this test holds if and only if the options
-/// can be declared together.
+/// The prover computes the first fault of the options that `Options::new` is given. If the names of
+/// the options are text, as each `char` and each `&str` is, it finds none if and only if the options
+/// can be declared together, and otherwise it finds the first option that cannot be declared after
+/// those before it, and the reason.
 pub fn declarable_options_are_sound()
-    ensures sound { (options : List Declared) → AreText options → can_be_declared options ≡ true
+    ensures sound { (options : List Declared) → AreText options → first_fault options ≡ None
         → is_sound options ≡ true }
     ensures no_other { (options : List Declared) → AreText options → is_sound options ≡ true
-        → can_be_declared options ≡ true }
+        → first_fault options ≡ None }
+    ensures first { (options : List Declared) (index : ℕ) (reason : Reason) → AreText options
+        → first_fault options ≡ Some (index, reason) → IsFirstFault options index reason }
 {}
 
 /// What the help shows can be typed. If the options can be declared together, and the names of an

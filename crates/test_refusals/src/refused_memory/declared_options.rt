@@ -1,7 +1,9 @@
 //! Declared options. If an allocation fails, the call returns an `AllocError`, and nothing of the
 //! line.
 use crate::refused_memory::{Flag, Outcome, PACK, Value, Word, check_outcome, out_of_memory_in};
-use lexopt_options::{Answer, Declaration, Leading, Names, Options, Request, declare};
+use lexopt_options::{
+    Answer, Combined, Declaration, Group, Leading, Names, Options, Request, declare, declare_group,
+};
 use std::alloc::{AllocError, Global};
 use std::test::Fail;
 use test_helpers::parsers::split_words;
@@ -25,6 +27,11 @@ static CHOOSE: Declaration<'static, Flag, Value, Word> = declare! {
         at_most_once(Word::File, "HOW", "how fast").one_of(&["fast", "slow"]),
         once(Word::Target, "FORM").one_of(&["tar"]),
     ],
+};
+
+// A group of options for `PACK`.
+static MORE: Group<'static, Flag, Value> = declare_group! {
+    options: [value(Value::User, Names::Long("user"), "NAME", "whose it is")],
 };
 
 // Adds the contents of an answer: what was read, a text to print, or a mistake. It is a function of
@@ -254,5 +261,17 @@ fn declared_leading(rt: HostRuntime) -> Result<(), Fail> {
             "read_leading",
         ),
         Err(_) => out_of_memory_in("read_leading"),
+    }
+}
+
+// A declaration of four options, with one more of a group.
+#[test]
+fn declared_groups(rt: HostRuntime) -> Result<(), Fail> {
+    match Combined::new(rt.alloc(), &PACK, &[MORE]) {
+        Ok(combined) => {
+            let declaration = combined.declaration();
+            check_outcome(Outcome::of(declaration.options.len() == 5), "Combined::new")
+        }
+        Err(_) => out_of_memory_in("Combined::new"),
     }
 }
