@@ -2,3 +2,4 @@ pub mod Callers
 pub mod Tool
 pub mod Keyed
 pub mod Printed
+pub mod Grouped

@@ -6,5 +6,6 @@ pub mod callers;
 pub mod declared;
 pub mod declared_keys;
 pub mod declared_texts;
+pub mod grouped;
 pub mod line_callers;
 pub mod text_callers;
