@@ -1,0 +1,298 @@
+//! Forty options read over the parser by keys: a table has the names of each option, two functions set
+//! what the keys mean, and the loop has four arms. So the time to prove it grows with the options, and
+//! no faster.
+#![tactic(auto)]
+
+use lexopt_base::prelude::{Long, Short, Value};
+use lexopt_base::{Arg, Error, OsString, Parser};
+use std::alloc::Global;
+use std::env::Env;
+use std::io;
+use std::process::ExitCode;
+
+#[derive(Clone, Copy)]
+enum Flag {
+    Count,
+    Heading,
+    IgnoreCase,
+    KeepGoing,
+    FilesWithMatches,
+    LineNumber,
+    OnlyMatching,
+    Pretty,
+    Quiet,
+    Unrestricted,
+    InvertMatch,
+    WordRegexp,
+    LineRegexp,
+    SearchZip,
+    All,
+    FixedStrings,
+    WithFilename,
+    NoFilename,
+    Json,
+    Follow,
+}
+
+#[derive(Clone, Copy)]
+enum Valued {
+    AfterContext,
+    BeforeContext,
+    Depth,
+    Regexp,
+    File,
+    Glob,
+    Jobs,
+    MaxCount,
+    Replace,
+    Sort,
+    Type,
+    TypeNot,
+    Buffer,
+    Context,
+    Dictionary,
+    Encoding,
+    Colors,
+    Separator,
+    MaxColumns,
+    Null,
+}
+
+#[derive(Clone, Copy)]
+enum Key {
+    Flag(Flag),
+    Valued(Valued),
+}
+
+#[derive(Drop)]
+struct Settings {
+    after_context: Option<OsString>,
+    before_context: Option<OsString>,
+    count: bool,
+    depth: Option<OsString>,
+    regexp: Option<OsString>,
+    file: Option<OsString>,
+    glob: Option<OsString>,
+    heading: bool,
+    ignore_case: bool,
+    jobs: Option<OsString>,
+    keep_going: bool,
+    files_with_matches: bool,
+    max_count: Option<OsString>,
+    line_number: bool,
+    only_matching: bool,
+    pretty: bool,
+    quiet: bool,
+    replace: Option<OsString>,
+    sort: Option<OsString>,
+    type_of: Option<OsString>,
+    unrestricted: bool,
+    invert_match: bool,
+    word_regexp: bool,
+    line_regexp: bool,
+    type_not: Option<OsString>,
+    search_zip: bool,
+    all: bool,
+    buffer: Option<OsString>,
+    context: Option<OsString>,
+    dictionary: Option<OsString>,
+    encoding: Option<OsString>,
+    fixed_strings: bool,
+    colors: Option<OsString>,
+    with_filename: bool,
+    no_filename: bool,
+    json: bool,
+    separator: Option<OsString>,
+    follow: bool,
+    max_columns: Option<OsString>,
+    null: Option<OsString>,
+    files: Vec<OsString>,
+}
+
+// Both names of each option, and its key.
+static OPTIONS: [(char, &str, Key); 40] = [
+    ('a', "after-context", Key::Valued(Valued::AfterContext)),
+    ('b', "before-context", Key::Valued(Valued::BeforeContext)),
+    ('c', "count", Key::Flag(Flag::Count)),
+    ('d', "depth", Key::Valued(Valued::Depth)),
+    ('e', "regexp", Key::Valued(Valued::Regexp)),
+    ('f', "file", Key::Valued(Valued::File)),
+    ('g', "glob", Key::Valued(Valued::Glob)),
+    ('h', "heading", Key::Flag(Flag::Heading)),
+    ('i', "ignore-case", Key::Flag(Flag::IgnoreCase)),
+    ('j', "jobs", Key::Valued(Valued::Jobs)),
+    ('k', "keep-going", Key::Flag(Flag::KeepGoing)),
+    ('l', "files-with-matches", Key::Flag(Flag::FilesWithMatches)),
+    ('m', "max-count", Key::Valued(Valued::MaxCount)),
+    ('n', "line-number", Key::Flag(Flag::LineNumber)),
+    ('o', "only-matching", Key::Flag(Flag::OnlyMatching)),
+    ('p', "pretty", Key::Flag(Flag::Pretty)),
+    ('q', "quiet", Key::Flag(Flag::Quiet)),
+    ('r', "replace", Key::Valued(Valued::Replace)),
+    ('s', "sort", Key::Valued(Valued::Sort)),
+    ('t', "type", Key::Valued(Valued::Type)),
+    ('u', "unrestricted", Key::Flag(Flag::Unrestricted)),
+    ('v', "invert-match", Key::Flag(Flag::InvertMatch)),
+    ('w', "word-regexp", Key::Flag(Flag::WordRegexp)),
+    ('x', "line-regexp", Key::Flag(Flag::LineRegexp)),
+    ('y', "type-not", Key::Valued(Valued::TypeNot)),
+    ('z', "search-zip", Key::Flag(Flag::SearchZip)),
+    ('A', "all", Key::Flag(Flag::All)),
+    ('B', "buffer", Key::Valued(Valued::Buffer)),
+    ('C', "context", Key::Valued(Valued::Context)),
+    ('D', "dictionary", Key::Valued(Valued::Dictionary)),
+    ('E', "encoding", Key::Valued(Valued::Encoding)),
+    ('F', "fixed-strings", Key::Flag(Flag::FixedStrings)),
+    ('G', "colors", Key::Valued(Valued::Colors)),
+    ('H', "with-filename", Key::Flag(Flag::WithFilename)),
+    ('I', "no-filename", Key::Flag(Flag::NoFilename)),
+    ('J', "json", Key::Flag(Flag::Json)),
+    ('K', "separator", Key::Valued(Valued::Separator)),
+    ('L', "follow", Key::Flag(Flag::Follow)),
+    ('M', "max-columns", Key::Valued(Valued::MaxColumns)),
+    ('N', "null", Key::Valued(Valued::Null)),
+];
+
+// Whether this argument is the option with these names.
+fn is_named(argument: &Arg<'_>, short: char, long: &str) -> bool {
+    match argument {
+        Short(option) => *option == short,
+        Long(name) => *name == long,
+        Value(_) => false,
+    }
+}
+
+// The key of this option.
+fn key_of(alloc: Global, argument: Arg<'_>) -> Result<Key, Error> {
+    for (short, long, key) in &OPTIONS {
+        if is_named(&argument, *short, long) {
+            return Ok(*key);
+        }
+    }
+    Err(argument.unexpected(alloc))
+}
+
+fn set_flag(settings: &mut Settings, flag: Flag) {
+    match flag {
+        Flag::Count => settings.count = true,
+        Flag::Heading => settings.heading = true,
+        Flag::IgnoreCase => settings.ignore_case = true,
+        Flag::KeepGoing => settings.keep_going = true,
+        Flag::FilesWithMatches => settings.files_with_matches = true,
+        Flag::LineNumber => settings.line_number = true,
+        Flag::OnlyMatching => settings.only_matching = true,
+        Flag::Pretty => settings.pretty = true,
+        Flag::Quiet => settings.quiet = true,
+        Flag::Unrestricted => settings.unrestricted = true,
+        Flag::InvertMatch => settings.invert_match = true,
+        Flag::WordRegexp => settings.word_regexp = true,
+        Flag::LineRegexp => settings.line_regexp = true,
+        Flag::SearchZip => settings.search_zip = true,
+        Flag::All => settings.all = true,
+        Flag::FixedStrings => settings.fixed_strings = true,
+        Flag::WithFilename => settings.with_filename = true,
+        Flag::NoFilename => settings.no_filename = true,
+        Flag::Json => settings.json = true,
+        Flag::Follow => settings.follow = true,
+    }
+}
+
+fn set_value(settings: &mut Settings, valued: Valued, word: OsString) {
+    match valued {
+        Valued::AfterContext => settings.after_context = Some(word),
+        Valued::BeforeContext => settings.before_context = Some(word),
+        Valued::Depth => settings.depth = Some(word),
+        Valued::Regexp => settings.regexp = Some(word),
+        Valued::File => settings.file = Some(word),
+        Valued::Glob => settings.glob = Some(word),
+        Valued::Jobs => settings.jobs = Some(word),
+        Valued::MaxCount => settings.max_count = Some(word),
+        Valued::Replace => settings.replace = Some(word),
+        Valued::Sort => settings.sort = Some(word),
+        Valued::Type => settings.type_of = Some(word),
+        Valued::TypeNot => settings.type_not = Some(word),
+        Valued::Buffer => settings.buffer = Some(word),
+        Valued::Context => settings.context = Some(word),
+        Valued::Dictionary => settings.dictionary = Some(word),
+        Valued::Encoding => settings.encoding = Some(word),
+        Valued::Colors => settings.colors = Some(word),
+        Valued::Separator => settings.separator = Some(word),
+        Valued::MaxColumns => settings.max_columns = Some(word),
+        Valued::Null => settings.null = Some(word),
+    }
+}
+
+fn read_line(alloc: Global, parser: &mut Parser, settings: &mut Settings) -> Result<(), Error> {
+    for _ in 0..u64::MAX {
+        match parser.next()? {
+            Some(Value(file)) => settings.files.push(file)?,
+            Some(argument) => match key_of(alloc, argument)? {
+                Key::Flag(flag) => set_flag(settings, flag),
+                Key::Valued(valued) => set_value(settings, valued, parser.value()?),
+            },
+            None => break,
+        }
+    }
+    Ok(())
+}
+
+fn read_settings(rt: &(impl Env + AllocGlobal)) -> Result<Settings, Error> {
+    let alloc = rt.alloc();
+    let mut parser = Parser::from_env_os(rt, alloc)?;
+    let mut settings = Settings {
+        after_context: None,
+        before_context: None,
+        count: false,
+        depth: None,
+        regexp: None,
+        file: None,
+        glob: None,
+        heading: false,
+        ignore_case: false,
+        jobs: None,
+        keep_going: false,
+        files_with_matches: false,
+        max_count: None,
+        line_number: false,
+        only_matching: false,
+        pretty: false,
+        quiet: false,
+        replace: None,
+        sort: None,
+        type_of: None,
+        unrestricted: false,
+        invert_match: false,
+        word_regexp: false,
+        line_regexp: false,
+        type_not: None,
+        search_zip: false,
+        all: false,
+        buffer: None,
+        context: None,
+        dictionary: None,
+        encoding: None,
+        fixed_strings: false,
+        colors: None,
+        with_filename: false,
+        no_filename: false,
+        json: false,
+        separator: None,
+        follow: false,
+        max_columns: None,
+        null: None,
+        files: Vec::new(alloc),
+    };
+    read_line(alloc, &mut parser, &mut settings)?;
+    Ok(settings)
+}
+
+fn main(rt: HostRuntime) -> io::Result<ExitCode> {
+    match read_settings(&rt) {
+        Ok(settings) => {
+            println!(rt; "{:?} {:?}", settings.after_context, settings.max_count)?;
+            println!(rt; "{} {:?}", settings.quiet, settings.files)?;
+            Ok(ExitCode::SUCCESS)
+        }
+        Err(error) => eprintln!(rt; "test_loop: {error}").map(|()| ExitCode::from(2)),
+    }
+}
