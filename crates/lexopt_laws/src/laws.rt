@@ -251,9 +251,9 @@ pub fn calls_cut_short_are_a_part()
 {}
 
 /// Whatever is called, the options, positionals, values and words in the replies are at most as
-/// many as the bound of the line at the start, less the bound of the line at the end. An option that
-/// an error names is not counted. If `next` is called more often than the bound at the start, not
-/// counting calls that run out of memory, one of these calls returns the end of the line.
+/// many as the bound of the line at the start, less the bound of the line at the end. An option
+/// that an error names is not counted. If `next` is called more often than the bound at the start,
+/// not counting calls that run out of memory, one of these calls returns the end of the line.
 pub fn replies_are_bounded()
     ensures bounded { (u v : UnreadLine) (calls : List Call) (replies : List Reply)
         → Run u calls replies v

@@ -1,6 +1,6 @@
-//! Forty options read over the parser by keys: a table has the names of each option, two functions set
-//! what the keys mean, and the loop has four arms. So the time to prove it grows with the options, and
-//! no faster.
+//! Forty options read over the parser by keys: a table has the names of each option, two functions
+//! set what the keys mean, and the loop has four arms. So the time to prove it grows with the
+//! options, and no faster.
 #![tactic(auto)]
 
 use lexopt_base::prelude::{Long, Short, Value};
