@@ -173,13 +173,15 @@ macro_rules! declare {
 ///
 /// # Examples
 ///
+/// With the keys of the example for [`declare!`](crate::declare):
+///
 /// ```rust
 /// use lexopt_options::{Group, Names, declare_group};
 ///
-/// static OUTPUT: Group<'static, Flag, Value> = declare_group! {
+/// static PACKING: Group<'static, Flag, Value> = declare_group! {
 ///     options: [
-///         flag(Flag::Quiet, Names::Both('q', "quiet"), "print nothing"),
-///         value(Value::Color, Names::Long("color"), "WHEN", "when to use colors"),
+///         flag(Flag::Verbose, Names::Both('v', "verbose"), "tell more"),
+///         value(Value::Mode, Names::Long("mode"), "MODE", "how").one_of(&["fast", "slow"]),
 ///     ],
 /// };
 /// ```
