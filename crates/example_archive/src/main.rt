@@ -4,12 +4,12 @@
 //! `_EXAMPLE_ARCHIVE_COMPLETE=bash_source example_archive` prints a script that completes its
 //! lines; `zsh_source` and `fish_source` do so for zsh and fish.
 //!
-//! The exit status is 0; 2 if the command line is refused; or 1 if memory runs out or a line cannot
-//! be printed. Standard error then has the reason.
+//! The exit status is 0; 2 if the command line is refused; or that of `finish` if memory runs out
+//! or a line cannot be printed. Standard error then has the reason, unless nobody reads the lines.
 #![tactic(auto)]
 
 use lexopt_options::{
-    Answer, Declaration, Names, Options, OsString, Parsed, Quoted, USAGE_ERROR, declare,
+    Answer, Declaration, Names, Options, OsString, Parsed, Quoted, USAGE_ERROR, declare, finish,
 };
 use std::io;
 use std::process::ExitCode;
@@ -112,11 +112,5 @@ fn run(rt: &HostRuntime) -> io::Result<ExitCode> {
 }
 
 fn main(rt: HostRuntime) -> ExitCode {
-    match run(&rt) {
-        Ok(status) => status,
-        Err(error) => {
-            let _ = eprintln!(rt; "example_archive: {error}");
-            ExitCode::FAILURE
-        }
-    }
+    finish(&rt, "example_archive", run(&rt))
 }

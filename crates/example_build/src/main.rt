@@ -10,12 +10,13 @@
 //! `BUILD_JOBS` has it. A word may have any bytes.
 //!
 //! The exit status is 0; 2 if the command line is refused, or memory runs out while it is read; or
-//! 1 if a line cannot be printed. Standard error then has the reason.
+//! that of `finish` if a line cannot be printed. Standard error then has the reason, unless nobody
+//! reads the lines.
 #![tactic(auto)]
 
 use anyhow::bail;
 use lexopt_base::prelude::{Long, Short, Value, ValueExt};
-use lexopt_base::{Arg, Error, OsString, Parser};
+use lexopt_base::{Arg, Error, OsString, Parser, finish};
 use std::alloc::Global;
 use std::env;
 use std::env::{Env, VarError};
@@ -185,11 +186,5 @@ fn main(rt: HostRuntime) -> ExitCode {
             return ExitCode::from(2);
         }
     };
-    match printed {
-        Ok(()) => ExitCode::SUCCESS,
-        Err(error) => {
-            let _ = eprintln!(rt; "example_build: {error}");
-            ExitCode::FAILURE
-        }
-    }
+    finish(&rt, "example_build", printed.map(|()| ExitCode::SUCCESS))
 }

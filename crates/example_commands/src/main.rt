@@ -5,11 +5,11 @@
 //! `_EXAMPLE_COMMANDS_COMPLETE=bash_source example_commands` prints a script that completes its
 //! lines.
 //!
-//! The exit status is 0; 2 if the command line is refused; or 1 if memory runs out or a line cannot
-//! be printed. Standard error then has the reason.
+//! The exit status is 0; 2 if the command line is refused; or that of `finish` if memory runs out
+//! or a line cannot be printed. Standard error then has the reason, unless nobody reads the lines.
 #![tactic(auto)]
 
-use lexopt_commands::{Command, Commands, Step, USAGE_ERROR, columns, declare_commands};
+use lexopt_commands::{Command, Commands, Step, USAGE_ERROR, columns, declare_commands, finish};
 use lexopt_options::{Answer, Declaration, Names, Options, Parsed, Quoted, Request, declare};
 use std::convert::Infallible;
 use std::fmt::Display;
@@ -120,11 +120,5 @@ fn run(rt: &HostRuntime) -> io::Result<ExitCode> {
 }
 
 fn main(rt: HostRuntime) -> ExitCode {
-    match run(&rt) {
-        Ok(status) => status,
-        Err(error) => {
-            let _ = eprintln!(rt; "example_commands: {error}");
-            ExitCode::FAILURE
-        }
-    }
+    finish(&rt, "example_commands", run(&rt))
 }

@@ -4,12 +4,12 @@
 //! example_copy OPTION.. --owner=USER SOURCE.. DEST
 //! ```
 //!
-//! The exit status is 0; 2 if the command line is refused; or 1 if memory runs out or the line
-//! cannot be printed. Standard error then has the reason.
+//! The exit status is 0; 2 if the command line is refused; or that of `finish` if memory runs out
+//! or the line cannot be printed. Standard error then has the reason, unless nobody reads the line.
 #![tactic(auto)]
 
 use lexopt_options::{
-    Answer, Declaration, Names, Options, OsString, Parsed, USAGE_ERROR, UsageError, declare,
+    Answer, Declaration, Names, Options, OsString, Parsed, USAGE_ERROR, UsageError, declare, finish,
 };
 use std::alloc::Global;
 use std::io;
@@ -125,11 +125,5 @@ fn run(rt: &HostRuntime) -> io::Result<ExitCode> {
 }
 
 fn main(rt: HostRuntime) -> ExitCode {
-    match run(&rt) {
-        Ok(status) => status,
-        Err(error) => {
-            let _ = eprintln!(rt; "example_copy: {error}");
-            ExitCode::FAILURE
-        }
-    }
+    finish(&rt, "example_copy", run(&rt))
 }

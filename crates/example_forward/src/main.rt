@@ -8,7 +8,8 @@
 //! have.
 //!
 //! The exit status is 0; 2 if the command line is refused, or memory runs out while it is read; or
-//! 1 if the line cannot be printed. Standard error then has the reason.
+//! that of `finish` if the line cannot be printed. Standard error then has the reason, unless
+//! nobody reads the line.
 #![tactic(auto)]
 
 mod shell;
@@ -17,7 +18,7 @@ use anyhow::{Error, Result};
 use lexopt::os_string::arguments;
 use lexopt::replay::{Item, Table, read_items};
 use lexopt::spell::spell;
-use lexopt::{Arg, OsString};
+use lexopt::{Arg, OsString, finish};
 use shell::quoted;
 use std::alloc::{AllocError, Global};
 use std::env::Env;
@@ -136,11 +137,5 @@ fn main(rt: HostRuntime) -> ExitCode {
         Ok(None) => rt.println(HELP),
         Err(error) => return refuse(&rt, &error),
     };
-    match printed {
-        Ok(()) => ExitCode::SUCCESS,
-        Err(error) => {
-            let _ = eprintln!(rt; "example_forward: {error}");
-            ExitCode::FAILURE
-        }
-    }
+    finish(&rt, "example_forward", printed.map(|()| ExitCode::SUCCESS))
 }

@@ -1,12 +1,13 @@
 //! Greets a thing: `example_hello [-n|--number=NUM] [--shout] THING`. The thing is a text; a word
 //! that is not UTF-8 is refused with a message that shows it.
 //!
-//! The exit status is 0, or 2 where the command line, or memory to read it, was refused, or 1 where
-//! a line could not be made or printed; then standard error says why.
+//! The exit status is 0; 2 if the command line is refused, or memory runs out while it is read; or
+//! that of `finish` if a line cannot be made or printed. Standard error then has the reason, unless
+//! nobody reads the lines.
 #![tactic(auto)]
 
 use lexopt_base::prelude::{Long, Short, Value, ValueExt};
-use lexopt_base::{Error, Parser};
+use lexopt_base::{Error, Parser, finish};
 use std::alloc::Global;
 use std::env::Env;
 use std::io;
@@ -92,11 +93,5 @@ fn main(rt: HostRuntime) -> ExitCode {
         Ok(Request::Help) => rt.println(HELP),
         Err(error) => return refuse(&rt, &error),
     };
-    match printed {
-        Ok(()) => ExitCode::SUCCESS,
-        Err(error) => {
-            let _ = eprintln!(rt; "example_hello: {error}");
-            ExitCode::FAILURE
-        }
-    }
+    finish(&rt, "example_hello", printed.map(|()| ExitCode::SUCCESS))
 }

@@ -6,13 +6,13 @@
 //!
 //! It prints the message of each error on a line of its own. A word may have any bytes.
 //!
-//! The exit status is 0 if there is no error; 2 if there is one, or memory runs out; or 1 if a line
-//! cannot be printed. If a line cannot be printed, or there is no memory for a parser, standard
-//! error has the reason.
+//! The exit status is 0 if there is no error; 2 if there is one, or memory runs out; or that of
+//! `finish` if a line cannot be printed. In the last case, unless nobody reads the lines, and if
+//! there is no memory for a parser, standard error has the reason.
 #![tactic(auto)]
 
 use lexopt_base::prelude::{Long, Short, Value, ValueExt};
-use lexopt_base::{Error, Parser};
+use lexopt_base::{Error, Parser, finish};
 use std::alloc::Global;
 use std::io;
 use std::process::ExitCode;
@@ -88,15 +88,9 @@ fn main(rt: HostRuntime) -> ExitCode {
             return ExitCode::from(2);
         }
     };
-    match errors {
-        Ok(0) => ExitCode::SUCCESS,
-        Ok(_) => {
-            let _ = eprintln!(rt; "Try 'example_lint --help' for more information.");
-            ExitCode::from(2)
-        }
-        Err(error) => {
-            let _ = eprintln!(rt; "example_lint: {error}");
-            ExitCode::FAILURE
-        }
+    if let Ok(1..) = errors {
+        let _ = eprintln!(rt; "Try 'example_lint --help' for more information.");
+        return ExitCode::from(2);
     }
+    finish(&rt, "example_lint", errors.map(|_| ExitCode::SUCCESS))
 }

@@ -5,15 +5,15 @@
 //! names the tool: `example_multicall head -3`.
 //!
 //! The exit status is 0; 2 if the command line is refused, or memory runs out while it is read; or
-//! 1 if a line cannot be read or printed. Standard error then has the reason, after the name that
-//! the program is called by.
+//! that of `finish` if a line cannot be read or printed. Standard error then has the reason, after
+//! the name that the program is called by, unless nobody reads the lines.
 #![tactic(auto)]
 
 mod head;
 mod timeout;
 
 use lexopt_base::prelude::{Long, Short, Value};
-use lexopt_base::{Error, Parser};
+use lexopt_base::{Error, Parser, finish};
 use std::alloc::Global;
 use std::env::Env;
 use std::io;
@@ -114,11 +114,5 @@ fn main(rt: HostRuntime) -> ExitCode {
         Ok(request) => answer(&rt, &request),
         Err(error) => return refuse(&rt, name, &error),
     };
-    match answered {
-        Ok(()) => ExitCode::SUCCESS,
-        Err(error) => {
-            let _ = eprintln!(rt; "{name}: {error}");
-            ExitCode::FAILURE
-        }
-    }
+    finish(&rt, name, answered.map(|()| ExitCode::SUCCESS))
 }

@@ -2,9 +2,8 @@
 #![tactic(auto)]
 
 use lexopt_base::prelude::{Long, Short, Value};
-use lexopt_base::{Error, OsString, Parser};
+use lexopt_base::{Error, OsString, Parser, finish};
 use std::env::Env;
-use std::io;
 use std::process::ExitCode;
 
 const HELP: &str = "Usage: example_names [-v|--verbose] [-o|--output=FILE] [FILE]..";
@@ -36,15 +35,15 @@ fn read_options(rt: &(impl Env + AllocGlobal)) -> Result<Option<Options>, Error>
     Ok(Some(options))
 }
 
-fn main(rt: HostRuntime) -> io::Result<ExitCode> {
-    match read_options(&rt) {
-        Ok(Some(options)) => println!(rt; "{options:?}")?,
-        Ok(None) => rt.println(HELP)?,
+fn main(rt: HostRuntime) -> ExitCode {
+    let printed = match read_options(&rt) {
+        Ok(Some(options)) => println!(rt; "{options:?}"),
+        Ok(None) => rt.println(HELP),
         Err(error) => {
             let _ = eprintln!(rt; "example_names: {error}");
             let _ = eprintln!(rt; "Try 'example_names --help' for more information.");
-            return Ok(ExitCode::from(2));
+            return ExitCode::from(2);
         }
-    }
-    Ok(ExitCode::SUCCESS)
+    };
+    finish(&rt, "example_names", printed.map(|()| ExitCode::SUCCESS))
 }

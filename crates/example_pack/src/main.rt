@@ -1,7 +1,9 @@
 //! Prints the options and files that it is called with.
 #![tactic(auto)]
 
-use lexopt_options::{Answer, Declaration, Names, Options, OsString, Parsed, USAGE_ERROR, declare};
+use lexopt_options::{
+    Answer, Declaration, Names, Options, OsString, Parsed, USAGE_ERROR, declare, finish,
+};
 use std::io;
 use std::process::ExitCode;
 
@@ -37,8 +39,8 @@ struct Settings {
     files: Vec<OsString>,
 }
 
-fn main(rt: HostRuntime) -> io::Result<ExitCode> {
-    let line = match Options::new(&DECLARATION).from_env(&rt)? {
+fn run(rt: &HostRuntime) -> io::Result<ExitCode> {
+    let line = match Options::new(&DECLARATION).from_env(rt)? {
         Answer::Parsed(line) => line,
         Answer::Text(text) => return rt.print(text).map(|()| ExitCode::SUCCESS),
         Answer::Refused(why) => return rt.eprintln(why).map(|()| ExitCode::from(USAGE_ERROR)),
@@ -56,4 +58,8 @@ fn main(rt: HostRuntime) -> io::Result<ExitCode> {
         }
     }
     println!(rt; "{settings:?}").map(|()| ExitCode::SUCCESS)
+}
+
+fn main(rt: HostRuntime) -> ExitCode {
+    finish(&rt, "example_pack", run(&rt))
 }

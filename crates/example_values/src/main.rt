@@ -7,12 +7,13 @@
 //! It prints what it has read, quoted. A word may have any bytes.
 //!
 //! The exit status is 0; 2 if the command line is refused, or memory runs out while it is read; or
-//! 1 if a line cannot be printed. Standard error then has the reason.
+//! that of `finish` if a line cannot be printed. Standard error then has the reason, unless nobody
+//! reads the lines.
 #![tactic(auto)]
 
 use anyhow::bail;
 use lexopt_base::prelude::{Long, Short, ValueExt};
-use lexopt_base::{Error, OsString, Parser, Quoted};
+use lexopt_base::{Error, OsString, Parser, Quoted, finish};
 use std::alloc::Global;
 use std::env::Env;
 use std::io;
@@ -152,11 +153,5 @@ fn main(rt: HostRuntime) -> ExitCode {
         Ok(Request::Help) => rt.println(HELP),
         Err(error) => return refuse(&rt, &error),
     };
-    match printed {
-        Ok(()) => ExitCode::SUCCESS,
-        Err(error) => {
-            let _ = eprintln!(rt; "example_values: {error}");
-            ExitCode::FAILURE
-        }
-    }
+    finish(&rt, "example_values", printed.map(|()| ExitCode::SUCCESS))
 }

@@ -22,7 +22,7 @@
 //! use lexopt::os_string::arguments;
 //! use lexopt::replay::{Item, Table, read_items};
 //! use lexopt::spell::spell;
-//! use lexopt::{Arg, OsString};
+//! use lexopt::{Arg, OsString, finish};
 //! use std::alloc::Global;
 //! use std::env::Env;
 //! use std::io;
@@ -62,8 +62,8 @@
 //!     Ok(Some(spell(alloc, &items, true, &table)?))
 //! }
 //!
-//! fn main(rt: HostRuntime) -> io::Result<ExitCode> {
-//!     match words_to_forward(&rt) {
+//! fn run(rt: &HostRuntime) -> io::Result<ExitCode> {
+//!     match words_to_forward(rt) {
 //!         Ok(Some(words)) => println!(rt; "{words:?}").map(|()| ExitCode::SUCCESS),
 //!         Ok(None) => rt.println(HELP).map(|()| ExitCode::SUCCESS),
 //!         Err(error) => {
@@ -72,6 +72,10 @@
 //!             Ok(ExitCode::from(2))
 //!         }
 //!     }
+//! }
+//!
+//! fn main(rt: HostRuntime) -> ExitCode {
+//!     finish(&rt, "forward", run(&rt))
 //! }
 //! ```
 //!
@@ -111,8 +115,8 @@
 #![tactic(auto)]
 
 pub use lexopt_base::{
-    Arg, Error, OsStr, OsString, Parser, RawArgs, ValueExt, ValuesIter, parser, prelude, raw,
-    values,
+    Arg, BROKEN_PIPE, Error, OsStr, OsString, Parser, RawArgs, ValueExt, ValuesIter, finish,
+    parser, prelude, raw, values,
 };
 pub use lexopt_spell::spell;
 pub use lexopt_words::{error, os_string, value_ext};

@@ -14,7 +14,7 @@
 //! #![tactic(auto)]
 //!
 //! use lexopt_base::prelude::{Long, Short, Value, ValueExt};
-//! use lexopt_base::{Error, Parser};
+//! use lexopt_base::{Error, Parser, finish};
 //! use std::env::Env;
 //! use std::io;
 //! use std::process::ExitCode;
@@ -46,8 +46,8 @@
 //!     }
 //! }
 //!
-//! fn main(rt: HostRuntime) -> io::Result<ExitCode> {
-//!     match read_request(&rt) {
+//! fn run(rt: &HostRuntime) -> io::Result<ExitCode> {
+//!     match read_request(rt) {
 //!         Ok(Request::Greet(thing, number)) => {
 //!             for _ in 0..number {
 //!                 println!(rt; "Hello {thing}")?;
@@ -61,6 +61,10 @@
 //!             Ok(ExitCode::from(2))
 //!         }
 //!     }
+//! }
+//!
+//! fn main(rt: HostRuntime) -> ExitCode {
+//!     finish(&rt, "hello", run(&rt))
 //! }
 //! ```
 //!
@@ -102,6 +106,8 @@
 //!   keeps at most 120 bytes. [`Quoted`] prints a word in double quotes, as the messages do.
 //! - [`Parser::raw_args`] takes words as they are, as a [`RawArgs`]: for example the words of
 //!   another program. [`Parser::try_raw_args`] does so where no value of an option is left over.
+//! - [`finish`] gives the status that `main` returns, and ends quietly if nobody reads what the
+//!   program prints.
 //! - `parser.set_short_equals(false)` makes `-d=` mean that `-d` has the value `=`.
 //!   [`Parser::bin_name`] is the name that the program was called by.
 //! - [`Parser::advance`], [`Parser::take`] and [`Parser::begin_values`] are for libraries that
@@ -118,6 +124,7 @@ pub use crate::parser::Parser;
 pub use crate::raw::RawArgs;
 pub use crate::values::ValuesIter;
 pub use lexopt_words::error::{Arg, Error};
+pub use lexopt_words::finish::{BROKEN_PIPE, finish};
 pub use lexopt_words::os_string::{OsStr, OsString, Quoted};
 pub use lexopt_words::value_ext::ValueExt;
 

@@ -14,7 +14,9 @@
 //! ```rust
 //! #![tactic(auto)]
 //!
-//! use lexopt_commands::{Command, Commands, Step, USAGE_ERROR, columns, declare_commands};
+//! use lexopt_commands::{
+//!     Command, Commands, Step, USAGE_ERROR, columns, declare_commands, finish,
+//! };
 //! use lexopt_options::{Answer, Declaration, Names, Options, Parsed, Request, declare};
 //! use std::convert::Infallible;
 //! use std::fmt::Display;
@@ -92,21 +94,25 @@
 //!     }
 //! }
 //!
-//! fn main(rt: HostRuntime) -> io::Result<ExitCode> {
-//!     match Commands::new(Options::new(&GENERAL), COMMANDS).from_env(&rt)? {
+//! fn run(rt: &HostRuntime) -> io::Result<ExitCode> {
+//!     match Commands::new(Options::new(&GENERAL), COMMANDS).from_env(rt)? {
 //!         Step::Command(general, task, request) => {
 //!             let is_quiet = general.iter().any(|parsed| matches!(
 //!                 parsed,
 //!                 Parsed::Flag(GeneralFlag::Quiet)
 //!             ));
 //!             match task {
-//!                 Task::Add => add(&rt, is_quiet, request),
-//!                 Task::List => list(&rt, request),
+//!                 Task::Add => add(rt, is_quiet, request),
+//!                 Task::List => list(rt, request),
 //!             }
 //!         }
 //!         Step::Text(text) => rt.print(text).map(|()| ExitCode::SUCCESS),
-//!         Step::Refused(refused) => refuse(&rt, &refused),
+//!         Step::Refused(refused) => refuse(rt, &refused),
 //!     }
+//! }
+//!
+//! fn main(rt: HostRuntime) -> ExitCode {
+//!     finish(&rt, "notes", run(&rt))
 //! }
 //! ```
 //!
@@ -208,4 +214,4 @@ pub use mistake::Mistake;
 pub use refused::{CommandLine, Refused};
 
 // What else a program that declares commands needs.
-pub use lexopt_options::{USAGE_ERROR, columns};
+pub use lexopt_options::{BROKEN_PIPE, USAGE_ERROR, columns, finish};

@@ -14,6 +14,7 @@
 //!
 //! use lexopt_options::{
 //!     Answer, Declaration, Names, Options, OsString, Parsed, USAGE_ERROR, UsageError, declare,
+//!     finish,
 //! };
 //! use std::alloc::Global;
 //! use std::io;
@@ -84,9 +85,9 @@
 //!     Ok(settings)
 //! }
 //!
-//! fn main(rt: HostRuntime) -> io::Result<ExitCode> {
+//! fn run(rt: &HostRuntime) -> io::Result<ExitCode> {
 //!     let options = Options::new(&DECLARATION);
-//!     let line = match options.from_env(&rt)? {
+//!     let line = match options.from_env(rt)? {
 //!         Answer::Parsed(line) => line,
 //!         Answer::Text(text) => return rt.print(text).map(|()| ExitCode::SUCCESS),
 //!         Answer::Refused(why) => return rt.eprintln(why).map(|()| ExitCode::from(USAGE_ERROR)),
@@ -98,6 +99,10 @@
 //!             eprintln!(rt; "{report}").map(|()| ExitCode::from(report.status()))
 //!         }
 //!     }
+//! }
+//!
+//! fn main(rt: HostRuntime) -> ExitCode {
+//!     finish(&rt, "pack", run(&rt))
 //! }
 //! ```
 //!
@@ -245,5 +250,6 @@ pub use lexopt_declaration::spellings::Spelling;
 
 // What else a program that declares its options needs.
 pub use lexopt_words::error::Error;
+pub use lexopt_words::finish::{BROKEN_PIPE, finish};
 pub use lexopt_words::os_string::{OsString, Quoted, arguments};
 pub use lexopt_words::value_ext::ValueExt;

@@ -4,3 +4,4 @@ pub mod Arguments
 pub mod Answered
 pub mod WordKinds
 pub mod Conversions
+pub mod Finish

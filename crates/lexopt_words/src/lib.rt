@@ -8,6 +8,7 @@
 mod arguments;
 pub mod codepoint;
 pub mod error;
+pub mod finish;
 pub mod message;
 pub mod os_string;
 mod quoted;

@@ -2,9 +2,11 @@
 //! byte. `words.rt` has a call for lists of words.
 ghost use Rattle.std.specs.Prelude.{◌≡◌, ◌↔◌, ◌≤◌, ℕ, List, [], drop, length, string_bytes, IfOk};
 ghost use Rattle.std.specs.Prelude.{IfSome, IsOk, IsSome, IsTrue, IsUtf8, MatchResult, vec_len};
+ghost use Rattle.lexopt_spec.specs.Pieces.{lossy};
 
 pub use crate::arguments::arguments;
 pub use crate::quoted::Quoted;
+use crate::codepoint::lossy_text;
 use std::alloc::{AllocError, Global};
 use std::cmp::Ordering;
 use std::hash::{Hash, Hasher};
@@ -176,6 +178,31 @@ impl OsString {
         self.as_os_str().to_str()
     }
 
+    /// Returns whether the word is this text: `word.is("--")`.
+    pub fn is(&self, text: &str) -> bool
+        ensures { IsTrue result ↔ (self.now ≡ text.now) }
+    {
+        self.as_os_str().is(text)
+    }
+
+    /// Returns the lossy text of the word, in which each damaged piece is one U+FFFD.
+    ///
+    /// # Errors
+    ///
+    /// `AllocError` if memory for the text runs out.
+    ///
+    /// # Examples
+    ///
+    /// ```rust
+    /// // The bytes `66 6F 6F FF` give `foo` and U+FFFD.
+    /// let text = parser.value()?.to_string_lossy(alloc)?;
+    /// ```
+    pub fn to_string_lossy(&self, alloc: Global) -> Result<String, AllocError>
+        ensures { IfOk result (λ text. string_bytes text ≡ lossy self.now) }
+    {
+        lossy_text(alloc, self.as_bytes())
+    }
+
     /// Returns the number of bytes of the word.
     pub fn len(&self) -> usize
         ensures { result ≡ length self.now }
@@ -340,6 +367,24 @@ impl<'a> OsStr<'a> {
         ensures same_bytes { IfSome result (λ text. text.now ≡ self.entry.bytes.now) }
     {
         str::from_utf8(self.bytes).ok()
+    }
+
+    /// Returns whether the word is this text.
+    pub fn is(self, text: &str) -> bool
+        ensures { IsTrue result ↔ (self.entry.bytes.now ≡ text.now) }
+    {
+        self.bytes == text.as_bytes()
+    }
+
+    /// Returns the lossy text of the word, in which each damaged piece is one U+FFFD.
+    ///
+    /// # Errors
+    ///
+    /// `AllocError` if memory for the text runs out.
+    pub fn to_string_lossy(self, alloc: Global) -> Result<String, AllocError>
+        ensures { IfOk result (λ text. string_bytes text ≡ lossy self.entry.bytes.now) }
+    {
+        lossy_text(alloc, self.bytes)
     }
 
     /// Copies the bytes into a word.

@@ -1,4 +1,5 @@
 //! Code points: the first character or damage of some bytes, and the lossy text of bytes.
+use lexopt_base::OsString;
 use lexopt_words::codepoint::{FirstCodepoint, first_codepoint, lossy_text};
 use std::alloc::{AllocError, Global};
 
@@ -37,7 +38,11 @@ fn first_pieces(rt: HostRuntime) {
 }
 
 fn is_lossy(alloc: Global, bytes: &[u8], text: &str) -> Result<bool, AllocError> {
-    Ok(lossy_text(alloc, bytes)?.as_str() == text)
+    let word = OsString::from_bytes(alloc, bytes)?;
+    let of_view = word.as_os_str().to_string_lossy(alloc)?;
+    Ok(lossy_text(alloc, bytes)?.as_str() == text
+        && word.to_string_lossy(alloc)?.as_str() == text
+        && of_view.as_str() == text)
 }
 
 #[test]

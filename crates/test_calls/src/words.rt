@@ -43,7 +43,12 @@ fn are_different(rt: &(impl Abort + AllocGlobal)) -> bool {
     let word = OsString::from_bytes(rt.alloc(), b"foo\xff").expect(rt, "memory");
     let views = OsStr::from_bytes(b"foo") != OsStr::from_bytes(b"foo\xff")
         && OsStr::from_bytes(b"foo") != OsStr::from_bytes(b"fox");
+    let texts = text.is("foo") && !text.is("fo") && !word.is("foo") && empty.is("");
+    let view = word.as_os_str();
     views
+        && texts
+        && OsStr::from_bytes(b"foo").is("foo")
+        && !view.is("foo")
         && empty.is_empty()
         && empty.as_bytes() == b"".as_slice()
         && text.as_bytes() == b"foo".as_slice()

@@ -38,6 +38,24 @@ fn copied_bytes(rt: HostRuntime) -> Result<(), Fail> {
     check_outcome(words_outcome(first, second, b"a\xff"), "to_os_string")
 }
 
+// How a call went that is expected to return this text.
+fn text_outcome(found: Result<String, AllocError>, text: &str) -> Outcome {
+    match found {
+        Ok(found) => Outcome::of(found.as_str() == text),
+        Err(_) => Outcome::OutOfMemory,
+    }
+}
+
+// The lossy text of a view is whole, or memory runs out and there is no text.
+#[test]
+fn lossy_text(rt: HostRuntime) -> Result<(), Fail> {
+    let alloc = rt.alloc();
+    let view = OsStr::from_bytes(b"a\xffb");
+    let first = text_outcome(view.to_string_lossy(alloc), "a\u{fffd}b");
+    let second = text_outcome(view.to_string_lossy(alloc), "a\u{fffd}b");
+    check_outcome(first.and_again(second), "to_string_lossy")
+}
+
 // A value that was taken out of its word is copied without the bytes before it.
 #[test]
 fn copied_value(rt: HostRuntime) -> Result<(), Fail> {
