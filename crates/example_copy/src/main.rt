@@ -8,12 +8,14 @@
 //! or the line cannot be printed. Standard error then has the reason, unless nobody reads the line.
 #![tactic(auto)]
 
+use anyhow::bail;
 use lexopt_options::{
     Answer, Declaration, Names, Options, OsString, Parsed, USAGE_ERROR, UsageError, declare, finish,
 };
 use std::alloc::Global;
 use std::io;
 use std::process::ExitCode;
+use std::str::FromStr;
 
 #[derive(Clone, Copy)]
 enum Flag {
@@ -55,6 +57,21 @@ static DECLARATION: Declaration<'static, Flag, Value, Word> = declare! {
     epilogue: ["A file is never copied onto itself."],
 };
 
+// How many files are copied at a time.
+#[derive(Clone, Copy)]
+struct Jobs(u32);
+
+impl FromStr for Jobs {
+    type Err = anyhow::Error;
+
+    fn from_str(text: &str) -> anyhow::Result<Jobs> {
+        match text.parse() {
+            Ok(count @ 1..=64) => Ok(Jobs(count)),
+            _ => bail!("expected a number from 1 to 64"),
+        }
+    }
+}
+
 #[derive(Debug, Drop)]
 struct Settings {
     verbosity: u32,
@@ -87,16 +104,15 @@ fn settings_of(
         match parsed {
             Parsed::Flag(Flag::Verbose) => set.verbosity = set.verbosity.saturating_add(1),
             Parsed::Flag(Flag::Force) => set.force = true,
-            Parsed::Value(Value::Jobs, word) => set.jobs = options.parse_value(Value::Jobs, &word)?,
+            Parsed::Value(Value::Jobs, word) => {
+                Jobs(set.jobs) = options.parse_value(Value::Jobs, &word)?;
+            }
             Parsed::Value(Value::Owner, word) => set.owner = word,
             Parsed::Value(Value::Backup, word) => set.backup = Some(word),
             Parsed::Value(Value::Suffix, word) => set.suffix = Some(word),
             Parsed::Positional(Word::Source, word) => set.sources.push(word)?,
             Parsed::Positional(Word::Dest, word) => set.dest = word,
         }
-    }
-    if set.jobs < 1 || set.jobs > 64 {
-        return Err(UsageError::from(format!(in alloc; "{} jobs are not from 1 to 64", set.jobs)?));
     }
     if set.sources.contains(&set.dest) {
         return Err(UsageError::from("DEST is one of the files to copy"));

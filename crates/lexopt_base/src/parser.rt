@@ -220,9 +220,9 @@ impl Parser {
         Ok(Parser::invoked(alloc, all)?)
     }
 
-    /// Creates a parser from the words that the program was called with, if all of them are UTF-8.
-    /// For words that may not be UTF-8, such as the names of files, call [`Parser::from_env_os`]
-    /// instead.
+    /// Call [`Parser::from_env_os`] instead, which reads words of any bytes, such as the names of
+    /// files: this creates a parser from the words that the program was called with only if all of
+    /// them are UTF-8.
     ///
     /// The first word is the binary name. The words come from `std::env::args`. No contract states
     /// which words these are; only tests show that.
@@ -231,7 +231,7 @@ impl Parser {
     ///
     /// - `OutOfMemory` if memory runs out.
     /// - `Custom` with the message `arguments unavailable` if `std::env::args` fails for another
-    ///   reason, such as a word that is not UTF-8.
+    ///   reason, such as a word that is not UTF-8. The message does not name the word.
     ///
     /// # Examples
     ///

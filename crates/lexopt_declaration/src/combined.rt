@@ -18,8 +18,8 @@ pub struct Group<'a, F, V = Infallible, M = Infallible, S = Infallible> {
 /// A declaration with the options of several groups.
 ///
 /// The prover goes through all of a static in each function that names it, at a cost that grows
-/// with the square of its texts, and it stops at its step limit somewhere between eighty and a
-/// hundred options. So a program with more options declares them in groups of some thirty, each a
+/// with the square of its texts, and it stops at its step limit somewhere between 120 and 200
+/// options. So a program with more than a hundred declares them in groups of some thirty, each a
 /// static of its own. [`Combined::new`] puts the groups together, and [`Combined::declaration`]
 /// returns a declaration with all of their options.
 ///

@@ -94,7 +94,7 @@ impl<'a, F, V, P, M, S> Options<'a, F, V, P, M, S> {
     /// an option is at fault, the message of `rt check` has its index, counted from 0, and the
     /// reason.
     ///
-    /// A program with more than some eighty options declares them in groups, and combines these by
+    /// A program with more than a hundred options declares them in groups, and combines these by
     /// [`Combined`](crate::Combined).
     ///
     /// # Examples

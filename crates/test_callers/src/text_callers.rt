@@ -1,16 +1,19 @@
-//! Callers of pieces, of errors and of conversions. Their clauses are proved from the clauses of
-//! the public calls alone, which exclude every result that is `unreachable!` here.
+//! Callers of pieces, of errors, of conversions and of `finish`. Their clauses are proved from the
+//! clauses of the public calls alone, which exclude every result that is `unreachable!` here.
 ghost use Rattle.std.specs.Prelude.{◌≡◌, [], ◌∷◌, Some, Ok, IfSome, IfOk, IfErr, IsUtf8};
 ghost use Rattle.std.specs.Prelude.{MatchOption, slice_get, string_bytes};
+ghost use Rattle.std.specs.Process.{exit_status};
 ghost use Rattle.anyhow.specs.Error.{IsMadeOf};
 ghost use Rattle.lexopt_spec.specs.Pieces.{IsFirstPiece};
 ghost use Rattle.lexopt_spec.specs.UnreadLine.{long_option, short_option, spelling};
 ghost use Rattle.lexopt_words.specs.Answered.{AreAnswered};
 
 use lexopt_base::prelude::ValueExt;
-use lexopt_base::{Arg, Error, OsString};
+use lexopt_base::{Arg, Error, OsString, finish};
 use lexopt_words::codepoint::{FirstCodepoint, first_codepoint};
 use std::alloc::Global;
+use std::io;
+use std::process::ExitCode;
 use std::str::FromStr;
 
 /// The first piece of some bytes, a character or damage, and its size; `None` if there is no byte.
@@ -122,6 +125,27 @@ pub fn copied_short(option: char) -> Arg<'static>
         Ok(copy) => copy,
         Err(_) => unreachable!(),
     }
+}
+
+/// The status of a program whose output nobody reads.
+pub fn unread_status(rt: &impl Eprint) -> ExitCode
+    ensures { exit_status result ≡ 141 }
+{
+    finish(rt, "hello", Err(io::Error::from(io::ErrorKind::BrokenPipe)))
+}
+
+/// The status of a program that cannot print, since the disk is full.
+pub fn full_status(rt: &impl Eprint) -> ExitCode
+    ensures { exit_status result ≡ 1 }
+{
+    finish(rt, "hello", Err(io::Error::from(io::ErrorKind::StorageFull)))
+}
+
+/// The status of a program that did its work.
+pub fn own_status(rt: &impl Eprint, status: u8) -> ExitCode
+    ensures { exit_status result ≡ status }
+{
+    finish(rt, "hello", Ok(ExitCode::from(status)))
 }
 
 /// For the prover alone: `AreAnswered` holds of the words in order, up to the first place without a

@@ -1,8 +1,8 @@
 //! Tests of calls with enough memory: single calls, views, lists of calls, whole lines, spelled
 //! items, words, arguments, conversions, errors, code points, names, long names and long scripts,
-//! how a program ends, a program with an error type of its own, and the callers of `test_callers`. Lines that a script
-//! can have are cases of `test_cases`. Many tests lend what they made to a helper that returns a
-//! `bool`, so that their proofs are short.
+//! how a program ends, a program with an error type of its own, and the callers of `test_callers`.
+//! Lines that a script can have are cases of `test_cases`. Many tests lend what they made to a
+//! helper that returns a `bool`, so that their proofs are short.
 #![tactic(auto)]
 
 #[cfg(test)]
