@@ -2,8 +2,8 @@
 ghost use Rattle.std.specs.Prelude.{◌≡◌, ◌∷◌, [], codes};
 ghost use Rattle.lexopt_declaration.specs.Texts.{escaped_text};
 
-/// A character that a terminal may act on is escaped; every other character is written as it is, even
-/// a quote, a backslash or one past ASCII.
+/// A character that a terminal may act on is escaped; every other character is written as it is,
+/// even a quote, a backslash or one past ASCII.
 #[tactic(auto, unfolding(lexopt_line_spec::proofs::Computing::computing))]
 fn names_are_written_so()
     ensures none { escaped_text [] ≡ [] }

@@ -21,8 +21,8 @@ fn write_characters<W: fmt::Write>(text: &str, f: &mut fmt::Formatter<W>) -> fmt
     Ok(())
 }
 
-/// A name or a placeholder, as messages show it. `Display` escapes each character that a terminal may
-/// act on, as `Visible` of `lexopt_words` does, and writes any other as it is.
+/// A name or a placeholder, as messages show it. `Display` escapes each character that a terminal
+/// may act on, as `Visible` of `lexopt_words` does, and writes any other as it is.
 #[derive(Debug, Clone, Copy)]
 pub struct Escaped<'a>(pub &'a str);
 

@@ -35,8 +35,8 @@ pub fn write_unexpected_value<W: fmt::Write>(
     write!(f, "unexpected argument for option '{option}': {value}")
 }
 
-/// Writes a character of a name or a placeholder: escaped if a terminal may act on it, and otherwise
-/// as it is.
+/// Writes a character of a name or a placeholder: escaped if a terminal may act on it, and
+/// otherwise as it is.
 pub fn write_escaped<W: fmt::Write>(character: char, f: &mut fmt::Formatter<W>) -> fmt::Result
     ensures { WritesOnOk W.write_str_gives f.old result (escaped character) f.new }
 {

@@ -152,7 +152,8 @@ static HOSTILE: Archive<'static> = declare! {
     program: "archive",
     options: [
         flag(Flag::Verbose, Names::Short('\u{85}'), ""),
-        value(Value::Output, Names::Long("m\u{202e}ode"), "A\u{9b}B", "").one_of(&["a\u{61c}", "b"]),
+        value(Value::Output, Names::Long("m\u{202e}ode"), "A\u{9b}B", "")
+            .one_of(&["a\u{61c}", "b"]),
         value(Value::User, Names::Long("\u{2066}user"), "NAME", "").required(),
         help(Names::Both('h', "help")),
     ],
