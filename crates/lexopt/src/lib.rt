@@ -106,7 +106,8 @@
 //! - [`replay::replay`] makes a list of [`replay::Call`]s on a [`Parser`], and returns a
 //!   [`replay::Reply`] for each; [`replay::run`] reads such a list from a script, and writes the
 //!   replies. Both are for tests and comparisons. The error of `run` is a [`replay::RunError`].
-//! - [`os_string::Quoted`] prints a word in double quotes, as messages do.
+//! - [`os_string::Quoted`] prints a word in double quotes, as messages do, and
+//!   [`os_string::Visible`] also escapes every other character that a terminal may act on.
 //! - [`OsString`], [`OsStr`], [`Error`], [`RawArgs`], [`ValueExt`], [`ValuesIter`] and [`prelude`]
 //!   are those of `lexopt_base`. Its module `refusal` is not here.
 //!

@@ -3,7 +3,8 @@
 //! [`Parser::next`] returns the next option or positional, and [`Parser::value`] takes a value for
 //! the option just read. There is no table of options: the program matches on each argument and
 //! decides whether it has a value. The crate `lexopt` re-exports this crate, except the module
-//! `refusal` and, at its root, `Quoted`; it also has whole lines, lists of calls and scripts.
+//! `refusal` and, at its root, `Quoted` and `Visible`; it also has whole lines, lists of calls and
+//! scripts.
 //!
 //! # A whole program
 //!
@@ -103,7 +104,8 @@
 //!   turns it into a `String`. A word that is not UTF-8 is an error for each of them.
 //! - [`Arg::unexpected`] makes the error for an argument that the program does not know.
 //! - [`Error`] prints as a message for the user. `Error::from` makes one of a text, of which it
-//!   keeps at most 120 bytes. [`Quoted`] prints a word in double quotes, as the messages do.
+//!   keeps at most 120 bytes. [`Quoted`] prints a word in double quotes, as the messages do, and
+//!   [`Visible`] also escapes every other character that a terminal may act on.
 //! - [`Parser::raw_args`] takes words as they are, as a [`RawArgs`]: for example the words of
 //!   another program. [`Parser::try_raw_args`] does so where no value of an option is left over.
 //! - [`finish`] gives the status that `main` returns, and ends quietly if nobody reads what the
@@ -125,7 +127,7 @@ pub use crate::raw::RawArgs;
 pub use crate::values::ValuesIter;
 pub use lexopt_words::error::{Arg, Error};
 pub use lexopt_words::finish::{BROKEN_PIPE, finish};
-pub use lexopt_words::os_string::{OsStr, OsString, Quoted};
+pub use lexopt_words::os_string::{OsStr, OsString, Quoted, Visible};
 pub use lexopt_words::value_ext::ValueExt;
 
 mod kept_words;

@@ -11,7 +11,7 @@ use lexopt_declaration::listed::Listed;
 use lexopt_declaration::lookup::long_name_of;
 use lexopt_declaration::nearest::{nearest, only_longer};
 use lexopt_words::codepoint::lossy_text;
-use lexopt_words::os_string::{OsString, Quoted};
+use lexopt_words::os_string::{OsString, Visible};
 use std::alloc::{AllocError, Global};
 use std::fmt;
 
@@ -22,6 +22,9 @@ use std::fmt;
 /// unknown command "ad"; did you mean 'add'?
 /// missing command: one of add, remote, help
 /// ```
+///
+/// Each character that a terminal may act on is escaped in words, as `Visible` of `lexopt_options`
+/// does it. The names of commands are written as they are declared.
 #[derive(Debug, Drop)]
 pub enum Mistake<'a> {
     /// The general options have a mistake.
@@ -53,14 +56,14 @@ impl fmt::Display for Mistake<'_> {
                 write!(f, "missing command: one of {names}")
             }
             Mistake::UnknownCommand { word, hint: None } => {
-                let word = Quoted::new(word.as_bytes());
+                let word = Visible::new(word.as_bytes());
                 write!(f, "unknown command {word}")
             }
             Mistake::UnknownCommand {
                 word,
                 hint: Some(hint),
             } => {
-                let word = Quoted::new(word.as_bytes());
+                let word = Visible::new(word.as_bytes());
                 write!(f, "unknown command {word}; did you mean '{hint}'?")
             }
         }

@@ -4,7 +4,7 @@ use Rattle.std.specs.Prelude.{ℕ, List, [], ◌++◌, Option, Some, None, codes
 use Rattle.std.specs.Prelude.{nat_lt, ◌==◌, ◌||◌, if◌then◌else◌}
 use Rattle.std.specs.List.{flat_map}
 use Rattle.std.specs.Str.{chars}
-use Rattle.lexopt_spec.specs.Text.{quoted_character}
+use Rattle.lexopt_spec.specs.Text.{escaped}
 use Rattle.lexopt_declaration.specs.declared.declaration.DeclarationError.{DeclarationError}
 use Rattle.lexopt_declaration.specs.declared.declaration.DeclarationError.TheVariants as error
 use Rattle.lexopt_declaration.specs.declared.declaration.Reason.{Reason}
@@ -16,10 +16,6 @@ use Rattle.lexopt_declaration.specs.declared.declaration.Reason.TheVariants.{Bad
 use Rattle.lexopt_declaration.specs.declared.declaration.Reason.TheVariants.{BadList, SameName}
 use Rattle.lexopt_declaration.specs.declared.declaration.Names.{Names}
 use Rattle.lexopt_declaration.specs.declared.declaration.Names.TheVariants.{Short, Long, Both}
-
--- a character of a name: a control character of ASCII is escaped as in the quoted form of bytes
-abbrev pub escaped : ℕ → List ℕ
-escaped c = if nat_lt c 0x20 || c == 0x7F then quoted_character c [] else encode_utf8 c
 
 -- a name or a placeholder
 abbrev pub escaped_text : List ℕ → List ℕ

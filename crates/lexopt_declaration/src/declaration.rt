@@ -12,8 +12,9 @@ ghost use Rattle.lexopt_declaration.specs.Faults.{IsDeclarationError, IsOptionEr
 ghost use Rattle.lexopt_declaration.specs.Models.{arity_kind, arity_placeholder, option_view};
 ghost use Rattle.lexopt_declaration.specs.Models.{positional_view, reason_view, words_view};
 
-use crate::message::{Escaped, write_escaped};
+use crate::message::Escaped;
 use crate::positionals::{first_bad_list, second_repeated};
+use lexopt_words::message::write_escaped;
 use std::convert::Infallible;
 use std::fmt;
 
@@ -35,7 +36,7 @@ impl fmt::Display for Names<'_> {
     ghost output = { λ names. Some (names_text names) };
 
     /// Writes the option with its dashes: by its long name if it has one, otherwise by its
-    /// character. Control characters of ASCII are escaped, as in the quoted form of bytes.
+    /// character. Characters that a terminal may act on are escaped.
     fn fmt<W: fmt::Write>(&self, f: &mut fmt::Formatter<W>) -> fmt::Result {
         match self {
             Names::Short(character) => {

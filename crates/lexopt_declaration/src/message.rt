@@ -1,32 +1,15 @@
-//! What messages and completions show of a declaration: names and placeholders without control
-//! characters, where the help is, and help texts on one line.
+//! What messages and completions show of a declaration: names and placeholders with nothing in them
+//! that a terminal may act on, where the help is, and help texts on one line.
 ghost use Rattle.std.specs.Prelude.{◌≡◌, ◌++◌, OnOk, string_bytes};
 ghost use Rattle.std.specs.Fmt.{WritesOnOk};
 ghost use Rattle.std.specs.List.{flat_map};
 ghost use Rattle.std.specs.Str.{chars};
-ghost use Rattle.lexopt_declaration.specs.Texts.{escaped, escaped_text, help_line, on_one_line};
+ghost use Rattle.lexopt_declaration.specs.Texts.{escaped_text, help_line, on_one_line};
 
 use crate::declaration::Names;
+use lexopt_words::message::write_escaped;
 use std::alloc::AllocError;
 use std::fmt;
-
-/// Writes a character of a name: a control character of ASCII is escaped as in the quoted form of
-/// bytes, any other is written as it is.
-pub fn write_escaped<W: fmt::Write>(character: char, f: &mut fmt::Formatter<W>) -> fmt::Result
-    ensures { WritesOnOk W.write_str_gives f.old result (escaped character) f.new }
-{
-    match character {
-        '\t' => f.write_str("\\t"),
-        '\n' => f.write_str("\\n"),
-        '\r' => f.write_str("\\r"),
-        '\0' => f.write_str("\\0"),
-        '\x01'..='\x1f' | '\x7f' => {
-            let code = u32::from(character);
-            write!(f, "\\u{{{code:x}}}")
-        }
-        _ => f.write_char(character),
-    }
-}
 
 // Writes each character of a text.
 fn write_characters<W: fmt::Write>(text: &str, f: &mut fmt::Formatter<W>) -> fmt::Result
@@ -38,8 +21,8 @@ fn write_characters<W: fmt::Write>(text: &str, f: &mut fmt::Formatter<W>) -> fmt
     Ok(())
 }
 
-/// A name or a placeholder, as messages show it. `Display` writes it on one line: control
-/// characters of ASCII are escaped as in the quoted form of bytes.
+/// A name or a placeholder, as messages show it. `Display` escapes each character that a terminal
+/// may act on, as `Visible` of `lexopt_words` does, and writes any other as it is.
 #[derive(Debug, Clone, Copy)]
 pub struct Escaped<'a>(pub &'a str);
 

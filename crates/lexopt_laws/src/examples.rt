@@ -5,10 +5,10 @@ ghost use Rattle.lexopt_spec.specs.UnreadLine.{fresh, invoked, joined, long_opti
 ghost use Rattle.lexopt_spec.specs.UnreadLine.{no_tail, pending, pending_in, rest, rest_of};
 ghost use Rattle.lexopt_spec.specs.UnreadLine.{short_option, spelling};
 ghost use Rattle.lexopt_spec.specs.Runs.{next, optional, set_short_equals, short_equals_after};
-ghost use Rattle.lexopt_spec.specs.Text.{missing_message, non_unicode_message};
+ghost use Rattle.lexopt_spec.specs.Text.{escaped, may_act, missing_message, non_unicode_message};
 ghost use Rattle.lexopt_spec.specs.Text.{parsing_failed_message, quoted};
 ghost use Rattle.lexopt_spec.specs.Text.{unexpected_argument_message, unexpected_option_message};
-ghost use Rattle.lexopt_spec.specs.Text.{unexpected_value_message};
+ghost use Rattle.lexopt_spec.specs.Text.{unexpected_value_message, visible};
 ghost use Rattle.lexopt_line_spec.specs.Table as table;
 ghost use Rattle.lexopt_line_spec.specs.ItemText.{bracketed, item_text};
 
@@ -89,6 +89,71 @@ fn quoted_forms()
         ≡ codes "\"\\0\\r\\u{1f}\\n\\t\\u{7f}\\\\\\\"\"" }
     ensures past_ascii { quoted (0xC2 ∷ 0xB5 ∷ []) ≡ 0x22 ∷ 0xC2 ∷ 0xB5 ∷ 0x22 ∷ [] }
     ensures control_past_ascii { quoted (0xC2 ∷ 0x85 ∷ []) ≡ 0x22 ∷ 0xC2 ∷ 0x85 ∷ 0x22 ∷ [] }
+    ensures bidi_control { quoted (0xE2 ∷ 0x80 ∷ 0xAE ∷ [])
+        ≡ 0x22 ∷ 0xE2 ∷ 0x80 ∷ 0xAE ∷ 0x22 ∷ [] }
+    ensures line_separator { quoted (0xE2 ∷ 0x80 ∷ 0xA8 ∷ [])
+        ≡ 0x22 ∷ 0xE2 ∷ 0x80 ∷ 0xA8 ∷ 0x22 ∷ [] }
+{}
+
+// The first and the last of each range of characters that a terminal may act on.
+fn a_terminal_may_act()
+    ensures first_of_c0 { may_act 0x00 ≡ true }
+    ensures last_of_c0 { may_act 0x1F ≡ true }
+    ensures delete { may_act 0x7F ≡ true }
+    ensures first_of_c1 { may_act 0x80 ≡ true }
+    ensures last_of_c1 { may_act 0x9F ≡ true }
+    ensures arabic_mark { may_act 0x61C ≡ true }
+    ensures left_to_right_mark { may_act 0x200E ≡ true }
+    ensures right_to_left_mark { may_act 0x200F ≡ true }
+    ensures line_separator { may_act 0x2028 ≡ true }
+    ensures paragraph_separator { may_act 0x2029 ≡ true }
+    ensures first_embedding { may_act 0x202A ≡ true }
+    ensures last_override { may_act 0x202E ≡ true }
+    ensures first_isolate { may_act 0x2066 ≡ true }
+    ensures last_isolate { may_act 0x2069 ≡ true }
+{}
+
+// Their neighbours.
+fn a_terminal_only_shows()
+    ensures blank { may_act 0x20 ≡ false }
+    ensures tilde { may_act 0x7E ≡ false }
+    ensures no_break_space { may_act 0xA0 ≡ false }
+    ensures before_the_arabic_mark { may_act 0x61B ≡ false }
+    ensures after_the_arabic_mark { may_act 0x61D ≡ false }
+    ensures joiner { may_act 0x200D ≡ false }
+    ensures hyphen { may_act 0x2010 ≡ false }
+    ensures before_the_separators { may_act 0x2027 ≡ false }
+    ensures narrow_space { may_act 0x202F ≡ false }
+    ensures before_the_isolates { may_act 0x2065 ≡ false }
+    ensures after_the_isolates { may_act 0x206A ≡ false }
+    ensures byte_order_mark { may_act 0xFEFF ≡ false }
+{}
+
+#[tactic(auto, unfolding(lexopt_line_spec::proofs::Computing::computing))]
+fn visible_forms()
+    ensures empty { visible [] ≡ codes "\"\"" }
+    ensures control { visible (0x1B ∷ []) ≡ codes "\"\\u{1b}\"" }
+    ensures c1 { visible (0xC2 ∷ 0x9B ∷ []) ≡ codes "\"\\u{9b}\"" }
+    ensures bidi_control { visible (0xE2 ∷ 0x80 ∷ 0xAE ∷ []) ≡ codes "\"\\u{202e}\"" }
+    ensures line_separator { visible (0xE2 ∷ 0x80 ∷ 0xA8 ∷ []) ≡ codes "\"\\u{2028}\"" }
+    ensures damage { visible (0x9B ∷ 0xF0 ∷ 0x9D ∷ []) ≡ codes "\"\\x9B\\xF0\\x9D\"" }
+    ensures accent { visible (0xC3 ∷ 0xA9 ∷ []) ≡ 0x22 ∷ 0xC3 ∷ 0xA9 ∷ 0x22 ∷ [] }
+    ensures apostrophe { visible (0x27 ∷ []) ≡ codes "\"'\"" }
+    ensures escapes { visible (0x00 ∷ 0x0D ∷ 0x1F ∷ 0x0A ∷ 0x09 ∷ 0x7F ∷ 0x5C ∷ 0x22 ∷ [])
+        ≡ codes "\"\\0\\r\\u{1f}\\n\\t\\u{7f}\\\\\\\"\"" }
+{}
+
+#[tactic(auto, unfolding(lexopt_line_spec::proofs::Computing::computing))]
+fn characters_of_names()
+    ensures letter { escaped 0x61 ≡ codes "a" }
+    ensures accent { escaped 0xE9 ≡ 0xC3 ∷ 0xA9 ∷ [] }
+    ensures quote { escaped 0x22 ≡ codes "\"" }
+    ensures backslash { escaped 0x5C ≡ codes "\\" }
+    ensures line_feed { escaped 0x0A ≡ codes "\\n" }
+    ensures control { escaped 0x1B ≡ codes "\\u{1b}" }
+    ensures c1 { escaped 0x9B ≡ codes "\\u{9b}" }
+    ensures bidi_control { escaped 0x202E ≡ codes "\\u{202e}" }
+    ensures paragraph_separator { escaped 0x2029 ≡ codes "\\u{2029}" }
 {}
 
 #[tactic(auto, unfolding(lexopt_line_spec::proofs::Computing::computing))]

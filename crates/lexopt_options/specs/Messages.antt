@@ -1,9 +1,8 @@
 -- The messages about a line that is refused. The source is `docs/formats.md`.
 use Rattle.std.specs.Prelude.{ℕ, List, ◌++◌, Option, Some, None, codes, map, string_bytes}
-use Rattle.lexopt_spec.specs.Text.{quoted, unexpected_argument_message}
-use Rattle.lexopt_spec.specs.Text.{unexpected_option_message, unexpected_value_message}
+use Rattle.lexopt_spec.specs.Text.{escaped, unexpected_option_message, visible}
 use Rattle.lexopt_options_spec.specs.Help.{list_text}
-use Rattle.lexopt_declaration.specs.Texts.{escaped, escaped_text, help_line, names_text}
+use Rattle.lexopt_declaration.specs.Texts.{escaped_text, help_line, names_text}
 use Rattle.lexopt_declaration.specs.declared.declaration.Names.{Names}
 use Rattle.lexopt_options.specs.declared.mistake.Mistake.{Mistake}
 use Rattle.lexopt_options.specs.declared.mistake.Mistake.TheVariants.{UnknownOption}
@@ -24,15 +23,17 @@ abbrev pub message : Mistake → List ℕ
 message (UnknownOption name None) = unexpected_option_message (name_text name)
 message (UnknownOption name (Some hint)) = unexpected_option_message (name_text name)
     ++ (codes "; did you mean '--" ++ (hint.now ++ codes "'?"))
-message (UnexpectedValue option value) = unexpected_value_message (string_bytes option) value
+message (UnexpectedValue option value) = codes "unexpected argument for option '"
+    ++ (escaped_text (string_bytes option) ++ (codes "': " ++ visible value))
 message (MissingValue option placeholder) = codes "missing argument "
-    ++ (escaped_text placeholder.now ++ (codes " for option '" ++ (string_bytes option ++ codes "'")))
-message (InvalidValue option value values) = codes "invalid value " ++ (quoted value
+    ++ (escaped_text placeholder.now
+    ++ (codes " for option '" ++ (escaped_text (string_bytes option) ++ codes "'")))
+message (InvalidValue option value values) = codes "invalid value " ++ (visible value
     ++ (codes " for '" ++ (names_text option
     ++ (codes "': one of " ++ list_text (map (λ own. own.now) values.now)))))
-message (UnexpectedArgument word) = unexpected_argument_message word
+message (UnexpectedArgument word) = codes "unexpected argument " ++ visible word
 message (MissingArgument placeholder) = codes "missing argument " ++ escaped_text placeholder.now
-message (InvalidArgument placeholder word values) = codes "invalid argument " ++ (quoted word
+message (InvalidArgument placeholder word values) = codes "invalid argument " ++ (visible word
     ++ (codes " for " ++ (escaped_text placeholder.now
     ++ (codes ": one of " ++ list_text (map (λ own. own.now) values.now)))))
 message (MissingOption names) = codes "missing option '" ++ (names_text names ++ codes "'")

@@ -4,7 +4,7 @@ use Rattle.std.specs.Prelude.{◌≡◌, ℕ, Bool, false, List, [], ◌++◌, O
 use Rattle.std.specs.Prelude.{IsUtf8, Result, Ok, Err, position, string_bytes}
 use Rattle.anyhow.specs.Error.{error_message}
 use Rattle.anyhow.specs.declared.error.Error.{Error as Cause}
-use Rattle.lexopt_spec.specs.Text.{no_memory_message, quoted}
+use Rattle.lexopt_spec.specs.Text.{no_memory_message, visible}
 use Rattle.lexopt_words.specs.Message as words
 use Rattle.lexopt_words.specs.declared.error.Error.{Error}
 use Rattle.lexopt_words.specs.declared.error.Error.TheVariants.{ParsingFailed, NonUnicodeValue}
@@ -26,7 +26,7 @@ for_option None = []
 for_option (Some names) = codes " for '" ++ (names_text names ++ codes "'")
 
 abbrev pub value_message : List ℕ → List ℕ
-value_message value = codes "invalid value " ++ quoted value
+value_message value = codes "invalid value " ++ visible value
 
 -- what is invalid: the value, if the error has it
 abbrev pub what_message : Error → List ℕ

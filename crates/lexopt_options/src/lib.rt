@@ -173,8 +173,9 @@
 //!   before.
 //! - [`Parsed`] is an option or a positional that was read: its key, with its values as
 //!   [`OsString`]s, which may be any bytes. An option that was typed twice is there twice. Print a
-//!   word by `{word:?}` or by [`Quoted`], which escape control characters and damage, and compare
-//!   its bytes: `word.as_bytes() == b"high"`.
+//!   word by [`Visible`], which escapes damage and each character that a terminal may act on, as
+//!   [`Mistake`] does, or by `{word:?}` or [`Quoted`], which escape damage and the control
+//!   characters of ASCII. Compare its bytes: `word.as_bytes() == b"high"`.
 //! - [`Options::parse_value`] converts a value by the type's `FromStr`, and its error names the
 //!   option. [`Options::parse_maybe`] and [`Options::parse_values`] do so for the other kinds of
 //!   options, and [`ValueExt::parse`] and [`ValueExt::string`] for positionals. A value from a list
@@ -251,5 +252,5 @@ pub use lexopt_declaration::spellings::Spelling;
 // What else a program that declares its options needs.
 pub use lexopt_words::error::Error;
 pub use lexopt_words::finish::{BROKEN_PIPE, finish};
-pub use lexopt_words::os_string::{OsString, Quoted, arguments};
+pub use lexopt_words::os_string::{OsString, Quoted, Visible, arguments};
 pub use lexopt_words::value_ext::ValueExt;

@@ -9,10 +9,10 @@ ghost use Rattle.lexopt_declaration.specs.Models.{option_view};
 use lexopt_declaration::declaration::{Declared, Names};
 use lexopt_declaration::listed::Listed;
 use lexopt_declaration::lookup::long_name_of;
-use lexopt_declaration::message::{Escaped, write_escaped};
+use lexopt_declaration::message::Escaped;
 use lexopt_declaration::nearest::{nearest, only_ending, only_longer};
-use lexopt_words::message::write_unexpected_value;
-use lexopt_words::os_string::{OsString, Quoted};
+use lexopt_words::message::write_escaped;
+use lexopt_words::os_string::{OsString, Visible};
 use std::alloc::{AllocError, Global};
 use std::fmt;
 
@@ -31,8 +31,7 @@ impl fmt::Display for OptionName {
 
     ghost output = { λ name. Some (name_text name) };
 
-    /// Writes the name with its dashes. Control characters of ASCII are escaped, as in the quoted
-    /// form of bytes.
+    /// Writes the name with its dashes. Characters that a terminal may act on are escaped.
     fn fmt<W: fmt::Write>(&self, f: &mut fmt::Formatter<W>) -> fmt::Result {
         match self {
             OptionName::Short(character) => {
@@ -54,6 +53,9 @@ impl fmt::Display for OptionName {
 /// missing argument FILE for option '-o'
 /// invalid value "medium" for '--mode': one of fast, slow
 /// ```
+///
+/// Each character that a terminal may act on is escaped in words, as [`Visible`](crate::Visible)
+/// does it, and in names and placeholders. Hints and lists are written as they are declared.
 #[derive(Debug, Drop)]
 pub enum Mistake<'a> {
     /// An option that is not declared. Nothing after its name was read.
@@ -128,12 +130,17 @@ impl fmt::Display for Mistake<'_> {
                 name,
                 hint: Some(hint),
             } => write!(f, "invalid option '{name}'; did you mean '--{hint}'?"),
-            Mistake::UnexpectedValue { option, value } => write_unexpected_value(option, value, f),
+            Mistake::UnexpectedValue { option, value } => {
+                let option = Escaped(option.as_str());
+                let value = Visible::new(value.as_bytes());
+                write!(f, "unexpected argument for option '{option}': {value}")
+            }
             Mistake::MissingValue {
                 option,
                 placeholder,
             } => {
                 let placeholder = Escaped(placeholder);
+                let option = Escaped(option.as_str());
                 write!(f, "missing argument {placeholder} for option '{option}'")
             }
             Mistake::InvalidValue {
@@ -141,12 +148,12 @@ impl fmt::Display for Mistake<'_> {
                 value,
                 values,
             } => {
-                let value = Quoted::new(value.as_bytes());
+                let value = Visible::new(value.as_bytes());
                 let values = Listed(values);
                 write!(f, "invalid value {value} for '{option}': one of {values}")
             }
             Mistake::UnexpectedArgument(word) => {
-                let word = Quoted::new(word.as_bytes());
+                let word = Visible::new(word.as_bytes());
                 write!(f, "unexpected argument {word}")
             }
             Mistake::MissingArgument(placeholder) => {
@@ -158,7 +165,7 @@ impl fmt::Display for Mistake<'_> {
                 word,
                 values,
             } => {
-                let word = Quoted::new(word.as_bytes());
+                let word = Visible::new(word.as_bytes());
                 let placeholder = Escaped(placeholder);
                 let values = Listed(values);
                 write!(

@@ -12,7 +12,7 @@ use lexopt_declaration::lookup::names_of;
 use lexopt_declaration::message::write_help;
 use lexopt_words::error::Error;
 use lexopt_words::message::write_no_memory;
-use lexopt_words::os_string::{OsString, Quoted};
+use lexopt_words::os_string::{OsString, Visible};
 use lexopt_words::value_ext::ValueExt;
 use std::alloc::{AllocError, AllocFailed};
 use std::fmt;
@@ -26,7 +26,9 @@ use std::str::FromStr;
 /// kept whole.
 ///
 /// `Display` writes what is wrong, without a line feed at the end. What [`Options::report`] returns
-/// also has the name of the program, and where the help is.
+/// also has the name of the program, and where the help is. A value that could not be converted is
+/// shown as [`Visible`] does it, and the names of its option are escaped. Texts, causes and the
+/// messages of other errors are written as they are.
 ///
 /// # Examples
 ///
@@ -230,7 +232,7 @@ fn write_what<W: fmt::Write>(error: &Error, f: &mut fmt::Formatter<W>) -> fmt::R
 fn write_value<W: fmt::Write>(value: &[u8], f: &mut fmt::Formatter<W>) -> fmt::Result
     ensures { WritesOnOk W.write_str_gives f.old result (value_message value.now) f.new }
 {
-    let value = Quoted::new(value);
+    let value = Visible::new(value);
     write!(f, "invalid value {value}")
 }
 

@@ -1,4 +1,5 @@
 pub mod Codepoint
+pub mod Forms
 pub mod Message
 pub mod Arguments
 pub mod Answered

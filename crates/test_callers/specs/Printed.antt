@@ -1,12 +1,11 @@
 -- The texts of declared options and their errors, and which of two options cannot be declared, by
 -- plain data.
 use Rattle.std.specs.Prelude.{◌≡◌, ◌≢◌, ◌⊎◌, ◌&&◌, zero, suc, ℕ, Bool, true, false, List, []}
-use Rattle.std.specs.Prelude.{◌∷◌, ◌++◌, map, Option, Some, None, codes, encode_utf8}
-use Rattle.std.specs.Prelude.{string_bytes, nat_lt, ◌==◌, ◌||◌, if◌then◌else◌}
+use Rattle.std.specs.Prelude.{◌∷◌, ◌++◌, map, Option, Some, None, codes, string_bytes}
 use Rattle.anyhow.specs.Error.{error_message}
 use Rattle.std.specs.List.{flat_map, list_all}
 use Rattle.std.specs.Str.{chars}
-use Rattle.lexopt_spec.specs.Text.{quoted, quoted_character}
+use Rattle.lexopt_spec.specs.Text.{escaped, visible}
 use Rattle.lexopt_words.specs.Message as words
 use Rattle.lexopt_words.specs.declared.error.Error.{Error}
 use Rattle.lexopt_words.specs.declared.error.Error.TheVariants as error
@@ -38,16 +37,12 @@ use Rattle.lexopt_options.specs.declared.usage.UsageError.TheVariants as usage
 
 -- ---- names, and an option that cannot be declared
 
--- a control character of ASCII is printed as it is in quotes
-abbrev pub printed : ℕ → List ℕ
-printed c = if nat_lt c 0x20 || c == 0x7F then quoted_character c [] else encode_utf8 c
-
 -- a name or a placeholder
 abbrev pub printed_text : List ℕ → List ℕ
-printed_text text = flat_map printed (chars text)
+printed_text text = flat_map escaped (chars text)
 
 abbrev pub names_line : Names → List ℕ
-names_line (Short c) = codes "-" ++ printed c
+names_line (Short c) = codes "-" ++ escaped c
 names_line (Long name) = codes "--" ++ printed_text name.now
 names_line (Both c name) = codes "--" ++ printed_text name.now
 
@@ -79,7 +74,7 @@ declaration_line (refusal.BadList placeholder) =
 -- ---- a line that is refused
 
 abbrev pub typed_name : OptionName → List ℕ
-typed_name (typed.Short c) = codes "-" ++ printed c
+typed_name (typed.Short c) = codes "-" ++ escaped c
 typed_name (typed.Long name) = codes "--" ++ printed_text (string_bytes name)
 
 abbrev pub mistake_line : Mistake → List ℕ
@@ -89,18 +84,18 @@ mistake_line (mistake.UnknownOption name (Some hint)) =
     (codes "invalid option '" ++ (typed_name name ++ codes "'"))
     ++ (codes "; did you mean '--" ++ (hint.now ++ codes "'?"))
 mistake_line (mistake.UnexpectedValue option value) = codes "unexpected argument for option '"
-    ++ (string_bytes option ++ (codes "': " ++ quoted value))
+    ++ (printed_text (string_bytes option) ++ (codes "': " ++ visible value))
 mistake_line (mistake.MissingValue option placeholder) = codes "missing argument "
     ++ (printed_text placeholder.now
-    ++ (codes " for option '" ++ (string_bytes option ++ codes "'")))
+    ++ (codes " for option '" ++ (printed_text (string_bytes option) ++ codes "'")))
 mistake_line (mistake.InvalidValue option value values) = codes "invalid value "
-    ++ (quoted value ++ (codes " for '" ++ (names_line option
+    ++ (visible value ++ (codes " for '" ++ (names_line option
     ++ (codes "': one of " ++ list_text (map (λ v. v.now) values.now)))))
-mistake_line (mistake.UnexpectedArgument word) = codes "unexpected argument " ++ quoted word
+mistake_line (mistake.UnexpectedArgument word) = codes "unexpected argument " ++ visible word
 mistake_line (mistake.MissingArgument placeholder) =
     codes "missing argument " ++ printed_text placeholder.now
 mistake_line (mistake.InvalidArgument placeholder word values) = codes "invalid argument "
-    ++ (quoted word ++ (codes " for " ++ (printed_text placeholder.now
+    ++ (visible word ++ (codes " for " ++ (printed_text placeholder.now
     ++ (codes ": one of " ++ list_text (map (λ v. v.now) values.now)))))
 mistake_line (mistake.MissingOption names) =
     codes "missing option '" ++ (names_line names ++ codes "'")
@@ -126,10 +121,10 @@ of_option (Some names) = codes " for '" ++ (names_line names ++ codes "'")
 
 abbrev pub value_line : Option Names → Error → List ℕ
 value_line names (error.ParsingFailed value cause) =
-    (codes "invalid value " ++ quoted (string_bytes value))
+    (codes "invalid value " ++ visible (string_bytes value))
     ++ (of_option names ++ (codes ": " ++ error_message cause))
 value_line names (error.NonUnicodeValue value) =
-    (codes "invalid value " ++ quoted value) ++ (of_option names ++ codes ": not UTF-8")
+    (codes "invalid value " ++ visible value) ++ (of_option names ++ codes ": not UTF-8")
 value_line names error.OutOfMemory = codes "out of memory"
 value_line names other =
     codes "invalid value" ++ (of_option names ++ (codes ": " ++ words.message other))
@@ -286,7 +281,7 @@ IsUsageOf width character help first second values text =
 abbrev pub IsErrorOf : ℕ → List ℕ → Count → Count → List (List ℕ) → List ℕ → Type 0
 IsErrorOf character help first second values text = ((reason : Reason)
     × IsFirstFault (one_option character help) 0 (reason_of reason)
-    × (text ≡ codes "option '-" ++ (printed character ++ (codes "': " ++ reason_line reason))))
+    × (text ≡ codes "option '-" ++ (escaped character ++ (codes "': " ++ reason_line reason))))
     ⊎ ((is_sound (one_option character help) ≡ true) × ((repeats first && repeats second) ≡ true)
     × (text ≡ codes "positional argument TO: one before it may occur more than once too"))
     ⊎ ((is_sound (one_option character help) ≡ true) × ((repeats first && repeats second) ≡ false)

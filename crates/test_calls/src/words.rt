@@ -1,5 +1,5 @@
 //! Words: their bytes, texts, copies, order and hashes, and what they print. Copies of arguments.
-use lexopt_base::{Arg, Error, OsStr, OsString, Quoted};
+use lexopt_base::{Arg, Error, OsStr, OsString, Quoted, Visible};
 use std::alloc::{AllocError, Global};
 use std::hash::{DefaultHasher, Hash, Hasher};
 use std::process::Abort;
@@ -91,9 +91,60 @@ fn quoted_bytes(rt: HostRuntime) {
         (b"\0\r\x1f\n\x01".as_slice(), "\"\\0\\r\\u{1f}\\n\\u{1}\""),
         (b"\xe2\x82A".as_slice(), "\"\\xE2\\x82A\""),
         (b"\xf0\x9d".as_slice(), "\"\\xF0\\x9D\""),
+        (
+            b"\xc2\x9b\xe2\x80\xae\xe2\x80\xa8".as_slice(),
+            "\"\u{9b}\u{202e}\u{2028}\"",
+        ),
     ] {
         assert!(rt;
             is_quoted(rt.alloc(), bytes, text).expect(&rt, "success"),
+            "{text}"
+        );
+    }
+}
+
+fn is_visible(alloc: Global, bytes: &[u8], text: &str) -> Result<bool, AllocError> {
+    Ok(Visible::new(bytes).to_string(alloc)?.as_str() == text)
+}
+
+// The first and the last of each range of characters that a terminal may act on, and neighbours.
+#[test]
+fn visible_bytes(rt: HostRuntime) {
+    for (bytes, text) in [
+        (b"".as_slice(), "\"\""),
+        (
+            b"a\"b\\\t\x1b\x7f'\xc2\xb5\xff\xc2".as_slice(),
+            "\"a\\\"b\\\\\\t\\u{1b}\\u{7f}'µ\\xFF\\xC2\"",
+        ),
+        (b"\0\r\x1f\n\x01 ".as_slice(), "\"\\0\\r\\u{1f}\\n\\u{1} \""),
+        (b"\x9b\xe2\x80".as_slice(), "\"\\x9B\\xE2\\x80\""),
+        (
+            b"\xc2\x80\xc2\x9b\xc2\x9f\xc2\xa0".as_slice(),
+            "\"\\u{80}\\u{9b}\\u{9f}\u{a0}\"",
+        ),
+        (
+            b"\xd8\x9b\xd8\x9c\xd8\x9d".as_slice(),
+            "\"\u{61b}\\u{61c}\u{61d}\"",
+        ),
+        (
+            b"\xe2\x80\x8d\xe2\x80\x8e\xe2\x80\x8f\xe2\x80\x90".as_slice(),
+            "\"\u{200d}\\u{200e}\\u{200f}\u{2010}\"",
+        ),
+        (
+            b"\xe2\x80\xa7\xe2\x80\xa8\xe2\x80\xa9\xe2\x80\xaa".as_slice(),
+            "\"\u{2027}\\u{2028}\\u{2029}\\u{202a}\"",
+        ),
+        (
+            b"\xe2\x80\xae\xe2\x80\xaf\xe2\x81\xa5\xe2\x81\xa6".as_slice(),
+            "\"\\u{202e}\u{202f}\u{2065}\\u{2066}\"",
+        ),
+        (
+            b"\xe2\x81\xa9\xe2\x81\xaa\xef\xbb\xbf".as_slice(),
+            "\"\\u{2069}\u{206a}\u{feff}\"",
+        ),
+    ] {
+        assert!(rt;
+            is_visible(rt.alloc(), bytes, text).expect(&rt, "success"),
             "{text}"
         );
     }

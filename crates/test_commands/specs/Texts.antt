@@ -1,9 +1,8 @@
 -- What is printed of commands, by plain data.
 use Rattle.std.specs.Prelude.{◌≡◌, ◌++◌, List, [], ℕ, Some, None, codes, map, string_bytes}
-use Rattle.std.specs.Prelude.{encode_utf8, nat_lt, ◌==◌, ◌||◌, if◌then◌else◌}
 use Rattle.std.specs.List.{flat_map}
 use Rattle.std.specs.Str.{chars}
-use Rattle.lexopt_spec.specs.Text.{quoted_character}
+use Rattle.lexopt_spec.specs.Text.{escaped}
 use Rattle.lexopt_options_spec.specs.Help.{list_text}
 use Rattle.lexopt_options.specs.Messages as options
 use Rattle.lexopt_options.specs.Messages.{refusal_text}
@@ -25,10 +24,9 @@ reason_line reason.BlankOrControlInName =
     codes "its name has a blank or a control character in it"
 reason_line reason.SameName = codes "a command before it has its name"
 
--- a name: a control character of ASCII is printed as it is in quotes
+-- a name
 abbrev pub printed_text : List ℕ → List ℕ
-printed_text text = flat_map
-    (λ c. if nat_lt c 0x20 || c == 0x7F then quoted_character c [] else encode_utf8 c) (chars text)
+printed_text text = flat_map escaped (chars text)
 
 abbrev pub error_line : CommandError → List ℕ
 error_line e =

@@ -84,7 +84,7 @@ fn helps(rt: HostRuntime) {
     );
 }
 
-static MISTAKES: [(&[u8], &str); 20] = [
+static MISTAKES: [(&[u8], &str); 21] = [
     (
         b"",
         "[], then missing command: one of add, remove, remote, help",
@@ -101,6 +101,10 @@ static MISTAKES: [(&[u8], &str); 20] = [
     (
         b"-v bogus -h",
         "[Flag(Verbose)], then unknown command \"bogus\"",
+    ),
+    (
+        b"\xC2\x9Bbogus\xE2\x80\xAE\xE2\x80\xA8",
+        "[], then unknown command \"\\u{9b}bogus\\u{202e}\\u{2028}\"",
     ),
     // One edit in three characters is near, and one in two is not.
     (

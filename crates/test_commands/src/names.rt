@@ -29,7 +29,7 @@ fn text_of(alloc: Global, first: &'static str, second: &'static str) -> Result<S
     }
 }
 
-static NAMES: [(&str, &str, &str); 12] = [
+static NAMES: [(&str, &str, &str); 13] = [
     ("add", "remove", ""),
     ("a", "a=b", ""),
     ("\u{E9}", "a-b", ""),
@@ -50,6 +50,11 @@ static NAMES: [(&str, &str, &str); 12] = [
         "add",
         "a\x7F",
         "command 'a\\u{7f}': its name has a blank or a control character in it",
+    ),
+    (
+        "a\u{9B}\u{202E} ",
+        "add",
+        "command 'a\\u{9b}\\u{202e} ': its name has a blank or a control character in it",
     ),
     (
         "add",

@@ -147,6 +147,68 @@ fn mistakes(rt: HostRuntime) {
     );
 }
 
+// Options, a placeholder and lists with characters past ASCII that a terminal may act on.
+static HOSTILE: Archive<'static> = declare! {
+    program: "archive",
+    options: [
+        flag(Flag::Verbose, Names::Short('\u{85}'), ""),
+        value(Value::Output, Names::Long("m\u{202e}ode"), "A\u{9b}B", "")
+            .one_of(&["a\u{61c}", "b"]),
+        value(Value::User, Names::Long("\u{2066}user"), "NAME", "").required(),
+        help(Names::Both('h', "help")),
+    ],
+    positionals: [once(Word::File, "FI\u{2028}LE").one_of(&["c\u{2069}", "d"])],
+};
+
+static ESCAPED: [(&[u8], &str, &str); 9] = [
+    (
+        b"--a\xC2\x9B\xE2\x80\xAE\xE2\x80\xA8\"",
+        "[]",
+        "invalid option '--a\\u{9b}\\u{202e}\\u{2028}\"'",
+    ),
+    (b"-\xC2\x9B", "[]", "invalid option '-\\u{9b}'"),
+    (
+        b"-\xC2\x85=\xC2\x9B",
+        "[]",
+        "unexpected argument for option '-\\u{85}': \"\\u{9b}\"",
+    ),
+    (
+        b"--m\xE2\x80\xAEode=\xE2\x80\xA8\x1B",
+        "[]",
+        "invalid value \"\\u{2028}\\u{1b}\" for '--m\\u{202e}ode': one of a\u{61c}, b",
+    ),
+    (
+        b"--m\xE2\x80\xAEode",
+        "[]",
+        "missing argument A\\u{9b}B for option '--m\\u{202e}ode'",
+    ),
+    (
+        b"d \xE2\x80\xAEe\xFF",
+        "[Positional(File, \"d\")]",
+        "unexpected argument \"\\u{202e}e\\xFF\"",
+    ),
+    (b"-\xC2\x85", "[Flag(Verbose)]", "missing argument FI\\u{2028}LE"),
+    (
+        b"\xE2\x80\xA9",
+        "[Positional(File, \"\u{2029}\")]",
+        "invalid argument \"\\u{2029}\" for FI\\u{2028}LE: one of c\u{2069}, d",
+    ),
+    (
+        b"d",
+        "[Positional(File, \"d\")]",
+        "missing option '--\\u{2066}user'",
+    ),
+];
+
+#[test]
+fn escapes(rt: HostRuntime) {
+    let options = Options::try_new(&HOSTILE).ok();
+    assert_eq!(rt;
+        first_wrong(rt.alloc(), options, &ESCAPED).expect(&rt, "success"),
+        None
+    );
+}
+
 // Options without a short name. The name of one ends with the name of another.
 static LONG_NAMES: Archive<'static> = declare! {
     program: "archive",
@@ -371,6 +433,16 @@ fn invalid_values(rt: HostRuntime) {
             Some(Kind::Maybe(Maybe::Backup, "SUFFIX")),
             b"7\xFF",
             "invalid value \"7\\xFF\" for '--backup': not UTF-8",
+        ),
+        (
+            None,
+            b"\xE2\x80\xA8\xFF",
+            "invalid value \"\\u{2028}\\xFF\": not UTF-8",
+        ),
+        (
+            Some(Kind::Value(Value::Output, "FILE")),
+            b"\xC2\x9B2J",
+            "invalid value \"\\u{9b}2J\" for '--output': invalid digit found in string",
         ),
         (
             Some(Kind::Values(Values::Exclude, "PATTERN")),
