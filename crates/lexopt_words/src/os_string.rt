@@ -5,8 +5,8 @@ ghost use Rattle.std.specs.Prelude.{IfSome, IsOk, IsSome, IsTrue, IsUtf8, MatchR
 ghost use Rattle.lexopt_spec.specs.Pieces.{lossy};
 
 pub use crate::arguments::arguments;
-pub use crate::quoted::{Quoted, Visible};
 use crate::codepoint::lossy_text;
+pub use crate::quoted::{Quoted, Visible};
 use std::alloc::{AllocError, Global};
 use std::cmp::Ordering;
 use std::hash::{Hash, Hasher};

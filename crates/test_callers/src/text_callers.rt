@@ -138,7 +138,11 @@ pub fn unread_status(rt: &impl Eprint) -> ExitCode
 pub fn full_status(rt: &impl Eprint) -> ExitCode
     ensures { exit_status result ≡ 1 }
 {
-    finish(rt, "hello", Err(io::Error::from(io::ErrorKind::StorageFull)))
+    finish(
+        rt,
+        "hello",
+        Err(io::Error::from(io::ErrorKind::StorageFull)),
+    )
 }
 
 /// The status of a program that did its work.

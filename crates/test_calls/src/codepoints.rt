@@ -40,9 +40,11 @@ fn first_pieces(rt: HostRuntime) {
 fn is_lossy(alloc: Global, bytes: &[u8], text: &str) -> Result<bool, AllocError> {
     let word = OsString::from_bytes(alloc, bytes)?;
     let of_view = word.as_os_str().to_string_lossy(alloc)?;
-    Ok(lossy_text(alloc, bytes)?.as_str() == text
-        && word.to_string_lossy(alloc)?.as_str() == text
-        && of_view.as_str() == text)
+    Ok(
+        lossy_text(alloc, bytes)?.as_str() == text
+            && word.to_string_lossy(alloc)?.as_str() == text
+            && of_view.as_str() == text,
+    )
 }
 
 #[test]

@@ -43,7 +43,14 @@ fn ends(rt: HostRuntime) {
     let closed = Error::from(ErrorKind::BrokenPipe);
     assert!(rt; ends_so(alloc, Err(closed), BROKEN_PIPE, ""));
     let full = Error::from_raw_os_error(28);
-    assert!(rt; ends_so(alloc, Err(full), 1, "hello: No space left on device (os error 28)"));
+    assert!(rt;
+        ends_so(
+            alloc,
+            Err(full),
+            1,
+            "hello: No space left on device (os error 28)"
+        )
+    );
     let no_memory = Error::from(ErrorKind::OutOfMemory);
     assert!(rt; ends_so(alloc, Err(no_memory), 1, "hello: out of memory"));
 }
