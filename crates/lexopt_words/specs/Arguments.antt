@@ -1,5 +1,5 @@
 -- Which arguments are options, and the error for an argument that a program does not know.
-use Rattle.std.specs.Prelude.{◌≡◌, Some, string_bytes}
+use Rattle.std.specs.Prelude.{◌≡◌, ℕ, List, Some, string_bytes}
 use Rattle.lexopt_spec.specs.UnreadLine.{LastOption, short_option, long_option, spelling}
 use Rattle.lexopt_words.specs.declared.error.Arg.{Arg}
 use Rattle.lexopt_words.specs.declared.error.Arg.TheVariants.{Short, Long, Value}
@@ -14,6 +14,12 @@ abbrev pub IsOption : Arg → Type 0
 IsOption (Short c) = Unit {0}
 IsOption (Long name) = Unit {0}
 IsOption (Value value) = ⊥
+
+-- the argument is the option with this character or with this name
+abbrev pub IsNamed : ℕ → List ℕ → Arg → Type 0
+IsNamed short long (Short c) = c ≡ short
+IsNamed short long (Long name) = name.now ≡ long
+IsNamed short long (Value value) = ⊥
 
 -- the error is `UnexpectedOption` with the spelling of this option, or `OutOfMemory`
 abbrev pub RefusesOption : LastOption → Error → Type 0

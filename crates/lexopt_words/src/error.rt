@@ -31,7 +31,31 @@ pub enum Arg<'a> {
 }
 
 impl Arg<'_> {
-    ghost use Rattle.lexopt_words.specs.Arguments.{Refuses};
+    ghost use Rattle.std.specs.Prelude.{◌↔◌, IsTrue};
+    ghost use Rattle.lexopt_words.specs.Arguments.{IsNamed, Refuses};
+
+    /// Returns whether this is the option with one of these names: `-v` or `--verbose` for
+    /// `argument.is_named('v', "verbose")`.
+    ///
+    /// For an option without a short name give `'\0'`, which no word of a command line has.
+    ///
+    /// # Examples
+    ///
+    /// ```rust
+    /// let mut verbose = false;
+    /// if let Some(argument) = parser.next()? {
+    ///     verbose = argument.is_named('v', "verbose");
+    /// }
+    /// ```
+    pub fn is_named(&self, short: char, long: &str) -> bool
+        ensures { IsTrue result ↔ IsNamed short long.now self.now }
+    {
+        match self {
+            Arg::Short(option) => *option == short,
+            Arg::Long(name) => *name == long,
+            Arg::Value(_) => false,
+        }
+    }
 
     /// Returns the error for an argument that the program does not know.
     ///

@@ -1,7 +1,7 @@
 //! Callers of pieces, of errors, of conversions and of `finish`. Their clauses are proved from the
 //! clauses of the public calls alone, which exclude every result that is `unreachable!` here.
 ghost use Rattle.std.specs.Prelude.{◌≡◌, [], ◌∷◌, Some, Ok, IfSome, IfOk, IfErr, IsUtf8};
-ghost use Rattle.std.specs.Prelude.{MatchOption, slice_get, string_bytes};
+ghost use Rattle.std.specs.Prelude.{◌↔◌, IsTrue, MatchOption, codes, false, slice_get, string_bytes};
 ghost use Rattle.std.specs.Process.{exit_status};
 ghost use Rattle.anyhow.specs.Error.{IsMadeOf};
 ghost use Rattle.lexopt_spec.specs.Pieces.{IsFirstPiece};
@@ -125,6 +125,27 @@ pub fn copied_short(option: char) -> Arg<'static>
         Ok(copy) => copy,
         Err(_) => unreachable!(),
     }
+}
+
+/// Whether a short option is `-v`, which is also `--verbose`.
+pub fn is_verbose_short(option: char) -> bool
+    ensures { IsTrue result ↔ (option ≡ 0x76) }
+{
+    Arg::Short(option).is_named('v', "verbose")
+}
+
+/// Whether a long option is `--verbose`, which is also `-v`.
+pub fn is_verbose_long(name: &str) -> bool
+    ensures { IsTrue result ↔ (name.now ≡ codes "verbose") }
+{
+    Arg::Long(name).is_named('v', "verbose")
+}
+
+/// A positional is no option, whatever it looks like.
+pub fn is_verbose_word(word: OsString) -> bool
+    ensures { result ≡ false }
+{
+    Arg::Value(word).is_named('v', "verbose")
 }
 
 /// The status of a program whose output nobody reads.

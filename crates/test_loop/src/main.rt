@@ -3,7 +3,7 @@
 //! options, and no faster.
 #![tactic(auto)]
 
-use lexopt_base::prelude::{Long, Short, Value};
+use lexopt_base::prelude::Value;
 use lexopt_base::{Arg, Error, OsString, Parser};
 use std::alloc::Global;
 use std::env::Env;
@@ -153,19 +153,10 @@ static OPTIONS: [(char, &str, Key); 40] = [
     ('N', "null", Key::Valued(Valued::Null)),
 ];
 
-// Whether this argument is the option with these names.
-fn is_named(argument: &Arg<'_>, short: char, long: &str) -> bool {
-    match argument {
-        Short(option) => *option == short,
-        Long(name) => *name == long,
-        Value(_) => false,
-    }
-}
-
 // The key of this option.
 fn key_of(alloc: Global, argument: Arg<'_>) -> Result<Key, Error> {
     for (short, long, key) in &OPTIONS {
-        if is_named(&argument, *short, long) {
+        if argument.is_named(*short, long) {
             return Ok(*key);
         }
     }
