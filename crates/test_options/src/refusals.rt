@@ -187,7 +187,11 @@ static ESCAPED: [(&[u8], &str, &str); 9] = [
         "[Positional(File, \"d\")]",
         "unexpected argument \"\\u{202e}e\\xFF\"",
     ),
-    (b"-\xC2\x85", "[Flag(Verbose)]", "missing argument FI\\u{2028}LE"),
+    (
+        b"-\xC2\x85",
+        "[Flag(Verbose)]",
+        "missing argument FI\\u{2028}LE",
+    ),
     (
         b"\xE2\x80\xA9",
         "[Positional(File, \"\u{2029}\")]",
