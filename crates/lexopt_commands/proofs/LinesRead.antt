@@ -70,7 +70,7 @@ is_command c l key words rest parsed (line.Refused refused) are means after = no
     no_mistake : (m : Mistake) → IsMistake c.commands.now words m → ⊥
     no_mistake (mistake.General own) told = told
     no_mistake (mistake.MissingCommand names) told = let e : command key rest ≡ missing = sym means ∙ told.0 in cc
-    no_mistake (mistake.UnknownCommand word hint) told = let e : command key rest ≡ unknown word = sym means ∙ told.0 in cc
+    no_mistake (mistake.UnknownCommand word hints) told = let e : command key rest ≡ unknown word = sym means ∙ told.0 in cc
 
 -- the name of a command, with the words after it, means that command
 name_means : {C F V P M S : Type 0} (c : Commands C F V P M S) (i : ℕ) (own : Command C) (key : C) (rest : List (List ℕ)) → slice_get c.commands.now i ≡ Some own → own.runs ≡ runs.Command key

@@ -1,9 +1,9 @@
 -- The messages about a line that is refused, and about a command that cannot be declared. The
 -- source is `docs/formats.md`.
-use Rattle.std.specs.Prelude.{ℕ, List, ◌++◌, Some, None, codes, map, string_bytes}
+use Rattle.std.specs.Prelude.{ℕ, List, [], ◌++◌, codes, map}
 use Rattle.lexopt_spec.specs.Text.{visible}
 use Rattle.lexopt_options_spec.specs.Help.{list_text}
-use Rattle.lexopt_declaration.specs.Texts.{escaped_text}
+use Rattle.lexopt_declaration.specs.Texts.{escaped_text, hint_text}
 use Rattle.lexopt_options.specs.Messages as options
 use Rattle.lexopt_commands.specs.declared.command.CommandError.{CommandError}
 use Rattle.lexopt_commands.specs.declared.command.Reason.{Reason}
@@ -32,6 +32,5 @@ abbrev pub message : Mistake → List ℕ
 message (mistake.General own) = options.message own
 message (mistake.MissingCommand names) =
     codes "missing command: one of " ++ list_text (map (λ name. name.now) names.items)
-message (mistake.UnknownCommand word None) = codes "unknown command " ++ visible word
-message (mistake.UnknownCommand word (Some hint)) = codes "unknown command " ++ (visible word
-    ++ (codes "; did you mean '" ++ (string_bytes hint ++ codes "'?")))
+message (mistake.UnknownCommand word hints) = codes "unknown command " ++ (visible word
+    ++ hint_text [] (map (λ hint. hint.now) hints.items))

@@ -1,15 +1,15 @@
 //! What can be wrong with a line of a program with commands, and the messages about it. The file of
 //! this name in `lexopt_options` has the mistakes of options.
-ghost use Rattle.std.specs.Prelude.{◌≡◌, map, option_map, string_bytes, IfOk};
+ghost use Rattle.std.specs.Prelude.{◌≡◌, map, IfOk};
 ghost use Rattle.lexopt_declaration.specs.Models.{option_view};
-ghost use Rattle.lexopt_commands.specs.Mistakes.{IsHint, IsHinted, option_of};
+ghost use Rattle.lexopt_commands.specs.Mistakes.{IsHint, option_of};
 ghost use Rattle.lexopt_commands.specs.Names.{names_of};
 
 use crate::command::Command;
 use lexopt_declaration::declaration::{Declared, Names};
+use lexopt_declaration::hints::write_hints;
 use lexopt_declaration::listed::Listed;
-use lexopt_declaration::lookup::long_name_of;
-use lexopt_declaration::nearest::{nearest, only_longer};
+use lexopt_declaration::nearest::hinted_names;
 use lexopt_words::codepoint::lossy_text;
 use lexopt_words::os_string::{OsString, Visible};
 use std::alloc::{AllocError, Global};
@@ -36,9 +36,10 @@ pub enum Mistake<'a> {
     UnknownCommand {
         /// The word.
         word: OsString,
-        /// The name of a command that may have been meant: the nearest; or, if none is near, the
-        /// only one that begins with the word.
-        hint: Option<String>,
+        /// The names of commands that may have been meant: the nearest alone; or, if none is near,
+        /// those that begin with the word, in the order of the declaration, and at most the first
+        /// five. None is meant by the empty word.
+        hints: Vec<&'a str>,
     },
 }
 
@@ -55,16 +56,10 @@ impl fmt::Display for Mistake<'_> {
                 let names = Listed(names);
                 write!(f, "missing command: one of {names}")
             }
-            Mistake::UnknownCommand { word, hint: None } => {
+            Mistake::UnknownCommand { word, hints } => {
                 let word = Visible::new(word.as_bytes());
-                write!(f, "unknown command {word}")
-            }
-            Mistake::UnknownCommand {
-                word,
-                hint: Some(hint),
-            } => {
-                let word = Visible::new(word.as_bytes());
-                write!(f, "unknown command {word}; did you mean '{hint}'?")
+                write!(f, "unknown command {word}")?;
+                write_hints("", hints, f)
             }
         }
     }
@@ -90,14 +85,14 @@ pub(crate) fn names_of<'a, C>(
     Ok(names)
 }
 
-// A long option with the name of a command, for the hint.
+// A long option with the name of a command, for the hints.
 fn as_option<'a, C>(command: &Command<'a, C>) -> Declared<'a, ()>
     ensures { option_view result ≡ option_of command.now }
 {
     Declared::flag((), Names::Long(command.name), command.help)
 }
 
-// A long option with the name of each of these commands, for the hint.
+// A long option with the name of each of these commands, for the hints.
 fn as_options<'a, C>(
     alloc: Global,
     commands: &[Command<'a, C>],
@@ -112,41 +107,23 @@ fn as_options<'a, C>(
     Ok(options)
 }
 
-// The long name that may have been meant by `name`.
-fn hinted<'a>(
-    alloc: Global,
-    options: &'a [Declared<'a, ()>],
-    name: &str,
-) -> Result<Option<&'a str>, AllocError>
-    ensures { IfOk result (λ hint. IsHinted (map option_view options.now) name.now
-        (option_map (λ text. text.now) hint)) }
-{
-    match nearest(alloc, name, options)? {
-        Some(index) => Ok(long_name_of(options, Some(index))),
-        None => Ok(only_longer(options, name)),
-    }
-}
-
-/// Returns the name of a command that may have been meant by this word.
+/// Returns the names of commands that may have been meant by this word.
 ///
-/// It is the hint that the lossy text of the word would have as a long option, if the names of the
+/// They are those that the lossy text of the word would have as a long option, if the names of the
 /// commands were those of long options.
 ///
 /// # Errors
 ///
 /// Returns `AllocError` if an allocation fails.
-pub(crate) fn hint_for<C>(
+pub(crate) fn hints_for<'a, C>(
     alloc: Global,
-    commands: &[Command<'_, C>],
+    commands: &[Command<'a, C>],
     word: &OsString,
-) -> Result<Option<String>, AllocError>
-    ensures { IfOk result (λ hint.
-        IsHint commands.now word.now (option_map string_bytes hint)) }
+) -> Result<Vec<&'a str>, AllocError>
+    ensures { IfOk result (λ hints.
+        IsHint commands.now word.now (map (λ hint. hint.now) hints.items)) }
 {
     let options = as_options(alloc, commands)?;
     let name = lossy_text(alloc, word.as_bytes())?;
-    match hinted(alloc, &options, name.as_str())? {
-        Some(hint) => Ok(Some(String::from_str(alloc, hint)?)),
-        None => Ok(None),
-    }
+    hinted_names(alloc, &options, name.as_str())
 }

@@ -10,7 +10,7 @@ ghost use Rattle.lexopt_commands.specs.Views.{meaning_view};
 
 use crate::command::{Command, Runs, is_named};
 use crate::commands::Commands;
-use crate::mistake::{Mistake, hint_for, names_of};
+use crate::mistake::{Mistake, hints_for, names_of};
 use crate::refused::{CommandLine, Refused};
 use lexopt_declaration::lookup::help_names_of;
 use lexopt_options::{Asked, Leading, Parsed};
@@ -205,8 +205,8 @@ impl<'a, C: Copy, F: Copy, V: Copy, P: Copy, M: Copy, S: Copy> Commands<'a, C, F
                 Ok(CommandLine::Refused(self.refuse(parsed, mistake)))
             }
             Meaning::Unknown(word) => {
-                let hint = hint_for(alloc, self.commands(), &word)?;
-                let mistake = Mistake::UnknownCommand { word, hint };
+                let hints = hints_for(alloc, self.commands(), &word)?;
+                let mistake = Mistake::UnknownCommand { word, hints };
                 Ok(CommandLine::Refused(self.refuse(parsed, mistake)))
             }
         }

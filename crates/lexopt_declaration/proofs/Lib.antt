@@ -1,7 +1,7 @@
 pub mod Faults
 pub mod Positions
 pub mod Counting
-pub mod OnlyOne
+pub mod Hinted
 pub mod Replacement
 pub mod Rows
 pub mod Candidates

@@ -4,7 +4,9 @@ use Rattle.std.specs.Prelude.{ℕ, List, [], ◌++◌, Option, Some, None, codes
 use Rattle.std.specs.Prelude.{nat_lt, ◌==◌, ◌||◌, if◌then◌else◌}
 use Rattle.std.specs.List.{flat_map}
 use Rattle.std.specs.Str.{chars}
+use Rattle.std.specs.Prelude.{◌∷◌, map}
 use Rattle.lexopt_spec.specs.Text.{escaped}
+use Rattle.lexopt_options_spec.specs.Help.{list_text}
 use Rattle.lexopt_declaration.specs.declared.declaration.DeclarationError.{DeclarationError}
 use Rattle.lexopt_declaration.specs.declared.declaration.DeclarationError.TheVariants as error
 use Rattle.lexopt_declaration.specs.declared.declaration.Reason.{Reason}
@@ -32,6 +34,18 @@ abbrev pub help_line : List ℕ → Option Names → List ℕ
 help_line program None = []
 help_line program (Some names) = codes "\nTry '"
     ++ (program ++ (codes " " ++ (names_text names ++ codes "' for more information.")))
+
+-- a name in quotes, with these dashes before it
+abbrev pub name_in_quotes : List ℕ → List ℕ → List ℕ
+name_in_quotes dashes name = codes "'" ++ (dashes ++ (name ++ codes "'"))
+
+-- which names may have been meant, each with these dashes before it
+abbrev pub hint_text : List ℕ → List (List ℕ) → List ℕ
+hint_text dashes [] = []
+hint_text dashes (name ∷ []) =
+    codes "; did you mean " ++ (name_in_quotes dashes name ++ codes "?")
+hint_text dashes (name ∷ names) = codes "; did you mean one of "
+    ++ (list_text (map (name_in_quotes dashes) (name ∷ names)) ++ codes "?")
 
 -- a character of a help text on one line: a blank for a control character of ASCII
 abbrev pub on_one_line : ℕ → List ℕ

@@ -1,5 +1,5 @@
 //! What a program declares of its options and positionals, and what follows from that alone: the
-//! help, the declared name nearest to a mistyped one, the spellings that completion offers, and the
+//! help, the declared names nearest to a mistyped one, the spellings that completion offers, and the
 //! scripts by which shells complete lines. `lexopt_options` reads lines by it, and re-exports what
 //! a program needs.
 //!
@@ -12,6 +12,7 @@ pub mod combined;
 pub mod declaration;
 mod examples;
 pub mod help;
+pub mod hints;
 pub mod listed;
 pub mod lookup;
 pub mod message;

@@ -1,9 +1,8 @@
 //! Finds an option by its name, and what is declared of the option at an index.
-ghost use Rattle.std.specs.Prelude.{◌≡◌, map, option_map, position};
+ghost use Rattle.std.specs.Prelude.{◌≡◌, map, position};
 ghost use Rattle.lexopt_line_spec.specs.Table as table;
 ghost use Rattle.lexopt_options_spec.specs.Declaration.{index_of};
 ghost use Rattle.lexopt_options_spec.specs.Declaration as spec;
-ghost use Rattle.lexopt_options_spec.specs.Nearest as nearest;
 ghost use Rattle.lexopt_options_spec.specs.Stops.{placeholder_at};
 ghost use Rattle.lexopt_declaration.specs.Models.{option_view};
 ghost use Rattle.lexopt_declaration.specs.Lookups.{help_names, is_help, names_at};
@@ -83,20 +82,6 @@ pub fn help_names_of<'a, F, V, M, S>(options: &'a [Declared<'a, F, V, M, S>]) ->
     ensures { result ≡ help_names options.now }
 {
     names_of(options, place_of_help(options))
-}
-
-/// Returns the long name of the option at this index; `None` if it has none.
-pub fn long_name_of<'a, F, V, M, S>(
-    options: &'a [Declared<'a, F, V, M, S>],
-    index: Option<usize>,
-) -> Option<&'a str>
-    ensures { option_map (λ name. name.now) result
-        ≡ nearest.long_name_at (map option_view options.now) index }
-{
-    match options.get(index?) {
-        Some(option) => option.names.long(),
-        None => None,
-    }
 }
 
 /// Returns the placeholder of the option at this index; the empty text if it has none.

@@ -126,6 +126,11 @@ sample positionals short_equals = record {
 abbrev pub named : List ℕ → Declared
 named name = record verbose { short_name = None; long_name = Some name }
 
+-- six long names that begin alike
+abbrev pub names_in_re : List (List ℕ)
+names_in_re = codes "recursive" ∷ codes "reference" ∷ codes "regexp" ∷ codes "remove"
+    ∷ codes "replace" ∷ codes "reverse" ∷ []
+
 abbrev pub asks_for_help : Declared
 asks_for_help = record {
   short_name = Some 0x68;

@@ -4,7 +4,7 @@
 //! accepts fast and slow, b|backup old and bak, and x|exclude a and c. The positional MODE with a
 //! list accepts fast and slow, and FORM accepts tar.
 ghost use Rattle.std.specs.Prelude.{◌≡◌, ◌++◌, [], ◌∷◌, ℕ, List, Option, Some, None, true, false};
-ghost use Rattle.std.specs.Prelude.{codes};
+ghost use Rattle.std.specs.Prelude.{codes, map};
 ghost use Rattle.lexopt_spec.specs.UnreadLine.{joined, no_tail, rest};
 ghost use Rattle.lexopt_line_spec.specs.Table as spec;
 ghost use Rattle.lexopt_line_spec.specs.Table.{flag, long, many, one, optional, short};
@@ -50,13 +50,12 @@ ghost use Rattle.lexopt_options_spec.specs.Help.{line_columns, line_text};
 ghost use Rattle.lexopt_laws.specs.Sample.{asking_sample, asks_for_help, asks_for_version};
 ghost use Rattle.lexopt_laws.specs.Sample.{backup, described_files, exclude};
 ghost use Rattle.lexopt_laws.specs.Sample.{files, form_in_list, mode, mode_in_list, output, sample};
-ghost use Rattle.lexopt_options_spec.specs.Nearest.{IsDistance, IsHint, IsNearest, hinted_name};
-ghost use Rattle.lexopt_options_spec.specs.Nearest.{long_name_at, only_ending, only_longer};
-ghost use Rattle.lexopt_options_spec.specs.Nearest.{only_passing, passes, passing_count};
+ghost use Rattle.lexopt_options_spec.specs.Nearest.{IsDistance, IsHint, IsNearest, beginning};
+ghost use Rattle.lexopt_options_spec.specs.Nearest.{ending, hinted_names, if_one, long_names};
 ghost use Rattle.lexopt_laws.specs.Sample.{demanding_sample, dest, new, old, sources, user};
 ghost use Rattle.lexopt_laws.specs.Sample.{demanding_listed, listed_mode, listed_options};
 ghost use Rattle.lexopt_laws.specs.Sample.{listed_sample};
-ghost use Rattle.lexopt_laws.specs.Sample.{named, sample_options, target, verbose};
+ghost use Rattle.lexopt_laws.specs.Sample.{named, names_in_re, sample_options, target, verbose};
 
 // The index of the option with a name: the first, if two have the name. A name is typed whole.
 fn options_have_names()
@@ -828,60 +827,71 @@ fn names_are_near()
     ensures not_none { IsNearest sample_options (codes "verbsoe") None → ⊥ }
 {}
 
-// The long name that begins or ends with what was typed, if exactly one does.
-fn names_are_longer()
-    ensures passes { passes (λ name. true) (Some (codes "verbose")) ≡ true }
-    ensures fails { passes (λ name. false) (Some (codes "verbose")) ≡ false }
-    ensures no_name { passes (λ name. true) None ≡ false }
-    ensures none { passing_count (λ name. false) sample_options ≡ 0 }
-    ensures four { passing_count (λ name. true) sample_options ≡ 4 }
-    ensures none_of_two { only_passing (λ name. true) (named (codes "a") ∷ named (codes "b") ∷ [])
-        ≡ None }
-    ensures third { only_longer sample_options (codes "back") ≡ Some (codes "backup") }
-    ensures inside { only_longer sample_options (codes "put") ≡ None }
-    ensures shorter { only_longer (named (codes "verb") ∷ []) (codes "verbose") ≡ None }
-    ensures two { only_longer (named (codes "outer") ∷ sample_options) (codes "out") ≡ None }
-    ensures ends { only_ending sample_options (codes "put") ≡ Some (codes "output") }
-    ensures begins { only_ending sample_options (codes "out") ≡ None }
-    ensures ends_shorter { only_ending (named (codes "bose") ∷ []) (codes "verbose") ≡ None }
-    ensures two_end { only_ending (named (codes "input") ∷ sample_options) (codes "put") ≡ None }
-    ensures near { hinted_name sample_options (codes "back") (Some 0) ≡ Some (codes "verbose") }
-    ensures not_near { hinted_name sample_options (codes "back") None ≡ Some (codes "backup") }
+// The long names that begin or end with what was typed.
+fn names_begin_or_end_so()
+    ensures all { long_names sample_options
+        ≡ codes "verbose" ∷ codes "output" ∷ codes "backup" ∷ codes "exclude" ∷ [] }
+    ensures no_name { long_names (record verbose { long_name = None } ∷ []) ≡ [] }
+    ensures third { beginning sample_options (codes "back") ≡ codes "backup" ∷ [] }
+    ensures two { beginning (named (codes "outer") ∷ sample_options) (codes "out")
+        ≡ codes "outer" ∷ codes "output" ∷ [] }
+    ensures five_of_six { beginning (map named names_in_re) (codes "re") ≡ codes "recursive"
+        ∷ codes "reference" ∷ codes "regexp" ∷ codes "remove" ∷ codes "replace" ∷ [] }
+    ensures sixth { beginning (map named names_in_re) (codes "rev") ≡ codes "reverse" ∷ [] }
+    ensures inside { beginning sample_options (codes "put") ≡ [] }
+    ensures shorter { beginning (named (codes "verb") ∷ []) (codes "verbose") ≡ [] }
+    ensures nothing { beginning sample_options [] ≡ [] }
+    ensures none_of_none { if_one [] ≡ [] }
+    ensures one_of_one { if_one (codes "a" ∷ []) ≡ codes "a" ∷ [] }
+    ensures none_of_two { if_one (codes "a" ∷ codes "b" ∷ []) ≡ [] }
+    ensures ends { ending sample_options (codes "put") ≡ codes "output" ∷ [] }
+    ensures begins { ending sample_options (codes "out") ≡ [] }
+    ensures ends_shorter { ending (named (codes "bose") ∷ []) (codes "verbose") ≡ [] }
+    ensures two_end { ending (named (codes "input") ∷ sample_options) (codes "put") ≡ [] }
+    ensures near { hinted_names sample_options (codes "back") (Some 1) ≡ codes "output" ∷ [] }
+    ensures not_near { hinted_names sample_options (codes "back") None ≡ codes "backup" ∷ [] }
 {}
 
-// The long name that the hint has.
+// The long names that the hint has.
 fn names_are_hinted_at()
-    ensures near { IsHint sample_options (long (codes "verbsoe")) no_tail
-        (Some (codes "verbose")) }
-    ensures far { IsHint sample_options (long (codes "colour")) no_tail None }
-    ensures character { IsHint sample_options (short 0x65) no_tail None }
-    ensures no_character { IsHint sample_options (short 0x65) no_tail (Some (codes "verbose"))
+    ensures near { IsHint sample_options (long (codes "verbsoe")) no_tail (codes "verbose" ∷ []) }
+    ensures far { IsHint sample_options (long (codes "colour")) no_tail [] }
+    ensures not_far { IsHint sample_options (long (codes "colour")) no_tail (codes "output" ∷ [])
+        → ⊥ }
+    ensures exactly_one { IsHint sample_options (long (codes "verb")) no_tail
+        (codes "verbose" ∷ []) }
+    ensures several { IsHint (named (codes "outer") ∷ sample_options) (long (codes "out")) no_tail
+        (codes "outer" ∷ codes "output" ∷ []) }
+    ensures not_the_first_alone { IsHint (named (codes "outer") ∷ sample_options)
+        (long (codes "out")) no_tail (codes "outer" ∷ []) → ⊥ }
+    ensures in_no_other_order { IsHint (named (codes "outer") ∷ sample_options)
+        (long (codes "out")) no_tail (codes "output" ∷ codes "outer" ∷ []) → ⊥ }
+    ensures more_than_five { IsHint (map named names_in_re) (long (codes "re")) no_tail
+        (codes "recursive" ∷ codes "reference" ∷ codes "regexp" ∷ codes "remove"
+        ∷ codes "replace" ∷ []) }
+    ensures not_the_sixth { IsHint (map named names_in_re) (long (codes "re")) no_tail names_in_re
+        → ⊥ }
+    ensures empty_name { IsHint sample_options (long []) no_tail [] }
+    ensures empty_name_of_one { IsHint (named (codes "verbose") ∷ []) (long []) no_tail
+        (codes "verbose" ∷ []) → ⊥ }
+    ensures near_before_longer { IsHint (named (codes "outputs") ∷ sample_options)
+        (long (codes "outpu")) no_tail (codes "output" ∷ []) }
+    ensures nearest_alone { IsHint (named (codes "outputs") ∷ sample_options)
+        (long (codes "outpu")) no_tail (codes "outputs" ∷ codes "output" ∷ []) → ⊥ }
+    ensures character { IsHint sample_options (short 0x65) no_tail [] }
+    ensures no_character { IsHint sample_options (short 0x65) no_tail (codes "verbose" ∷ [])
         → ⊥ }
     ensures cluster { IsHint sample_options (short 0x76) (rest (codes "erbose"))
-        (Some (codes "verbose")) }
+        (codes "verbose" ∷ []) }
     ensures cluster_later { IsHint sample_options (short 0x65) (rest (codes "rbose"))
-        (Some (codes "verbose")) }
-    ensures cluster_of_the_rest { IsHint sample_options (short 0x7A) (rest (codes "erbose")) None }
+        (codes "verbose" ∷ []) }
+    ensures cluster_of_the_rest { IsHint sample_options (short 0x7A) (rest (codes "erbose")) [] }
     ensures cluster_of_two_bytes { IsHint (named (0xC3 ∷ 0xA9 ∷ codes "t") ∷ []) (short 0xE9)
-        (rest (codes "t")) (Some (0xC3 ∷ 0xA9 ∷ codes "t")) }
-    ensures cluster_with_a_value { IsHint sample_options (short 0x65) (rest (codes "=rbose"))
-        None }
-    ensures damaged_cluster { IsHint sample_options (short 0x65) (rest (0xFF ∷ codes "rbose"))
-        None }
+        (rest (codes "t")) ((0xC3 ∷ 0xA9 ∷ codes "t") ∷ []) }
+    ensures cluster_with_a_value { IsHint sample_options (short 0x65) (rest (codes "=rbose")) [] }
+    ensures damaged_cluster { IsHint sample_options (short 0x65) (rest (0xFF ∷ codes "rbose")) [] }
     ensures cluster_of_two { IsHint (named (codes "re-verbose") ∷ sample_options) (short 0x76)
-        (rest (codes "erbose")) None }
-    ensures not_far { IsHint sample_options (long (codes "colour")) no_tail
-        (Some (codes "output")) → ⊥ }
-    ensures longer { IsHint sample_options (long (codes "verb")) no_tail (Some (codes "verbose")) }
-    ensures one_of_two { IsHint (named (codes "outer") ∷ sample_options) (long (codes "out"))
-        no_tail (Some (codes "output")) → ⊥ }
-    ensures near_and_longer { IsHint (named (codes "outputs") ∷ sample_options)
-        (long (codes "outpu")) no_tail (Some (codes "output")) }
-    ensures at { long_name_at sample_options (Some 1) ≡ Some (codes "output") }
-    ensures at_none { long_name_at sample_options None ≡ None }
-    ensures at_no_option { long_name_at sample_options (Some 4) ≡ None }
-    ensures at_a_character { long_name_at (record verbose { long_name = None } ∷ []) (Some 0)
-        ≡ None }
+        (rest (codes "erbose")) [] }
 {}
 
 // The spellings of options, and the options that they spell.

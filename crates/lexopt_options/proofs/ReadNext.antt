@@ -12,7 +12,7 @@ use Rattle.lexopt_line_spec.proofs.ItemsRead.{one_more_item, option_given}
 use Rattle.lexopt_line_spec.proofs.RunAccounts.{step_line}
 use Rattle.std.proofs.Common.{encode_utf8, get_or, false, true}
 use Rattle.std.specs.Option.{MatchOption}
-use Rattle.lexopt_options_spec.specs.Nearest.{IsHint, only_ending}
+use Rattle.lexopt_options_spec.specs.Nearest.{IsHint, ending}
 use Rattle.std.specs.Prelude.{unwrap_or}
 use Rattle.std.proofs.lemmas.Option.{slice_get-get_or}
 use Rattle.std.proofs.lemmas.List.Quantifiers.{position-Some}
@@ -133,40 +133,40 @@ taken_bytes u w given (optional_none is reply after) = ap (option_map (λ found.
     given_is : (other : Option (List ℕ)) → steps.maybe given ≡ steps.maybe other → given ≡ other
     given_is other is = cc
 
-rest_hint : (options : List Declared) (c : ℕ) (tail : Tail) (bytes : List ℕ) (given hint : Option (List ℕ)) → tail ≡ rest_of bytes → option_map (λ found. found.0) (pending_in false tail) ≡ given
-    → MatchOption given (hint ≡ None) (λ left. IsHint options (spec.short c) (rest left) hint) → IsHint options (spec.short c) tail hint
-rest_hint options c tail [] given hint is taken told =
+rest_hint : (options : List Declared) (c : ℕ) (tail : Tail) (bytes : List ℕ) (given : Option (List ℕ)) (hints : List (List ℕ)) → tail ≡ rest_of bytes → option_map (λ found. found.0) (pending_in false tail) ≡ given
+    → MatchOption given (hints ≡ []) (λ left. IsHint options (spec.short c) (rest left) hints) → IsHint options (spec.short c) tail hints
+rest_hint options c tail [] given hints is taken told =
     let none : given ≡ None = sym taken ∙ ap (λ t. option_map (λ found. found.0) (pending_in false t)) is in
-    subst (λ t. IsHint options (spec.short c) t hint) (sym is)
-    (subst (λ (x : Option (List ℕ)). MatchOption x (hint ≡ None) (λ left. IsHint options (spec.short c) (rest left) hint)) none told)
-rest_hint options c tail (b ∷ bs) given hint is taken told =
+    subst (λ t. IsHint options (spec.short c) t hints) (sym is)
+    (subst (λ (x : Option (List ℕ)). MatchOption x (hints ≡ []) (λ left. IsHint options (spec.short c) (rest left) hints)) none told)
+rest_hint options c tail (b ∷ bs) given hints is taken told =
     let some : given ≡ Some (b ∷ bs) = sym taken ∙ ap (λ t. option_map (λ found. found.0) (pending_in false t)) is in
-    subst (λ t. IsHint options (spec.short c) t hint) (sym is)
-    (subst (λ (x : Option (List ℕ)). MatchOption x (hint ≡ None) (λ left. IsHint options (spec.short c) (rest left) hint)) some told)
+    subst (λ t. IsHint options (spec.short c) t hints) (sym is)
+    (subst (λ (x : Option (List ℕ)). MatchOption x (hints ≡ []) (λ left. IsHint options (spec.short c) (rest left) hints)) some told)
 
 -- the hint by the taken rest of the cluster is that by the rest of the word
-pub short_hinted : (options : List Declared) (u v off w : UnreadLine) (c : ℕ) (given hint : Option (List ℕ)) → Next u (steps.short c) v → off ≡ record v { short_equals = false }
-    → OptionalStep off (steps.maybe given) w → MatchOption given (hint ≡ None) (λ left. IsHint options (spec.short c) (rest left) hint) → IsHint options (spec.short c) v.tail hint
-short_hinted options u v off w c given hint step is takes told =
+pub short_hinted : (options : List Declared) (u v off w : UnreadLine) (c : ℕ) (given : Option (List ℕ)) (hints : List (List ℕ)) → Next u (steps.short c) v → off ≡ record v { short_equals = false }
+    → OptionalStep off (steps.maybe given) w → MatchOption given (hints ≡ []) (λ left. IsHint options (spec.short c) (rest left) hints) → IsHint options (spec.short c) v.tail hints
+short_hinted options u v off w c given hints step is takes told =
     let left = short_rest u v c step in
-    rest_hint options c v.tail left.0 given hint left.1 (taken_bytes (record v { short_equals = false }) w given (subst (λ x. OptionalStep x (steps.maybe given) w) is takes)) told
+    rest_hint options c v.tail left.0 given hints left.1 (taken_bytes (record v { short_equals = false }) w given (subst (λ x. OptionalStep x (steps.maybe given) w) is takes)) told
 
-pub some_hint : (options os : List Declared) (c : ℕ) (bytes back : List ℕ) (given hint found : Option (List ℕ)) → given ≡ Some bytes → back ≡ bytes → os ≡ options → hint ≡ found
-    → IsHint os (spec.short c) (rest back) found → MatchOption given (hint ≡ None) (λ left. IsHint options (spec.short c) (rest left) hint)
-some_hint options os c bytes back given hint found some back_is os_is hint_is told =
-    subst (λ (x : Option (List ℕ)). MatchOption x (hint ≡ None) (λ left. IsHint options (spec.short c) (rest left) hint)) (sym some)
-    (hint_is ∙ told ∙ ap (λ o. only_ending o (encode_utf8 c ++ back)) os_is ∙ ap (λ b. only_ending options (encode_utf8 c ++ b)) back_is)
+pub some_hint : (options os : List Declared) (c : ℕ) (bytes back : List ℕ) (given : Option (List ℕ)) (hints found : List (List ℕ)) → given ≡ Some bytes → back ≡ bytes → os ≡ options → hints ≡ found
+    → IsHint os (spec.short c) (rest back) found → MatchOption given (hints ≡ []) (λ left. IsHint options (spec.short c) (rest left) hints)
+some_hint options os c bytes back given hints found some back_is os_is hints_are told =
+    subst (λ (x : Option (List ℕ)). MatchOption x (hints ≡ []) (λ left. IsHint options (spec.short c) (rest left) hints)) (sym some)
+    (hints_are ∙ told ∙ ap (λ o. ending o (encode_utf8 c ++ back)) os_is ∙ ap (λ b. ending options (encode_utf8 c ++ b)) back_is)
 
-pub no_hint : (options : List Declared) (c : ℕ) (given hint : Option (List ℕ)) → given ≡ None → hint ≡ None
-    → MatchOption given (hint ≡ None) (λ left. IsHint options (spec.short c) (rest left) hint)
-no_hint options c given hint none is =
-    subst (λ (x : Option (List ℕ)). MatchOption x (hint ≡ None) (λ left. IsHint options (spec.short c) (rest left) hint)) (sym none) is
+pub no_hint : (options : List Declared) (c : ℕ) (given : Option (List ℕ)) (hints : List (List ℕ)) → given ≡ None → hints ≡ []
+    → MatchOption given (hints ≡ []) (λ left. IsHint options (spec.short c) (rest left) hints)
+no_hint options c given hints none is =
+    subst (λ (x : Option (List ℕ)). MatchOption x (hints ≡ []) (λ left. IsHint options (spec.short c) (rest left) hints)) (sym none) is
 
 -- a copy of a name
-pub long_hinted : (options os : List Declared) (name text : List ℕ) (left : Tail) (hint : Option (List ℕ)) → os ≡ options → name ≡ text → IsHint os (spec.long text) left hint
-    → IsHint options (spec.long name) left hint
-long_hinted options os name text left hint os_is is told =
-    subst (λ (o : List Declared). IsHint o (spec.long name) left hint) os_is (subst (λ (n : List ℕ). IsHint os (spec.long n) left hint) (sym is) told)
+pub long_hinted : (options os : List Declared) (name text : List ℕ) (left : Tail) (hints : List (List ℕ)) → os ≡ options → name ≡ text → IsHint os (spec.long text) left hints
+    → IsHint options (spec.long name) left hints
+long_hinted options os name text left hints os_is is told =
+    subst (λ (o : List Declared). IsHint o (spec.long name) left hints) os_is (subst (λ (n : List ℕ). IsHint os (spec.long n) left hints) (sym is) told)
 
 -- a long option has one name
 pub one_name : (u w : UnreadLine) (text other : List ℕ) → RepliesWith Next u (found_as w.last found.Long) w → ((n : List ℕ) → w.last ≡ long_option n → text ≡ n) → ((n : List ℕ) → w.last ≡ long_option n → other ≡ n) → text ≡ other

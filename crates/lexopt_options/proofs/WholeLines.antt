@@ -135,7 +135,7 @@ lacks_option d words seen names index enough taken first are_names = record {
 -- ---- what was read before a mistake
 
 pub before_is : (d : Declaration) (m : Mistake) (why : stops.Mistake) (l : List legal.Parsed) → IsMistake d m why → before_mistake m l ≡ parsed_before why l
-before_is d (mistake.UnknownOption name hint) why l told = ap (λ w. parsed_before w l) (sym told.1)
+before_is d (mistake.UnknownOption name hints) why l told = ap (λ w. parsed_before w l) (sym told.1)
 before_is d (mistake.UnexpectedValue option value) why l told = ap (λ w. parsed_before w l) (sym told)
 before_is d (mistake.MissingValue option placeholder) why l told = ap (λ w. parsed_before w l) (sym told.1)
 before_is d (mistake.InvalidValue option value values) why l told = ap (λ w. parsed_before w l) (sym told.1)
@@ -146,7 +146,7 @@ before_is d (mistake.MissingOption names) why l told = ap (λ w. parsed_before w
 before_is d (mistake.InvalidVariable name) why l told = absurd told
 
 pub before_other : (m : Mistake) (l : List legal.Parsed) → ((option : _) (value : _) → m ≡ mistake.UnexpectedValue option value → ⊥) → before_mistake m l ≡ l
-before_other (mistake.UnknownOption name hint) l other = refl
+before_other (mistake.UnknownOption name hints) l other = refl
 before_other (mistake.UnexpectedValue option value) l other = absurd (other option value refl)
 before_other (mistake.MissingValue option placeholder) l other = refl
 before_other (mistake.InvalidValue option value values) l other = refl

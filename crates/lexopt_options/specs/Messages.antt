@@ -1,8 +1,8 @@
 -- The messages about a line that is refused. The source is `docs/formats.md`.
-use Rattle.std.specs.Prelude.{ℕ, List, ◌++◌, Option, Some, None, codes, map, string_bytes}
+use Rattle.std.specs.Prelude.{ℕ, List, ◌++◌, Option, codes, map, string_bytes}
 use Rattle.lexopt_spec.specs.Text.{escaped, unexpected_option_message, visible}
 use Rattle.lexopt_options_spec.specs.Help.{list_text}
-use Rattle.lexopt_declaration.specs.Texts.{escaped_text, help_line, names_text}
+use Rattle.lexopt_declaration.specs.Texts.{escaped_text, help_line, hint_text, names_text}
 use Rattle.lexopt_declaration.specs.declared.declaration.Names.{Names}
 use Rattle.lexopt_options.specs.declared.mistake.Mistake.{Mistake}
 use Rattle.lexopt_options.specs.declared.mistake.Mistake.TheVariants.{UnknownOption}
@@ -20,9 +20,8 @@ name_text (Short c) = codes "-" ++ escaped c
 name_text (Long name) = codes "--" ++ escaped_text (string_bytes name)
 
 abbrev pub message : Mistake → List ℕ
-message (UnknownOption name None) = unexpected_option_message (name_text name)
-message (UnknownOption name (Some hint)) = unexpected_option_message (name_text name)
-    ++ (codes "; did you mean '--" ++ (hint.now ++ codes "'?"))
+message (UnknownOption name hints) = unexpected_option_message (name_text name)
+    ++ hint_text (codes "--") (map (λ hint. hint.now) hints.items)
 message (UnexpectedValue option value) = codes "unexpected argument for option '"
     ++ (escaped_text (string_bytes option) ++ (codes "': " ++ visible value))
 message (MissingValue option placeholder) = codes "missing argument "

@@ -1,5 +1,5 @@
 -- What is wrong with a line, as contracts see it.
-use Rattle.std.specs.Prelude.{◌≡◌, ℕ, List, Some, map, option_map, slice_get, string_bytes}
+use Rattle.std.specs.Prelude.{◌≡◌, ℕ, List, Some, map, slice_get, string_bytes}
 use Rattle.std.specs.Borrow.{Bor}
 use Rattle.lexopt_spec.specs.UnreadLine.{Tail}
 use Rattle.lexopt_options_spec.specs.Declaration.{Declaration, Declared, Positional, listed}
@@ -35,9 +35,9 @@ AreWords positionals index placeholder values = (p : Positional)
 
 -- this mistake is that of the definitions
 abbrev pub IsMistake : Declaration → Mistake → stops.Mistake → Type 0
-IsMistake d (UnknownOption name hint) m = (left : Tail)
+IsMistake d (UnknownOption name hints) m = (left : Tail)
     × (m ≡ stops.unknown_option (name_view name) left)
-    × IsHint d.options (name_view name) left (option_map (λ text. text.now) hint)
+    × IsHint d.options (name_view name) left (map (λ hint. hint.now) hints.items)
 IsMistake d (UnexpectedValue option value) m =
     m ≡ stops.unexpected_value (string_bytes option) value
 IsMistake d (MissingValue option placeholder) m = (index : ℕ)

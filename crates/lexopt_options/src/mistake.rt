@@ -1,16 +1,15 @@
-//! What can be wrong with a line, the messages about it, and the hint after an unknown option.
-ghost use Rattle.std.specs.Prelude.{IfOk, map, option_map};
+//! What can be wrong with a line, the messages about it, and the hint after an unknown short option.
+ghost use Rattle.std.specs.Prelude.{IfOk, map};
 ghost use Rattle.lexopt_spec.specs.UnreadLine as unread;
-ghost use Rattle.lexopt_spec.specs.UnreadLine.{Tail};
-ghost use Rattle.lexopt_line_spec.specs.Table.{long, short};
+ghost use Rattle.lexopt_line_spec.specs.Table.{short};
 ghost use Rattle.lexopt_options_spec.specs.Nearest.{IsHint};
 ghost use Rattle.lexopt_declaration.specs.Models.{option_view};
 
 use lexopt_declaration::declaration::{Declared, Names};
+use lexopt_declaration::hints::write_hints;
 use lexopt_declaration::listed::Listed;
-use lexopt_declaration::lookup::long_name_of;
 use lexopt_declaration::message::Escaped;
-use lexopt_declaration::nearest::{nearest, only_ending, only_longer};
+use lexopt_declaration::nearest::ending;
 use lexopt_words::message::write_escaped;
 use lexopt_words::os_string::{OsString, Visible};
 use std::alloc::{AllocError, Global};
@@ -62,14 +61,14 @@ pub enum Mistake<'a> {
     UnknownOption {
         /// The name.
         name: OptionName,
-        /// The declared long name that may have been meant, if there is one.
+        /// The declared long names that may have been meant.
         ///
-        /// For a long option it is the nearest name, if its distance is at most a third of the
-        /// number of characters typed; otherwise the name that begins with what was typed, if
-        /// exactly one does. For a short option whose cluster goes on it is the name that ends with
-        /// the option and the rest of the cluster, if exactly one does: `--verbose` if `-verbose`
-        /// was typed.
-        hint: Option<&'a str>,
+        /// For a long option it is the nearest name alone, if its distance is at most a third of
+        /// the number of characters typed; otherwise the names that begin with what was typed, in
+        /// the order of the declaration, and at most the first five. None is meant by the empty
+        /// name. For a short option whose cluster goes on it is the name that ends with the option
+        /// and the rest of the cluster, if exactly one does: `--verbose` if `-verbose` was typed.
+        hints: Vec<&'a str>,
     },
     /// An option without values has a value joined to it: `--verbose=1`.
     UnexpectedValue {
@@ -125,11 +124,10 @@ impl fmt::Display for Mistake<'_> {
 
     fn fmt<W: fmt::Write>(&self, f: &mut fmt::Formatter<W>) -> fmt::Result {
         match self {
-            Mistake::UnknownOption { name, hint: None } => write!(f, "invalid option '{name}'"),
-            Mistake::UnknownOption {
-                name,
-                hint: Some(hint),
-            } => write!(f, "invalid option '{name}'; did you mean '--{hint}'?"),
+            Mistake::UnknownOption { name, hints } => {
+                write!(f, "invalid option '{name}'")?;
+                write_hints("--", hints, f)
+            }
             Mistake::UnexpectedValue { option, value } => {
                 let option = Escaped(option.as_str());
                 let value = Visible::new(value.as_bytes());
@@ -185,41 +183,22 @@ impl fmt::Display for Mistake<'_> {
 
 impl std::error::Error for Mistake<'_> {}
 
-/// Returns the declared long name that may have been meant by the long option `name`.
+/// Returns the declared long name that may have been meant by a cluster with a dash too few, if
+/// there is one: an undeclared option of it, and the `rest` after that.
 ///
 /// # Errors
 ///
 /// Returns `AllocError` if an allocation fails.
-pub(crate) fn long_hint<'a, F, V, M, S>(
+pub(crate) fn short_hints<'a, F, V, M, S>(
     alloc: Global,
-    options: &'a [Declared<'a, F, V, M, S>],
-    name: &str,
-) -> Result<Option<&'a str>, AllocError>
-    ensures { (left : Tail) → IfOk result (λ hint. IsHint (map option_view options.now)
-        (long name.now) left (option_map (λ text. text.now) hint)) }
-{
-    match nearest(alloc, name, options)? {
-        Some(index) => Ok(long_name_of(options, Some(index))),
-        None => Ok(only_longer(options, name)),
-    }
-}
-
-/// Returns the declared long name that may have been meant by a cluster with a dash too few: an
-/// undeclared option of it, and the `rest` after that.
-///
-/// # Errors
-///
-/// Returns `AllocError` if an allocation fails.
-pub(crate) fn short_hint<'a, F, V, M, S>(
-    alloc: Global,
-    options: &'a [Declared<'a, F, V, M, S>],
+    options: &[Declared<'a, F, V, M, S>],
     option: char,
     rest: &[u8],
-) -> Result<Option<&'a str>, AllocError>
-    ensures { IfOk result (λ hint. IsHint (map option_view options.now) (short option)
-        (unread.rest rest.now) (option_map (λ text. text.now) hint)) }
+) -> Result<Vec<&'a str>, AllocError>
+    ensures { IfOk result (λ hints. IsHint (map option_view options.now) (short option)
+        (unread.rest rest.now) (map (λ text. text.now) hints.items)) }
 {
     let mut back = format!(in alloc; "{option}")?.into_bytes();
     back.extend_from_slice(rest)?;
-    Ok(only_ending(options, &back))
+    ending(alloc, options, &back)
 }

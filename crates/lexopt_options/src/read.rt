@@ -38,7 +38,7 @@ ghost use Rattle.lexopt_options.specs.Reading.{IsReadByKey, StopsAtOption, index
 
 use crate::indexed::Indexed;
 use crate::listed::{accepts, invalid_value, refused_place};
-use crate::mistake::{Mistake, OptionName, long_hint, short_hint};
+use crate::mistake::{Mistake, OptionName, short_hints};
 use crate::options::Options;
 use crate::parsed::{Asked, ByKey, Parsed};
 use crate::places::{first_key, give_keys};
@@ -51,6 +51,7 @@ use lexopt_declaration::declaration::{Declared, Names};
 use lexopt_declaration::lookup::{
     help_names_of, index_of_long, index_of_short, option_placeholder,
 };
+use lexopt_declaration::nearest::hinted_names;
 use lexopt_declaration::positionals::argument_placeholder;
 use lexopt_items::kinds::Kind;
 use lexopt_items::values::{Values, read_values};
@@ -240,9 +241,9 @@ fn unknown_long<'a, F, V, P, M, S>(
     ensures { IfOk result (λ mistake. (left : Tail) → IsMistake (declaration_of options.now) mistake
         (stops.unknown_option (table.long name.now) left)) }
 {
-    let hint = long_hint(alloc, options.options(), name)?;
+    let hints = hinted_names(alloc, options.options(), name)?;
     let name = OptionName::Long(String::from_str(alloc, name)?);
-    Ok(Mistake::UnknownOption { name, hint })
+    Ok(Mistake::UnknownOption { name, hints })
 }
 
 // The mistake that a short option, which was just read, is not declared. This takes the rest of its
@@ -259,12 +260,12 @@ fn unknown_short<'a, F, V, P, M, S>(
 {
     // So a leading `=` stays part of the rest.
     parser.set_short_equals(false);
-    let hint = match parser.optional_value() {
-        Some(rest) => short_hint(alloc, options.options(), option, rest.as_bytes())?,
-        None => None,
+    let hints = match parser.optional_value() {
+        Some(rest) => short_hints(alloc, options.options(), option, rest.as_bytes())?,
+        None => Vec::new(alloc),
     };
     let name = OptionName::Short(option);
-    Ok(Mistake::UnknownOption { name, hint })
+    Ok(Mistake::UnknownOption { name, hints })
 }
 
 // Whether `count` positionals are as many as there may be.

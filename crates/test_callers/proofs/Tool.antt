@@ -93,8 +93,8 @@ names_are d (names.Long own) short long = (short, long)
 names_are d (names.Both c own) short long = (short, long)
 
 stopped_by : (S : stops.Mistake → Type 0) (m : Mistake) (why : stops.Mistake) → IsMistake tool m why → S why → StoppedBy S m
-stopped_by S (mistake.UnknownOption (name.Short c) hint) why is stopped = (is.0, subst S is.1 stopped, is.2)
-stopped_by S (mistake.UnknownOption (name.Long own) hint) why is stopped = (is.0, subst S is.1 stopped, is.2)
+stopped_by S (mistake.UnknownOption (name.Short c) hints) why is stopped = (is.0, subst S is.1 stopped, is.2)
+stopped_by S (mistake.UnknownOption (name.Long own) hints) why is stopped = (is.0, subst S is.1 stopped, is.2)
 stopped_by S (mistake.UnexpectedValue option value) why is stopped = subst S is stopped
 stopped_by S (mistake.MissingValue option placeholder) why is stopped = (is.0, subst S is.1 stopped, is.2)
 stopped_by S (mistake.InvalidValue own value values) why (index, same, (d, here, short, long), are) stopped =

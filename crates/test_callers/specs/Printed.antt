@@ -77,12 +77,21 @@ abbrev pub typed_name : OptionName → List ℕ
 typed_name (typed.Short c) = codes "-" ++ escaped c
 typed_name (typed.Long name) = codes "--" ++ printed_text (string_bytes name)
 
+-- a long name in quotes
+abbrev pub hinted : List ℕ → List ℕ
+hinted name = codes "'--" ++ (name ++ codes "'")
+
+-- the long names that may have been meant
+abbrev pub hints_line : List (List ℕ) → List ℕ
+hints_line [] = []
+hints_line (name ∷ []) = codes "; did you mean " ++ (hinted name ++ codes "?")
+hints_line (name ∷ names) =
+    codes "; did you mean one of " ++ (list_text (map hinted (name ∷ names)) ++ codes "?")
+
 abbrev pub mistake_line : Mistake → List ℕ
-mistake_line (mistake.UnknownOption name None) =
-    codes "invalid option '" ++ (typed_name name ++ codes "'")
-mistake_line (mistake.UnknownOption name (Some hint)) =
+mistake_line (mistake.UnknownOption name hints) =
     (codes "invalid option '" ++ (typed_name name ++ codes "'"))
-    ++ (codes "; did you mean '--" ++ (hint.now ++ codes "'?"))
+    ++ hints_line (map (λ hint. hint.now) hints.items)
 mistake_line (mistake.UnexpectedValue option value) = codes "unexpected argument for option '"
     ++ (printed_text (string_bytes option) ++ (codes "': " ++ visible value))
 mistake_line (mistake.MissingValue option placeholder) = codes "missing argument "

@@ -172,12 +172,12 @@ HasNames o (names.Both c own) = (o.short_name ≡ Some c) × (o.long_name ≡ So
 
 -- the reading stops at this mistake, if S holds of the mistakes at which it stops
 abbrev pub StoppedBy : (stops.Mistake → Type 0) → Mistake → Type 0
-StoppedBy S (mistake.UnknownOption (name.Short c) hint) = (left : Tail)
+StoppedBy S (mistake.UnknownOption (name.Short c) hints) = (left : Tail)
     × S (stops.unknown_option (short c) left)
-    × IsHint tool_options (short c) left (option_map (λ text. text.now) hint)
-StoppedBy S (mistake.UnknownOption (name.Long own) hint) = (left : Tail)
+    × IsHint tool_options (short c) left (map (λ hint. hint.now) hints.items)
+StoppedBy S (mistake.UnknownOption (name.Long own) hints) = (left : Tail)
     × S (stops.unknown_option (long (string_bytes own)) left)
-    × IsHint tool_options (long (string_bytes own)) left (option_map (λ text. text.now) hint)
+    × IsHint tool_options (long (string_bytes own)) left (map (λ hint. hint.now) hints.items)
 StoppedBy S (mistake.UnexpectedValue option value) =
     S (stops.unexpected_value (string_bytes option) value)
 StoppedBy S (mistake.MissingValue option placeholder) = (index : ℕ)

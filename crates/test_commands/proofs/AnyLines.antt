@@ -33,13 +33,13 @@ by_options : {C F V P M S : Type 0} (o : Options F V P M S) (commands : List (Co
     → IsOptionMistake o words r m → (r.program.now ≡ (declaration_of o).program) × (r.help ≡ help_names (options_of o)) × HaveMistake o commands words r m
 by_options o commands words r (mistake.General own) is = (is.program, is.help, is)
 by_options o commands words r (mistake.MissingCommand names) is = absurd is
-by_options o commands words r (mistake.UnknownCommand word hint) is = absurd is
+by_options o commands words r (mistake.UnknownCommand word hints) is = absurd is
 
 by_words : {C F V P M S : Type 0} (o : Options F V P M S) (commands : List (Command C)) (words : List (List ℕ)) (r : Refused F V P M S) (m : Mistake) (l : List legal.Parsed) (rest : List (List ℕ))
     → MeansLeading (declaration_of o) words l rest → first_asked (declaration_of o).options l ≡ None → AreParsedAs (options_of o) l r.before.items → IsMistake commands rest m → HaveMistake o commands words r m
 by_words o commands words r (mistake.General own) l rest means none are told = absurd told
 by_words o commands words r (mistake.MissingCommand names) l rest means none are told = ((l, rest, means, none, are, told.0), told.1)
-by_words o commands words r (mistake.UnknownCommand word hint) l rest means none are told = ((l, rest, means, none, are, told.0), told.1)
+by_words o commands words r (mistake.UnknownCommand word hints) l rest means none are told = ((l, rest, means, none, are, told.0), told.1)
 
 line_so : {C F V P M S : Type 0} (c : Commands C F V P M S) (words : List (List ℕ)) (it : CommandLine C F V P M S) → IsLineRead c words it → LineTells c.options c.commands.now words it
 line_so c words (line.Command parsed key own) is = ⊎_elim (λ no. absurd no)
@@ -102,7 +102,7 @@ unknown_so : {C F V P M S : Type 0} (c : Commands C F V P M S) (width : ℕ) (r 
     → IsUnknown c r m → (r.program.now ≡ (declaration_of c.options).program) × (r.help ≡ help_names (options_of c.options)) × (r.before.items ≡ []) × IsVariable (declaration_of c.options).program m
 unknown_so c width r (mistake.General own) is = (is.program, is.help, is.before, subst (λ m. IsVariable (declaration_of c.options).program (mistake.General m)) (sym is.mistake) is.variable)
 unknown_so c width r (mistake.MissingCommand names) is = absurd is
-unknown_so c width r (mistake.UnknownCommand word hint) is = absurd is
+unknown_so c width r (mistake.UnknownCommand word hints) is = absurd is
 
 request_so : {C F V P M S : Type 0} (c : Commands C F V P M S) (asked : Request) (width : ℕ) (it : Step C F V P M S) → IsRequestStep c asked width it → RequestTells c.options c.commands.now asked width it
 request_so c (request.Line words) width it is = step_so c words.items width it is

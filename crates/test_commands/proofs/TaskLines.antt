@@ -1,6 +1,5 @@
 -- Lines of three commands, by the clauses of `Commands::read`.
-use Rattle.std.proofs.Common.{◌≡◌, ℕ, List, [], ◌∷◌, Option, None, codes, string_bytes, sym, subst, ◌∙◌}
-use Rattle.std.specs.Prelude.{option_map}
+use Rattle.std.proofs.Common.{◌≡◌, ℕ, List, [], ◌∷◌, None, codes, map, sym, subst, ◌∙◌}
 use Rattle.lexopt_options_spec.specs.Asking.{first_asked}
 use Rattle.lexopt_options_spec.specs.Legal as legal
 use Rattle.lexopt_options.specs.declared.parsed.Parsed.{Parsed}
@@ -18,7 +17,7 @@ use Rattle.lexopt_commands.specs.Meanings.{Meaning, command, help, meaning, miss
 use Rattle.lexopt_commands.specs.Mistakes.{IsHint, IsMistake}
 use Rattle.lexopt_commands.specs.Names.{names_of}
 use Rattle.test_commands.specs.declared.callers.Task.{Task}
-use Rattle.test_commands.specs.Tasks.{IsAsking, IsHintFor, IsMissing, IsMissingName, IsTask, IsUnknown, IsUnknownName}
+use Rattle.test_commands.specs.Tasks.{IsAsking, AreHintsFor, IsMissing, IsMissingName, IsTask, IsUnknown, IsUnknownName}
 
 -- the words after the general options are this command
 pub is_task : {F V P M S : Type 0} (c : Commands Task F V P M S) (l : List legal.Parsed) (parsed : List (Parsed F V P M S)) (rest own : List (List ℕ)) (task : Task) (it : CommandLine Task F V P M S)
@@ -38,7 +37,7 @@ is_task c l parsed rest own task (line.Refused refused) means are after = no_mis
     no_mistake : (m : Mistake) → IsMistake c.commands.now rest m → ⊥
     no_mistake (mistake.General m) told = told
     no_mistake (mistake.MissingCommand names) told = let e : command task own ≡ missing = sym means ∙ told.0 in cc
-    no_mistake (mistake.UnknownCommand word hint) told = let e : command task own ≡ unknown word = sym means ∙ told.0 in cc
+    no_mistake (mistake.UnknownCommand word hints) told = let e : command task own ≡ unknown word = sym means ∙ told.0 in cc
 
 pub is_asking : {F V P M S : Type 0} (c : Commands Task F V P M S) (parsed : List (Parsed F V P M S)) (rest : List (List ℕ)) (it : CommandLine Task F V P M S)
     → meaning c.commands.now rest ≡ help → IsLineAfter c parsed rest it → IsAsking it
@@ -49,7 +48,7 @@ is_asking c parsed rest (line.Refused refused) means after = no_mistake refused.
     no_mistake : (m : Mistake) → IsMistake c.commands.now rest m → ⊥
     no_mistake (mistake.General m) told = told
     no_mistake (mistake.MissingCommand names) told = let e : ◌≡◌ {A = Meaning Task} help missing = sym means ∙ told.0 in cc
-    no_mistake (mistake.UnknownCommand word hint) told = let e : ◌≡◌ {A = Meaning Task} help (unknown word) = sym means ∙ told.0 in cc
+    no_mistake (mistake.UnknownCommand word hints) told = let e : ◌≡◌ {A = Meaning Task} help (unknown word) = sym means ∙ told.0 in cc
 
 pub is_missing : {F V P M S : Type 0} (c : Commands Task F V P M S) (l : List legal.Parsed) (parsed : List (Parsed F V P M S)) (it : CommandLine Task F V P M S)
     → names_of c.commands.now ≡ codes "add" ∷ codes "remote" ∷ codes "help" ∷ [] → AreParsedAs (options_of c.options) l parsed → IsLineAfter c parsed [] it → IsMissing (options_of c.options) l it
@@ -60,24 +59,24 @@ is_missing c l parsed (line.Refused refused) names are after = (subst (λ x. Are
     by_mistake : (m : Mistake) → IsMistake c.commands.now [] m → IsMissingName m
     by_mistake (mistake.General m) told = told
     by_mistake (mistake.MissingCommand own) told = told.1 ∙ names
-    by_mistake (mistake.UnknownCommand word hint) told = let e : ◌≡◌ {A = Meaning Task} missing (unknown word) = told.0 in cc
+    by_mistake (mistake.UnknownCommand word hints) told = let e : ◌≡◌ {A = Meaning Task} missing (unknown word) = told.0 in cc
 
 same_name : (name word : List ℕ) → ◌≡◌ {A = Meaning Task} (unknown name) (unknown word) → word ≡ name
 same_name name word e = cc
 
 pub is_unknown : {F V P M S : Type 0} (c : Commands Task F V P M S) (l : List legal.Parsed) (parsed : List (Parsed F V P M S)) (rest : List (List ℕ)) (name typed : List ℕ) (it : CommandLine Task F V P M S)
-    → meaning c.commands.now rest ≡ unknown name → ((hint : Option (List ℕ)) → IsHint c.commands.now name hint → IsHintFor typed hint) → AreParsedAs (options_of c.options) l parsed → IsLineAfter c parsed rest it
+    → meaning c.commands.now rest ≡ unknown name → ((own : List (List ℕ)) → IsHint c.commands.now name own → AreHintsFor typed own) → AreParsedAs (options_of c.options) l parsed → IsLineAfter c parsed rest it
     → IsUnknown (options_of c.options) l name typed it
-is_unknown c l parsed rest name typed (line.Command words key others) means hints are after = let e : ◌≡◌ {A = Meaning Task} (unknown name) (command key others.items) = sym means ∙ after.1 in cc
-is_unknown c l parsed rest name typed (line.Asked asked) means hints are after = let e : ◌≡◌ {A = Meaning Task} (unknown name) help = sym means ∙ after.0 in cc
-is_unknown c l parsed rest name typed (line.Refused refused) means hints are after = (subst (λ x. AreParsedAs (options_of c.options) l x) (sym after.before) are, by_mistake refused.mistake after.told)
+is_unknown c l parsed rest name typed (line.Command words key others) means are_hints are after = let e : ◌≡◌ {A = Meaning Task} (unknown name) (command key others.items) = sym means ∙ after.1 in cc
+is_unknown c l parsed rest name typed (line.Asked asked) means are_hints are after = let e : ◌≡◌ {A = Meaning Task} (unknown name) help = sym means ∙ after.0 in cc
+is_unknown c l parsed rest name typed (line.Refused refused) means are_hints are after = (subst (λ x. AreParsedAs (options_of c.options) l x) (sym after.before) are, by_mistake refused.mistake after.told)
   where
     by_mistake : (m : Mistake) → IsMistake c.commands.now rest m → IsUnknownName name typed m
     by_mistake (mistake.General m) told = told
     by_mistake (mistake.MissingCommand own) told = let e : ◌≡◌ {A = Meaning Task} (unknown name) missing = sym means ∙ told.0 in cc
-    by_mistake (mistake.UnknownCommand word hint) told =
+    by_mistake (mistake.UnknownCommand word hints) told =
         let same = same_name name word (sym means ∙ told.0) in
-        (same, hints (option_map string_bytes hint) (subst (λ w. IsHint c.commands.now w (option_map string_bytes hint)) same told.1))
+        (same, are_hints (map (λ hint. hint.now) hints.items) (subst (λ w. IsHint c.commands.now w (map (λ hint. hint.now) hints.items)) same told.1))
 
 -- ---- under the general options of the caller
 
@@ -104,11 +103,11 @@ missing_line c o l it same none names of =
     subst (λ x. IsMissing (options_of x) l it) same (is_missing c l a.0 it names a.1 a.2)
 
 pub unknown_line : {F V P M S : Type 0} (c : Commands Task F V P M S) (o : Options F V P M S) (l : List legal.Parsed) (rest : List (List ℕ)) (name typed : List ℕ) (it : CommandLine Task F V P M S)
-    → c.options ≡ o → first_asked (declaration_of o).options l ≡ None → meaning c.commands.now rest ≡ unknown name → ((hint : Option (List ℕ)) → IsHint c.commands.now name hint → IsHintFor typed hint) → IsLineOf c l rest it
+    → c.options ≡ o → first_asked (declaration_of o).options l ≡ None → meaning c.commands.now rest ≡ unknown name → ((own : List (List ℕ)) → IsHint c.commands.now name own → AreHintsFor typed own) → IsLineOf c l rest it
     → IsUnknown (options_of o) l name typed it
-unknown_line c o l rest name typed it same none means hints of =
+unknown_line c o l rest name typed it same none means are_hints of =
     let a = after_none c o l rest it same none of in
-    subst (λ x. IsUnknown (options_of x) l name typed it) same (is_unknown c l a.0 rest name typed it means hints a.1 a.2)
+    subst (λ x. IsUnknown (options_of x) l name typed it) same (is_unknown c l a.0 rest name typed it means are_hints a.1 a.2)
 
 -- equal options read the same words in the same way
 pub of_options : {F V P M S : Type 0} (o own : Options F V P M S) (words : List (List ℕ)) (l : List legal.Parsed) (rest : List (List ℕ)) → o ≡ own → MeansLeading (declaration_of own) words l rest → MeansLeading (declaration_of o) words l rest

@@ -1,5 +1,5 @@
 -- What lines of any commands mean, by the meaning of their words.
-use Rattle.std.specs.Prelude.{◌≡◌, ◌⊎◌, ◌++◌, ℕ, List, [], ◌∷◌, None, map, option_map}
+use Rattle.std.specs.Prelude.{◌≡◌, ◌⊎◌, ◌++◌, ℕ, List, [], ◌∷◌, None, map}
 use Rattle.std.specs.Prelude.{string_bytes}
 use Rattle.lexopt_options_spec.specs.Asking.{first_asked}
 use Rattle.lexopt_options_spec.specs.Declaration as spec
@@ -54,9 +54,9 @@ HaveMistake o commands words r (mistake.General own) = IsLeadingRefused o words 
 HaveMistake o commands words r (mistake.MissingCommand names) =
     MeanSo o commands words r.before.items missing
     × (map (λ name. name.now) names.items ≡ map (λ c. c.name.now) commands)
-HaveMistake o commands words r (mistake.UnknownCommand word hint) =
+HaveMistake o commands words r (mistake.UnknownCommand word hints) =
     MeanSo o commands words r.before.items (unknown word)
-    × IsHint commands word (option_map string_bytes hint)
+    × IsHint commands word (map (λ hint. hint.now) hints.items)
 
 abbrev pub LineTells : {C F V P M S : Type 0} → Options F V P M S → List (Command C)
     → List (List ℕ) → CommandLine C F V P M S → Type 0

@@ -1,6 +1,6 @@
 -- What lines of three commands mean, what completes a word, and what the help shows, by plain data.
 use Rattle.std.specs.Prelude.{◌≡◌, ◌⊎◌, ◌++◌, ℕ, if◌then◌else◌, nat_eq, List, [], ◌∷◌}
-use Rattle.std.specs.Prelude.{Option, Some, None, codes, false, map, option_map, string_bytes}
+use Rattle.std.specs.Prelude.{Option, Some, None, codes, false, map, string_bytes}
 use Rattle.std.specs.List.{AllZip, concat, flat_map, starts_with}
 use Rattle.lexopt_line_spec.specs.Table.{flag}
 use Rattle.lexopt_options_spec.specs.Asking.{first_asked}
@@ -10,7 +10,7 @@ use Rattle.lexopt_options_spec.specs.Help.{IsEntry, IsParagraph, IsUsage, descri
 use Rattle.lexopt_options_spec.specs.Help.{set_apart, visible, with_list}
 use Rattle.lexopt_options_spec.specs.Leading.{MeansLeading}
 use Rattle.lexopt_options_spec.specs.Legal as legal
-use Rattle.lexopt_options_spec.specs.Nearest.{IsNearest, hinted_name}
+use Rattle.lexopt_options_spec.specs.Nearest.{IsNearest, hinted_names}
 use Rattle.lexopt_declaration.specs.declared.declaration.Declared.{Declared}
 use Rattle.lexopt_options.specs.declared.parsed.Asked.TheVariants.{Help}
 use Rattle.lexopt_options.specs.declared.options.Options.{Options}
@@ -70,17 +70,17 @@ long_option p = record {
   words = spec.files;
 }
 
--- the hint for this text, if the names of the commands were those of long options
-abbrev pub IsHintFor : List ℕ → Option (List ℕ) → Type 0
-IsHintFor typed hint = (found : Option ℕ) × IsNearest (map long_option task_helps) typed found
-    × (hint ≡ hinted_name (map long_option task_helps) typed found)
+-- the hints for this text, if the names of the commands were those of long options
+abbrev pub AreHintsFor : List ℕ → List (List ℕ) → Type 0
+AreHintsFor typed hints = (found : Option ℕ) × IsNearest (map long_option task_helps) typed found
+    × (hints ≡ hinted_names (map long_option task_helps) typed found)
 
 abbrev pub IsUnknownName : List ℕ → List ℕ → Mistake → Type 0
-IsUnknownName name typed (mistake.UnknownCommand word hint) =
-    (word ≡ name) × IsHintFor typed (option_map string_bytes hint)
+IsUnknownName name typed (mistake.UnknownCommand word hints) =
+    (word ≡ name) × AreHintsFor typed (map (λ hint. hint.now) hints.items)
 IsUnknownName name typed m = ⊥
 
--- no command has this name, and its hint is the one for this text
+-- no command has this name, and its hints are those for this text
 abbrev pub IsUnknown : {F V P M S : Type 0} → List (Declared F V M S) → List legal.Parsed → List ℕ
     → List ℕ → CommandLine Task F V P M S → Type 0
 IsUnknown options l name typed (line.Refused refused) = AreParsedAs options l refused.before.items

@@ -39,16 +39,24 @@ abbrev pub IsPrinted : List ℕ → List ℕ → Type 0
 IsPrinted word text =
     options.message (UnexpectedArgument word) ≡ codes "unexpected argument " ++ text
 
+-- a name in quotes
+abbrev pub hinted : List ℕ → List ℕ
+hinted name = codes "'" ++ (name ++ codes "'")
+
+-- the names that may have been meant
+abbrev pub hints_line : List (List ℕ) → List ℕ
+hints_line [] = []
+hints_line (name ∷ []) = codes "; did you mean " ++ (hinted name ++ codes "?")
+hints_line (name ∷ names) =
+    codes "; did you mean one of " ++ (list_text (map hinted (name ∷ names)) ++ codes "?")
+
 -- what is wrong
 abbrev pub IsMessage : Mistake → List ℕ → Type 0
 IsMessage (mistake.General own) text = text ≡ options.message own
 IsMessage (mistake.MissingCommand names) text =
     text ≡ codes "missing command: one of " ++ list_text (map (λ name. name.now) names.items)
-IsMessage (mistake.UnknownCommand word None) text = (own : List ℕ) × IsPrinted word own
-    × (text ≡ codes "unknown command " ++ own)
-IsMessage (mistake.UnknownCommand word (Some hint)) text = (own : List ℕ) × IsPrinted word own
-    × (text ≡ codes "unknown command " ++ (own
-    ++ (codes "; did you mean '" ++ (string_bytes hint ++ codes "'?"))))
+IsMessage (mistake.UnknownCommand word hints) text = (own : List ℕ) × IsPrinted word own
+    × (text ≡ codes "unknown command " ++ (own ++ hints_line (map (λ hint. hint.now) hints.items)))
 
 -- the name of the program, what is wrong, and where the help is
 abbrev pub IsRefusal : {F V P M S : Type 0} → Refused F V P M S → List ℕ → Type 0

@@ -138,7 +138,12 @@ static MISTAKES: [(&[u8], &str); 21] = [
         b"ad",
         "[], then unknown command \"ad\"; did you mean 'add'?",
     ),
-    (b"re", "[], then unknown command \"re\""),
+    // Two names begin with this one.
+    (
+        b"re",
+        "[], then unknown command \"re\"; did you mean one of 'remove', 'remote'?",
+    ),
+    // Every name begins with the empty word, but it has no hint.
     (b"-- ", "[], then unknown command \"\""),
     (
         b"a\xFFd",

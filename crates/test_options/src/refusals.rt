@@ -250,6 +250,60 @@ fn a_dash_too_few(rt: HostRuntime) {
     );
 }
 
+// Options whose names begin alike. One name begins another.
+static ALIKE: Archive<'static> = declare! {
+    program: "archive",
+    options: [
+        flag(Flag::Verbose, Names::Long("recursive"), ""),
+        flag(Flag::Verbose, Names::Long("reference"), ""),
+        flag(Flag::Verbose, Names::Long("regexp"), ""),
+        flag(Flag::Verbose, Names::Long("remove"), ""),
+        flag(Flag::Verbose, Names::Long("remove-all"), ""),
+        flag(Flag::Verbose, Names::Long("replace"), ""),
+        help(Names::Both('h', "help")),
+    ],
+};
+
+static SEVERAL_HINTS: [(&[u8], &str, &str); 7] = [
+    (
+        b"--rem",
+        "[]",
+        "invalid option '--rem'; did you mean one of '--remove', '--remove-all'?",
+    ),
+    // Six names begin so. The first five are named.
+    (
+        b"--re=1",
+        "[]",
+        "invalid option '--re'; did you mean one of '--recursive', '--reference', '--regexp', \
+         '--remove', '--remove-all'?",
+    ),
+    (
+        b"--rep",
+        "[]",
+        "invalid option '--rep'; did you mean '--replace'?",
+    ),
+    // Two names begin so, and one is near.
+    (
+        b"--remov",
+        "[]",
+        "invalid option '--remov'; did you mean '--remove'?",
+    ),
+    (b"--all", "[]", "invalid option '--all'"),
+    // Every name begins with the empty one, but it has no hint.
+    (b"--=re", "[]", "invalid option '--'"),
+    // The rest of the cluster begins a name, and ends none.
+    (b"-rem", "[]", "invalid option '-r'"),
+];
+
+#[test]
+fn several_hints(rt: HostRuntime) {
+    let options = Options::try_new(&ALIKE).ok();
+    assert_eq!(rt;
+        first_wrong(rt.alloc(), options, &SEVERAL_HINTS).expect(&rt, "success"),
+        None
+    );
+}
+
 // Options of one value, of an optional value and of several values, each with a list.
 static LISTS: Archive<'static> = declare! {
     program: "archive",

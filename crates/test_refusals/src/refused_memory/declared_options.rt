@@ -113,6 +113,18 @@ fn declared_mistake(rt: HostRuntime) -> Result<(), Fail> {
     )
 }
 
+// A mistake with two hints, since no name is near.
+#[test]
+fn declared_beginning(rt: HostRuntime) -> Result<(), Fail> {
+    check_answer(
+        rt.alloc(),
+        Options::new(&PACK),
+        b"--ver",
+        "pack: invalid option '--ver'; did you mean one of '--verbose', '--version'?\n\
+        Try 'pack --help' for more information.",
+    )
+}
+
 // A mistake in a cluster. The hint is the long option, which has one more dash.
 #[test]
 fn declared_cluster(rt: HostRuntime) -> Result<(), Fail> {
