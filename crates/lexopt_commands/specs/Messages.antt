@@ -2,8 +2,8 @@
 -- source is `docs/formats.md`.
 use Rattle.std.specs.Prelude.{ℕ, List, [], ◌++◌, codes, map}
 use Rattle.lexopt_spec.specs.Text.{visible}
-use Rattle.lexopt_options_spec.specs.Help.{list_text}
-use Rattle.lexopt_declaration.specs.Texts.{escaped_text, hint_text}
+use Rattle.lexopt_options_spec.specs.Help.{escaped_text, list_text}
+use Rattle.lexopt_declaration.specs.Texts.{hint_text}
 use Rattle.lexopt_options.specs.Messages as options
 use Rattle.lexopt_commands.specs.declared.command.CommandError.{CommandError}
 use Rattle.lexopt_commands.specs.declared.command.Reason.{Reason}
@@ -31,6 +31,6 @@ command_error_text error =
 abbrev pub message : Mistake → List ℕ
 message (mistake.General own) = options.message own
 message (mistake.MissingCommand names) =
-    codes "missing command: one of " ++ list_text (map (λ name. name.now) names.items)
+    codes "missing command: one of " ++ list_text (map (λ name. escaped_text name.now) names.items)
 message (mistake.UnknownCommand word hints) = codes "unknown command " ++ (visible word
     ++ hint_text [] (map (λ hint. hint.now) hints.items))

@@ -2,11 +2,9 @@
 -- declared. The source is `docs/formats.md`.
 use Rattle.std.specs.Prelude.{ℕ, List, [], ◌++◌, Option, Some, None, codes, encode_utf8}
 use Rattle.std.specs.Prelude.{nat_lt, ◌==◌, ◌||◌, if◌then◌else◌}
-use Rattle.std.specs.List.{flat_map}
-use Rattle.std.specs.Str.{chars}
 use Rattle.std.specs.Prelude.{◌∷◌, map}
 use Rattle.lexopt_spec.specs.Text.{escaped}
-use Rattle.lexopt_options_spec.specs.Help.{list_text}
+use Rattle.lexopt_options_spec.specs.Help.{escaped_text, list_text}
 use Rattle.lexopt_declaration.specs.declared.declaration.DeclarationError.{DeclarationError}
 use Rattle.lexopt_declaration.specs.declared.declaration.DeclarationError.TheVariants as error
 use Rattle.lexopt_declaration.specs.declared.declaration.Reason.{Reason}
@@ -18,10 +16,6 @@ use Rattle.lexopt_declaration.specs.declared.declaration.Reason.TheVariants.{Bad
 use Rattle.lexopt_declaration.specs.declared.declaration.Reason.TheVariants.{BadList, SameName}
 use Rattle.lexopt_declaration.specs.declared.declaration.Names.{Names}
 use Rattle.lexopt_declaration.specs.declared.declaration.Names.TheVariants.{Short, Long, Both}
-
--- a name or a placeholder
-abbrev pub escaped_text : List ℕ → List ℕ
-escaped_text text = flat_map escaped (chars text)
 
 -- an option with its dashes: by its name, if it has one
 abbrev pub names_text : Names → List ℕ
@@ -37,7 +31,7 @@ help_line program (Some names) = codes "\nTry '"
 
 -- a name in quotes, with these dashes before it
 abbrev pub name_in_quotes : List ℕ → List ℕ → List ℕ
-name_in_quotes dashes name = codes "'" ++ (dashes ++ (name ++ codes "'"))
+name_in_quotes dashes name = codes "'" ++ (dashes ++ (escaped_text name ++ codes "'"))
 
 -- which names may have been meant, each with these dashes before it
 abbrev pub hint_text : List ℕ → List (List ℕ) → List ℕ

@@ -1,6 +1,6 @@
 //! Worked examples of names and placeholders in messages, which the definitions compute.
 ghost use Rattle.std.specs.Prelude.{◌≡◌, ◌∷◌, [], codes};
-ghost use Rattle.lexopt_declaration.specs.Texts.{escaped_text};
+ghost use Rattle.lexopt_options_spec.specs.Help.{escaped_text};
 
 /// A character that a terminal may act on is escaped; every other character is written as it is,
 /// even a quote, a backslash or one past ASCII.

@@ -5,6 +5,7 @@ ghost use Rattle.std.specs.List.{flat_map};
 ghost use Rattle.lexopt_options_spec.specs.Help.{list_text};
 ghost use Rattle.lexopt_declaration.specs.Texts.{hint_text, name_in_quotes};
 
+use crate::message::Escaped;
 use std::fmt;
 
 // Writes names in quotes, each after a comma and a blank, and with `dashes` before it.
@@ -17,6 +18,7 @@ fn write_others<W: fmt::Write>(
         (map (λ other. name_in_quotes dashes.now other.now) others.now)) f.new }
 {
     for other in others {
+        let other = Escaped(other);
         write!(f, ", '{dashes}{other}'")?;
     }
     Ok(())
@@ -33,6 +35,7 @@ fn write_names<W: fmt::Write>(
 {
     match names {
         [first, others @ ..] => {
+            let first = Escaped(first);
             write!(f, "'{dashes}{first}'")?;
             write_others(dashes, others, f)
         }
@@ -67,7 +70,10 @@ pub fn write_hints<W: fmt::Write>(
 {
     match names {
         [] => Ok(()),
-        [name] => write!(f, "; did you mean '{dashes}{name}'?"),
+        [name] => {
+            let name = Escaped(name);
+            write!(f, "; did you mean '{dashes}{name}'?")
+        }
         _ => write_several(dashes, names, f),
     }
 }

@@ -4,7 +4,8 @@ ghost use Rattle.std.specs.Prelude.{◌≡◌, ◌++◌, OnOk, string_bytes};
 ghost use Rattle.std.specs.Fmt.{WritesOnOk};
 ghost use Rattle.std.specs.List.{flat_map};
 ghost use Rattle.std.specs.Str.{chars};
-ghost use Rattle.lexopt_declaration.specs.Texts.{escaped_text, help_line, on_one_line};
+ghost use Rattle.lexopt_options_spec.specs.Help.{escaped_text};
+ghost use Rattle.lexopt_declaration.specs.Texts.{help_line, on_one_line};
 
 use crate::declaration::Names;
 use lexopt_words::message::write_escaped;
@@ -28,7 +29,7 @@ pub struct Escaped<'a>(pub &'a str);
 
 impl fmt::Display for Escaped<'_> {
     ghost use Rattle.std.specs.Prelude.{Some};
-    ghost use Rattle.lexopt_declaration.specs.Texts.{escaped_text};
+    ghost use Rattle.lexopt_options_spec.specs.Help.{escaped_text};
 
     ghost output = { λ text. Some (escaped_text text.0.now) };
 

@@ -1,8 +1,8 @@
 -- The messages about a line that is refused. The source is `docs/formats.md`.
 use Rattle.std.specs.Prelude.{ℕ, List, ◌++◌, Option, codes, map, string_bytes}
 use Rattle.lexopt_spec.specs.Text.{escaped, unexpected_option_message, visible}
-use Rattle.lexopt_options_spec.specs.Help.{list_text}
-use Rattle.lexopt_declaration.specs.Texts.{escaped_text, help_line, hint_text, names_text}
+use Rattle.lexopt_options_spec.specs.Help.{escaped_text, list_text}
+use Rattle.lexopt_declaration.specs.Texts.{help_line, hint_text, names_text}
 use Rattle.lexopt_declaration.specs.declared.declaration.Names.{Names}
 use Rattle.lexopt_options.specs.declared.mistake.Mistake.{Mistake}
 use Rattle.lexopt_options.specs.declared.mistake.Mistake.TheVariants.{UnknownOption}
@@ -29,12 +29,12 @@ message (MissingValue option placeholder) = codes "missing argument "
     ++ (codes " for option '" ++ (escaped_text (string_bytes option) ++ codes "'")))
 message (InvalidValue option value values) = codes "invalid value " ++ (visible value
     ++ (codes " for '" ++ (names_text option
-    ++ (codes "': one of " ++ list_text (map (λ own. own.now) values.now)))))
+    ++ (codes "': one of " ++ list_text (map (λ own. escaped_text own.now) values.now)))))
 message (UnexpectedArgument word) = codes "unexpected argument " ++ visible word
 message (MissingArgument placeholder) = codes "missing argument " ++ escaped_text placeholder.now
 message (InvalidArgument placeholder word values) = codes "invalid argument " ++ (visible word
     ++ (codes " for " ++ (escaped_text placeholder.now
-    ++ (codes ": one of " ++ list_text (map (λ own. own.now) values.now)))))
+    ++ (codes ": one of " ++ list_text (map (λ own. escaped_text own.now) values.now)))))
 message (MissingOption names) = codes "missing option '" ++ (names_text names ++ codes "'")
 message (InvalidVariable name) = codes "invalid value of " ++ (string_bytes name
     ++ (codes ": one of bash_source, bash_complete, zsh_source, zsh_complete, fish_source, "

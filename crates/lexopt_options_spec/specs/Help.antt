@@ -5,9 +5,10 @@ use Rattle.std.specs.Prelude.{◌≡◌, ◌≤◌, ◌<◌, ◌⊎◌, ℕ, ◌
 use Rattle.std.specs.Prelude.{if◌then◌else◌, List, [], ◌∷◌, ◌++◌, length, take, filter, replicate}
 use Rattle.std.specs.Prelude.{codes, encode_utf8, map, Option, Some, None}
 use Rattle.std.specs.Char.{IsScalar}
-use Rattle.std.specs.Str.{IsUtf8}
+use Rattle.std.specs.Str.{IsUtf8, chars}
 use Rattle.std.specs.List.{AllZip, concat, flat_map, join_by, join_with_byte, slice_split, sum_by}
 use Rattle.bstr.specs.Unicode.{grapheme_spans}
+use Rattle.lexopt_spec.specs.Text.{escaped}
 use Rattle.lexopt_spec.specs.UnreadLine.{dash, equals}
 use Rattle.lexopt_line_spec.specs.Spelling.{After, Completes}
 use Rattle.lexopt_line_spec.specs.Table.{Item, Name, option, many, positional, short, long}
@@ -290,15 +291,20 @@ pub record IsParagraph (width : ℕ) (content text : List ℕ) : Type 0 where
 
 -- ---- the values in a list
 
--- values with a comma and a blank between them
+-- a text in which each character that a terminal may act on is escaped
+abbrev pub escaped_text : List ℕ → List ℕ
+escaped_text text = flat_map escaped (chars text)
+
+-- texts with a comma and a blank between them
 abbrev pub list_text : List (List ℕ) → List ℕ
 list_text [] = []
 list_text (value ∷ values) = value ++ flat_map (λ other. codes ", " ++ other) values
 
 -- the text of an entry: this help text, and the list if there is one
 abbrev pub with_list : List ℕ → Words → List ℕ
-with_list [] (listed values) = codes "one of " ++ list_text values
-with_list help (listed values) = help ++ codes ": one of " ++ list_text values
+with_list [] (listed values) = codes "one of " ++ list_text (map escaped_text values)
+with_list help (listed values) =
+    help ++ codes ": one of " ++ list_text (map escaped_text values)
 with_list help words = help
 
 -- ---- the whole text

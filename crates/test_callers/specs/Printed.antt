@@ -79,7 +79,7 @@ typed_name (typed.Long name) = codes "--" ++ printed_text (string_bytes name)
 
 -- a long name in quotes
 abbrev pub hinted : List ℕ → List ℕ
-hinted name = codes "'--" ++ (name ++ codes "'")
+hinted name = codes "'--" ++ (printed_text name ++ codes "'")
 
 -- the long names that may have been meant
 abbrev pub hints_line : List (List ℕ) → List ℕ
@@ -99,13 +99,13 @@ mistake_line (mistake.MissingValue option placeholder) = codes "missing argument
     ++ (codes " for option '" ++ (printed_text (string_bytes option) ++ codes "'")))
 mistake_line (mistake.InvalidValue option value values) = codes "invalid value "
     ++ (visible value ++ (codes " for '" ++ (names_line option
-    ++ (codes "': one of " ++ list_text (map (λ v. v.now) values.now)))))
+    ++ (codes "': one of " ++ list_text (map (λ v. printed_text v.now) values.now)))))
 mistake_line (mistake.UnexpectedArgument word) = codes "unexpected argument " ++ visible word
 mistake_line (mistake.MissingArgument placeholder) =
     codes "missing argument " ++ printed_text placeholder.now
 mistake_line (mistake.InvalidArgument placeholder word values) = codes "invalid argument "
     ++ (visible word ++ (codes " for " ++ (printed_text placeholder.now
-    ++ (codes ": one of " ++ list_text (map (λ v. v.now) values.now)))))
+    ++ (codes ": one of " ++ list_text (map (λ v. printed_text v.now) values.now)))))
 mistake_line (mistake.MissingOption names) =
     codes "missing option '" ++ (names_line names ++ codes "'")
 mistake_line (mistake.InvalidVariable name) = codes "invalid value of " ++ (string_bytes name

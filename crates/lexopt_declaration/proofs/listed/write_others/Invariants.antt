@@ -1,8 +1,9 @@
 use Rattle.std.proofs.Common.{◌++◌, List, ℕ, Bor, codes, map, take}
 use Rattle.std.specs.List.{flat_map}
 use Rattle.std.specs.Fmt.{HasWritten, IsPlainFormatter}
+use Rattle.lexopt_options_spec.specs.Help.{escaped_text}
 use Rattle.lexopt_declaration.proofs.listed.write_others.Given as goal
 
 abbrev pub invariant-loop-other : goal.invariant-loop-other
 invariant-loop-other g l = IsPlainFormatter l.fn.f
-    → HasWritten g.W.Write.write_str_gives l.fn.f (flat_map (λ other. codes ", " ++ other) (map (λ (o : Bor (List ℕ)). o.now) (take l.other-index l.others))) l.f
+    → HasWritten g.W.Write.write_str_gives l.fn.f (flat_map (λ other. codes ", " ++ other) (map (λ (o : Bor (List ℕ)). escaped_text o.now) (take l.other-index l.others))) l.f
