@@ -23,8 +23,7 @@ use std::fmt;
 /// missing command: one of add, remote, help
 /// ```
 ///
-/// Each character that a terminal may act on is escaped in words, as `Visible` of `lexopt_options`
-/// does it. The names of commands are written as they are declared.
+/// Each character that a terminal may act on is escaped, as `Visible` of `lexopt_options` does it.
 #[derive(Debug, Drop)]
 pub enum Mistake<'a> {
     /// The general options have a mistake.

@@ -53,8 +53,7 @@ impl fmt::Display for OptionName {
 /// invalid value "medium" for '--mode': one of fast, slow
 /// ```
 ///
-/// Each character that a terminal may act on is escaped in words, as [`Visible`](crate::Visible)
-/// does it, and in names and placeholders. Hints and lists are written as they are declared.
+/// Each character that a terminal may act on is escaped, as [`Visible`](crate::Visible) does it.
 #[derive(Debug, Drop)]
 pub enum Mistake<'a> {
     /// An option that is not declared. Nothing after its name was read.

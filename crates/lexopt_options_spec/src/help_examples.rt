@@ -142,13 +142,17 @@ pub fn positionals_are_described()
         ≡ positional_of (codes "MODE") [] (listed (codes "fast" ∷ [])) ∷ [] }
 {}
 
-/// The list of an option comes after its help text, or alone if that is empty.
+/// The list of an option comes after its help text, or alone if that is empty. A character that a
+/// terminal may act on is escaped.
+#[tactic(auto, unfolding(lexopt_line_spec::proofs::Computing::computing))]
 pub fn lists_are_shown()
     ensures list { with_list (codes "how to pack") (listed (codes "fast" ∷ codes "slow" ∷ []))
         ≡ codes "how to pack: one of fast, slow" }
     ensures no_help { with_list [] (listed (codes "fast" ∷ codes "slow" ∷ []))
         ≡ codes "one of fast, slow" }
     ensures one_value { with_list [] (listed (codes "fast" ∷ [])) ≡ codes "one of fast" }
+    ensures escaped { with_list [] (listed (codes "fast" ∷ (0xC2 ∷ 0x9B ∷ []) ∷ []))
+        ≡ codes "one of fast, \\u{9b}" }
     ensures no_list { with_list (codes "where to") directories ≡ codes "where to" }
 {}
 
