@@ -1,7 +1,8 @@
-use Rattle.std.proofs.Common.{◌≡◌, ◌==◌, ◌++◌, ◌∷◌, [], ℕ, List, Bool, true, false, true≢false, codes, length, map, refl, sym, ap, ◌∙◌, append_assoc}
+use Rattle.std.proofs.Common.{arith, ◌≡◌, ◌==◌, ◌++◌, ◌∷◌, [], ℕ, List, Bool, true, false, true≢false, codes, length, map, refl, sym, ap, ◌∙◌, append_assoc}
 use Rattle.std.proofs.lemmas.Result.{IfOk-weaker}
 use Rattle.lexopt_options_spec.specs.Declaration.{listed}
 use Rattle.std.specs.Borrow.{Bor}
+use Rattle.std.proofs.lemmas.Bool.Decides.{nat_tests}
 use Rattle.lexopt_options_spec.specs.Help.{escaped_text, list_text, with_list}
 use Rattle.lexopt_declaration.specs.Models.{words_view}
 use Rattle.lexopt_declaration.proofs.help.with_list.Goals as goal
@@ -20,14 +21,14 @@ with_help (b ∷ bs) values none is some =
 
 without_help : (help : List ℕ) (values : List (Bor (List ℕ))) (none : Bool) → none ≡ (length help == 0) → none ≡ true
     → codes "one of " ++ list_text (map (λ (v : Bor (List ℕ)). escaped_text v.now) values) ≡ with_list help (listed (map (λ (v : Bor (List ℕ)). v.now) values))
-without_help [] values none is no = ap (λ l. codes "one of " ++ list_text l) (shown values)
-without_help (b ∷ bs) values none is no = absurd (true≢false (sym no ∙ is))
+without_help [] values none is empty = ap (λ l. codes "one of " ++ list_text l) (shown values)
+without_help (b ∷ bs) values none is empty = absurd (grind (arith, nat_tests, is, empty))
 
 pub returns-in-Listed : goal.returns-in-Listed
 returns-in-Listed c =
-    IfOk-weaker c.format-in-Listed.result _ _
+    IfOk-weaker c.format.result _ _
     (λ text is. is ∙ without_help c.args.help.now _ c.is_empty.result c.is_empty.ensures c.if-is_empty.true ∙ ap (λ w. with_list c.args.help.now (words_view w)) (sym c.in-Listed.is))
-    c.format-in-Listed.ensures.ok
+    c.format.ensures.ok
 
 pub returns-in-Listed-2 : goal.returns-in-Listed-2
 returns-in-Listed-2 c =
