@@ -5,6 +5,7 @@ ghost use Rattle.lexopt_options_spec.specs.Declaration.{are_clear, are_listable}
 ghost use Rattle.lexopt_declaration.specs.Models.{option_view, positional_view};
 
 use crate::declaration::{Declaration, Declared};
+use crate::lookup::guesses_for;
 use std::alloc::{AllocError, Global};
 use std::convert::Infallible;
 
@@ -36,6 +37,7 @@ pub struct Group<'a, F, V = Infallible, M = Infallible, S = Infallible> {
 pub struct Combined<'a, F, V = Infallible, P = Infallible, M = Infallible, S = Infallible> {
     declaration: &'a Declaration<'a, F, V, P, M, S>,
     options: Vec<Declared<'a, F, V, M, S>>,
+    guesses: Vec<usize>,
     ghost sound: { first_fault (map option_view options.items) ≡ None },
     ghost clear: { are_clear (map positional_view declaration.now.positionals.now) ≡ true },
     ghost listable: { are_listable (map positional_view declaration.now.positionals.now) ≡ true },
@@ -53,7 +55,8 @@ impl<'a, F: Copy, V: Copy, P, M: Copy, S: Copy> Combined<'a, F, V, P, M, S> {
     ///
     /// # Errors
     ///
-    /// Returns `AllocError` if there is no memory for a list of the options.
+    /// Returns `AllocError` if there is no memory for a list of the options, or for the table by
+    /// which their long names are found.
     pub fn new(
         alloc: Global,
         declaration: &'a Declaration<'a, F, V, P, M, S>,
@@ -72,9 +75,11 @@ impl<'a, F: Copy, V: Copy, P, M: Copy, S: Copy> Combined<'a, F, V, P, M, S> {
         for group in groups {
             options.extend_from_slice(group.options)?;
         }
+        let guesses = guesses_for(alloc, &options)?;
         Ok(Combined {
             declaration,
             options,
+            guesses,
         })
     }
 
@@ -96,6 +101,7 @@ impl<'a, F: Copy, V: Copy, P, M: Copy, S: Copy> Combined<'a, F, V, P, M, S> {
             positionals: self.declaration.positionals,
             epilogue: self.declaration.epilogue,
             short_equals: self.declaration.short_equals,
+            guesses: &self.guesses,
         }
     }
 }

@@ -1,5 +1,6 @@
 //! Finds an option by its name, and what is declared of the option at an index.
-ghost use Rattle.std.specs.Prelude.{◌≡◌, map, position};
+ghost use Rattle.std.specs.Prelude.{◌≡◌, IfSome, IsTrue, Some, map, option_and_then, option_map};
+ghost use Rattle.std.specs.Prelude.{position, slice_get};
 ghost use Rattle.lexopt_line_spec.specs.Table as table;
 ghost use Rattle.lexopt_options_spec.specs.Declaration.{index_of};
 ghost use Rattle.lexopt_options_spec.specs.Declaration as spec;
@@ -8,6 +9,7 @@ ghost use Rattle.lexopt_declaration.specs.Models.{option_view};
 ghost use Rattle.lexopt_declaration.specs.Lookups.{help_names, is_help, names_at};
 
 use crate::declaration::{Declared, Kind, Names};
+use std::alloc::{AllocError, Global};
 
 // The index of the first option with this character. It is separate from `index_of_short` only for
 // the proof: its contract is by `position`.
@@ -50,6 +52,40 @@ pub fn index_of_long<F, V, M, S>(options: &[Declared<'_, F, V, M, S>], name: &st
     place_of_long(options, name)
 }
 
+// The slot of a name among this many, which are a power of two.
+fn slot_of(name: &str, slots: usize) -> usize {
+    let mut hash = 0usize;
+    for byte in name.as_bytes() {
+        hash = hash.wrapping_mul(31).wrapping_add(usize::from(*byte));
+    }
+    hash & slots.wrapping_sub(1)
+}
+
+// The slots for each option that are made.
+const SLOTS_FOR_EACH: usize = 4;
+
+/// Returns a table of guesses, by which `guessed_long` finds the long names of these options. Of two
+/// options with one slot, the later one has it, since the other is found sooner without a guess.
+///
+/// # Errors
+///
+/// Returns `AllocError` if an allocation fails.
+pub fn guesses_for<F, V, M, S>(
+    alloc: Global,
+    options: &[Declared<'_, F, V, M, S>],
+) -> Result<Vec<usize>, AllocError> {
+    let slots = options.len().next_power_of_two().saturating_mul(SLOTS_FOR_EACH);
+    let mut guesses = vec![in alloc; 0usize; slots]?;
+    for (index, option) in options.iter().enumerate() {
+        if let Some(name) = option.names.long() {
+            if let Some(guess) = guesses.get_mut(slot_of(name, slots)) {
+                *guess = index;
+            }
+        }
+    }
+    Ok(guesses)
+}
+
 /// Returns the names of the option at this index.
 pub fn names_of<'a, F, V, M, S>(
     options: &'a [Declared<'a, F, V, M, S>],
@@ -82,6 +118,58 @@ pub fn help_names_of<'a, F, V, M, S>(options: &'a [Declared<'a, F, V, M, S>]) ->
     ensures { result ≡ help_names options.now }
 {
     names_of(options, place_of_help(options))
+}
+
+// The long name of the option at this index; `None` if it has none.
+fn long_name_of<'a, F, V, M, S>(
+    options: &'a [Declared<'a, F, V, M, S>],
+    index: usize,
+) -> Option<&'a str>
+    ensures { option_map (λ name. name.now) result
+        ≡ option_and_then (λ o. o.long_name) (slice_get (map option_view options.now) index) }
+{
+    match options.get(index) {
+        Some(option) => option.names.long(),
+        None => None,
+    }
+}
+
+// Whether the option at this index has this long name.
+fn is_long_at<'a, F, V, M, S>(
+    options: &'a [Declared<'a, F, V, M, S>],
+    index: usize,
+    name: &str,
+) -> bool
+    ensures { IsTrue result
+        → option_and_then (λ o. o.long_name) (slice_get (map option_view options.now) index)
+        ≡ Some name.now }
+{
+    match long_name_of(options, index) {
+        Some(own) => own == name,
+        None => false,
+    }
+}
+
+/// Returns the index of an option with this name by a table of guesses; `None` if the guess for it
+/// is wrong, or if there is none.
+pub fn guessed_long<'a, F, V, M, S>(
+    options: &'a [Declared<'a, F, V, M, S>],
+    guesses: &[usize],
+    name: &str,
+) -> Option<usize>
+    ensures { IfSome result (λ index.
+        option_and_then (λ o. o.long_name) (slice_get (map option_view options.now) index)
+        ≡ Some name.now) }
+{
+    if guesses.is_empty() {
+        return None;
+    }
+    let index = *guesses.get(slot_of(name, guesses.len()))?;
+    if is_long_at(options, index, name) {
+        Some(index)
+    } else {
+        None
+    }
 }
 
 /// Returns the placeholder of the option at this index; the empty text if it has none.

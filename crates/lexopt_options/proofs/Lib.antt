@@ -13,3 +13,4 @@ pub mod Accepted
 pub mod Tables
 pub mod Given
 pub mod KeysGiven
+pub mod Guessed

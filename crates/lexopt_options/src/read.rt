@@ -48,9 +48,7 @@ use lexopt_base::parser::{Found, Parser};
 use lexopt_base::refusal::Refusal;
 use lexopt_declaration::declaration as declared;
 use lexopt_declaration::declaration::{Declared, Names};
-use lexopt_declaration::lookup::{
-    help_names_of, index_of_long, index_of_short, option_placeholder,
-};
+use lexopt_declaration::lookup::{help_names_of, index_of_short, option_placeholder};
 use lexopt_declaration::nearest::hinted_names;
 use lexopt_declaration::positionals::argument_placeholder;
 use lexopt_items::kinds::Kind;
@@ -297,7 +295,7 @@ pub fn read_next<'a, F, V, P, M, S>(
                 Ok(Outcome::Mistake(mistake))
             }
         },
-        Ok(Found::Long) => match index_of_long(options.options(), parser.long_name()) {
+        Ok(Found::Long) => match options.index_of_long(parser.long_name()) {
             Some(index) => Ok(Outcome::Option(index)),
             None => {
                 let mistake = unknown_long(alloc, options, parser.long_name())?;

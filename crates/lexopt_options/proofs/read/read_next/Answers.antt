@@ -20,7 +20,7 @@ pub returns-in-Some-index_of_long : goal.returns-in-Some-index_of_long
 returns-in-Some-index_of_long g c =
     let is : c.advance.result ≡ Ok found.Long = cc in
     let step = named _ _ c.long_name.result.now (answered _ _ _ _ c.advance.ensures is) c.long_name.ensures in
-    (long c.long_name.result.now, step, sym (ap (λ os. index_of os (long c.long_name.result.now)) c.options-in-Ok-Long.ensures.view) ∙ sym c.index_of_long.ensures ∙ c.in-Some-index_of_long.is)
+    (long c.long_name.result.now, step, sym c.index_of_long.ensures ∙ c.in-Some-index_of_long.is)
 
 pub returns-in_ok-mistake-in-None : goal.returns-in_ok-mistake-in-None
 returns-in_ok-mistake-in-None g c =
@@ -46,7 +46,7 @@ returns-in_ok-mistake-in-None-index_of_long g c =
     let name = c.long_name-in-None-index_of_long.result.now in
     let same : c.long_name.result.now ≡ name = one_name _ _ _ _ (answered _ _ _ _ c.advance.ensures is) c.long_name.ensures c.long_name-in-None-index_of_long.ensures in
     let none : index_of (declaration_of c.args.options.now).options (long c.long_name.result.now) ≡ None =
-    sym (ap (λ os. index_of os (long c.long_name.result.now)) c.options-in-Ok-Long.ensures.view) ∙ sym c.index_of_long.ensures ∙ c.in-None-index_of_long.is in
+    sym c.index_of_long.ensures ∙ c.in-None-index_of_long.is in
     record {
       why = stops.unknown_option (long name) c.advance.new.self.tail;
       told = c.in_ok-mistake-in-None-index_of_long.ensures c.advance.new.self.tail;
