@@ -3,7 +3,7 @@ use Rattle.std.specs.Prelude.{◌≡◌, ◌∷◌, ◌++◌, List, [], ℕ, cod
 use Rattle.std.specs.List.{flat_map}
 use Rattle.std.specs.Str.{chars}
 use Rattle.lexopt_spec.specs.Text.{escaped}
-use Rattle.lexopt_options_spec.specs.Help.{escaped_text, list_text}
+use Rattle.lexopt_options_spec.specs.Help.{list_text}
 use Rattle.lexopt_options.specs.Messages as options
 use Rattle.lexopt_options.specs.Messages.{refusal_text}
 use Rattle.lexopt_options.specs.declared.mistake.Mistake.TheVariants.{UnexpectedArgument}
@@ -41,7 +41,7 @@ IsPrinted word text =
 
 -- a name in quotes
 abbrev pub hinted : List ℕ → List ℕ
-hinted name = codes "'" ++ (escaped_text name ++ codes "'")
+hinted name = codes "'" ++ (printed_text name ++ codes "'")
 
 -- the names that may have been meant
 abbrev pub hints_line : List (List ℕ) → List ℕ
@@ -54,7 +54,8 @@ hints_line (name ∷ names) =
 abbrev pub IsMessage : Mistake → List ℕ → Type 0
 IsMessage (mistake.General own) text = text ≡ options.message own
 IsMessage (mistake.MissingCommand names) text =
-    text ≡ codes "missing command: one of " ++ list_text (map (λ name. escaped_text name.now) names.items)
+    text ≡ codes "missing command: one of "
+    ++ list_text (map (λ name. printed_text name.now) names.items)
 IsMessage (mistake.UnknownCommand word hints) text = (own : List ℕ) × IsPrinted word own
     × (text ≡ codes "unknown command " ++ (own ++ hints_line (map (λ hint. hint.now) hints.items)))
 
