@@ -37,7 +37,7 @@ pub struct Group<'a, F, V = Infallible, M = Infallible, S = Infallible> {
 pub struct Combined<'a, F, V = Infallible, P = Infallible, M = Infallible, S = Infallible> {
     declaration: &'a Declaration<'a, F, V, P, M, S>,
     options: Vec<Declared<'a, F, V, M, S>>,
-    guesses: Vec<usize>,
+    guesses: Vec<u16>,
     ghost sound: { first_fault (map option_view options.items) ≡ None },
     ghost clear: { are_clear (map positional_view declaration.now.positionals.now) ≡ true },
     ghost listable: { are_listable (map positional_view declaration.now.positionals.now) ≡ true },

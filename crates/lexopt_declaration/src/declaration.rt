@@ -786,7 +786,7 @@ pub struct Declaration<'a, F, V = Infallible, P = Infallible, M = Infallible, S 
     /// For each hash of a long name, the index of an option that may have the name. It only makes
     /// look-ups faster: what it holds changes no result. `declare!` leaves it empty, and then each
     /// look-up goes through the options in turn. [`Combined`](crate::combined::Combined) fills it.
-    pub guesses: &'a [usize],
+    pub guesses: &'a [u16],
 }
 
 // Whether a name has U+FFFD in it. It is separate from `has_replacement` for the proof: its

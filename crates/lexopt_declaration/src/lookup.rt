@@ -1,6 +1,6 @@
 //! Finds an option by its name, and what is declared of the option at an index.
-ghost use Rattle.std.specs.Prelude.{◌≡◌, IfSome, IsTrue, Some, map, option_and_then, option_map};
-ghost use Rattle.std.specs.Prelude.{position, slice_get};
+ghost use Rattle.std.specs.Prelude.{◌≡◌, ◌+◌, ◌≤◌, IfSome, IsTrue, Some, length, map};
+ghost use Rattle.std.specs.Prelude.{option_and_then, option_map, position, slice_get};
 ghost use Rattle.lexopt_line_spec.specs.Table as table;
 ghost use Rattle.lexopt_options_spec.specs.Declaration.{index_of};
 ghost use Rattle.lexopt_options_spec.specs.Declaration as spec;
@@ -52,20 +52,52 @@ pub fn index_of_long<F, V, M, S>(options: &[Declared<'_, F, V, M, S>], name: &st
     place_of_long(options, name)
 }
 
-// The slot of a name among this many, which are a power of two.
-fn slot_of(name: &str, slots: usize) -> usize {
-    let mut hash = 0usize;
-    for byte in name.as_bytes() {
-        hash = hash.wrapping_mul(31).wrapping_add(usize::from(*byte));
-    }
-    hash & slots.wrapping_sub(1)
+// The eight bytes from this place on, as a number.
+fn number_at(bytes: &[u8], place: usize) -> u64
+    requires { place + 8 ≤ length bytes.now }
+{
+    u64::from_le_bytes([
+        bytes[place],
+        bytes[place + 1],
+        bytes[place + 2],
+        bytes[place + 3],
+        bytes[place + 4],
+        bytes[place + 5],
+        bytes[place + 6],
+        bytes[place + 7],
+    ])
 }
 
-// The slots for each option that are made.
+// An odd number with which a hash is multiplied, so that each bit of a name changes many of its
+// bits.
+const FACTOR: u64 = 0x9E37_79B9_7F4A_7C15;
+
+// The slot of a name among this many, which are a power of two. It is computed from the first eight
+// bytes, the last eight and the length, or from all bytes if they are fewer than eight. Nothing is
+// proved of it: two names may have one slot.
+fn slot_of(name: &str, slots: usize) -> usize {
+    let bytes = name.as_bytes();
+    let mut hash = bytes.len() as u64;
+    if bytes.len() < 8 {
+        for byte in bytes {
+            hash = hash.wrapping_mul(FACTOR).wrapping_add(u64::from(*byte));
+        }
+    } else {
+        hash = hash
+            .wrapping_add(number_at(bytes, 0))
+            .wrapping_mul(FACTOR)
+            .wrapping_add(number_at(bytes, bytes.len() - 8));
+    }
+    let mixed = (hash ^ (hash >> 32)).wrapping_mul(FACTOR) >> 32;
+    mixed as usize & slots.wrapping_sub(1)
+}
+
+// How many slots are made for each option, at least.
 const SLOTS_FOR_EACH: usize = 4;
 
 /// Returns a table of guesses, by which `guessed_long` finds the long names of these options. Of two
 /// options with one slot, the later one has it, since the other is found sooner without a guess.
+/// Options after the first 65,536 have none.
 ///
 /// # Errors
 ///
@@ -73,10 +105,13 @@ const SLOTS_FOR_EACH: usize = 4;
 pub fn guesses_for<F, V, M, S>(
     alloc: Global,
     options: &[Declared<'_, F, V, M, S>],
-) -> Result<Vec<usize>, AllocError> {
-    let slots = options.len().next_power_of_two().saturating_mul(SLOTS_FOR_EACH);
-    let mut guesses = vec![in alloc; 0usize; slots]?;
-    for (index, option) in options.iter().enumerate() {
+) -> Result<Vec<u16>, AllocError> {
+    let slots = options
+        .len()
+        .next_power_of_two()
+        .saturating_mul(SLOTS_FOR_EACH);
+    let mut guesses = vec![in alloc; 0u16; slots]?;
+    for (option, index) in options.iter().zip(0u16..=u16::MAX) {
         if let Some(name) = option.names.long() {
             if let Some(guess) = guesses.get_mut(slot_of(name, slots)) {
                 *guess = index;
@@ -154,7 +189,7 @@ fn is_long_at<'a, F, V, M, S>(
 /// is wrong, or if there is none.
 pub fn guessed_long<'a, F, V, M, S>(
     options: &'a [Declared<'a, F, V, M, S>],
-    guesses: &[usize],
+    guesses: &[u16],
     name: &str,
 ) -> Option<usize>
     ensures { IfSome result (λ index.
@@ -164,7 +199,7 @@ pub fn guessed_long<'a, F, V, M, S>(
     if guesses.is_empty() {
         return None;
     }
-    let index = *guesses.get(slot_of(name, guesses.len()))?;
+    let index = usize::from(*guesses.get(slot_of(name, guesses.len()))?);
     if is_long_at(options, index, name) {
         Some(index)
     } else {

@@ -163,6 +163,7 @@ static TOOL: Declaration<'static, Flag, Value, Word, Maybe, Values> = Declaratio
     ],
     epilogue: &["End."],
     short_equals: true,
+    guesses: &[],
 };
 
 /// Reads a line of the tool.

@@ -85,6 +85,7 @@ pub fn fault_of_two(
         positionals: &[],
         epilogue: &[],
         short_equals: true,
+        guesses: &[],
     };
     match Options::try_new(&declaration) {
         Ok(_) => None,
@@ -154,6 +155,7 @@ pub fn usage_or_error(
         positionals: &positionals,
         epilogue: &[],
         short_equals: true,
+        guesses: &[],
     };
     usage_or_error_of(alloc, width, &declaration)
 }

@@ -1,9 +1,10 @@
-//! Three hundred options in fifteen groups: reads some lines, and prints what they mean.
+//! Three hundred options in fifteen groups: reads some lines, and prints what they mean; and reads
+//! each option alone, and prints how many were found by their names.
 #![tactic(auto)]
 
 use lexopt_options::{
-    Answer, Combined, Declaration, Group, Names, Options, OsString, Parsed, WIDTH, declare,
-    declare_group,
+    Answer, Combined, Declaration, Declared, Group, Kind, Line, Names, Options, OsString, Parsed,
+    WIDTH, declare, declare_group,
 };
 use std::alloc::{AllocError, Global};
 use std::io;
@@ -413,6 +414,58 @@ fn print_answer(rt: &HostRuntime, answer: Answer<'_, u16, u16>) -> io::Result<()
     }
 }
 
+// The key of the first option of a line, if it has one.
+fn first_key(line: Vec<Parsed<u16, u16>>) -> Option<u16> {
+    match line.into_iter().next()? {
+        Parsed::Flag(key) | Parsed::Value(key, _) => Some(key),
+    }
+}
+
+// The key of the option that is read from this word alone, if one is.
+fn key_read(
+    alloc: Global,
+    options: &Options<'_, u16, u16>,
+    word: &str,
+) -> Result<Option<u16>, AllocError> {
+    match options.read(alloc, line_of(alloc, &[word])?)? {
+        Line::Parsed(line) => Ok(first_key(line)),
+        Line::Asked(_) | Line::Refused(_) => Ok(None),
+    }
+}
+
+// Whether this option is read from its long name, with a value if it has one.
+fn is_found(
+    alloc: Global,
+    options: &Options<'_, u16, u16>,
+    option: &Declared<'_, u16, u16>,
+) -> Result<bool, AllocError> {
+    let Some(name) = option.names.long() else {
+        return Ok(false);
+    };
+    match option.kind {
+        Kind::Flag(key) => {
+            let word = format!(in alloc; "--{name}")?;
+            Ok(key_read(alloc, options, &word)? == Some(key))
+        }
+        Kind::Value(key, _) => {
+            let word = format!(in alloc; "--{name}=x")?;
+            Ok(key_read(alloc, options, &word)? == Some(key))
+        }
+        _ => Ok(false),
+    }
+}
+
+// How many of the options are found by their long names.
+fn count_found(alloc: Global, options: &Options<'_, u16, u16>) -> Result<usize, AllocError> {
+    let mut count = 0usize;
+    for option in options.options() {
+        if is_found(alloc, options, option)? {
+            count = count.wrapping_add(1);
+        }
+    }
+    Ok(count)
+}
+
 fn main(rt: HostRuntime) -> io::Result<()> {
     let alloc = rt.alloc();
     let groups = [
@@ -426,12 +479,18 @@ fn main(rt: HostRuntime) -> io::Result<()> {
         &rt,
         options.answer(
             alloc,
-            line_of(alloc, &["--sort-user", "me", "--add-date"])?,
+            line_of(alloc, &["--sort-user", "me", "--add-date", "--list-file"])?,
             WIDTH,
         )?,
     )?;
     print_answer(
         &rt,
         options.answer(alloc, line_of(alloc, &["--quote-tabel"])?, WIDTH)?,
-    )
+    )?;
+    print_answer(
+        &rt,
+        options.answer(alloc, line_of(alloc, &["--sort-users", "me"])?, WIDTH)?,
+    )?;
+    let count = count_found(alloc, &options)?;
+    println!(rt; "{count} options are found by their long names")
 }

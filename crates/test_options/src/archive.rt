@@ -94,6 +94,7 @@ pub fn archive<'a>(
         positionals,
         epilogue: &[],
         short_equals: true,
+        guesses: &[],
     }
 }
 

@@ -85,3 +85,40 @@ fn keeps_equals(alloc: Global) -> Result<bool, AllocError> {
 fn equals(rt: HostRuntime) {
     assert!(rt; keeps_equals(rt.alloc()).expect(&rt, "success"));
 }
+
+// Whether a declaration with these guesses reads the lines as one without them.
+fn reads_with_guesses(alloc: Global, guesses: &[u16]) -> Result<bool, AllocError> {
+    let declaration = Declaration { guesses, ..ARCHIVE };
+    match Options::try_new(&declaration) {
+        Ok(options) => Ok(first_wrong(alloc, &options, &LINES)?.is_none()),
+        Err(_) => Ok(false),
+    }
+}
+
+// Tables of guesses: of one option for all names, of no option, of some options, and of none.
+static GUESSES: [&[u16]; 9] = [
+    &[0],
+    &[1],
+    &[2],
+    &[3],
+    &[4],
+    &[u16::MAX],
+    &[4, 3, 2, 1, 0],
+    &[0, 1, 2, 3, 4, 5, 6, 7],
+    &[],
+];
+
+// The place of the first table with which a line is read as something else, if there is one.
+fn first_believed(alloc: Global) -> Result<Option<usize>, AllocError> {
+    for (row, guesses) in GUESSES.iter().enumerate() {
+        if !reads_with_guesses(alloc, guesses)? {
+            return Ok(Some(row));
+        }
+    }
+    Ok(None)
+}
+
+#[test]
+fn wrong_guesses(rt: HostRuntime) {
+    assert_eq!(rt; first_believed(rt.alloc()).expect(&rt, "success"), None);
+}
