@@ -1,4 +1,4 @@
-//! What can be wrong with a line, the messages about it, and the hint after an unknown short option.
+//! What can be wrong with a line, the messages about it, and the hint of an unknown short option.
 ghost use Rattle.std.specs.Prelude.{IfOk, map};
 ghost use Rattle.lexopt_spec.specs.UnreadLine as unread;
 ghost use Rattle.lexopt_line_spec.specs.Table.{short};
