@@ -95,7 +95,7 @@ fn slot_of(name: &str, slots: usize) -> usize {
 // How many slots are made for each option, at least.
 const SLOTS_FOR_EACH: usize = 4;
 
-/// Returns a table of guesses, by which `guessed_long` finds the long names of these options. Of two
+/// Returns a table of guesses, by which `guessed_long` finds long names of these options. Of two
 /// options with one slot, the later one has it, since the other is found sooner without a guess.
 /// Options after the first 65,536 have none.
 ///
