@@ -1,5 +1,5 @@
 -- What is printed of commands, by plain data.
-use Rattle.std.specs.Prelude.{◌≡◌, ◌++◌, List, [], ℕ, Some, None, codes, map, string_bytes}
+use Rattle.std.specs.Prelude.{◌≡◌, ◌++◌, List, ℕ, Some, None, codes, map, string_bytes}
 use Rattle.std.specs.List.{flat_map}
 use Rattle.std.specs.Str.{chars}
 use Rattle.lexopt_spec.specs.Text.{escaped}
