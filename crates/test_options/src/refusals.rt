@@ -160,7 +160,12 @@ static HOSTILE: Archive<'static> = declare! {
     positionals: [once(Word::File, "FI\u{2028}LE").one_of(&["c\u{2069}", "d"])],
 };
 
-static ESCAPED: [(&[u8], &str, &str); 9] = [
+static ESCAPED: [(&[u8], &str, &str); 10] = [
+    (
+        b"--m\xE2\x80\xAEodd",
+        "[]",
+        "invalid option '--m\\u{202e}odd'; did you mean '--m\\u{202e}ode'?",
+    ),
     (
         b"--a\xC2\x9B\xE2\x80\xAE\xE2\x80\xA8\"",
         "[]",
@@ -175,7 +180,7 @@ static ESCAPED: [(&[u8], &str, &str); 9] = [
     (
         b"--m\xE2\x80\xAEode=\xE2\x80\xA8\x1B",
         "[]",
-        "invalid value \"\\u{2028}\\u{1b}\" for '--m\\u{202e}ode': one of a\u{61c}, b",
+        "invalid value \"\\u{2028}\\u{1b}\" for '--m\\u{202e}ode': one of a\\u{61c}, b",
     ),
     (
         b"--m\xE2\x80\xAEode",
@@ -195,7 +200,7 @@ static ESCAPED: [(&[u8], &str, &str); 9] = [
     (
         b"\xE2\x80\xA9",
         "[Positional(File, \"\u{2029}\")]",
-        "invalid argument \"\\u{2029}\" for FI\\u{2028}LE: one of c\u{2069}, d",
+        "invalid argument \"\\u{2029}\" for FI\\u{2028}LE: one of c\\u{2069}, d",
     ),
     (
         b"d",
