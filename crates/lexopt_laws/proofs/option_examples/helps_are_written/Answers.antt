@@ -245,6 +245,7 @@ mode_entry = record {
 }
 
 pub returns-clause-list_of_a_positional : goal.returns-clause-list_of_a_positional
+unfolding computing
 returns-clause-list_of_a_positional c = record {
   usage = codes "Usage: example_archive MODE\n";
   about = [];
