@@ -105,7 +105,8 @@ fn settings_of(
             Parsed::Flag(Flag::Verbose) => set.verbosity = set.verbosity.saturating_add(1),
             Parsed::Flag(Flag::Force) => set.force = true,
             Parsed::Value(Value::Jobs, word) => {
-                Jobs(set.jobs) = options.parse_value(Value::Jobs, &word)?;
+                let Jobs(jobs) = options.parse_value(Value::Jobs, &word)?;
+                set.jobs = jobs;
             }
             Parsed::Value(Value::Owner, word) => set.owner = word,
             Parsed::Value(Value::Backup, word) => set.backup = Some(word),
