@@ -20,9 +20,9 @@ pub const BROKEN_PIPE: u8 = 141;
 /// # Examples
 ///
 /// ```rust
-/// fn main(rt: HostRuntime) -> ExitCode {
-///     finish(&rt, "hello", rt.println("Hello"))
-/// }
+/// use std::process::ExitCode;
+/// let outcome = rt.println("Hello").map(|()| ExitCode::SUCCESS);
+/// let status = finish(rt, "hello", outcome);
 /// ```
 pub fn finish<R: Eprint>(rt: &R, program: &str, outcome: io::Result<ExitCode>) -> ExitCode
     ensures { exit_status result ≡ status_of outcome }
