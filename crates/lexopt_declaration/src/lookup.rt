@@ -185,6 +185,27 @@ fn is_long_at<'a, F, V, M, S>(
     }
 }
 
+// The option at the guess for this name, if it has the name. It is not inlined, since most programs
+// have no guesses.
+#[cold]
+#[inline(never)]
+fn option_by_guess<'a, F, V, M, S>(
+    options: &'a [Declared<'a, F, V, M, S>],
+    guesses: &[u16],
+    name: &str,
+) -> Option<usize>
+    ensures { IfSome result (λ index.
+        option_and_then (λ o. o.long_name) (slice_get (map option_view options.now) index)
+        ≡ Some name.now) }
+{
+    let index = usize::from(*guesses.get(slot_of(name, guesses.len()))?);
+    if is_long_at(options, index, name) {
+        Some(index)
+    } else {
+        None
+    }
+}
+
 /// Returns the index of an option with this name by a table of guesses; `None` if the guess for it
 /// is wrong, or if there is none.
 pub fn guessed_long<'a, F, V, M, S>(
@@ -197,13 +218,9 @@ pub fn guessed_long<'a, F, V, M, S>(
         ≡ Some name.now) }
 {
     if guesses.is_empty() {
-        return None;
-    }
-    let index = usize::from(*guesses.get(slot_of(name, guesses.len()))?);
-    if is_long_at(options, index, name) {
-        Some(index)
-    } else {
         None
+    } else {
+        option_by_guess(options, guesses, name)
     }
 }
 

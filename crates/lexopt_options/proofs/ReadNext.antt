@@ -19,7 +19,7 @@ use Rattle.std.proofs.lemmas.List.Quantifiers.{position-Some}
 use Rattle.std.proofs.lemmas.List.Elements.{Contains-get_or}
 use Rattle.lexopt_options_spec.proofs.Tables.{kind_of_name}
 use Rattle.lexopt_options.specs.Kinds.{kind_at}
-use Rattle.std.specs.Prelude.{Result}
+use Rattle.std.specs.Prelude.{Err, IfOk, Ok, Result}
 use Rattle.lexopt_spec.specs.UnreadLine.{LastOption, no_option, short_option, long_option, Tail, rest, pending, pending_in, rest_of}
 use Rattle.lexopt_base.specs.Found.{found_as, advance_reply}
 use Rattle.lexopt_base.specs.declared.parser.Found.{Found}
@@ -34,7 +34,7 @@ use Rattle.lexopt_options_spec.specs.Declaration.{Declaration, Declared, Positio
 use Rattle.lexopt_options_spec.specs.Legal as legal
 use Rattle.lexopt_options_spec.specs.Legal.{IsWithin, counts, most, positional_count, parsed_item}
 use Rattle.lexopt_options_spec.proofs.Lists.{count_append, joined}
-use Rattle.lexopt_options_spec.specs.Stops.{ReadsUpTo}
+use Rattle.lexopt_options_spec.specs.Stops.{ReadsUpTo, Stops, not_declared, unknown_option}
 use Rattle.lexopt_items.specs.Items.{ReadsValues, item_with, kind_view}
 use Rattle.lexopt_items.specs.declared.kinds.Kind.{Kind}
 use Rattle.lexopt_items.specs.declared.kinds.Kind.TheVariants.{Flag, One, Optional, Several}
@@ -43,7 +43,8 @@ use Rattle.lexopt_items.specs.declared.values.Values.TheVariants.{AtMostOne, All
 use Rattle.lexopt_items.proofs.ReadsItems.{option_read, positional_read}
 use Rattle.lexopt_options.specs.declared.indexed.Indexed.{Indexed}
 use Rattle.lexopt_options.specs.declared.mistake.Mistake.{Mistake}
-use Rattle.lexopt_options.specs.Reading.{ReadsParsed, StopsAtOption, StopsBy, StopsWithin, indexed_view, parsed_with}
+use Rattle.lexopt_options.specs.Mistakes.{IsMistake}
+use Rattle.lexopt_options.specs.Reading.{ReadsParsed, StopsAtOption, StopsBy, StopsWithin, UndeclaredNext, indexed_view, parsed_with}
 
 option_item : (d : Declaration) (name : Name) (index : ℕ) (values : Values) → index_of d.options name ≡ Some index → parsed_item d.options (item_with name values) ≡ Some (parsed_with index values)
 option_item d name index (AtMostOne value) found = ap (option_map (λ i. legal.option i value)) found
@@ -168,14 +169,37 @@ pub long_hinted : (options os : List Declared) (name text : List ℕ) (left : Ta
 long_hinted options os name text left hints os_is is told =
     subst (λ (o : List Declared). IsHint o (spec.long name) left hints) os_is (subst (λ (n : List ℕ). IsHint os (spec.long n) left hints) (sym is) told)
 
--- a long option has one name
-pub one_name : (u w : UnreadLine) (text other : List ℕ) → RepliesWith Next u (found_as w.last found.Long) w → ((n : List ℕ) → w.last ≡ long_option n → text ≡ n) → ((n : List ℕ) → w.last ≡ long_option n → other ≡ n) → text ≡ other
-one_name u w text other step is also = name_in w.last step is also
+-- a long option that is not declared
+pub undeclared_long : (d : Declaration) (u v : UnreadLine) (text : List ℕ) → RepliesWith Next u (found_as v.last found.Long) v → ((n : List ℕ) → v.last ≡ long_option n → text ≡ n) → index_of d.options (spec.long text) ≡ None → UndeclaredNext d u None v
+undeclared_long d u v text step is none = name_in v.last refl step
   where
-    name_in : (last : LastOption) → RepliesWith Next u (found_as last found.Long) w → ((n : List ℕ) → last ≡ long_option n → text ≡ n) → ((n : List ℕ) → last ≡ long_option n → other ≡ n) → text ≡ other
-    name_in no_option step is also = absurd step
-    name_in (short_option c) step is also = absurd step
-    name_in (long_option n) step is also = is n refl ∙ sym (also n refl)
+    name_in : (last : LastOption) → v.last ≡ last → RepliesWith Next u (found_as last found.Long) v → UndeclaredNext d u None v
+    name_in no_option last step = absurd step
+    name_in (short_option c) last step = absurd step
+    name_in (long_option n) last step = (n, last, step, subst (λ (m : List ℕ). index_of d.options (spec.long m) ≡ None) (is n last) none)
+
+-- the reading stops at it
+pub undeclared_stops : (d : Declaration) (u v : UnreadLine) (short : Option ℕ) → UndeclaredNext d u short v → (name : Name) × ((l : List legal.Parsed) → Stops d l u (unknown_option name v.tail))
+undeclared_stops d u v (Some c) next = (spec.short c, λ l. not_declared (spec.short c) v next.0 next.1)
+undeclared_stops d u v None next = (spec.long next.0, λ l. not_declared (spec.long next.0) v next.2 next.3)
+
+-- the mistake of it
+stops_there : (d : Declaration) (u v : UnreadLine) (short : Option ℕ) (mistake : Mistake) (next : UndeclaredNext d u short v) → IsMistake d mistake (unknown_option (undeclared_stops d u v short next).0 v.tail) → StopsAtOption d u mistake
+stops_there d u v short mistake next told =
+    let stops = undeclared_stops d u v short next in
+    record { why = unknown_option stops.0 v.tail; told = told; early = tt; of_option = tt; stops = stops.1 }
+
+pub stops_at_short : {E : Type 0} (d : Declaration) (v : UnreadLine) (c : ℕ) (r : Result Mistake E) → ((u : UnreadLine) → Next u (steps.short c) v → IfOk r (λ m. IsMistake d m (unknown_option (spec.short c) v.tail)))
+    → IfOk r (λ m. (u : UnreadLine) → UndeclaredNext d u (Some c) v → StopsAtOption d u m)
+unfolding undeclared_stops
+stops_at_short d v c (Ok m) told = λ u next. stops_there d u v (Some c) m next (told u next.0)
+stops_at_short d v c (Err e) told = tt
+
+pub stops_at_long : {E : Type 0} (d : Declaration) (v : UnreadLine) (text : List ℕ) (r : Result Mistake E) → ((n : List ℕ) → v.last ≡ long_option n → text ≡ n)
+    → IfOk r (λ m. (left : Tail) → IsMistake d m (unknown_option (spec.long text) left)) → IfOk r (λ m. (u : UnreadLine) → UndeclaredNext d u None v → StopsAtOption d u m)
+unfolding undeclared_stops
+stops_at_long d v text (Ok m) is told = λ u next. stops_there d u v None m next (subst (λ (n : List ℕ). IsMistake d m (unknown_option (spec.long n) v.tail)) (is next.0 next.1) (told v.tail))
+stops_at_long d v text (Err e) is told = tt
 
 -- `next` never returns that a value is missing
 pub never_missing : (u v : UnreadLine) (o : Option (String Global)) → Next u (refusal_reply (refused.MissingValue o)) v → ⊥

@@ -1,12 +1,12 @@
 -- What is read from a line, as contracts see it, and what one step of the reading reads.
 use Rattle.std.specs.Prelude.{None, ◌≡◌, ◌≢◌, ◌<◌, ◌+◌, ◌++◌, ◌∷◌, ℕ, Bool, true, false, List, [], Some}
 use Rattle.std.specs.Prelude.{Option, Result, Ok, Err, slice_get}
-use Rattle.lexopt_spec.specs.UnreadLine.{UnreadLine, IsLine}
+use Rattle.lexopt_spec.specs.UnreadLine.{UnreadLine, IsLine, long_option}
 use Rattle.lexopt_spec.specs.Steps as steps
 use Rattle.lexopt_spec.specs.Steps.{Next}
 use Rattle.lexopt_line_spec.specs.Readings.{ReadsFirst, option_reply}
 use Rattle.lexopt_line_spec.specs.Bound.{bound}
-use Rattle.lexopt_line_spec.specs.Table.{Item, Name}
+use Rattle.lexopt_line_spec.specs.Table.{Item, Name, short, long}
 use Rattle.lexopt_options_spec.specs.Declaration as declared
 use Rattle.lexopt_options_spec.specs.Declaration.{Declaration, has, index_of}
 use Rattle.lexopt_options_spec.specs.Completion.{IsOption}
@@ -92,6 +92,12 @@ pub record StopsWithin (d : Declaration) (limit : Option ℕ) (count : ℕ) (u :
       → Stops d l u why
   pub of_option : limit ≡ None → IsOfOption why × ((l : List spec.Parsed) → Stops d l u why)
 
+-- an option comes next that is not declared: the short one with this character, or a long one
+abbrev pub UndeclaredNext : Declaration → UnreadLine → Option ℕ → UnreadLine → Type 0
+UndeclaredNext d u (Some c) v = Next u (steps.short c) v × (index_of d.options (short c) ≡ None)
+UndeclaredNext d u None v = (name : List ℕ) × (v.last ≡ long_option name)
+    × Next u (steps.long name) v × (index_of d.options (long name) ≡ None)
+
 -- after `count` positionals, of which there may be `limit`, this comes next
 abbrev pub ComesNext : Declaration → Option ℕ → ℕ → UnreadLine → Outcome → UnreadLine → Type 0
 ComesNext d limit count u (outcome.Option index) v = (name : Name) × Next u (option_reply name) v
@@ -99,6 +105,7 @@ ComesNext d limit count u (outcome.Option index) v = (name : Name) × Next u (op
 ComesNext d limit count u (outcome.Positional word) v = Next u (steps.positional word) v
     × (limit ≢ Some count)
 ComesNext d limit count u outcome.End v = Next u steps.end v
+ComesNext d limit count u (outcome.Undeclared c) v = UndeclaredNext d u c v
 ComesNext d limit count u (outcome.Mistake mistake) v = StopsWithin d limit count u mistake
 
 -- ---- the end of a line

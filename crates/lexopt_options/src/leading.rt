@@ -21,6 +21,7 @@ use crate::options::Options;
 use crate::parsed::{Asked, ByKey, Parsed};
 use crate::read::{
     FIRST_ROOM, Outcome, missing_option, note, parsed_before, read_by_key, read_next,
+    unknown_option,
 };
 use crate::refused::Refused;
 use lexopt_base::parser::Parser;
@@ -170,11 +171,11 @@ fn read_options<'a, F: Copy, V: Copy, P: Copy, M: Copy, S: Copy>(
     let mut parsed = Vec::with_capacity(alloc, room)?;
     let mut seen = Vec::new(alloc);
     loop {
-        match read_next(alloc, parser, options, None, 0)? {
+        match read_next(parser, options, None, 0)? {
             Outcome::Option(index) => match read_by_key(alloc, parser, options, index)? {
                 Ok(ByKey::Parsed(own)) => {
                     parsed.push(own)?;
-                    note(options.options(), index, &mut seen)?;
+                    note(options, index, &mut seen)?;
                 }
                 Ok(ByKey::Asked(asked)) => return ask(parser, options, parsed, asked),
                 Err(mistake) => return Ok(Leading::Refused(refuse(options, parsed, mistake))),
@@ -184,6 +185,10 @@ fn read_options<'a, F: Copy, V: Copy, P: Copy, M: Copy, S: Copy>(
                 return Ok(end(options, parsed, &seen, rest));
             }
             Outcome::End => return Ok(end(options, parsed, &seen, Vec::new(alloc))),
+            Outcome::Undeclared(short) => {
+                let mistake = unknown_option(alloc, parser, options, short)?;
+                return Ok(Leading::Refused(refuse(options, parsed, mistake)));
+            }
             Outcome::Mistake(mistake) => {
                 return Ok(Leading::Refused(refuse(options, parsed, mistake)));
             }

@@ -32,7 +32,7 @@ ghost use Rattle.lexopt_options.specs.Taken.{has_list};
 ghost use Rattle.lexopt_options.specs.Mistakes.{AreNames, IsMistake};
 ghost use Rattle.lexopt_options.specs.Lines.{IsLineRead, before_mistake};
 ghost use Rattle.lexopt_options.specs.Fronts.{IsPart};
-ghost use Rattle.lexopt_options.specs.Reading.{AllSeen, AreAll, AreSeen, ComesNext, IsAtMostOne};
+ghost use Rattle.lexopt_options.specs.Reading.{AllSeen, AreAll, AreSeen, ComesNext, IsAtMostOne, UndeclaredNext};
 ghost use Rattle.lexopt_options.specs.Reading.{IsFirstUnseen, IsOne, IsRead};
 ghost use Rattle.lexopt_options.specs.Reading.{IsReadByKey, StopsAtOption, indexed_view, noted};
 
@@ -65,7 +65,9 @@ pub enum Outcome<'a> {
     Positional(OsString),
     // The end of the line.
     End,
-    // A mistake, where the reading stops.
+    // An option that is not declared: the short one with this character, or else a long one.
+    Undeclared(Option<char>),
+    // Another mistake, where the reading stops.
     Mistake(Mistake<'a>),
 }
 
@@ -266,6 +268,27 @@ fn unknown_short<'a, F, V, P, M, S>(
     Ok(Mistake::UnknownOption { name, hints })
 }
 
+// The mistake that an option, which was just read, is not declared: the short one with this
+// character, or else a long one. This takes the rest of its cluster. It is not inlined, so that the
+// loops that call it have no room for its result to clear for each word.
+#[cold]
+#[inline(never)]
+pub fn unknown_option<'a, F, V, P, M, S>(
+    alloc: Global,
+    parser: &mut Parser,
+    options: &Options<'a, F, V, P, M, S>,
+    short: Option<char>,
+) -> Result<Mistake<'a>, AllocError>
+    ensures { IfOk result (λ mistake. (u : UnreadLine)
+        → UndeclaredNext (declaration_of options.now) u short parser.old
+        → StopsAtOption (declaration_of options.now) u mistake) }
+{
+    match short {
+        Some(option) => unknown_short(alloc, parser, options, option),
+        None => unknown_long(alloc, options, parser.long_name()),
+    }
+}
+
 // Whether `count` positionals are as many as there may be.
 fn is_full(limit: Option<usize>, count: usize) -> bool
     ensures { IsTrue result ↔ (limit ≡ Some count) }
@@ -278,7 +301,6 @@ fn is_full(limit: Option<usize>, count: usize) -> bool
 
 // Reads what comes next in a line after `count` positionals, of which there may be `limit`.
 pub fn read_next<'a, F, V, P, M, S>(
-    alloc: Global,
     parser: &mut Parser,
     options: &Options<'a, F, V, P, M, S>,
     limit: Option<usize>,
@@ -290,17 +312,11 @@ pub fn read_next<'a, F, V, P, M, S>(
     match parser.advance() {
         Ok(Found::Short(option)) => match index_of_short(options.options(), option) {
             Some(index) => Ok(Outcome::Option(index)),
-            None => {
-                let mistake = unknown_short(alloc, parser, options, option)?;
-                Ok(Outcome::Mistake(mistake))
-            }
+            None => Ok(Outcome::Undeclared(Some(option))),
         },
         Ok(Found::Long) => match options.index_of_long(parser.long_name()) {
             Some(index) => Ok(Outcome::Option(index)),
-            None => {
-                let mistake = unknown_long(alloc, options, parser.long_name())?;
-                Ok(Outcome::Mistake(mistake))
-            }
+            None => Ok(Outcome::Undeclared(None)),
         },
         Ok(Found::Value(word)) => {
             if is_full(limit, count) {
@@ -348,7 +364,7 @@ fn read_indexed<'a, F, V, P, M, S>(
     let mut parsed = Vec::with_capacity(alloc, room)?;
     let mut count = 0usize;
     loop {
-        match read_next(alloc, parser, options, limit, count)? {
+        match read_next(parser, options, limit, count)? {
             Outcome::Option(index) => match read_option(alloc, parser, options, index)? {
                 Ok(option) => add(&mut parsed, option)?,
                 Err(_) => return Ok(None),
@@ -358,6 +374,7 @@ fn read_indexed<'a, F, V, P, M, S>(
                 count += 1;
             }
             Outcome::End => return Ok(Some(parsed)),
+            Outcome::Undeclared(_) => return Ok(None),
             Outcome::Mistake(_) => return Ok(None),
         }
     }
@@ -415,15 +432,18 @@ fn add_index(index: usize, seen: &mut Vec<usize>) -> Result<(), AllocError>
 }
 
 // Adds the index of an option that was read to `seen`, if the option is required.
-pub fn note<F, V, M, S>(
-    options: &[Declared<'_, F, V, M, S>],
+pub fn note<F, V, P, M, S>(
+    options: &Options<'_, F, V, P, M, S>,
     index: usize,
     seen: &mut Vec<usize>,
 ) -> Result<(), AllocError>
     ensures { OnOk result (seen.new.items
-        ≡ noted (is_required (map option_view options.now) index) index seen.old.items) }
+        ≡ noted (is_required (declaration_of options.now).options index) index seen.old.items) }
 {
-    match options.get(index) {
+    if !options.has_required() {
+        return Ok(());
+    }
+    match options.options().get(index) {
         Some(option) if option.required => add_index(index, seen),
         _ => Ok(()),
     }
@@ -619,11 +639,11 @@ fn read_keys<'a, F: Copy, V: Copy, P: Copy, M: Copy, S: Copy>(
     let mut seen = Vec::new(alloc);
     let mut count = 0usize;
     loop {
-        match read_next(alloc, parser, options, limit, count)? {
+        match read_next(parser, options, limit, count)? {
             Outcome::Option(index) => match read_by_key(alloc, parser, options, index)? {
                 Ok(ByKey::Parsed(own)) => {
                     parsed.push(own)?;
-                    note(options.options(), index, &mut seen)?;
+                    note(options, index, &mut seen)?;
                 }
                 Ok(ByKey::Asked(asked)) => return ask(parser, options, parsed, asked),
                 Err(mistake) => return Ok(stop(options, parsed, mistake)),
@@ -634,6 +654,10 @@ fn read_keys<'a, F: Copy, V: Copy, P: Copy, M: Copy, S: Copy>(
                 count += 1;
             }
             Outcome::End => return end(options, parsed, count, &seen),
+            Outcome::Undeclared(short) => {
+                let mistake = unknown_option(alloc, parser, options, short)?;
+                return Ok(stop(options, parsed, mistake));
+            }
             Outcome::Mistake(mistake) => return Ok(stop(options, parsed, mistake)),
         }
     }

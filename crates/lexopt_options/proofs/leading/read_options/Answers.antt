@@ -1,14 +1,12 @@
-use Rattle.std.proofs.Common.{◌≡◌, ◌++◌, ◌∷◌, ◌∙◌, [], List, Ok, ap, refl, subst, sym}
+use Rattle.std.proofs.Common.{◌≡◌, ◌++◌, ◌∷◌, [], Ok, refl, subst, sym}
 use Rattle.lexopt_spec.specs.UnreadLine.{UnreadLine}
-use Rattle.lexopt_options_spec.specs.Declaration as spec
 use Rattle.lexopt_options_spec.specs.Leading.{IsSplit, at_option, ends, positional}
-use Rattle.lexopt_options_spec.specs.Legal.{is_required}
 use Rattle.lexopt_options_spec.specs.Stops.{ReadsUpTo}
 use Rattle.lexopt_options_spec.proofs.LeadingOptions.{leading_front, leading_whole}
 use Rattle.lexopt_options_spec.proofs.Listed.{accepted_append}
 use Rattle.lexopt_options.specs.declared.parsed.ByKey.TheVariants as told
 use Rattle.lexopt_options.specs.Declarations.{declaration_of}
-use Rattle.lexopt_options.specs.Reading.{AreSeen, noted}
+use Rattle.lexopt_options.specs.Reading.{AreSeen}
 use Rattle.lexopt_options.proofs.LeadingRead.{nothing_pending}
 use Rattle.lexopt_options.proofs.ReadKeys.{at_start, has_option, one_unrefused}
 use Rattle.lexopt_options.proofs.ReadNext.{one_more}
@@ -32,7 +30,7 @@ loop-seen-preserved g c =
     let read = rw is at c.in_ok-own-in-Option.ensures 0 c.loop-seen.parser next.0 next.1 next.2 in
     has_option o c.args.parser.now c.loop-seen.parser c.read_by_key.new.parser 0 c.in-Option.index c.loop-seen.seen.items c.note.new.seen.items c.loop-seen.parsed.items c.push.new.self.items read.0 c.in-Ok-Parsed.own
     c.loop-seen.invariant read.1 read.2.0 read.2.1 read.3 read.4 read.5
-    (c.in_ok-note-in-Ok-Parsed.ensures ∙ ap (λ (os : List spec.Declared). noted (is_required os c.in-Option.index) c.in-Option.index c.loop-seen.seen.items) c.options.ensures.view) c.in_ok-push-in-Ok-Parsed.ensures.items
+    c.in_ok-note-in-Ok-Parsed.ensures c.in_ok-push-in-Ok-Parsed.ensures.items
 
 pub returns-in-Ok-Asked : goal.returns-in-Ok-Asked
 returns-in-Ok-Asked g c = λ words is_start.
@@ -86,6 +84,20 @@ returns-in-End g c = λ words is.
     c.end-in-End.ensures words had.l c.loop-seen.parser c.read_next.new.parser _ read step (ends refl) (sym had.counted)
     (subst (IsSplit d words had.l) (sym c.new.ensures.items) split)
     (subst (λ seen. AreSeen d.options had.l seen) (sym c.deref-in-End.ensures.value) had.are_seen) had.none had.are had.accepted
+
+pub returns-in-Undeclared : goal.returns-in-Undeclared
+returns-in-Undeclared g c = λ words is.
+    let d = declaration_of c.args.options.now in
+    let had = c.loop-seen.invariant in
+    let stops = c.in_ok-mistake-in-Undeclared.ensures c.loop-seen.parser (rw c.in-Undeclared.is at c.in_ok-index.ensures) in
+    c.refuse-in-Undeclared.ensures words stops.why had.l stops.told
+    (record {
+      there = c.loop-seen.parser;
+      read = subst (λ (u : UnreadLine). ReadsUpTo d u had.l c.loop-seen.parser) is had.read;
+      alone = sym had.counted;
+      stops = at_option stops.of_option (stops.stops had.l);
+      accepted = had.accepted;
+    }) had.none had.are
 
 pub returns-in-Mistake : goal.returns-in-Mistake
 returns-in-Mistake g c = λ words is.

@@ -2,10 +2,10 @@ use Rattle.std.proofs.Common.{◌≡◌, ◌++◌, ◌∷◌, [], List, add-zero
 use Rattle.std.proofs.lemmas.List.{length-map}
 use Rattle.lexopt_options_spec.specs.Legal as legal
 use Rattle.lexopt_options_spec.specs.Legal.{positional_count}
-use Rattle.lexopt_options_spec.specs.Stops.{ReadsUpTo}
+use Rattle.lexopt_options_spec.specs.Stops.{ReadsUpTo, unknown_option}
 use Rattle.lexopt_options.specs.Declarations.{declaration_of}
 use Rattle.lexopt_options.specs.Reading.{indexed_view}
-use Rattle.lexopt_options.proofs.ReadNext.{by_limit, by_room, count_more, count_small, one_more}
+use Rattle.lexopt_options.proofs.ReadNext.{by_limit, by_room, count_more, count_small, one_more, undeclared_stops}
 use Rattle.lexopt_options.proofs.WholeLines.{front_of, part_stopped, nothing_part}
 use Rattle.lexopt_options.proofs.read.read_indexed.Goals as goal
 
@@ -67,6 +67,15 @@ pub returns-in-End : goal.returns-in-End
 returns-in-End g c = λ words is.
     let ends = rw c.in-End.is at c.in_ok-index.ensures in
     front_of (declaration_of c.args.options.now) words (map indexed_view c.loop-parsed.parsed.items) c.args.parser.now c.loop-parsed.parser c.read_next.new.parser c.args.options.now.sound is c.loop-parsed.invariant.read ends
+
+pub returns-in-Undeclared : goal.returns-in-Undeclared
+returns-in-Undeclared g c = λ words is.
+    let d = declaration_of c.args.options.now in
+    let l = map indexed_view c.loop-parsed.parsed.items in
+    let stops = undeclared_stops d c.loop-parsed.parser c.read_next.new.parser c.in-Undeclared.field-0 (rw c.in-Undeclared.is at c.in_ok-index.ensures) in
+    let why = unknown_option stops.0 c.read_next.new.parser.tail in
+    nothing_part d words l why tt
+    (part_stopped d words l c.args.parser.now c.loop-parsed.parser c.loop-parsed.count why is c.loop-parsed.invariant.read c.loop-parsed.invariant.counted (λ m counted. stops.1 m))
 
 pub returns-in-Mistake : goal.returns-in-Mistake
 returns-in-Mistake g c = λ words is.

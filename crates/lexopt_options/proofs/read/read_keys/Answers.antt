@@ -1,14 +1,13 @@
 use Rattle.std.proofs.Common.{◌≡◌, ◌≤◌, ◌++◌, ◌∷◌, ◌∙◌, [], List, Ok, ap, arith, length, subst, sym, ℕ}
 use Rattle.std.proofs.lemmas.List.{length-map}
 use Rattle.lexopt_spec.specs.UnreadLine.{UnreadLine}
-use Rattle.lexopt_options_spec.specs.Declaration as spec
 use Rattle.lexopt_declaration.specs.Models.{positional_view}
-use Rattle.lexopt_options_spec.specs.Legal.{IsWithin, is_required, most}
+use Rattle.lexopt_options_spec.specs.Legal.{IsWithin, most}
 use Rattle.lexopt_options_spec.specs.Stops.{ReadsUpTo}
 use Rattle.lexopt_options.specs.declared.parsed.ByKey.TheVariants as told
 use Rattle.lexopt_options.specs.Declarations.{declaration_of}
 use Rattle.lexopt_options.specs.Keys.{HasKey}
-use Rattle.lexopt_options.specs.Reading.{AreSeen, noted}
+use Rattle.lexopt_options.specs.Reading.{AreSeen}
 use Rattle.lexopt_options_spec.proofs.Listed.{accepted_append}
 use Rattle.lexopt_options.proofs.ReadKeys.{at_start, count_within, has_option, has_positional, one_unrefused}
 use Rattle.lexopt_options.proofs.ReadNext.{by_limit, by_room, has_room, one_more}
@@ -38,7 +37,7 @@ loop-seen-preserved-in-Continue-branch-8 g c =
     let read = rw is at c.in_ok-own-in-Option.ensures c.loop-seen.count c.loop-seen.parser next.0 next.1 next.2 in
     has_option o c.args.parser.now c.loop-seen.parser c.read_by_key.new.parser c.loop-seen.count c.in-Option.index c.loop-seen.seen.items c.note.new.seen.items c.loop-seen.parsed.items c.push.new.self.items read.0 c.in-Ok-Parsed.own
     c.loop-seen.invariant read.1 read.2.0 read.2.1 read.3 read.4 read.5
-    (c.in_ok-note-in-Ok-Parsed.ensures ∙ ap (λ (os : List spec.Declared). noted (is_required os c.in-Option.index) c.in-Option.index c.loop-seen.seen.items) c.options.ensures.view) c.in_ok-push-in-Ok-Parsed.ensures.items
+    c.in_ok-note-in-Ok-Parsed.ensures c.in_ok-push-in-Ok-Parsed.ensures.items
 
 pub returns-in-Ok-Asked : goal.returns-in-Ok-Asked
 returns-in-Ok-Asked g c = λ words is_start.
@@ -90,6 +89,13 @@ returns-in-End g c = λ words is.
     let ends = rw c.in-End.is at c.in_ok-index.ensures in
     c.end.ensures words had.l c.loop-seen.parser c.read_next.new.parser (subst (λ (u : UnreadLine). ReadsUpTo d u had.l c.loop-seen.parser) is had.read) ends had.counted
     (subst (λ (l : List ℕ). AreSeen d.options had.l l) (sym c.deref.ensures.value) had.are_seen) had.none had.are had.firsts had.accepted
+
+pub returns-in-Undeclared : goal.returns-in-Undeclared
+returns-in-Undeclared g c = λ words is.
+    let d = declaration_of c.args.options.now in
+    let had = c.loop-seen.invariant in
+    let stops = c.in_ok-mistake-in-Undeclared.ensures c.loop-seen.parser (rw c.in-Undeclared.is at c.in_ok-index.ensures) in
+    c.stop-in-Undeclared.ensures words stops.why had.l stops.told (line_stopped d words had.l c.args.parser.now c.loop-seen.parser c.loop-seen.count stops.why is had.read had.counted (λ m counted. stops.stops m) had.accepted) had.none had.are had.firsts
 
 pub returns-in-Mistake : goal.returns-in-Mistake
 returns-in-Mistake g c = λ words is.

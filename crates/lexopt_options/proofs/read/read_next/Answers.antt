@@ -1,4 +1,4 @@
-use Rattle.std.proofs.Common.{◌≡◌, ◌∙◌, Ok, Err, List, Some, None, ℕ, string_bytes, refl, subst, sym, ap}
+use Rattle.std.proofs.Common.{◌≡◌, ◌∙◌, Ok, Err, Some, None, string_bytes, refl, sym, ap}
 use Rattle.std.proofs.lemmas.Bool.{false≢true}
 use Rattle.lexopt_line_spec.specs.Table.{long, short}
 use Rattle.lexopt_options_spec.specs.Declaration.{index_of}
@@ -8,7 +8,7 @@ use Rattle.lexopt_base.specs.declared.parser.Found.TheVariants as found
 use Rattle.lexopt_base.specs.declared.refusal.Refusal.TheVariants as refused
 use Rattle.lexopt_base.proofs.Refusals.{named}
 use Rattle.lexopt_options.specs.Declarations.{declaration_of}
-use Rattle.lexopt_options.proofs.ReadNext.{answered, never_missing, one_name}
+use Rattle.lexopt_options.proofs.ReadNext.{answered, never_missing, undeclared_long}
 use Rattle.lexopt_options.proofs.read.read_next.Goals as goal
 
 pub returns-in-Some : goal.returns-in-Some
@@ -22,43 +22,16 @@ returns-in-Some-index_of_long g c =
     let step = named _ _ c.long_name.result.now (answered _ _ _ _ c.advance.ensures is) c.long_name.ensures in
     (long c.long_name.result.now, step, sym c.index_of_long.ensures ∙ c.in-Some-index_of_long.is)
 
-pub returns-in_ok-mistake-in-None : goal.returns-in_ok-mistake-in-None
-returns-in_ok-mistake-in-None g c =
+pub returns-in-None : goal.returns-in-None
+returns-in-None g c =
     let is : c.advance.result ≡ Ok (found.Short c.in-Ok-Short.option) = cc in
-    let step = answered _ _ _ _ c.advance.ensures is in
-    record {
-      why = stops.unknown_option (short c.in-Ok-Short.option) c.advance.new.self.tail;
-      told = c.in_ok-mistake-in-None.ensures c.args.parser.now step;
-      early = tt;
-      stops = λ l most_is counted. stops.not_declared (short c.in-Ok-Short.option) c.advance.new.self step
-          (sym (ap (λ os. index_of os (short c.in-Ok-Short.option)) c.options.ensures.view) ∙ sym c.index_of_short.ensures ∙ c.in-None.is);
-      of_option = λ none. (
-        tt,
-        λ l. stops.not_declared (short c.in-Ok-Short.option) c.advance.new.self step
-            (sym (ap (λ os. index_of os (short c.in-Ok-Short.option)) c.options.ensures.view) ∙ sym c.index_of_short.ensures ∙ c.in-None.is),
-      );
-    }
+    (answered _ _ _ _ c.advance.ensures is, sym (ap (λ os. index_of os (short c.in-Ok-Short.option)) c.options.ensures.view) ∙ sym c.index_of_short.ensures ∙ c.in-None.is)
 
-pub returns-in_ok-mistake-in-None-index_of_long : goal.returns-in_ok-mistake-in-None-index_of_long
-returns-in_ok-mistake-in-None-index_of_long g c =
+pub returns-in-None-index_of_long : goal.returns-in-None-index_of_long
+returns-in-None-index_of_long g c =
     let is : c.advance.result ≡ Ok found.Long = cc in
-    let step = named _ _ c.long_name.result.now (answered _ _ _ _ c.advance.ensures is) c.long_name.ensures in
-    let name = c.long_name-in-None-index_of_long.result.now in
-    let same : c.long_name.result.now ≡ name = one_name _ _ _ _ (answered _ _ _ _ c.advance.ensures is) c.long_name.ensures c.long_name-in-None-index_of_long.ensures in
-    let none : index_of (declaration_of c.args.options.now).options (long c.long_name.result.now) ≡ None =
-    sym c.index_of_long.ensures ∙ c.in-None-index_of_long.is in
-    record {
-      why = stops.unknown_option (long name) c.advance.new.self.tail;
-      told = c.in_ok-mistake-in-None-index_of_long.ensures c.advance.new.self.tail;
-      early = tt;
-      stops = λ l most_is counted. subst (λ (n : List ℕ). Stops (declaration_of c.args.options.now) l c.args.parser.now (stops.unknown_option (long n) c.advance.new.self.tail)) same
-          (stops.not_declared (long c.long_name.result.now) c.advance.new.self step none);
-      of_option = λ no_limit. (
-        tt,
-        λ l. subst (λ (n : List ℕ). Stops (declaration_of c.args.options.now) l c.args.parser.now (stops.unknown_option (long n) c.advance.new.self.tail)) same
-            (stops.not_declared (long c.long_name.result.now) c.advance.new.self step none),
-      );
-    }
+    undeclared_long (declaration_of c.args.options.now) _ _ c.long_name.result.now (answered _ _ _ _ c.advance.ensures is) c.long_name.ensures
+    (sym c.index_of_long.ensures ∙ c.in-None-index_of_long.is)
 
 pub returns-then-is_full : goal.returns-then-is_full
 returns-then-is_full g c =
