@@ -1,10 +1,8 @@
 //! The scripts by which shells complete the lines of a program, and what shells ask the program.
 ghost use Rattle.std.specs.Prelude.{◌≡◌, ◌↔◌, ◌∷◌, [], IfOk, Some, encode_utf8, string_bytes};
 ghost use Rattle.std.specs.Fmt.{WritesOnOk};
-ghost use Rattle.lexopt_declaration.specs.Scripts.{bash_words, bash_answers, bash_script};
-ghost use Rattle.lexopt_declaration.specs.Scripts.{fish_words, fish_answers, fish_script};
-ghost use Rattle.lexopt_declaration.specs.Scripts.{request_text, variable_byte, variable_name};
-ghost use Rattle.lexopt_declaration.specs.Scripts.{zsh_words, zsh_answers, zsh_end, zsh_script};
+ghost use Rattle.lexopt_declaration.specs.Scripts.{request_text, script_character};
+ghost use Rattle.lexopt_declaration.specs.Scripts.{variable_byte, variable_name, with_names};
 
 use std::alloc::{AllocError, Global};
 use std::fmt;
@@ -130,16 +128,14 @@ pub struct Script<'a> {
     pub variable: &'a str,
 }
 
-// ---- the texts of the scripts
+// ---- the scripts, where `§` stands for the name of the program, and `¶` for that of the variable
 
-const BASH_ABOUT: &str = r#"# Source this. It needs bash 4.4.
+const BASH: &str = r#"# Source this. It needs bash 4.4.
 
 # Splits a line into `words`, as the program would get them. The last word is in `word` instead, and
 # in `raw` as it was typed. `redirected` is set if it is the target of a redirection. `open` has the
 # end of each quote and substitution that is open, after a blank: the innermost is last.
-_split_"#;
-
-const BASH_SPLIT: &str = r#"() {
+_split_§() {
     local rest=$1 before piece value
     local operator='^(&>>?|<<<|<<-?|<[>&]?|>[>&|]?)' number='^([0-9]+|\{[A-Za-z_0-9]+\})$'
     local escaped="^..(([^'\\]|\\\\.)*)('?)"
@@ -193,25 +189,17 @@ const BASH_SPLIT: &str = r#"() {
     done
 }
 
-_complete_"#;
-
-const BASH_COMPLETE: &str = r#"() {
+_complete_§() {
     local words word raw open redirected program answers answer start kept typed name quoted
 
     COMPREPLY=()
-    _split_"#;
-
-const BASH_PROGRAM: &str = r#" "${COMP_LINE:0:COMP_POINT}"
+    _split_§ "${COMP_LINE:0:COMP_POINT}"
     program=${words[0]}
     [[ $program == \~/* ]] && program=$HOME${program:1}
     # An alias is not a command: then ask the program itself.
-    type -P -- "$program" >/dev/null || program="#;
-
-const BASH_ASK: &str = r#"
+    type -P -- "$program" >/dev/null || program=§
     if [[ $redirected ]] || ! answers=$(
-        "#;
-
-const BASH_KEPT: &str = r#"=bash_complete "$program" "${words[@]:1}" "$word" 2>/dev/null </dev/null
+        ¶=bash_complete "$program" "${words[@]:1}" "$word" 2>/dev/null </dev/null
     ); then
         # What bash offers without this script.
         compopt -o bashdefault -o default
@@ -221,9 +209,7 @@ const BASH_KEPT: &str = r#"=bash_complete "$program" "${words[@]:1}" "$word" 2>/
     # Bash replaces only $2, which begins after the last `=`, `:`, `@` or open quote. What comes
     # before it in the word is kept.
     typed=$word
-    _split_"#;
-
-const BASH_OFFERS: &str = r#" "${raw%"$2"}"
+    _split_§ "${raw%"$2"}"
     kept=$word
 
     while IFS=$'\t' read -r answer start; do
@@ -263,47 +249,11 @@ const BASH_OFFERS: &str = r#" "${raw%"$2"}"
         esac
     done <<<"$answers"
 }
-complete -F _complete_"#;
+complete -F _complete_§ §"#;
 
-#[tactic(auto, unfolding(crate::specs::Scripts::bash_words))]
-fn write_bash_words<W: fmt::Write>(program: &str, f: &mut fmt::Formatter<W>) -> fmt::Result
-    ensures { WritesOnOk W.write_str_gives f.old result (bash_words program.now) f.new }
-{
-    write!(
-        f,
-        "{BASH_ABOUT}{program}{BASH_SPLIT}{program}{BASH_COMPLETE}{program}{BASH_PROGRAM}{program}"
-    )
-}
-
-#[tactic(auto, unfolding(crate::specs::Scripts::bash_answers))]
-fn write_bash_answers<W: fmt::Write>(
-    program: &str,
-    variable: &str,
-    f: &mut fmt::Formatter<W>,
-) -> fmt::Result
-    ensures { WritesOnOk W.write_str_gives f.old result (bash_answers program.now variable.now) f.new }
-{
-    write!(
-        f,
-        "{BASH_ASK}{variable}{BASH_KEPT}{program}{BASH_OFFERS}{program} {program}"
-    )
-}
-
-fn write_bash<W: fmt::Write>(
-    program: &str,
-    variable: &str,
-    f: &mut fmt::Formatter<W>,
-) -> fmt::Result
-    ensures { WritesOnOk W.write_str_gives f.old result (bash_script program.now variable.now) f.new }
-{
-    write_bash_words(program, f)?;
-    write_bash_answers(program, variable, f)
-}
-
-const ZSH_ABOUT: &str = r#"
-# Source this after `compinit`, or put it into a folder of `fpath` as the file `_"#;
-
-const ZSH_TYPED: &str = r#"() {
+const ZSH: &str = r#"#compdef §
+# Source this after `compinit`, or put it into a folder of `fpath` as the file `_§`.
+_§() {
     # What is typed of the word, and the end of the quote that is open, if one is.
     local typed=$QIPREFIX$PREFIX${compstate[quote]#\$}
     local program answers word text start ret=1
@@ -313,9 +263,8 @@ const ZSH_TYPED: &str = r#"() {
     program=${(Q)words[1]}
     program=${program/#\~\//$HOME/}
     # An alias is not a command: then ask the program itself.
-    whence -p -- "$program" >/dev/null || program="#;
-
-const ZSH_OFFERS: &str = r#"=zsh_complete "$program" "${(@Q)words[2,CURRENT-1]}" "$typed" \
+    whence -p -- "$program" >/dev/null || program=§
+    answers=$(¶=zsh_complete "$program" "${(@Q)words[2,CURRENT-1]}" "$typed" \
         2>/dev/null </dev/null) || {
         # What zsh offers without this script.
         _default
@@ -345,56 +294,16 @@ const ZSH_OFFERS: &str = r#"=zsh_complete "$program" "${(@Q)words[2,CURRENT-1]}"
     fi
     return ret
 }
-if [[ $funcstack[1] == _"#;
+if [[ $funcstack[1] == _§ ]]; then
+    _§ "$@"
+else
+    compdef _§ §
+fi"#;
 
-#[tactic(auto, unfolding(crate::specs::Scripts::zsh_words))]
-fn write_zsh_words<W: fmt::Write>(program: &str, f: &mut fmt::Formatter<W>) -> fmt::Result
-    ensures { WritesOnOk W.write_str_gives f.old result (zsh_words program.now) f.new }
-{
-    write!(
-        f,
-        "#compdef {program}{ZSH_ABOUT}{program}`.\n_{program}{ZSH_TYPED}{program}"
-    )
-}
-
-#[tactic(auto, unfolding(crate::specs::Scripts::zsh_answers))]
-fn write_zsh_answers<W: fmt::Write>(
-    program: &str,
-    variable: &str,
-    f: &mut fmt::Formatter<W>,
-) -> fmt::Result
-    ensures { WritesOnOk W.write_str_gives f.old result (zsh_answers program.now variable.now) f.new }
-{
-    write!(
-        f,
-        "\n    answers=$({variable}{ZSH_OFFERS}{program} ]]; then\n    _{program} \"$@\"\n\
-        else\n    compdef _{program}"
-    )
-}
-
-#[tactic(auto, unfolding(crate::specs::Scripts::zsh_end))]
-fn write_zsh_end<W: fmt::Write>(program: &str, f: &mut fmt::Formatter<W>) -> fmt::Result
-    ensures { WritesOnOk W.write_str_gives f.old result (zsh_end program.now) f.new }
-{
-    write!(f, " {program}\nfi")
-}
-
-fn write_zsh<W: fmt::Write>(program: &str, variable: &str, f: &mut fmt::Formatter<W>) -> fmt::Result
-    ensures { WritesOnOk W.write_str_gives f.old result (zsh_script program.now variable.now) f.new }
-{
-    write_zsh_words(program, f)?;
-    write_zsh_answers(program, variable, f)?;
-    write_zsh_end(program, f)
-}
-
-const FISH_ABOUT: &str =
-    r#"# Source this, or put it into a folder of `fish_complete_path` as the file `"#;
-
-const FISH_FUNCTION: &str = r#".fish`.
+const FISH: &str =
+    r#"# Source this, or put it into a folder of `fish_complete_path` as the file `§.fish`.
 # It needs fish 3.4.
-function __complete_"#;
-
-const FISH_SPLIT: &str = r#"
+function __complete_§
     set -l line "$(commandline --current-process --cut-at-cursor)"
     set -l token "$(commandline --current-token --cut-at-cursor)"
 
@@ -413,15 +322,11 @@ const FISH_SPLIT: &str = r#"
         -- "$line$end" | string collect | read --null --tokenize --list --local words
 
     set -l program (string replace --regex '^~/' "$HOME/" -- $words[1])
-    type --query -- $program; or set program "#;
-
-const FISH_ASK: &str = r#"
+    type --query -- $program; or set program §
     # Where the program fails, fish offers files, as it does without this script.
     set -l answers files
     if type --query -- $program
-        set answers ("#;
-
-const FISH_OFFERS: &str = r#"=fish_complete $program $words[2..] 2>/dev/null </dev/null)
+        set answers (¶=fish_complete $program $words[2..] 2>/dev/null </dev/null)
         or set answers files
     end
 
@@ -447,41 +352,39 @@ const FISH_OFFERS: &str = r#"=fish_complete $program $words[2..] 2>/dev/null </d
         end
     end
 end
-complete --command "#;
+complete --command § --no-files --arguments '(__complete_§)'"#;
 
-#[tactic(auto, unfolding(crate::specs::Scripts::fish_words))]
-fn write_fish_words<W: fmt::Write>(
+// Writes a character of a script, or the name for which it stands.
+fn write_character<W: fmt::Write>(
+    character: char,
     program: &str,
     variable: &str,
     f: &mut fmt::Formatter<W>,
 ) -> fmt::Result
-    ensures { WritesOnOk W.write_str_gives f.old result (fish_words program.now variable.now) f.new }
+    ensures { WritesOnOk W.write_str_gives f.old result
+        (script_character program.now variable.now character) f.new }
 {
-    write!(
-        f,
-        "{FISH_ABOUT}{program}{FISH_FUNCTION}{program}{FISH_SPLIT}{program}{FISH_ASK}{variable}"
-    )
+    match character {
+        '§' => f.write_str(program),
+        '¶' => f.write_str(variable),
+        _ => f.write_char(character),
+    }
 }
 
-#[tactic(auto, unfolding(crate::specs::Scripts::fish_answers))]
-fn write_fish_answers<W: fmt::Write>(program: &str, f: &mut fmt::Formatter<W>) -> fmt::Result
-    ensures { WritesOnOk W.write_str_gives f.old result (fish_answers program.now) f.new }
-{
-    write!(
-        f,
-        "{FISH_OFFERS}{program} --no-files --arguments '(__complete_{program})'"
-    )
-}
-
-fn write_fish<W: fmt::Write>(
+// Writes a script with these names.
+fn write_script<W: fmt::Write>(
+    text: &str,
     program: &str,
     variable: &str,
     f: &mut fmt::Formatter<W>,
 ) -> fmt::Result
-    ensures { WritesOnOk W.write_str_gives f.old result (fish_script program.now variable.now) f.new }
+    ensures { WritesOnOk W.write_str_gives f.old result
+        (with_names program.now variable.now text.now) f.new }
 {
-    write_fish_words(program, variable, f)?;
-    write_fish_answers(program, f)
+    for character in text.chars() {
+        write_character(character, program, variable, f)?;
+    }
+    Ok(())
 }
 
 impl fmt::Display for Script<'_> {
@@ -492,9 +395,9 @@ impl fmt::Display for Script<'_> {
 
     fn fmt<W: fmt::Write>(&self, f: &mut fmt::Formatter<W>) -> fmt::Result {
         match self.shell {
-            Shell::Bash => write_bash(self.program, self.variable, f),
-            Shell::Zsh => write_zsh(self.program, self.variable, f),
-            Shell::Fish => write_fish(self.program, self.variable, f),
+            Shell::Bash => write_script(BASH, self.program, self.variable, f),
+            Shell::Zsh => write_script(ZSH, self.program, self.variable, f),
+            Shell::Fish => write_script(FISH, self.program, self.variable, f),
         }
     }
 }

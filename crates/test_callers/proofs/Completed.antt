@@ -10,7 +10,7 @@ use Rattle.lexopt_line_spec.proofs.Computing.{computing}
 use Rattle.lexopt_options_spec.specs.Declaration.{Declaration, for_help, for_version}
 use Rattle.lexopt_options_spec.specs.Completion as completion
 use Rattle.lexopt_options_spec.specs.Completion.{AreOwnersIn, Completes, HasRole, IsJoined, offered_values}
-use Rattle.lexopt_declaration.specs.Scripts.{bash_script, fish_script, request_text, variable_name, zsh_script}
+use Rattle.lexopt_declaration.specs.Scripts.{request_text, shell_script, variable_name}
 use Rattle.lexopt_declaration.specs.declared.shell.Shell.{Shell}
 use Rattle.lexopt_declaration.specs.declared.shell.ShellRequest.TheVariants as asks
 use Rattle.lexopt_declaration.specs.declared.spellings.Spelling.{Spelling}
@@ -201,9 +201,7 @@ answered o words width (answer.Text text) its is =
 answered o words width (answer.Refused refused) its is = refused_as o words refused its is
 
 script : (o : Options Flag Value Word Maybe Values) (shell : Shell) (text : List ℕ) → declaration_of o ≡ tool → text ≡ script_lines o shell → text ≡ tool_script shell
-script o Bash text view is = is ∙ ap (λ (d : Declaration). bash_script d.program (variable_name d.program) ++ 10 ∷ []) view
-script o Zsh text view is = is ∙ ap (λ (d : Declaration). zsh_script d.program (variable_name d.program) ++ 10 ∷ []) view
-script o Fish text view is = is ∙ ap (λ (d : Declaration). fish_script d.program (variable_name d.program) ++ 10 ∷ []) view
+script o shell text view is = is ∙ ap (λ (d : Declaration). shell_script shell d.program (variable_name d.program) ++ 10 ∷ []) view
 
 pub requested : (o : Options Flag Value Word Maybe Values) (r : Request) (width : ℕ) (a : Answer Flag Value Word Maybe Values) → AreOfTool o → IsRequestAnswer o r width a → ToolRequest r width a
 requested o (request.Line words) width a its is = answered o words.items width a its is

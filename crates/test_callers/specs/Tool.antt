@@ -9,7 +9,7 @@ use Rattle.std.specs.Prelude.{map, slice_get, string_bytes}
 use Rattle.std.specs.List.{AllZip, flat_map, list_any, starts_with}
 use Rattle.lexopt_declaration.specs.declared.declaration.Names.{Names}
 use Rattle.lexopt_declaration.specs.declared.declaration.Names.TheVariants as names
-use Rattle.lexopt_declaration.specs.Scripts.{bash_script, fish_script, zsh_script}
+use Rattle.lexopt_declaration.specs.Scripts.{shell_script}
 use Rattle.lexopt_declaration.specs.declared.shell.Shell.{Shell}
 use Rattle.lexopt_declaration.specs.declared.shell.Shell.TheVariants.{Bash, Zsh, Fish}
 use Rattle.lexopt_declaration.specs.declared.spellings.Spelling.{Spelling}
@@ -422,9 +422,7 @@ abbrev pub tool_variable : List ℕ
 tool_variable = codes "_TOOL_COMPLETE"
 
 abbrev pub tool_script : Shell → List ℕ
-tool_script Bash = bash_script (codes "tool") tool_variable ++ 10 ∷ []
-tool_script Zsh = zsh_script (codes "tool") tool_variable ++ 10 ∷ []
-tool_script Fish = fish_script (codes "tool") tool_variable ++ 10 ∷ []
+tool_script shell = shell_script shell (codes "tool") tool_variable ++ 10 ∷ []
 
 -- the variable has an unknown value
 abbrev pub IsNotKnown : Refused Flag Value Word Maybe Values → Type 0

@@ -1,0 +1,19 @@
+use Rattle.std.proofs.Common.{[], flat_map, map-id, refl, sym, ap, ◌∙◌}
+use Rattle.std.proofs.Output.{has_written_append, has_written_of_eq}
+use Rattle.std.proofs.lemmas.Iterator.{YieldsList-from_chars}
+use Rattle.std.proofs.lemmas.Iterator.Consumers.{YieldsList-end}
+use Rattle.std.proofs.lemmas.List.{flat_map_more}
+use Rattle.lexopt_declaration.specs.Scripts.{script_character}
+use Rattle.lexopt_declaration.proofs.shell.write_script.Goals as goal
+
+pub loop-character-preserved : goal.loop-character-preserved
+loop-character-preserved g c = λ plain.
+    let so_far = c.loop-character.invariant plain in
+    let written = script_character c.args.program.now c.args.variable.now in
+    has_written_of_eq _ _ _ _ _ (flat_map_more written [] c.loop-character.yielded c.in-Some.character)
+    (has_written_append _ _ _ _ (written c.in-Some.character) _ so_far (c.in_ok-write_character.ensures so_far.plain refl))
+
+pub returns : goal.returns
+returns g c = λ plain _.
+    let end = YieldsList-end (YieldsList-from_chars c.args.text.now c.utf8.text cc) c.loop-character.yielded _ c.loop-character.yielded_by _ _ c.in-None.is c.next.ensures.steps in
+    has_written_of_eq _ _ _ _ _ (ap (flat_map (script_character c.args.program.now c.args.variable.now)) (sym (map-id c.loop-character.yielded) ∙ end.0)) (c.loop-character.invariant plain)

@@ -1,0 +1,8 @@
+use Rattle.std.proofs.Common.{flat_map}
+use Rattle.std.specs.Fmt.{HasWritten, IsPlainFormatter}
+use Rattle.lexopt_declaration.specs.Scripts.{script_character}
+use Rattle.lexopt_declaration.proofs.shell.write_script.Given as goal
+
+abbrev pub invariant-loop-character : goal.invariant-loop-character
+invariant-loop-character g l = IsPlainFormatter l.fn.f
+    → HasWritten g.W.Write.write_str_gives l.fn.f (flat_map (script_character l.program l.variable) l.yielded) l.f
