@@ -11,7 +11,12 @@ use std::alloc::{AllocError, Global};
 use std::env::{Env, FillError};
 
 // The size of the buffer at first, in bytes.
-const FIRST_ROOM: usize = 256;
+const FIRST_ROOM: usize = 512;
+
+// How many times as large the buffer gets if a word does not fit. The environment is asked for that
+// word again, which takes time by the bytes that did fit, so the buffer grows fast: the third one
+// has room for the longest word that Linux allows.
+const GROWTH: usize = 16;
 
 // A source of words: one word for each place, counted from 0. It is a trait for the prover's sake,
 // so that the clause of `ask_for_words` can name the words of a source; `Env` does not state its
@@ -60,36 +65,19 @@ pub fn arguments<R: Env>(rt: &R, alloc: Global) -> Result<Vec<OsString>, AllocEr
     ask_for_words(rt, alloc)
 }
 
-// Returns the word of each place, up to the first place that has none.
+// Returns the word of each place, up to the first place that has none. The buffer grows until the
+// word fits.
 #[tactic(auto, using(crate::proofs::Answered::one_more_came))]
 fn ask_for_words<S: WordSource>(source: &S, alloc: Global) -> Result<Vec<OsString>, AllocError>
     ensures { IfOk result (λ words. AreAnswered (S.answers source.now) 0 words.items) }
 {
     let mut words = Vec::new(alloc);
     let mut room = vec![in alloc; 0u8; FIRST_ROOM]?;
-    for place in 0..usize::MAX {
-        match word_at(source, alloc, place, &mut room)? {
-            Some(word) => words.push(word)?,
-            None => return Ok(words),
-        }
-    }
-    Err(AllocError)
-}
-
-// Returns the word at a place, if it has one. The buffer is doubled until the word fits.
-fn word_at<S: WordSource>(
-    source: &S,
-    alloc: Global,
-    place: usize,
-    room: &mut Vec<u8>,
-) -> Result<Option<OsString>, AllocError>
-    ensures { IfOk result (λ word. S.answers source.now place word) }
-{
-    for _ in 0..usize::BITS {
-        match source.copy_word(place, room.as_mut_slice()) {
-            Ok(count) => return Ok(Some(OsString::from_bytes(alloc, &room[..count])?)),
-            Err(FillError::NotPresent) => return Ok(None),
-            Err(FillError::TooLong) => room.resize(room.len().saturating_mul(2), 0)?,
+    for _ in 0..usize::MAX {
+        match source.copy_word(words.len(), room.as_mut_slice()) {
+            Ok(count) => words.push(OsString::from_bytes(alloc, &room[..count])?)?,
+            Err(FillError::NotPresent) => return Ok(words),
+            Err(FillError::TooLong) => room.resize(room.len().saturating_mul(GROWTH), 0)?,
         }
     }
     Err(AllocError)

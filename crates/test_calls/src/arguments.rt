@@ -86,11 +86,11 @@ fn words_of_lengths(alloc: Global, lengths: &[usize]) -> Result<Vec<OsString>, A
     Ok(words)
 }
 
-// Lengths around the size of the buffer for a word, which is 256 bytes at first and is doubled, and
-// the longest length that Linux allows, with short words between them. The word of 255 bytes has
-// each byte except 00.
+// Lengths around the first three sizes of the buffer for a word, which are 512, 8,192 and 131,072
+// bytes, with short words between them. The longest length that Linux allows is 131,071. The word of
+// 255 bytes has each byte except 00.
 const LENGTHS: [usize; 18] = [
-    5, 255, 1, 256, 0, 257, 2, 511, 3, 512, 1, 513, 0, 131_071, 4, 131_071, 257, 1,
+    5, 255, 1, 511, 0, 512, 2, 513, 3, 8_192, 1, 8_193, 0, 131_071, 4, 131_073, 513, 1,
 ];
 
 // Whether words of these lengths are read whole.
