@@ -126,7 +126,10 @@ impl Request {
         ensures { IfOk result (λ request. (value : Option (List ℕ)) × (words : List (List ℕ))
             × IsRequest value words request) }
     {
-        let words = arguments(rt, alloc)?.into_iter().skip(1).collect(alloc)?;
+        let mut words = arguments(rt, alloc)?;
+        if !words.is_empty() {
+            let _name = words.remove(0);
+        }
         let name = variable(alloc, program)?;
         Ok(request_by(rt, alloc, name.as_str(), words))
     }
