@@ -238,6 +238,8 @@ impl Parser {
     /// ```rust
     /// let mut parser = Parser::from_env(rt, alloc)?;
     /// ```
+    // It is not inlined, as `from_env_os` is not.
+    #[inline(never)]
     pub fn from_env<R: Env + AllocGlobal>(rt: &R, alloc: Global) -> Result<Parser, Error>
         ensures ok { IfOk result (λ parser. (words : List (List ℕ)) × (parser ≡ invoked words)) }
         ensures err { IfErr result (λ e. (e ≡ Error.OutOfMemory)
@@ -268,6 +270,10 @@ impl Parser {
     /// ```rust
     /// let mut parser = Parser::from_env_os(rt, alloc)?;
     /// ```
+    // A program makes this call once, so LLVM would inline it into the function with the loop. The
+    // space of an `Error` would then be zeroed and copied at each `next()?` there, which takes some
+    // 150 instructions; `bench/run --check` shows it.
+    #[inline(never)]
     pub fn from_env_os<R: Env>(rt: &R, alloc: Global) -> Result<Parser, Error>
         ensures ok { IfOk result (λ parser. (words : List (List ℕ)) × (parser ≡ invoked words)) }
         ensures err { IfErr result (λ e. e ≡ Error.OutOfMemory) }
