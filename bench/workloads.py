@@ -69,6 +69,10 @@ OF_EMPTY_WORDS = (
     "instructions. The owning iterator of a `Vec` would leave no word, but that of Rattle's std cannot lend the unread words as "
     "one slice."
 )
+OF_ASKING = (
+    "`Env::arg` of Rattle's std copies a word byte by byte, in 7 instructions a byte, and sets and reads `errno` for each word. "
+    "Rust's std takes the length of a word by `strlen`, and copies it as a block. The last column has the ratio without these calls."
+)
 
 
 def repeated(words):
@@ -183,6 +187,38 @@ WORKLOADS = [
         work="items",
     ),
     Workload("{size} words, `-x=a b` repeated", 10_000, repeated([b"-x=a", b"b"]), work="items"),
+]
+
+# Words that are given to a process. Linux allows 131,071 bytes in a word.
+PROCESSES = [
+    Workload("no words", 0, repeated([]), work="read", is_declared=True),
+    Workload(
+        "a typical line of {size} words", 12, repeated(A_LINE), work="read", is_declared=True
+    ),
+    Workload(
+        "{size} positionals",
+        20_000,
+        repeated([b"file.txt"]),
+        work="read",
+        is_declared=True,
+        bounds={"read": (1.1, OF_ASKING), "parsed": (1.25, OF_ASKING)},
+    ),
+    Workload(
+        "{size} words of typical lines",
+        20_000,
+        repeated(A_LINE),
+        work="read",
+        is_declared=True,
+        bounds={"parsed": (1.1, OF_ASKING)},
+    ),
+    Workload(
+        "{size} words of 130,000 bytes",
+        3,
+        repeated([b"x" * 130_000]),
+        work="read",
+        is_declared=True,
+        bounds={"read": (8.5, OF_ASKING), "parsed": (8.5, OF_ASKING)},
+    ),
 ]
 
 

@@ -5,6 +5,7 @@
 mod parsed;
 mod seen;
 
+use lexopt::Parser;
 use seen::Seen;
 use std::env;
 use std::ffi::{OsStr, OsString};
@@ -39,7 +40,9 @@ fn copies(words: &[&[u8]]) -> Vec<OsString> {
 
 // Reads a line to its end.
 fn read_line(words: Vec<OsString>, seen: &mut Seen) -> bool {
-    match parsed::read(words) {
+    // Room for a typical line. The list of a longer line grows.
+    let room = words.len().min(16);
+    match parsed::read(Parser::from_args(words), room) {
         Ok(line) => {
             seen.line(&line);
             true

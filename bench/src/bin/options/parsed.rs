@@ -20,11 +20,9 @@ pub enum Parsed {
 }
 
 /// Reads a whole line. Returns the first error: an unknown option, a missing value, or a value of a
-/// flag.
-pub fn read(words: Vec<OsString>) -> Result<Vec<Parsed>, Error> {
-    // Room for a typical line. The list of a longer line grows.
-    let mut line = Vec::with_capacity(words.len().min(16));
-    let mut parser = Parser::from_args(words);
+/// flag. The list has this much room at first.
+pub fn read(mut parser: Parser, room: usize) -> Result<Vec<Parsed>, Error> {
+    let mut line = Vec::with_capacity(room);
     while let Some(argument) = parser.next()? {
         line.push(match argument {
             Short('v') | Long("verbose") => Parsed::Verbose,
