@@ -69,10 +69,7 @@ OF_EMPTY_WORDS = (
     "instructions. The owning iterator of a `Vec` would leave no word, but that of Rattle's std cannot lend the unread words as "
     "one slice."
 )
-OF_ASKING = (
-    "`Env::arg` of Rattle's std copies a word byte by byte, in 7 instructions a byte, and sets and reads `errno` for each word. "
-    "Rust's std takes the length of a word by `strlen`, and copies it as a block. The last column has the ratio without these calls."
-)
+OF_ASKING = "[Asking](#whole-processes) for the words costs more than in Rust."
 
 
 def repeated(words):
