@@ -1,5 +1,5 @@
 //! Worked examples of words that spell items, which the definition computes.
-ghost use Rattle.std.specs.Prelude.{◌≡◌, [], ◌∷◌, true, false, Ok, Err, Some, None, codes};
+ghost use Rattle.std.specs.Prelude.{◌≡◌, [], ◌∷◌, ◌++◌, true, false, Ok, Err, Some, None, codes};
 ghost use Rattle.lexopt_line_spec.specs.Table.{long, many, one_value, option, positional, short};
 ghost use Rattle.lexopt_line_spec.specs.Speller.{past_separator, dash_without_flag, empty_name};
 ghost use Rattle.lexopt_line_spec.specs.Speller.{empty_value, equals_in_name, missing_value};
@@ -127,6 +127,46 @@ fn positionals_have_these_words()
         (positional (codes "f") ∷ option (short 0x76) None ∷ positional (codes "g") ∷ positional
         (codes "-x") ∷ [])
         ≡ Ok (codes "f" ∷ codes "-v" ∷ codes "--" ∷ codes "g" ∷ codes "-x" ∷ []) }
+{}
+
+// The option `-` of each kind after a flag, an empty name, and U+FFFD in a name.
+#[tactic(auto, unfolding(lexopt_line_spec::proofs::Computing::computing))]
+fn odd_names_have_these_words()
+    ensures dash_of_one { spelled (one_value (codes "-") []) true
+        (option (short 0x76) None ∷ option (short 0x2D) (Some (codes "x")) ∷ [])
+        ≡ Ok (codes "-v-" ∷ codes "x" ∷ []) }
+    ensures dash_optional { spelled (record (one_value [] []) { optional_shorts = codes "-" }) true
+        (option (short 0x76) None ∷ option (short 0x2D) (Some (codes "x")) ∷ [])
+        ≡ Ok (codes "-v-x" ∷ []) }
+    ensures dash_of_several { spelled (record (one_value [] []) { several_shorts = codes "-" }) true
+        (option (short 0x76) None ∷ many (short 0x2D) (codes "-1" ∷ []) ∷ positional (codes "f") ∷ [])
+        ≡ Ok (codes "-v--1" ∷ codes "--" ∷ codes "f" ∷ []) }
+    ensures no_name_of_several { spelled (record (one_value [] []) { several_longs = [] ∷ [] }) true
+        (many (long []) (codes "a" ∷ []) ∷ [])
+        ≡ Ok (codes "--=a" ∷ []) }
+    ensures replacement { spelled (one_value [] []) true (option (short 0xFFFD) None ∷ [])
+        ≡ Ok ((0x2D ∷ 0xEF ∷ 0xBF ∷ 0xBD ∷ []) ∷ []) }
+    ensures damage_in_a_value { spelled (one_value [] (codes "out" ∷ [])) true
+        (option (long (codes "out")) (Some (0xFF ∷ [])) ∷ [])
+        ≡ Ok ((codes "--out=" ++ 0xFF ∷ []) ∷ []) }
+{}
+
+// If an item has two reasons, the first in this order: the name, the values, the empty name, the
+// separator, the dash.
+#[tactic(auto, unfolding(lexopt_line_spec::proofs::Computing::computing))]
+fn first_reasons_are_given()
+    ensures name { spelled (one_value [] []) true
+        (option (long (codes "a=")) (Some (codes "x")) ∷ [])
+        ≡ Err (record { index = 0; reason = equals_in_name }) }
+    ensures values { spelled (one_value (codes "o") []) true
+        (positional (codes "-x") ∷ option (short 0x6F) None ∷ [])
+        ≡ Err (record { index = 1; reason = missing_value }) }
+    ensures empty { spelled (one_value [] []) true
+        (positional (codes "-x") ∷ option (long []) None ∷ [])
+        ≡ Err (record { index = 1; reason = empty_name }) }
+    ensures separator { spelled (one_value [] []) true
+        (positional (codes "-x") ∷ option (short 0x2D) None ∷ [])
+        ≡ Err (record { index = 1; reason = past_separator }) }
 {}
 
 #[tactic(auto, unfolding(lexopt_line_spec::proofs::Computing::computing))]

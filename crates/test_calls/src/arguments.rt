@@ -5,7 +5,7 @@ use lexopt_words::os_string::arguments;
 use std::alloc::{AllocError, Global};
 use std::env;
 use std::env::Env;
-use test_helpers::calls::{has_words, is_at_end, reads_short, reads_word, takes};
+use test_helpers::calls::has_words;
 use test_helpers::environments::Arguments;
 use test_helpers::errors::prints;
 use test_helpers::parsers::words_from;
@@ -60,8 +60,8 @@ const LINES: [(&[&[u8]], Option<&str>); 8] = [
 ];
 
 // The place of the first line that is not read whole, if there is one.
-fn first_wrong(alloc: Global, lines: &[(&[&[u8]], Option<&str>)]) -> Result<Option<usize>, Error> {
-    for (place, (line, name)) in lines.iter().enumerate() {
+fn first_wrong(alloc: Global) -> Result<Option<usize>, Error> {
+    for (place, (line, name)) in LINES.iter().enumerate() {
         if !are_read(alloc, &words_from(alloc, line)?, *name)? {
             return Ok(Some(place));
         }
@@ -71,10 +71,7 @@ fn first_wrong(alloc: Global, lines: &[(&[&[u8]], Option<&str>)]) -> Result<Opti
 
 #[test]
 fn lines_of_any_bytes(rt: HostRuntime) {
-    assert_eq!(rt;
-        first_wrong(rt.alloc(), &LINES).expect(&rt, "success"),
-        None
-    );
+    assert_eq!(rt; first_wrong(rt.alloc()).expect(&rt, "success"), None);
 }
 
 // Words of these lengths. The word at place N begins with the byte N + 1.
@@ -125,38 +122,6 @@ fn many_words(rt: HostRuntime) {
     );
 }
 
-// Whether the parser reads an option with damage in its value, and a positional with damage.
-fn reads_a_line(parser: &mut Parser) -> Result<bool, Error> {
-    Ok(
-        reads_short(parser, 'x')?
-            && takes(parser, b"\xff")?
-            && reads_word(parser, b"a\xff")?
-            && is_at_end(parser)?,
-    )
-}
-
-#[test]
-fn line_of_an_environment(rt: HostRuntime) {
-    let words = words_from(rt.alloc(), &[b"tool", b"-x\xff", b"a\xff"]).expect(&rt, "success");
-    let mut parser = Parser::from_env_os(&Arguments { words: &words }, rt.alloc()).expect(
-        &rt, "success",
-    );
-    assert!(rt; reads_a_line(&mut parser).expect(&rt, "success"));
-}
-
-// Whether the parser has no name and no words.
-fn has_nothing(parser: &mut Parser) -> Result<bool, Error> {
-    Ok(parser.bin_name().is_none() && is_at_end(parser)?)
-}
-
-#[test]
-fn no_words_at_all(rt: HostRuntime) {
-    let mut parser = Parser::from_env_os(&Arguments { words: &[] }, rt.alloc()).expect(
-        &rt, "success",
-    );
-    assert!(rt; has_nothing(&mut parser).expect(&rt, "success"));
-}
-
 // Whether an error is a `Custom` error that prints this message.
 fn is_custom(alloc: Global, error: &Error, message: &str) -> Result<bool, AllocError> {
     Ok(matches!(error, Error::Custom(_)) && prints(alloc, error, message)?)
@@ -178,6 +143,25 @@ fn words_that_are_no_text(rt: HostRuntime) {
     assert!(rt; are_read(rt.alloc(), &words, Some("tool")).expect(&rt, "success"));
 }
 
+// Whether `from_env` makes a parser with this name, whose unread words are those after the first.
+fn are_texts<R: Env + AllocGlobal>(
+    rt: &R,
+    words: &[OsString],
+    name: Option<&str>,
+) -> Result<bool, Error> {
+    let mut parser = Parser::from_env(rt, rt.alloc())?;
+    has_words(&mut parser, name, words.get(1..).unwrap_or(&[]))
+}
+
+#[test]
+fn words_that_are_texts(rt: HostRuntime) {
+    let words = words_from(rt.alloc(), &[b"tool", b"-x", b"\xc2\xb5"]).expect(&rt, "success");
+    let environment = (Arguments { words: &words }, rt.alloc());
+    assert!(rt; are_texts(&environment, &words, Some("tool")).expect(&rt, "success"));
+    let environment = (Arguments { words: &[] }, rt.alloc());
+    assert!(rt; are_texts(&environment, &[], None).expect(&rt, "success"));
+}
+
 #[test]
 fn words_of_this_program(rt: HostRuntime) {
     let words: Vec<OsString> = env::args(&rt)
@@ -186,8 +170,8 @@ fn words_of_this_program(rt: HostRuntime) {
         .collect(rt.alloc())
         .expect(&rt, "success");
     let name = env::args(&rt).expect(&rt, "success").next();
+    assert!(rt; has_all_words(&rt, rt.alloc(), &words, name.as_deref()).expect(&rt, "success"));
     assert!(rt;
-        !words.is_empty()
-            && has_all_words(&rt, rt.alloc(), &words, name.as_deref()).expect(&rt, "success")
+        !words.is_empty() && are_texts(&rt, &words, name.as_deref()).expect(&rt, "success")
     );
 }

@@ -23,29 +23,15 @@ fn optional_values(rt: HostRuntime) {
     assert!(rt; takes_with_equals(&mut parser).expect(&rt, "success"));
 }
 
-// Sets `short_equals` of a parser after it was copied. Whether the copy and the parser then have
-// these values.
-fn both_take(parser: &mut Parser, on: bool, of_copy: &[u8], own: &[u8]) -> Result<bool, Error> {
+// A copy of a parser has the same pending value.
+fn both_take(parser: &mut Parser) -> Result<bool, Error> {
+    let is_read = reads_short(parser, 'a')?;
     let mut copy = parser.clone()?;
-    parser.set_short_equals(on);
-    Ok(takes(&mut copy, of_copy)? && takes(parser, own)?)
+    Ok(is_read && takes(&mut copy, b"b")? && takes(parser, b"b")?)
 }
 
-// A copy of a parser has the same pending value.
 #[test]
 fn copies_of_parsers(rt: HostRuntime) {
     let mut parser = parser_of(rt.alloc(), &[b"-ab"]).expect(&rt, "success");
-    assert!(rt;
-        reads_short(&mut parser, 'a').expect(&rt, "success")
-            && both_take(&mut parser, true, b"b", b"b").expect(&rt, "success")
-    );
-}
-
-#[test]
-fn copy_has_a_switch_of_its_own(rt: HostRuntime) {
-    let mut parser = parser_of(rt.alloc(), &[b"-c=d"]).expect(&rt, "success");
-    assert!(rt;
-        reads_short(&mut parser, 'c').expect(&rt, "success")
-            && both_take(&mut parser, false, b"d", b"=d").expect(&rt, "success")
-    );
+    assert!(rt; both_take(&mut parser).expect(&rt, "success"));
 }

@@ -1,11 +1,9 @@
-//! Conversions of values.
-use lexopt_base::prelude::{Value, ValueExt};
-use lexopt_base::{Error, OsString, Parser};
+//! Conversions of values. No clause states the text of an error of `FromStr`.
+use lexopt_base::prelude::ValueExt;
+use lexopt_base::{Error, OsString};
 use std::alloc::{AllocError, Global};
 use std::fmt;
-use test_helpers::calls::reads_short;
 use test_helpers::errors::prints;
-use test_helpers::parsers::parser_of;
 
 // An error of the program's own.
 #[derive(Debug, Drop)]
@@ -19,125 +17,82 @@ impl fmt::Display for Bad {
 
 impl std::error::Error for Bad {}
 
-// Whether a result is an error that prints this message.
-fn fails<T: Drop>(
-    alloc: Global,
-    answer: Result<T, Error>,
-    message: &str,
-) -> Result<bool, AllocError> {
-    match answer {
-        Ok(_) => Ok(false),
-        Err(error) => prints(alloc, &error, message),
+// What converts a word.
+#[derive(Clone, Copy)]
+enum Call {
+    // `string`, and the length of the text.
+    Text,
+    Number,
+    // `parse_with` and a function that returns 0, or that fails.
+    Zero,
+    Failure,
+}
+
+// The number that this call makes of a word.
+fn converted(word: OsString, call: Call) -> Result<i32, Error> {
+    match call {
+        Call::Text => Ok(i32::try_from(word.string()?.len()).unwrap_or(-1)),
+        Call::Number => word.parse::<i32>(),
+        Call::Zero => word.parse_with(|_text| -> Result<i32, Bad> { Ok(0) }),
+        Call::Failure => word.parse_with(|_text| -> Result<i32, Bad> { Err(Bad) }),
     }
 }
 
-// Whether `string` returns the text from which the word was made.
-fn is_text(alloc: Global, text: &str) -> Result<bool, Error> {
-    let word = OsString::from_text(alloc, text)?;
-    Ok(word.string()?.as_str() == text)
-}
-
-// Whether the error of `string` holds a word with damage unchanged.
-fn is_kept(alloc: Global, bytes: &[u8]) -> Result<bool, Error> {
-    match OsString::from_bytes(alloc, bytes)?.string() {
-        Err(Error::NonUnicodeValue(word)) => Ok(word.as_bytes() == bytes),
+// Whether the call makes this number of a word, or refuses it with this message.
+fn is_converted(
+    alloc: Global,
+    call: Call,
+    word: &[u8],
+    wanted: Result<i32, &str>,
+) -> Result<bool, AllocError> {
+    match (converted(OsString::from_bytes(alloc, word)?, call), wanted) {
+        (Ok(found), Ok(number)) => Ok(found == number),
+        (Err(error), Err(message)) => prints(alloc, &error, message),
         _ => Ok(false),
     }
 }
 
-#[test]
-fn texts(rt: HostRuntime) {
-    assert!(rt;
-        is_text(rt.alloc(), "").expect(&rt, "success")
-            && is_text(rt.alloc(), "-10").expect(&rt, "success")
-    );
-    assert!(rt; is_kept(rt.alloc(), b"foo\xff").expect(&rt, "success"));
-}
+const DAMAGED: &str = "argument is invalid unicode: \"foo\\xFF\"";
 
-// Whether a word parses to this number, or is refused with this message if the number is `None`.
-fn is_number(
-    alloc: Global,
-    word: &[u8],
-    number: Option<i32>,
-    message: &str,
-) -> Result<bool, AllocError> {
-    match OsString::from_bytes(alloc, word)?.parse::<i32>() {
-        Ok(found) => Ok(Some(found) == number),
-        Err(error) => Ok(number.is_none() && prints(alloc, &error, message)?),
+const ROWS: [(Call, &[u8], Result<i32, &str>); 10] = [
+    (Call::Text, b"", Ok(0)),
+    (Call::Text, b"-10", Ok(3)),
+    (Call::Text, b"foo\xff", Err(DAMAGED)),
+    (Call::Number, b"-10", Ok(-10)),
+    (
+        Call::Number,
+        b"foo",
+        Err("cannot parse argument \"foo\": invalid digit found in string"),
+    ),
+    (Call::Number, b"foo\xff", Err(DAMAGED)),
+    (Call::Zero, b"-10", Ok(0)),
+    // The function is not called.
+    (Call::Zero, b"foo\xff", Err(DAMAGED)),
+    (
+        Call::Failure,
+        b"-10",
+        Err("cannot parse argument \"-10\": bad"),
+    ),
+    (Call::Failure, b"foo\xff", Err(DAMAGED)),
+];
+
+// The place of the first row that does not hold, if there is one.
+fn first_wrong(alloc: Global) -> Result<Option<usize>, AllocError> {
+    for (place, (call, word, wanted)) in ROWS.iter().enumerate() {
+        if !is_converted(alloc, *call, word, *wanted)? {
+            return Ok(Some(place));
+        }
     }
-}
-
-#[test]
-fn numbers(rt: HostRuntime) {
-    for (word, number, message) in [
-        (b"-10".as_slice(), Some(-10), ""),
-        (
-            b"foo\xff",
-            None,
-            "argument is invalid unicode: \"foo\\xFF\"",
-        ),
-    ] {
-        assert!(rt;
-            is_number(rt.alloc(), word, number, message).expect(&rt, "success"),
-            "{message}"
-        );
-    }
-}
-
-// Whether `parse_with` returns the value of its function, and reports the error of its function.
-fn is_applied(alloc: Global) -> Result<bool, Error> {
-    let word = OsString::from_text(alloc, "-10")?;
-    let zero = word.parse_with(|_text| -> Result<u8, Bad> { Ok(0) })?;
-    let answer = word.parse_with(|_text| -> Result<u8, Bad> { Err(Bad) });
-    Ok(zero == 0 && fails(alloc, answer, "cannot parse argument \"-10\": bad")?)
-}
-
-// Whether `parse_with` refuses damage, although its function would accept any text.
-fn is_not_applied(alloc: Global) -> Result<bool, Error> {
-    let word = OsString::from_bytes(alloc, b"foo\xff")?;
-    let answer = word.parse_with(|_text| -> Result<u8, Bad> { Ok(0) });
-    Ok(fails(alloc, answer, "argument is invalid unicode: \"foo\\xFF\"")?)
+    Ok(None)
 }
 
 #[test]
-fn functions_of_texts(rt: HostRuntime) {
-    assert!(rt;
-        is_applied(rt.alloc()).expect(&rt, "success")
-            && is_not_applied(rt.alloc()).expect(&rt, "success")
-    );
-}
-
-// Whether a negative number cannot be parsed as an unsigned one, and the error has a cause.
-fn has_a_cause(alloc: Global) -> Result<bool, Error> {
-    match OsString::from_text(alloc, "-10")?.parse::<u32>() {
-        Ok(_) => Ok(false),
-        Err(error) => Ok(
-            error.cause().is_some()
-                && prints(
-                    alloc,
-                    &error,
-                    "cannot parse argument \"-10\": invalid digit found in string",
-                )?,
-        ),
-    }
+fn conversions(rt: HostRuntime) {
+    assert_eq!(rt; first_wrong(rt.alloc()).expect(&rt, "success"), None);
 }
 
 #[test]
 fn cause_of_a_failed_parse(rt: HostRuntime) {
-    assert!(rt; has_a_cause(rt.alloc()).expect(&rt, "success"));
-}
-
-// Whether the value of `-n` is ten, and the next argument is a positional.
-fn reads_ten(parser: &mut Parser) -> Result<bool, Error> {
-    Ok(
-        reads_short(parser, 'n')?
-            && parser.value()?.parse::<i32>()? == 10
-            && matches!(parser.next()?, Some(Value(_))),
-    )
-}
-
-#[test]
-fn parsed_value(rt: HostRuntime) {
-    let mut parser = parser_of(rt.alloc(), &[b"-n", b"10", b"foo"]).expect(&rt, "success");
-    assert!(rt; reads_ten(&mut parser).expect(&rt, "success"));
+    let word = OsString::from_text(rt.alloc(), "foo").expect(&rt, "success");
+    assert!(rt; matches!(word.parse::<i32>(), Err(error) if error.cause().is_some()));
 }

@@ -1,8 +1,7 @@
-//! Tests of calls with enough memory: single calls, views, lists of calls, whole lines, spelled
-//! items, words, arguments, conversions, errors, code points, names, long names and long scripts,
-//! how a program ends, a program with an error type of its own, and the callers of `test_callers`.
-//! Lines that a script can have are cases of `test_cases`. Many tests lend what they made to a
-//! helper that returns a `bool`, so that their proofs are short.
+//! Tests of calls with enough memory: the public calls that a script cannot make, each once, and
+//! rows of values, errors and words. The words of an environment, long names and long scripts, and
+//! how a program ends. Lines that a script can have are cases of `test_cases`. Many tests lend what
+//! they made to a helper that returns a `bool`, so that their proofs are short.
 #![tactic(auto)]
 
 #[cfg(test)]
@@ -17,8 +16,6 @@ mod conversions;
 mod ends;
 #[cfg(test)]
 mod errors;
-#[cfg(test)]
-mod example;
 #[cfg(test)]
 mod names;
 #[cfg(test)]

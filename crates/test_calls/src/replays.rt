@@ -1,73 +1,55 @@
 //! Lists of calls, and their replies as values. `test_cases` tests the text of replies.
 use lexopt::replay::{Call, replay};
-use lexopt::{Error, OsString, Parser};
-use std::alloc::Global;
+use lexopt::{Error, OsString};
+use std::alloc::{AllocError, Global};
 use test_helpers::parsers::parser_of;
 
-// Whether these calls have these replies, as `Debug` writes them.
+// Whether these calls on a line of these words have these replies, as `Debug` writes them.
 fn has_replies(
     alloc: Global,
-    parser: &mut Parser,
+    words: &[&[u8]],
     calls: &[Call],
     replies: &str,
 ) -> Result<bool, Error> {
-    let found = replay(alloc, parser, calls)?;
+    let found = replay(alloc, &mut parser_of(alloc, words)?, calls)?;
     Ok(format!(in alloc; "{found:?}")?.as_str() == replies)
 }
 
-// The same for the call `RawIf`, which scripts do not have: it takes the next word if it is this
-// one.
-fn takes_word(
-    alloc: Global,
-    parser: &mut Parser,
-    wanted: &[u8],
-    replies: &str,
-) -> Result<bool, Error> {
-    let word = OsString::from_bytes(alloc, wanted)?;
-    has_replies(alloc, parser, &[Call::RawIf(word)], replies)
-}
-
-// Whether `RawIf` takes the next word if it is the wanted one, and otherwise leaves it unread.
-fn takes_wanted_words(alloc: Global, parser: &mut Parser) -> Result<bool, Error> {
-    Ok(
-        takes_word(alloc, parser, b"x", "[Maybe(None)]")?
-            && takes_word(alloc, parser, b"a", "[Maybe(Some(\"a\"))]")?
-            && has_replies(
-                alloc,
-                parser,
-                &[Call::Raw(0), Call::Next],
-                "[Items([]), Positional(\"-b\")]",
-            )?
-            && takes_word(alloc, parser, b"-b", "[Maybe(None)]")?
-            && has_replies(alloc, parser, &[Call::Next], "[End]")?,
-    )
+// The call `RawIf`, which scripts do not have: it takes the next word if it is this one.
+fn raw_if(alloc: Global, word: &str) -> Result<Call, AllocError> {
+    Ok(Call::RawIf(OsString::from_text(alloc, word)?))
 }
 
 #[test]
 fn words_of_which_one_is_wanted(rt: HostRuntime) {
-    let mut parser = parser_of(rt.alloc(), &[b"a", b"--", b"-b"]).expect(&rt, "success");
-    assert!(rt; takes_wanted_words(rt.alloc(), &mut parser).expect(&rt, "success"));
+    let alloc = rt.alloc();
+    let other = raw_if(alloc, "x").expect(&rt, "memory");
+    let wanted = raw_if(alloc, "a").expect(&rt, "memory");
+    let last = raw_if(alloc, "-b").expect(&rt, "memory");
+    let calls = [other, wanted, Call::Raw(0), Call::Next, last, Call::Next];
+    let replies =
+        "[Maybe(None), Maybe(Some(\"a\")), Items([]), Positional(\"-b\"), Maybe(None), End]";
+    assert!(rt; has_replies(alloc, &[b"a", b"--", b"-b"], &calls, replies).expect(&rt, "success"));
 }
 
 #[test]
 fn values_asked_and_not_asked(rt: HostRuntime) {
-    let mut parser = parser_of(rt.alloc(), &[b"-a=b", b"--n=x"]).expect(&rt, "success");
     let calls = [Call::Next, Call::Value, Call::Next, Call::Next];
     let replies = "[Short('a'), Taken(\"b\"), LongName(\"n\"), Unexpected(\"--n\", \"x\")]";
-    assert!(rt; has_replies(rt.alloc(), &mut parser, &calls, replies).expect(&rt, "success"));
+    assert!(rt;
+        has_replies(rt.alloc(), &[b"-a=b", b"--n=x"], &calls, replies).expect(&rt, "success")
+    );
 }
 
 #[test]
 fn damage_and_a_value(rt: HostRuntime) {
-    let mut parser = parser_of(rt.alloc(), &[b"-\xf0\x9da"]).expect(&rt, "success");
     let calls = [Call::Next, Call::Optional];
     let replies = "[Short('\u{FFFD}'), Maybe(Some(\"a\"))]";
-    assert!(rt; has_replies(rt.alloc(), &mut parser, &calls, replies).expect(&rt, "success"));
+    assert!(rt; has_replies(rt.alloc(), &[b"-\xf0\x9da"], &calls, replies).expect(&rt, "success"));
 }
 
 #[test]
 fn views_and_the_switch(rt: HostRuntime) {
-    let mut parser = parser_of(rt.alloc(), &[b"-a=b", b"c", b"d"]).expect(&rt, "success");
     let calls = [
         Call::Next,
         Call::TryRaw(1),
@@ -79,5 +61,7 @@ fn views_and_the_switch(rt: HostRuntime) {
     ];
     let replies =
         "[Short('a'), Busy, Done, Items([\"=b\"]), Items([\"c\"]), Taken(\"d\"), Missing(Some(\"-a\"))]";
-    assert!(rt; has_replies(rt.alloc(), &mut parser, &calls, replies).expect(&rt, "success"));
+    assert!(rt;
+        has_replies(rt.alloc(), &[b"-a=b", b"c", b"d"], &calls, replies).expect(&rt, "success")
+    );
 }

@@ -1,53 +1,121 @@
-//! Items that `spell` turns into words, and items that no words spell.
+//! Items that `spell` turns into words, and what its errors print. The forms of all kinds of items
+//! are worked examples of `lexopt_laws`.
+use lexopt::Error;
+use lexopt::replay::{Item, read_items};
+use lexopt::spell::{Reason, SpellError, spell};
+use std::alloc::Global;
+use test_helpers::items::{are_words, table_of_each_kind};
+use test_helpers::parsers::words_from;
 
-mod faults;
-mod forms;
+// The words that `spell` chooses for an item of each kind.
+const WORDS: [&[u8]; 12] = [
+    b"f",
+    b"-v-",
+    b"--name",
+    b"-o",
+    b"-x",
+    b"--out=",
+    b"-c==\xFF",
+    b"-d-1",
+    b"2",
+    b"--cmd=a",
+    b"--",
+    b"-f",
+];
 
-use lexopt_items::items::Table;
-use std::process::Abort;
-use test_helpers::items::table_of_each_kind;
-
-/// The options of a table beside two of each kind.
-#[derive(Clone, Copy)]
-pub enum More {
-    Nothing,
-    /// The option `-`, and the long option with an empty name, of one value each.
-    Marks,
-    /// The option `-` with a value that may be left out.
-    OptionalDash,
-    /// The option `-` with several values.
-    DashOfSeveral,
-    /// The long option with an empty name, of several values.
-    NamelessOfSeveral,
+// The items of these words.
+fn items_of(alloc: Global, words: &[&[u8]]) -> Result<Vec<Item>, Error> {
+    let table = table_of_each_kind(alloc)?;
+    read_items(alloc, words_from(alloc, words)?, true, &table)
 }
 
-/// The settings of `short_equals` under which rows hold.
-pub const EITHER: &[bool] = &[true, false];
-
-pub const ON: &[bool] = &[true];
-
-pub const OFF: &[bool] = &[false];
-
-/// A table with two options of each kind, and these.
-pub fn table_with(rt: &(impl Abort + AllocGlobal), more: More) -> Table {
-    let mut table = table_of_each_kind(rt.alloc()).expect(rt, "memory");
-    match more {
-        More::Nothing => {}
-        More::Marks => {
-            table.shorts.push('-').expect(rt, "memory");
-            table
-                .longs
-                .push(String::new(rt.alloc()))
-                .expect(rt, "memory");
-        }
-        More::OptionalDash => table.optional_shorts.push('-').expect(rt, "memory"),
-        More::DashOfSeveral => table.several_shorts.push('-').expect(rt, "memory"),
-        More::NamelessOfSeveral => {
-            table
-                .several_longs
-                .push(String::new(rt.alloc()))
-                .expect(rt, "memory");
-        }
+// Whether the items of the words are spelled by the same words.
+fn are_spelled(alloc: Global) -> Result<bool, Error> {
+    let table = table_of_each_kind(alloc)?;
+    match spell(alloc, &items_of(alloc, &WORDS)?, true, &table) {
+        Ok(words) => Ok(are_words(&words, &WORDS)),
+        Err(_) => Ok(false),
     }
-    table
+}
+
+#[test]
+fn spelled(rt: HostRuntime) {
+    assert!(rt; are_spelled(rt.alloc()).expect(&rt, "success"));
+}
+
+// The error of an option after a positional that needs the separator.
+fn error_past_the_separator(alloc: Global) -> Result<Option<SpellError>, Error> {
+    let table = table_of_each_kind(alloc)?;
+    let mut items = items_of(alloc, &[b"-v", b"--", b"-x"])?;
+    items.reverse();
+    Ok(spell(alloc, &items, true, &table).err())
+}
+
+#[test]
+fn at_fault(rt: HostRuntime) {
+    let fault = SpellError::AtFault {
+        index: 1,
+        reason: Reason::PastSeparator,
+    };
+    assert!(rt; error_past_the_separator(rt.alloc()).expect(&rt, "success") == Some(fault));
+}
+
+const MESSAGES: [(Reason, &str); 10] = [
+    (
+        Reason::EqualsInName,
+        "a long option cannot have `=` in its name",
+    ),
+    (
+        Reason::UnexpectedValue,
+        "by the table the option has no value, and is given one",
+    ),
+    (
+        Reason::MissingValue,
+        "by the table the option wants a value, and is given none",
+    ),
+    (
+        Reason::WantsMany,
+        "by the table the option has several values: give them as a list",
+    ),
+    (
+        Reason::NotMany,
+        "by the table the option does not have several values",
+    ),
+    (
+        Reason::EmptyValue,
+        "an empty value cannot come right after a character where `short_equals` is off",
+    ),
+    (
+        Reason::OptionAmongValues,
+        "one of several values would be read as an option",
+    ),
+    (
+        Reason::EmptyName,
+        "a long option with an empty name needs one value after `=`",
+    ),
+    (
+        Reason::PastSeparator,
+        "an option cannot come after a positional that needs `--` before it",
+    ),
+    (
+        Reason::DashWithoutFlag,
+        "the option `-` can only come right after a flag of one character",
+    ),
+];
+
+#[test]
+fn messages(rt: HostRuntime) {
+    for (reason, message) in MESSAGES {
+        let printed = reason.to_string(rt.alloc()).expect(&rt, "success");
+        assert_eq!(rt; printed.as_str(), message);
+    }
+    let fault = SpellError::AtFault {
+        index: 7,
+        reason: Reason::NotMany,
+    };
+    let printed = fault.to_string(rt.alloc()).expect(&rt, "success");
+    assert_eq!(rt;
+        printed.as_str(),
+        "items[7]: by the table the option does not have several values"
+    );
 }

@@ -1,10 +1,8 @@
 //! Whole lines: a table of options of one value, with the option `-`, which a script cannot put
-//! into a table; and items as values. Other lines are cases of `test_cases`.
+//! into a table. Other lines are cases of `test_cases`.
 use lexopt::replay::{Item, Table, read_items};
 use std::alloc::AllocError;
 use std::process::Abort;
-use test_helpers::items::Given::{LongMany, LongValue, Positional, Short, ShortMany, ShortValue};
-use test_helpers::items::{Given, items_of, table_of_each_kind};
 use test_helpers::parsers::split_words;
 
 // A table with the short option `-` and the long option `a=b`, of one value each.
@@ -47,31 +45,4 @@ fn one_value_each(rt: HostRuntime) {
     ] {
         assert_eq!(rt; text_of(&rt, words).as_str(), text);
     }
-}
-
-// Whether these words are read as these items by the table with options of each kind.
-fn reads_as(rt: &(impl Abort + AllocGlobal), words: &[u8], wanted: &[Given]) -> bool {
-    let table = table_of_each_kind(rt.alloc()).expect(rt, "memory");
-    let wanted = items_of(rt.alloc(), wanted).expect(rt, "memory");
-    let words = split_words(rt.alloc(), words).expect(rt, "memory");
-    match read_items(rt.alloc(), words, true, &table) {
-        Ok(found) => found == wanted,
-        Err(_) => false,
-    }
-}
-
-#[test]
-fn each_kind(rt: HostRuntime) {
-    let words = b"-vo=x\n-c\n--color=z\n-d\n1\n2\n--cmd=\n--out\n--\n--\n-f";
-    let items = [
-        Short('v'),
-        ShortValue('o', b"x"),
-        Short('c'),
-        LongValue("color", b"z"),
-        ShortMany('d', &[b"1", b"2"]),
-        LongMany("cmd", &[b""]),
-        LongValue("out", b"--"),
-        Positional(b"-f"),
-    ];
-    assert!(rt; reads_as(&rt, words, &items));
 }

@@ -40,30 +40,6 @@ impl Env for Arguments<'_> {
     }
 }
 
-/// The same with the variable `COLUMNS`, the width of a terminal, if it is set.
-#[derive(Drop)]
-pub struct Terminal<'a> {
-    pub arguments: Arguments<'a>,
-    pub columns: Option<&'a [u8]>,
-}
-
-impl Env for Terminal<'_> {
-    fn arg(&self, i: usize, buf: &mut [u8]) -> Result<usize, FillError> {
-        self.arguments.arg(i, buf)
-    }
-
-    fn var(&self, name: &str, buf: &mut [u8]) -> Result<usize, FillError> {
-        match self.columns {
-            Some(columns) if name == "COLUMNS" => fill(buf, columns),
-            _ => Err(FillError::NotPresent),
-        }
-    }
-
-    fn var_at(&self, _i: usize, _buf: &mut [u8]) -> Result<usize, FillError> {
-        Err(FillError::NotPresent)
-    }
-}
-
 /// The same with one variable, if it is set.
 #[derive(Drop)]
 pub struct Variable<'a> {

@@ -1,53 +1,7 @@
-//! Items in constants, the words of items, and a table.
-use crate::parsers::words_from;
+//! The words of items, and a table.
 use lexopt_base::OsString;
-use lexopt_items::items::{Item, Table};
+use lexopt_items::items::Table;
 use std::alloc::{AllocError, Global};
-
-/// An item that owns no memory, so that a constant can hold it.
-#[derive(Clone, Copy)]
-pub enum Given {
-    /// A short option without a value.
-    Short(char),
-    ShortValue(char, &'static [u8]),
-    ShortMany(char, &'static [&'static [u8]]),
-    /// A long option without a value.
-    Long(&'static str),
-    LongValue(&'static str, &'static [u8]),
-    LongMany(&'static str, &'static [&'static [u8]]),
-    Positional(&'static [u8]),
-}
-
-impl Given {
-    /// The item itself.
-    pub fn item(self, alloc: Global) -> Result<Item, AllocError> {
-        Ok(match self {
-            Given::Short(option) => Item::Short(option, None),
-            Given::ShortValue(option, value) => {
-                Item::Short(option, Some(OsString::from_bytes(alloc, value)?))
-            }
-            Given::ShortMany(option, values) => Item::ShortMany(option, words_from(alloc, values)?),
-            Given::Long(name) => Item::Long(String::from_str(alloc, name)?, None),
-            Given::LongValue(name, value) => {
-                let name = String::from_str(alloc, name)?;
-                Item::Long(name, Some(OsString::from_bytes(alloc, value)?))
-            }
-            Given::LongMany(name, values) => {
-                Item::LongMany(String::from_str(alloc, name)?, words_from(alloc, values)?)
-            }
-            Given::Positional(word) => Item::Positional(OsString::from_bytes(alloc, word)?),
-        })
-    }
-}
-
-/// The items themselves.
-pub fn items_of(alloc: Global, list: &[Given]) -> Result<Vec<Item>, AllocError> {
-    let mut items = Vec::new(alloc);
-    for given in list {
-        items.push(given.item(alloc)?)?;
-    }
-    Ok(items)
-}
 
 /// Whether the words have these bytes, in order.
 pub fn are_words(words: &[OsString], wanted: &[&[u8]]) -> bool {

@@ -6,12 +6,9 @@
 //! long options. Each group has no value, one value, an optional value or several values, in all 64
 //! ways. In four more tables all groups are in lists of several kinds.
 //!
-//! The items that the plain reader finds are spelled by `spell`. The words are read as these items
-//! again, and spelled again by the same words.
-//!
 //! For each table the output is how many readings agreed and how many differed, under both settings
-//! of `short_equals`, and the first list that differed; and the same for the items that were
-//! spelled. Items are compared as values, and errors by their messages.
+//! of `short_equals`, and the first list that differed. Items are compared as values, and errors by
+//! their messages.
 //!
 //! Then it reads clusters, with `short_equals` false: each list of one to four of twenty bytes, by
 //! `next` and by the plain pieces.
@@ -19,15 +16,12 @@
 mod clusters;
 mod pieces;
 mod plain;
-mod shown;
-mod spelled;
 mod tables;
 mod tally;
 
 use crate::lines::clusters::Counts;
+use crate::lines::pieces::push_quoted;
 use crate::lines::plain::Refusal;
-use crate::lines::shown::{shown_items, shown_words};
-use crate::lines::spelled::Reading;
 use crate::lines::tables::{CHOICES, Choice, OVERLAPS};
 use crate::lines::tally::Tally;
 use lexopt_base::{Error, OsString};
@@ -37,14 +31,6 @@ use std::io;
 use test_helpers::lists::{list_of, numbers_of};
 use test_helpers::parsers::words_from;
 use test_helpers::words::WORDS;
-
-// Counts of the lists of words that both readers read, and of the lists of items that were spelled
-// and read again.
-#[derive(Drop)]
-struct Found {
-    read: Tally,
-    spelled: Tally,
-}
 
 // Whether `read_items` refuses the line with this message.
 fn is_refused_with(
@@ -86,31 +72,19 @@ fn agree(
     }
 }
 
-impl Found {
-    fn new() -> Found {
-        Found {
-            read: Tally::new(),
-            spelled: Tally::new(),
-        }
+// The words in quotes, and `short_equals`.
+fn shown_words(alloc: Global, words: &[&[u8]], short_equals: bool) -> Result<String, AllocError> {
+    let mut text = String::new(alloc);
+    for word in words {
+        push_quoted(&mut text, word)?;
+        text.push(' ')?;
     }
+    text.push_str(if short_equals { "on" } else { "off" })?;
+    Ok(text)
+}
 
-    // Spells these items, reads the words, and spells their items again.
-    fn spell(&mut self, reading: Reading<'_>, items: &[Item]) -> Result<(), AllocError> {
-        if reading.round_trips(items)? {
-            self.spelled.agree();
-        } else {
-            let Reading {
-                alloc,
-                short_equals,
-                ..
-            } = reading;
-            self.spelled
-                .differ(shown_items(alloc, items, short_equals)?);
-        }
-        Ok(())
-    }
-
-    // Reads these words by both readers, and spells their items.
+impl Tally {
+    // Reads these words by both readers.
     fn read(
         &mut self,
         alloc: Global,
@@ -121,68 +95,40 @@ impl Found {
         let copied = words_from(alloc, words)?;
         let plain = plain::read(alloc, words, short_equals, table);
         if agree(alloc, &plain, copied, short_equals, table)? {
-            self.read.agree();
+            self.agree();
         } else {
-            self.read.differ(shown_words(alloc, words, short_equals)?);
-        }
-        let reading = Reading {
-            alloc,
-            table,
-            short_equals,
-        };
-        match plain {
-            Ok(items) => self.spell(reading, &items),
-            Err(_refusal) => Ok(()),
-        }
-    }
-
-    // Reads these words under both settings of `short_equals`.
-    fn read_both(
-        &mut self,
-        alloc: Global,
-        words: &[&[u8]],
-        table: &Table,
-    ) -> Result<(), AllocError> {
-        self.read(alloc, words, true, table)?;
-        self.read(alloc, words, false, table)
-    }
-
-    // Reads all lists, the shortest first.
-    fn read_all(&mut self, alloc: Global, table: &Table) -> Result<(), AllocError> {
-        for number in 0..numbers_of(WORDS.len()) {
-            if let Some(words) = list_of(alloc, &WORDS, number)? {
-                self.read_both(alloc, &words, table)?;
-            }
+            self.differ(shown_words(alloc, words, short_equals)?);
         }
         Ok(())
     }
 
-    fn add(&mut self, other: &Found) {
-        self.read.add(&other.read);
-        self.spelled.add(&other.spelled);
-    }
-
-    fn print(&self, rt: &impl Print, name: &str) -> io::Result<()> {
-        self.read.print(rt, name)?;
-        self.spelled.print(rt, "spelled again")
+    // Reads all lists under both settings of `short_equals`, the shortest first.
+    fn read_all(&mut self, alloc: Global, table: &Table) -> Result<(), AllocError> {
+        for number in 0..numbers_of(WORDS.len()) {
+            if let Some(words) = list_of(alloc, &WORDS, number)? {
+                self.read(alloc, &words, true, table)?;
+                self.read(alloc, &words, false, table)?;
+            }
+        }
+        Ok(())
     }
 }
 
 impl Choice {
     // Reads all lists of words by this table, and prints the counts.
-    fn read(self, rt: &(impl Print + AllocGlobal)) -> io::Result<Found> {
+    fn read(self, rt: &(impl Print + AllocGlobal)) -> io::Result<Tally> {
         let table = self.table(rt.alloc())?;
         let name = self.name(rt.alloc())?;
-        let mut found = Found::new();
-        found.read_all(rt.alloc(), &table)?;
-        found.print(rt, name.as_str())?;
-        Ok(found)
+        let mut tally = Tally::new();
+        tally.read_all(rt.alloc(), &table)?;
+        tally.print(rt, name.as_str())?;
+        Ok(tally)
     }
 }
 
 // Reads all lists of words by all tables, and prints the counts.
 fn print_lists(rt: &(impl Print + AllocGlobal)) -> io::Result<()> {
-    let mut total = Found::new();
+    let mut total = Tally::new();
     for number in 0..CHOICES {
         total.add(&Choice::of_kinds(number).read(rt)?);
     }

@@ -1,19 +1,17 @@
 //! Tries every sequence of `next`, `value`, `optional_value` and `values` on every list of at most
 //! three of 25 words.
 //!
-//! Each call is made on the parser, and by `replay` on a copy, and the replies agree. They also
-//! agree with those of a second parser of the same words, on which `advance` and `long_name` are
-//! called instead of `next`, `take` instead of `value`, and `begin_values` instead of `values`.
-//! `values` is read to its end. A sequence ends when `next` returns `None`, or when there is no
-//! value or no optional value. Before each call it checks the results of `raw_args`, `try_raw_args`
-//! and `optional_value`, on copies if they consume something.
+//! Each call is made on the parser, and by `replay` on a copy, and the replies agree. `values` is
+//! read to its end. A sequence ends when `next` returns `None`, or when there is no value or no
+//! optional value. Before each call it checks the results of `raw_args`, `try_raw_args` and
+//! `optional_value`, on copies if they consume something.
 //!
 //! The output is how many lists it tried, and the first fault, if there was one.
 
 mod line;
 mod step;
 
-use crate::sequences::step::{STEPS, Step, is_last, made, replayed, taken};
+use crate::sequences::step::{STEPS, Step, is_last, made, replayed};
 use lexopt_base::{Error, Parser};
 use lexopt_calls::reply::Reply;
 use std::alloc::Global;
@@ -32,25 +30,11 @@ struct Tried {
     fault: Option<&'static str>,
 }
 
-// A parser after some calls, and a parser after the other calls.
+// A parser after some calls.
 #[derive(Drop)]
 struct Place {
     parser: Parser,
-    other: Parser,
     calls: u32,
-}
-
-impl Place {
-    // Copies of both parsers, for one more call.
-    fn copy(&self) -> Result<Place, Error> {
-        let parser = self.parser.clone()?;
-        let other = self.other.clone()?;
-        Ok(Place {
-            parser,
-            other,
-            calls: self.calls.saturating_add(1),
-        })
-    }
 }
 
 // Whether `replay` has this reply for the call. It is a function of its own for a short proof.
@@ -63,12 +47,6 @@ fn is_replayed(
     Ok(replayed(alloc, parser, step)? == *reply)
 }
 
-// Whether `advance`, `take` or `begin_values` has this reply for the call. It is a function of its
-// own for the same reason.
-fn is_taken(alloc: Global, parser: &mut Parser, step: Step, reply: &Reply) -> Result<bool, Error> {
-    Ok(taken(alloc, parser, step)? == *reply)
-}
-
 impl Tried {
     fn fault(&mut self, what: &'static str) {
         if self.fault.is_none() {
@@ -76,34 +54,17 @@ impl Tried {
         }
     }
 
-    // Compares the reply of a call with those of the other calls, and with the unread words. `copy`
-    // is a copy of the parser before the call.
-    fn compare(
-        &mut self,
-        alloc: Global,
-        place: &mut Place,
-        copy: &mut Parser,
-        step: Step,
-        reply: &Reply,
-    ) -> Result<(), Error> {
-        if !is_replayed(alloc, copy, step, reply)? {
-            self.fault("replay has another reply");
-        }
-        if !is_taken(alloc, &mut place.other, step, reply)? {
-            self.fault("advance, take or begin_values has another reply");
-        }
-        if !line::agrees_with(step, reply, &mut place.parser)? {
-            self.fault("words are left, or values gave none");
-        }
-        Ok(())
-    }
-
-    // Makes a call on both parsers of a place, and by `replay` on a copy. Returns whether the
+    // Makes a call, and by `replay` on a copy, and compares the replies. Returns whether the
     // sequence continues after it.
     fn call(&mut self, alloc: Global, place: &mut Place, step: Step) -> Result<bool, Error> {
         let mut copy = place.parser.clone()?;
         let reply = made(alloc, &mut place.parser, step)?;
-        self.compare(alloc, place, &mut copy, step, &reply)?;
+        if !is_replayed(alloc, &mut copy, step, &reply)? {
+            self.fault("replay has another reply");
+        }
+        if !line::agrees_with(step, &reply, &mut place.parser)? {
+            self.fault("words are left, or values gave none");
+        }
         Ok(!is_last(&reply) && self.is_short(place.calls))
     }
 
@@ -117,7 +78,10 @@ impl Tried {
 
     // Makes a call after a place. Returns the place after it, if the sequence continues.
     fn step(&mut self, alloc: Global, place: &Place, step: Step) -> Result<Option<Place>, Error> {
-        let mut next = place.copy()?;
+        let mut next = Place {
+            parser: place.parser.clone()?,
+            calls: place.calls.saturating_add(1),
+        };
         if self.call(alloc, &mut next, step)? {
             Ok(Some(next))
         } else {
@@ -149,15 +113,7 @@ impl Tried {
     fn list(&mut self, alloc: Global, words: &[&[u8]]) -> Result<(), Error> {
         self.lists = self.lists.saturating_add(1);
         let parser = parser_of(alloc, words)?;
-        let other = parser.clone()?;
-        self.sequences(
-            alloc,
-            Place {
-                parser,
-                other,
-                calls: 0,
-            },
-        )
+        self.sequences(alloc, Place { parser, calls: 0 })
     }
 
     fn lists(&mut self, alloc: Global) -> Result<(), Error> {

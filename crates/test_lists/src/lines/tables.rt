@@ -2,69 +2,25 @@
 use lexopt_items::items::Table;
 use std::alloc::{AllocError, Global};
 
-/// Which lists of a table some options are in.
+/// Which lists of a table some options are in: the name of the choice, and whether they are in those
+/// of one value, of an optional value and of several values.
 #[derive(Clone, Copy)]
-pub struct Lists {
-    name: &'static str,
-    one: bool,
-    optional: bool,
-    several: bool,
-}
+pub struct Lists(&'static str, bool, bool, bool);
 
 // Options that are in one list, or in none.
 const KINDS: [Lists; 4] = [
-    Lists {
-        name: "none",
-        one: false,
-        optional: false,
-        several: false,
-    },
-    Lists {
-        name: "one",
-        one: true,
-        optional: false,
-        several: false,
-    },
-    Lists {
-        name: "optional",
-        one: false,
-        optional: true,
-        several: false,
-    },
-    Lists {
-        name: "several",
-        one: false,
-        optional: false,
-        several: true,
-    },
+    Lists("none", false, false, false),
+    Lists("one", true, false, false),
+    Lists("optional", false, true, false),
+    Lists("several", false, false, true),
 ];
 
 /// Options that are in lists of two or three kinds.
 pub const OVERLAPS: [Lists; 4] = [
-    Lists {
-        name: "one and optional",
-        one: true,
-        optional: true,
-        several: false,
-    },
-    Lists {
-        name: "one and several",
-        one: true,
-        optional: false,
-        several: true,
-    },
-    Lists {
-        name: "optional and several",
-        one: false,
-        optional: true,
-        several: true,
-    },
-    Lists {
-        name: "all",
-        one: true,
-        optional: true,
-        several: true,
-    },
+    Lists("one and optional", true, true, false),
+    Lists("one and several", true, false, true),
+    Lists("optional and several", false, true, true),
+    Lists("all", true, true, true),
 ];
 
 // A group of short and long options.
@@ -118,10 +74,11 @@ fn add_to(
 impl Lists {
     // Adds these options to these lists of a table.
     fn add(self, alloc: Global, options: Options, table: &mut Table) -> Result<(), AllocError> {
-        if self.one {
+        let Lists(_, one, optional, several) = self;
+        if one {
             add_to(alloc, options, &mut table.shorts, &mut table.longs)?;
         }
-        if self.optional {
+        if optional {
             add_to(
                 alloc,
                 options,
@@ -129,7 +86,7 @@ impl Lists {
                 &mut table.optional_longs,
             )?;
         }
-        if self.several {
+        if several {
             add_to(
                 alloc,
                 options,
@@ -171,9 +128,9 @@ impl Choice {
 
     /// The name that is printed before its counts.
     pub fn name(self, alloc: Global) -> Result<String, AllocError> {
-        let letter = self.letter.name;
-        let damage = self.damage.name;
-        let marks = self.marks.name;
+        let letter = self.letter.0;
+        let damage = self.damage.0;
+        let marks = self.marks.0;
         format!(in alloc; "a in {letter}, U+FFFD in {damage}, marks in {marks}")
     }
 }

@@ -1,6 +1,4 @@
-//! A call, made by itself, by `replay`, and by the calls with which whole lines and declared
-//! options are read.
-use lexopt_base::parser::Found;
+//! A call, made by itself and by `replay`.
 use lexopt_base::{Arg, Error, Parser};
 use lexopt_calls::replay::replay;
 use lexopt_calls::reply::{Call, Reply};
@@ -70,39 +68,6 @@ pub fn replayed(alloc: Global, parser: &mut Parser, step: Step) -> Result<Reply,
     match replay(alloc, parser, &[call])?.pop() {
         Some(reply) => Ok(reply),
         None => Ok(Reply::Busy),
-    }
-}
-
-fn advanced(alloc: Global, parser: &mut Parser) -> Result<Reply, Error> {
-    match parser.advance() {
-        Ok(Found::Short(option)) => Ok(Reply::Short(option)),
-        Ok(Found::Long) => {
-            let name = String::from_str(alloc, parser.long_name())?;
-            Ok(Reply::LongName(name))
-        }
-        Ok(Found::Value(word)) => Ok(Reply::Positional(word)),
-        Ok(Found::End) => Ok(Reply::End),
-        Err(reason) => refusal(Error::from(reason)),
-    }
-}
-
-fn begun(alloc: Global, parser: &mut Parser) -> Result<Reply, Error> {
-    match parser.begin_values() {
-        Ok(view) => Ok(Reply::Items(view.collect(alloc)?)),
-        Err(reason) => refusal(Error::from(reason)),
-    }
-}
-
-/// The reply of the same call by `advance` and `long_name`, by `take` or by `begin_values`.
-pub fn taken(alloc: Global, parser: &mut Parser, step: Step) -> Result<Reply, Error> {
-    match step {
-        Step::Next => advanced(alloc, parser),
-        Step::Value => match parser.take() {
-            Ok(word) => Ok(Reply::Taken(word)),
-            Err(reason) => refusal(Error::from(reason)),
-        },
-        Step::Optional => Ok(Reply::Maybe(parser.optional_value())),
-        Step::Values => begun(alloc, parser),
     }
 }
 

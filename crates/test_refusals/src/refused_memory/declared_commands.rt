@@ -42,20 +42,14 @@ fn check_step(alloc: Global, value: Option<&[u8]>, lines: &[u8], wanted: &str) -
     }
 }
 
-#[test]
-fn commands_command(rt: HostRuntime) -> Result<(), Fail> {
-    check_step(
-        rt.alloc(),
+// Values of the variable, lines, and what the program does or prints.
+const ROWS: [(Option<&[u8]>, &[u8], &str); 6] = [
+    (
         None,
         b"-vo\nx\nhelp\nadd\n-q",
         "[Flag(Verbose), Value(Output, \"x\")] 1 Line([\"-q\", \"--help\"])",
-    )
-}
-
-#[test]
-fn commands_help(rt: HostRuntime) -> Result<(), Fail> {
-    check_step(
-        rt.alloc(),
+    ),
+    (
         None,
         b"help",
         "Usage: pack [OPTION]... [FILE]...\nPacks.\n\n  \
@@ -65,62 +59,31 @@ fn commands_help(rt: HostRuntime) -> Result<(), Fail> {
         -o, --output=FILE\n             write to this file\n  \
         -h, --help\n             print this help and exit\n      \
         --version\n             print the version and exit\n",
-    )
-}
-
-#[test]
-fn commands_version(rt: HostRuntime) -> Result<(), Fail> {
-    check_step(rt.alloc(), None, b"-v\n--version\nadd", "pack 1.0\n")
-}
-
-#[test]
-fn commands_unknown(rt: HostRuntime) -> Result<(), Fail> {
-    check_step(
-        rt.alloc(),
+    ),
+    (
         None,
         b"-v\nAdd",
         "pack: unknown command \"Add\"; did you mean 'add'?\n\
         Try 'pack --help' for more information.",
-    )
-}
-
-#[test]
-fn commands_missing(rt: HostRuntime) -> Result<(), Fail> {
-    check_step(
-        rt.alloc(),
-        None,
-        b"-v",
-        "pack: missing command: one of add, help\nTry 'pack --help' for more information.",
-    )
-}
-
-#[test]
-fn commands_names(rt: HostRuntime) -> Result<(), Fail> {
-    check_step(
-        rt.alloc(),
-        Some(b"bash_complete"),
-        b"-v\na",
-        "+add\tadd files\nfiles\n",
-    )
-}
-
-#[test]
-fn commands_asked(rt: HostRuntime) -> Result<(), Fail> {
-    check_step(
-        rt.alloc(),
+    ),
+    (Some(b"bash_complete"), b"-v\na", "+add\tadd files\nfiles\n"),
+    (
         Some(b"bash_complete"),
         b"-v\nadd\n-x\n-",
         "[Flag(Verbose)] 1 Completion([\"-x\"], \"-\")",
-    )
-}
-
-#[test]
-fn commands_request(rt: HostRuntime) -> Result<(), Fail> {
-    check_step(
-        rt.alloc(),
+    ),
+    (
         Some(b"tcsh_complete"),
         b"-v",
         "pack: invalid value of _PACK_COMPLETE: one of bash_source, bash_complete, zsh_source, \
         zsh_complete, fish_source, fish_complete\nTry 'pack --help' for more information.",
-    )
+    ),
+];
+
+#[test]
+fn commands(rt: HostRuntime) -> Result<(), Fail> {
+    for (value, lines, wanted) in ROWS {
+        check_step(rt.alloc(), value, lines, wanted)?;
+    }
+    Ok(())
 }

@@ -8,7 +8,8 @@ use std::alloc::{AllocError, Global};
 use std::test::Fail;
 use test_helpers::parsers::split_words;
 
-// A required option, and two positionals. The first may occur more than once.
+// A required option, and two positionals. The first may occur more than once, and the second has a
+// list of words.
 static OWN: Declaration<'static, Flag, Value, Word> = declare! {
     program: "own",
     options: [
@@ -16,16 +17,9 @@ static OWN: Declaration<'static, Flag, Value, Word> = declare! {
         value(Value::User, Names::Both('u', "user"), "NAME", "whose it is").required(),
         help(Names::Both('h', "help")),
     ],
-    positionals: [at_least_once(Word::File, "FILE"), once(Word::Target, "TARGET")],
-};
-
-// Two positionals with lists of words. The first may be left out.
-static CHOOSE: Declaration<'static, Flag, Value, Word> = declare! {
-    program: "choose",
-    options: [flag(Flag::Verbose, Names::Both('v', "verbose"), "tell more")],
     positionals: [
-        at_most_once(Word::File, "HOW", "how fast").one_of(&["fast", "slow"]),
-        once(Word::Target, "FORM").one_of(&["tar"]),
+        at_least_once(Word::File, "FILE"),
+        once(Word::Target, "FORM").one_of(&["tar", "zip"]),
     ],
 };
 
@@ -58,24 +52,9 @@ fn answer_outcome(
     Ok(Outcome::of(text.as_str() == wanted))
 }
 
-// Calls `answer` with these words, one on each line.
+// Calls `answer` with these words, one on each line; or, with a value of the variable by which a
+// shell asks, `answer_request`.
 fn check_answer(
-    alloc: Global,
-    options: Options<'static, Flag, Value, Word>,
-    lines: &[u8],
-    wanted: &str,
-) -> Result<(), Fail> {
-    let Ok(words) = split_words(alloc, lines) else {
-        return out_of_memory_in("the list");
-    };
-    match options.answer(alloc, words, 40) {
-        Ok(answer) => check_outcome(answer_outcome(alloc, &answer, wanted)?, "answer"),
-        Err(_) => out_of_memory_in("answer"),
-    }
-}
-
-// Calls `answer_request` with the request of a shell: this value of the variable, and these words.
-fn check_request(
     alloc: Global,
     options: Options<'static, Flag, Value, Word>,
     value: &[u8],
@@ -85,161 +64,119 @@ fn check_request(
     let Ok(words) = split_words(alloc, lines) else {
         return out_of_memory_in("the list");
     };
-    match options.answer_request(alloc, Request::new(alloc, Some(value), words), 40) {
-        Ok(answer) => check_outcome(answer_outcome(alloc, &answer, wanted)?, "answer_request"),
-        Err(_) => out_of_memory_in("answer_request"),
+    let (answer, call) = if value.is_empty() {
+        (options.answer(alloc, words, 40), "answer")
+    } else {
+        let request = Request::new(alloc, Some(value), words);
+        (options.answer_request(alloc, request, 40), "answer_request")
+    };
+    match answer {
+        Ok(answer) => check_outcome(answer_outcome(alloc, &answer, wanted)?, call),
+        Err(_) => out_of_memory_in(call),
     }
 }
 
-#[test]
-fn declared_line(rt: HostRuntime) -> Result<(), Fail> {
-    check_answer(
-        rt.alloc(),
-        Options::new(&PACK),
-        b"-vo=x\n--output\ny\n--\n-f",
-        "[Flag(Verbose), Value(Output, \"x\"), Value(Output, \"y\"), Positional(File, \"-f\")]",
-    )
-}
+// A value of the variable, a line, and what is read or printed.
+type Row = (&'static [u8], &'static [u8], &'static str);
 
-// A mistake after a flag and a positional, with the nearest name as a hint.
-#[test]
-fn declared_mistake(rt: HostRuntime) -> Result<(), Fail> {
-    check_answer(
-        rt.alloc(),
-        Options::new(&PACK),
-        b"-v\na\n--verbsoe",
-        "pack: invalid option '--verbsoe'; did you mean '--verbose'?\n\
-        Try 'pack --help' for more information.",
-    )
-}
-
-// A mistake with two hints, since no name is near.
-#[test]
-fn declared_beginning(rt: HostRuntime) -> Result<(), Fail> {
-    check_answer(
-        rt.alloc(),
-        Options::new(&PACK),
-        b"--ver",
-        "pack: invalid option '--ver'; did you mean one of '--verbose', '--version'?\n\
-        Try 'pack --help' for more information.",
-    )
-}
-
-// A mistake in a cluster. The hint is the long option, which has one more dash.
-#[test]
-fn declared_cluster(rt: HostRuntime) -> Result<(), Fail> {
-    check_answer(
-        rt.alloc(),
-        Options::new(&PACK),
-        b"-verbose",
-        "pack: invalid option '-e'; did you mean '--verbose'?\n\
-        Try 'pack --help' for more information.",
-    )
+// Checks each row.
+fn check_answers(
+    alloc: Global,
+    options: Options<'static, Flag, Value, Word>,
+    rows: &[Row],
+) -> Result<(), Fail> {
+    for (value, lines, wanted) in rows {
+        check_answer(alloc, options, value, lines, wanted)?;
+    }
+    Ok(())
 }
 
 #[test]
-fn declared_help(rt: HostRuntime) -> Result<(), Fail> {
-    check_answer(
-        rt.alloc(),
-        Options::new(&PACK),
-        b"-h\n--verbsoe",
-        "Usage: pack [OPTION]... [FILE]...\nPacks.\n\n  \
-        -v, --verbose\n             tell more\n  \
-        -o, --output=FILE\n             write to this file\n  \
-        -h, --help\n             print this help and exit\n      \
-        --version\n             print the version and exit\n",
-    )
+fn declared_lines(rt: HostRuntime) -> Result<(), Fail> {
+    let rows: [Row; 5] = [
+        (
+            b"",
+            b"-vo=x\n--output\ny\n--\n-f",
+            "[Flag(Verbose), Value(Output, \"x\"), Value(Output, \"y\"), Positional(File, \"-f\")]",
+        ),
+        (
+            b"",
+            b"-h\n--verbsoe",
+            "Usage: pack [OPTION]... [FILE]...\nPacks.\n\n  \
+            -v, --verbose\n             tell more\n  \
+            -o, --output=FILE\n             write to this file\n  \
+            -h, --help\n             print this help and exit\n      \
+            --version\n             print the version and exit\n",
+        ),
+        (b"", b"-v\n--version\n--verbsoe", "pack 1.0\n"),
+        (
+            b"bash_complete",
+            b"-v\n-o\nx\n--",
+            "--verbose\ttell more\n--output\twrite to this file\n\
+            --help\tprint this help and exit\n--version\tprint the version and exit\n",
+        ),
+        // An attached value.
+        (b"zsh_complete", b"-vofi", "files\t-vo\n"),
+    ];
+    check_answers(rt.alloc(), Options::new(&PACK), &rows)
 }
 
+// The hint is the nearest name; or the names that begin so, if none is near; or the long option,
+// which has one more dash.
 #[test]
-fn declared_version(rt: HostRuntime) -> Result<(), Fail> {
-    check_answer(
-        rt.alloc(),
-        Options::new(&PACK),
-        b"-v\n--version\n--verbsoe",
-        "pack 1.0\n",
-    )
+fn declared_hints(rt: HostRuntime) -> Result<(), Fail> {
+    let rows: [Row; 3] = [
+        (
+            b"",
+            b"-v\na\n--verbsoe",
+            "pack: invalid option '--verbsoe'; did you mean '--verbose'?\n\
+            Try 'pack --help' for more information.",
+        ),
+        (
+            b"",
+            b"--ver",
+            "pack: invalid option '--ver'; did you mean one of '--verbose', '--version'?\n\
+            Try 'pack --help' for more information.",
+        ),
+        (
+            b"",
+            b"-verbose",
+            "pack: invalid option '-e'; did you mean '--verbose'?\n\
+            Try 'pack --help' for more information.",
+        ),
+    ];
+    check_answers(rt.alloc(), Options::new(&PACK), &rows)
 }
 
-#[test]
-fn declared_completion(rt: HostRuntime) -> Result<(), Fail> {
-    check_request(
-        rt.alloc(),
-        Options::new(&PACK),
-        b"bash_complete",
-        b"-v\n-o\nx\n--",
-        "--verbose\ttell more\n--output\twrite to this file\n\
-        --help\tprint this help and exit\n--version\tprint the version and exit\n",
-    )
-}
-
-// An attached value.
-#[test]
-fn declared_joined(rt: HostRuntime) -> Result<(), Fail> {
-    check_request(
-        rt.alloc(),
-        Options::new(&PACK),
-        b"zsh_complete",
-        b"-vofi",
-        "files\t-vo\n",
-    )
-}
-
-// An unknown request.
-#[test]
-fn declared_request(rt: HostRuntime) -> Result<(), Fail> {
-    check_request(
-        rt.alloc(),
-        Options::new(&CHOOSE),
-        b"tcsh_source",
-        b"-v",
-        "choose: invalid value of _CHOOSE_COMPLETE: one of bash_source, bash_complete, \
-        zsh_source, zsh_complete, fish_source, fish_complete",
-    )
-}
-
-// The required option with its value, and the keys of the positionals.
 #[test]
 fn declared_required(rt: HostRuntime) -> Result<(), Fail> {
-    check_answer(
-        rt.alloc(),
-        Options::new(&OWN),
-        b"a\n-vu\nx\nb\n--\n-c",
-        "[Positional(File, \"a\"), Flag(Verbose), Value(User, \"x\"), Positional(File, \"b\"), \
-        Positional(Target, \"-c\")]",
-    )
-}
-
-// The required option is missing.
-#[test]
-fn declared_missing(rt: HostRuntime) -> Result<(), Fail> {
-    check_answer(
-        rt.alloc(),
-        Options::new(&OWN),
-        b"a\n-v\nb",
-        "own: missing option '--user'\nTry 'own --help' for more information.",
-    )
-}
-
-#[test]
-fn declared_argument(rt: HostRuntime) -> Result<(), Fail> {
-    check_answer(
-        rt.alloc(),
-        Options::new(&CHOOSE),
-        b"-v\nmedium\ntar",
-        "choose: invalid argument \"medium\" for HOW: one of fast, slow",
-    )
-}
-
-#[test]
-fn declared_owners(rt: HostRuntime) -> Result<(), Fail> {
-    check_request(
-        rt.alloc(),
-        Options::new(&CHOOSE),
-        b"fish_complete",
-        b"",
-        "+fast\n+slow\n+tar\n",
-    )
+    let rows: [Row; 5] = [
+        (
+            b"",
+            b"a\n-vu\nx\nb\n--\ntar",
+            "[Positional(File, \"a\"), Flag(Verbose), Value(User, \"x\"), Positional(File, \"b\"), \
+            Positional(Target, \"tar\")]",
+        ),
+        (
+            b"",
+            b"a\n-v\nzip",
+            "own: missing option '--user'\nTry 'own --help' for more information.",
+        ),
+        (
+            b"",
+            b"-v\na\nrar",
+            "own: invalid argument \"rar\" for FORM: one of tar, zip\n\
+            Try 'own --help' for more information.",
+        ),
+        (b"fish_complete", b"a\n", "+tar\n+zip\nfiles\n"),
+        (
+            b"tcsh_source",
+            b"-v",
+            "own: invalid value of _OWN_COMPLETE: one of bash_source, bash_complete, zsh_source, \
+            zsh_complete, fish_source, fish_complete\nTry 'own --help' for more information.",
+        ),
+    ];
+    check_answers(rt.alloc(), Options::new(&OWN), &rows)
 }
 
 // How a call went that is expected to return leading options, and a tail, with this text.
@@ -263,15 +200,9 @@ fn declared_leading(rt: HostRuntime) -> Result<(), Fail> {
     let Ok(words) = split_words(alloc, b"-v\n-o\nx\nadd\n-q\n--") else {
         return out_of_memory_in("the list");
     };
+    let wanted = "[Flag(Verbose), Value(Output, \"x\")] [\"add\", \"-q\", \"--\"]";
     match Options::new(&PACK).read_leading(alloc, words) {
-        Ok(leading) => check_outcome(
-            leading_outcome(
-                alloc,
-                &leading,
-                "[Flag(Verbose), Value(Output, \"x\")] [\"add\", \"-q\", \"--\"]",
-            )?,
-            "read_leading",
-        ),
+        Ok(leading) => check_outcome(leading_outcome(alloc, &leading, wanted)?, "read_leading"),
         Err(_) => out_of_memory_in("read_leading"),
     }
 }

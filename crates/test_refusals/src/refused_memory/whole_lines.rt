@@ -34,37 +34,17 @@ fn check_reading(alloc: Global, lines: &[u8], wanted: &str) -> Result<(), Fail> 
 }
 
 #[test]
-fn whole_line(rt: HostRuntime) -> Result<(), Fail> {
-    check_reading(
-        rt.alloc(),
-        b"-vo=x\n--out\ny\n-c\n--n\xff\n--cmd\n1\n2\n3\n4\n5\n--\n-f",
-        "Short \"v\"\nShort \"o\" = \"x\"\nLong \"out\" = \"y\"\nShort \"c\"\nLong \"n\u{fffd}\"\nLong \"cmd\" = [\"1\", \"2\", \"3\", \"4\", \"5\"]\nValue \"-f\"\n",
-    )
-}
-
-#[test]
-fn line_without_a_value(rt: HostRuntime) -> Result<(), Fail> {
-    check_reading(
-        rt.alloc(),
-        b"-v\n--out",
-        "missing argument for option '--out'\n",
-    )
-}
-
-#[test]
-fn line_without_values(rt: HostRuntime) -> Result<(), Fail> {
-    check_reading(
-        rt.alloc(),
-        b"--cmd\n-v",
-        "missing argument for option '--cmd'\n",
-    )
-}
-
-#[test]
-fn line_with_an_unexpected_value(rt: HostRuntime) -> Result<(), Fail> {
-    check_reading(
-        rt.alloc(),
-        b"-v=1",
-        "unexpected argument for option '-v': \"1\"\n",
-    )
+fn whole_lines(rt: HostRuntime) -> Result<(), Fail> {
+    for (lines, wanted) in [
+        (
+            b"-vo=x\n--out\ny\n-c\n--n\xff\n--cmd\n1\n2\n3\n4\n5\n--\n-f".as_slice(),
+            "Short \"v\"\nShort \"o\" = \"x\"\nLong \"out\" = \"y\"\nShort \"c\"\nLong \"n\u{fffd}\"\nLong \"cmd\" = [\"1\", \"2\", \"3\", \"4\", \"5\"]\nValue \"-f\"\n",
+        ),
+        (b"-v\n--out", "missing argument for option '--out'\n"),
+        (b"--cmd\n-v", "missing argument for option '--cmd'\n"),
+        (b"-v=1", "unexpected argument for option '-v': \"1\"\n"),
+    ] {
+        check_reading(rt.alloc(), lines, wanted)?;
+    }
+    Ok(())
 }

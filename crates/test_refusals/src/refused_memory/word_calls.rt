@@ -23,6 +23,14 @@ fn words_outcome(
     word_outcome(first, bytes).and_again(word_outcome(second, bytes))
 }
 
+// How a call went that is expected to return the lossy text of `a` and the byte FF.
+fn text_outcome(found: Result<String, AllocError>) -> Outcome {
+    match found {
+        Ok(found) => Outcome::of(found.as_str() == "a\u{fffd}"),
+        Err(_) => Outcome::OutOfMemory,
+    }
+}
+
 // The bytes of a text and of a view are copied whole, or memory runs out and there is no word.
 #[test]
 fn copied_bytes(rt: HostRuntime) -> Result<(), Fail> {
@@ -35,38 +43,10 @@ fn copied_bytes(rt: HostRuntime) -> Result<(), Fail> {
     check_outcome(words_outcome(first, second, b"\xc3\xa9"), "from_text")?;
     let view = OsStr::from_bytes(b"a\xff");
     let (first, second) = (view.to_os_string(alloc), view.to_os_string(alloc));
-    check_outcome(words_outcome(first, second, b"a\xff"), "to_os_string")
-}
-
-// How a call went that is expected to return this text.
-fn text_outcome(found: Result<String, AllocError>, text: &str) -> Outcome {
-    match found {
-        Ok(found) => Outcome::of(found.as_str() == text),
-        Err(_) => Outcome::OutOfMemory,
-    }
-}
-
-// The lossy text of a view is whole, or memory runs out and there is no text.
-#[test]
-fn lossy_text(rt: HostRuntime) -> Result<(), Fail> {
-    let alloc = rt.alloc();
-    let view = OsStr::from_bytes(b"a\xffb");
-    let first = text_outcome(view.to_string_lossy(alloc), "a\u{fffd}b");
-    let second = text_outcome(view.to_string_lossy(alloc), "a\u{fffd}b");
+    check_outcome(words_outcome(first, second, b"a\xff"), "to_os_string")?;
+    let first = text_outcome(view.to_string_lossy(alloc));
+    let second = text_outcome(view.to_string_lossy(alloc));
     check_outcome(first.and_again(second), "to_string_lossy")
-}
-
-// A value that was taken out of its word is copied without the bytes before it.
-#[test]
-fn copied_value(rt: HostRuntime) -> Result<(), Fail> {
-    let Ok(word) = OsString::from_bytes(rt.alloc(), b"--n=a\xff") else {
-        return out_of_memory_in("from_bytes");
-    };
-    let value = word.without_front(4);
-    check_outcome(
-        words_outcome(value.clone(), value.clone(), b"a\xff"),
-        "clone",
-    )
 }
 
 // How a call went that is expected to return the same argument.
@@ -78,36 +58,30 @@ fn copy_outcome(copy: Result<Arg<'_>, AllocError>, argument: &Arg<'_>) -> Outcom
 }
 
 #[test]
-fn copied_argument(rt: HostRuntime) -> Result<(), Fail> {
+fn copied_words(rt: HostRuntime) -> Result<(), Fail> {
     let Ok(word) = OsString::from_bytes(rt.alloc(), b"a\xff") else {
         return out_of_memory_in("from_bytes");
     };
+    check_outcome(words_outcome(word.clone(), word.clone(), b"a\xff"), "clone")?;
     let argument = Arg::Value(word);
     let first = copy_outcome(argument.clone(), &argument);
     let second = copy_outcome(argument.clone(), &argument);
     check_outcome(first.and_again(second), "clone")
 }
 
-// How a call went that is expected to report this option as unexpected.
-fn unexpected_option(error: Error, of: &str) -> Outcome {
+// How a call went that is expected to report the option `--name` as unexpected.
+fn unexpected_option(error: Error) -> Outcome {
     match error {
-        Error::UnexpectedOption(option) => Outcome::of(option.as_str() == of),
+        Error::UnexpectedOption(option) => Outcome::of(option.as_str() == "--name"),
         Error::OutOfMemory => Outcome::OutOfMemory,
         _ => Outcome::Wrong,
     }
 }
 
 #[test]
-fn unexpected_short_option(rt: HostRuntime) -> Result<(), Fail> {
-    let first = unexpected_option(Arg::Short('\u{e9}').unexpected(rt.alloc()), "-\u{e9}");
-    let second = unexpected_option(Arg::Short('\u{e9}').unexpected(rt.alloc()), "-\u{e9}");
-    check_outcome(first.and_again(second), "unexpected")
-}
-
-#[test]
-fn unexpected_long_option(rt: HostRuntime) -> Result<(), Fail> {
-    let first = unexpected_option(Arg::Long("name").unexpected(rt.alloc()), "--name");
-    let second = unexpected_option(Arg::Long("name").unexpected(rt.alloc()), "--name");
+fn unexpected_options(rt: HostRuntime) -> Result<(), Fail> {
+    let first = unexpected_option(Arg::Long("name").unexpected(rt.alloc()));
+    let second = unexpected_option(Arg::Long("name").unexpected(rt.alloc()));
     check_outcome(first.and_again(second), "unexpected")
 }
 
@@ -140,29 +114,13 @@ fn parse_with_twice(word: &OsString) -> Outcome {
 }
 
 #[test]
-fn value_that_is_no_number(rt: HostRuntime) -> Result<(), Fail> {
-    let Ok(word) = OsString::from_bytes(rt.alloc(), b"1x") else {
-        return out_of_memory_in("from_bytes");
-    };
-    check_outcome(parse_twice(&word), "parse")?;
-    check_outcome(parse_with_twice(&word), "parse_with")
-}
-
-// Whether the error of `string` holds the word. It does not allocate.
-fn keeps_word(word: OsString, bytes: &[u8]) -> bool {
-    match word.string() {
-        Err(Error::NonUnicodeValue(word)) => word.as_bytes() == bytes,
-        _ => false,
+fn refused_values(rt: HostRuntime) -> Result<(), Fail> {
+    for bytes in [b"1x".as_slice(), b"1\xff"] {
+        let Ok(word) = OsString::from_bytes(rt.alloc(), bytes) else {
+            return out_of_memory_in("from_bytes");
+        };
+        check_outcome(parse_twice(&word), "parse")?;
+        check_outcome(parse_with_twice(&word), "parse_with")?;
     }
-}
-
-#[test]
-fn value_that_is_no_text(rt: HostRuntime) -> Result<(), Fail> {
-    let Ok(word) = OsString::from_bytes(rt.alloc(), b"1\xff") else {
-        return out_of_memory_in("from_bytes");
-    };
-    check_outcome(parse_twice(&word), "parse")?;
-    check_outcome(parse_with_twice(&word), "parse_with")?;
-    assert!(rt; keeps_word(word, b"1\xff"));
     Ok(())
 }

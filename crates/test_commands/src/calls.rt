@@ -1,0 +1,187 @@
+//! Each public call of `Commands`, and the words, the variable and `COLUMNS` of an environment.
+use crate::git::{Flag, Task, Value, git, words_of};
+use lexopt_commands::{Command, CommandLine, Commands, Runs, Step};
+use lexopt_options::Request;
+use std::alloc::{AllocError, Global};
+use test_helpers::environments::{Arguments, Variable};
+
+// A call that is given the words of a line, or, for a request, the words before the last and what
+// is typed.
+#[derive(Clone, Copy)]
+enum Call {
+    Read,
+    Answer,
+    Complete,
+}
+
+use Call::{Answer, Complete, Read};
+
+// At 30 columns the help of an entry begins at column 10.
+const HELP_AT_30: &str = "\
+Usage: git [OPTION]... COMMAND
+       [ARGUMENT]...
+Tracks files.
+
+  add     add files
+  remove  remove files
+  remote  manage remotes
+  help    print the help of a
+          command
+
+  -v, --verbose
+          tell more
+  -C DIR  work there
+  -h, --help
+          print this help and
+          exit
+      --version
+          print the version
+          and exit
+
+It has no index.
+";
+
+// Calls, lines, and what is read, printed or refused.
+static ROWS: [(Call, &[u8], &str); 12] = [
+    (
+        Read,
+        b"-C dir -- add -f \xFF",
+        "[Value(Directory, \"dir\")] Add [\"-f\", \"\\xFF\"]",
+    ),
+    (
+        Read,
+        b"-v help remote x",
+        "[Flag(Verbose)] Remote [\"x\", \"--help\"]",
+    ),
+    (Read, b"--version bogus", "Version(\"git 1.0\")"),
+    (
+        Read,
+        b"-v re",
+        "[Flag(Verbose)], then unknown command \"re\"; did you mean one of 'remove', 'remote'?",
+    ),
+    (
+        Read,
+        b"-v",
+        "[Flag(Verbose)], then missing command: one of add, remove, remote, help",
+    ),
+    (Answer, b"help", HELP_AT_30),
+    (Answer, b"--version", "git 1.0\n"),
+    (Answer, b"-v add x", "[Flag(Verbose)] Add Line([\"x\"])"),
+    (
+        Answer,
+        b"-x add",
+        "git: invalid option '-x'\nTry 'git --help' for more information.",
+    ),
+    (
+        Complete,
+        b"-v re",
+        "+remove\tremove files\n+remote\tmanage remotes\n",
+    ),
+    (
+        Complete,
+        b"-v remote add -",
+        "[Flag(Verbose)] Remote Completion([\"add\"], \"-\")",
+    ),
+    (Complete, b"-vCdi", "files\t-vC\n"),
+];
+
+// The meaning of a line, as `Debug` writes it: the general options, the command and its words; or
+// the request; or the general options before the mistake, and the mistake.
+fn text_of_line(
+    alloc: Global,
+    line: &CommandLine<'_, Task, Flag, Value, ()>,
+) -> Result<String, AllocError> {
+    match line {
+        CommandLine::Command(parsed, task, words) => {
+            format!(in alloc; "{parsed:?} {task:?} {words:?}")
+        }
+        CommandLine::Asked(asked) => format!(in alloc; "{asked:?}"),
+        CommandLine::Refused(refused) => {
+            format!(in alloc; "{:?}, then {}", refused.before, refused.mistake)
+        }
+    }
+}
+
+// What the program does: the command, a text to print, or a refusal.
+fn text_of_step(
+    alloc: Global,
+    step: Step<'_, Task, Flag, Value, ()>,
+) -> Result<String, AllocError> {
+    match step {
+        Step::Command(parsed, task, request) => {
+            format!(in alloc; "{parsed:?} {task:?} {request:?}")
+        }
+        Step::Text(text) => Ok(text),
+        Step::Refused(refused) => refused.to_string(alloc),
+    }
+}
+
+// What the call returns for these words, as a text.
+fn text_of(alloc: Global, call: Call, line: &[u8]) -> Result<String, AllocError> {
+    let words = words_of(alloc, line)?;
+    match call {
+        Read => text_of_line(alloc, &git().read(alloc, words)?),
+        Answer => text_of_step(alloc, git().answer(alloc, words, 30)?),
+        Complete => {
+            let request = Request::new(alloc, Some(b"zsh_complete"), words);
+            text_of_step(alloc, git().answer_request(alloc, request, 30)?)
+        }
+    }
+}
+
+// The place of the first row that does not hold, if there is one.
+fn first_wrong(alloc: Global) -> Result<Option<usize>, AllocError> {
+    for (row, (call, line, wanted)) in ROWS.iter().enumerate() {
+        if text_of(alloc, *call, line)?.as_str() != *wanted {
+            return Ok(Some(row));
+        }
+    }
+    Ok(None)
+}
+
+#[test]
+fn rows(rt: HostRuntime) {
+    assert_eq!(rt; first_wrong(rt.alloc()).expect(&rt, "memory"), None);
+}
+
+// Whether the words `git help` of an environment print the help at the width of `COLUMNS`.
+fn is_help_of_the_environment(alloc: Global) -> Result<bool, AllocError> {
+    let words = words_of(alloc, b"git help")?;
+    let environment = Variable {
+        arguments: Arguments { words: &words },
+        name: "COLUMNS",
+        value: Some(b"30"),
+    };
+    let step = git().from_env(&(environment, alloc))?;
+    Ok(text_of_step(alloc, step)?.as_str() == HELP_AT_30)
+}
+
+#[test]
+fn help_of_the_environment(rt: HostRuntime) {
+    assert!(rt; is_help_of_the_environment(rt.alloc()).expect(&rt, "memory"));
+}
+
+#[test]
+fn what_was_given(rt: HostRuntime) {
+    assert_eq!(rt; git().options().program(), "git");
+    assert_eq!(rt; git().commands().len(), 4);
+    let help = git().help(rt.alloc(), 30).expect(&rt, "memory");
+    assert_eq!(rt; help.as_str(), HELP_AT_30);
+}
+
+#[test]
+fn faults(rt: HostRuntime) {
+    let commands = [Command {
+        name: "a b",
+        help: "",
+        runs: Runs::Command(Task::Add),
+    }];
+    let text = match Commands::try_new(git().options(), &commands) {
+        Ok(_) => String::new(rt.alloc()),
+        Err(error) => error.to_string(rt.alloc()).expect(&rt, "memory"),
+    };
+    assert_eq!(rt;
+        text.as_str(),
+        "command 'a b': its name has a blank or a control character in it"
+    );
+}

@@ -1,0 +1,204 @@
+//! Each public call of `Options` on a line or a declaration.
+use crate::archive::{
+    ARCHIVE, ArchiveLeading, ArchiveLine, Flag, archive, archive_of_files, debug_of,
+    text_of_answer, words_of,
+};
+use lexopt_options::{
+    DeclarationError, Declared, Leading, Line, Names, Options, OsString, Reason, Request, Shell,
+};
+use std::alloc::{AllocError, Global};
+
+// A call that is given the words of a line, or, for a request, the words before the last and what
+// is typed.
+#[derive(Clone, Copy)]
+enum Call {
+    Read,
+    ReadLeading,
+    Answer,
+    Complete,
+}
+
+use Call::{Answer, Complete, Read, ReadLeading};
+
+const HELP_AT_40: &str = "Usage: archive [OPTION]... [FILE]...
+Packs files.
+
+  -v, --verbose
+             tell more
+  -o, --output=FILE
+             write to this file
+  -b[SUFFIX], --backup[=SUFFIX]
+             keep an archive that is
+             there, with this suffix
+  -x, --exclude=PATTERN...
+             leave out the files whose
+             names match one of these
+             patterns of a shell
+  -h, --help
+             print this help and exit
+";
+
+// Calls, lines, and what is read, printed or refused.
+static ROWS: [(Call, &[u8], &str); 11] = [
+    (
+        Read,
+        b"-vo=x --output y -bz --exclude a b -- -f\xFF",
+        "[Flag(Verbose), Value(Output, \"x\"), Value(Output, \"y\"), Maybe(Backup, Some(\"z\")), \
+        Values(Exclude, [\"a\", \"b\"]), Positional(File, \"-f\\xFF\")]",
+    ),
+    (Read, b"-h --bogus", "Help"),
+    (
+        Read,
+        b"-v --verbsoe",
+        "[Flag(Verbose)], then archive: invalid option '--verbsoe'; did you mean '--verbose'?\n\
+        Try 'archive --help' for more information.",
+    ),
+    (
+        ReadLeading,
+        b"-vo x -- add -v",
+        "[Flag(Verbose), Value(Output, \"x\")], then [\"add\", \"-v\"]",
+    ),
+    (ReadLeading, b"-h add", "Help"),
+    (
+        ReadLeading,
+        b"-v -o",
+        "[Flag(Verbose)], then missing argument FILE for option '-o'",
+    ),
+    (Answer, b"-v a", "[Flag(Verbose), Positional(File, \"a\")]"),
+    (Answer, b"a --help --bogus", HELP_AT_40),
+    (
+        Answer,
+        b"--bogus",
+        "archive: invalid option '--bogus'\nTry 'archive --help' for more information.",
+    ),
+    (Complete, b"-v --verb", "--verbose\ttell more\n"),
+    (Complete, b"-o ", "files\n"),
+];
+
+// What was read, as `Debug` writes it; the request; or what was read before the mistake, and the
+// refusal.
+fn text_of_line(alloc: Global, line: &ArchiveLine<'_>) -> Result<String, AllocError> {
+    match line {
+        Line::Parsed(parsed) => debug_of(alloc, parsed),
+        Line::Asked(asked) => format!(in alloc; "{asked:?}"),
+        Line::Refused(refused) => format!(in alloc; "{:?}, then {refused}", refused.before),
+    }
+}
+
+// The same for leading options, with the words after them.
+fn text_of_leading(alloc: Global, leading: &ArchiveLeading<'_>) -> Result<String, AllocError> {
+    match leading {
+        Leading::Parsed(parsed, rest) => format!(in alloc; "{parsed:?}, then {rest:?}"),
+        Leading::Asked(asked) => format!(in alloc; "{asked:?}"),
+        Leading::Refused(refused) => {
+            format!(in alloc; "{:?}, then {}", refused.before, refused.mistake)
+        }
+    }
+}
+
+// What the call returns for these words, as a text.
+fn text_of(alloc: Global, call: Call, line: &[u8]) -> Result<String, AllocError> {
+    let options = archive_of_files();
+    let words = words_of(alloc, line)?;
+    match call {
+        Read => text_of_line(alloc, &options.read(alloc, words)?),
+        ReadLeading => text_of_leading(alloc, &options.read_leading(alloc, words)?),
+        Answer => text_of_answer(alloc, options.answer(alloc, words, 40)?),
+        Complete => {
+            let request = Request::new(alloc, Some(b"bash_complete"), words);
+            text_of_answer(alloc, options.answer_request(alloc, request, 40)?)
+        }
+    }
+}
+
+// The place of the first row that does not hold, if there is one.
+fn first_wrong(alloc: Global) -> Result<Option<usize>, AllocError> {
+    for (row, (call, line, wanted)) in ROWS.iter().enumerate() {
+        if text_of(alloc, *call, line)?.as_str() != *wanted {
+            return Ok(Some(row));
+        }
+    }
+    Ok(None)
+}
+
+#[test]
+fn rows(rt: HostRuntime) {
+    assert_eq!(rt; first_wrong(rt.alloc()).expect(&rt, "memory"), None);
+}
+
+// Whether one spelling completes `--verb` after a positional.
+fn is_completed(alloc: Global) -> Result<bool, AllocError> {
+    let options = archive_of_files();
+    let words = words_of(alloc, b"a")?;
+    let typed = OsString::from_text(alloc, "--verb")?;
+    let found = options.complete(alloc, &words, &typed)?;
+    Ok(
+        found.spellings.len() == 1
+            && found
+                .spellings
+                .iter()
+                .all(|own| own.text.as_str() == "--verbose")
+            && options.has_positional(alloc, &words)?
+            && options.completion_text(alloc, &words, &typed)?.as_str() == "--verbose\ttell more\n",
+    )
+}
+
+#[test]
+fn completions(rt: HostRuntime) {
+    assert!(rt; is_completed(rt.alloc()).expect(&rt, "memory"));
+}
+
+// Whether the texts of the declaration begin so.
+fn are_texts(alloc: Global) -> Result<bool, AllocError> {
+    let options = archive_of_files();
+    let usage = options.usage(alloc, 30)?;
+    let help = options.help(alloc, 40)?;
+    let script = options.script(alloc, Shell::Zsh)?;
+    Ok(
+        usage.as_str() == "Usage: archive [OPTION]...\n       [FILE]...\n"
+            && help.as_str() == HELP_AT_40
+            && script.as_str().starts_with("#compdef archive\n"),
+    )
+}
+
+#[test]
+fn texts(rt: HostRuntime) {
+    assert!(rt; are_texts(rt.alloc()).expect(&rt, "memory"));
+}
+
+#[test]
+fn what_was_given(rt: HostRuntime) {
+    let options = archive_of_files();
+    assert_eq!(rt; options.program(), ARCHIVE.program);
+    assert_eq!(rt; options.about(), ARCHIVE.about);
+    assert_eq!(rt; options.epilogue().len(), 0);
+    assert!(rt; options.has_short_equals());
+    assert!(rt; options.options().len() == 5 && options.positionals().len() == 1);
+}
+
+// Whether the table has each option that takes values in the list of its kind.
+fn has_each_kind(alloc: Global) -> Result<bool, AllocError> {
+    let table = archive_of_files().table(alloc)?;
+    Ok(
+        table.shorts.as_slice() == ['o'].as_slice()
+            && table.optional_shorts.as_slice() == ['b'].as_slice()
+            && table.several_shorts.as_slice() == ['x'].as_slice(),
+    )
+}
+
+#[test]
+fn tables(rt: HostRuntime) {
+    assert!(rt; has_each_kind(rt.alloc()).expect(&rt, "memory"));
+}
+
+#[test]
+fn faults(rt: HostRuntime) {
+    let dash = [Declared::flag(Flag::Verbose, Names::Short('-'), "")];
+    let error = DeclarationError::Option {
+        option: Names::Short('-'),
+        reason: Reason::DashName,
+    };
+    let text = error.to_string(rt.alloc()).expect(&rt, "memory");
+    assert_eq!(rt; text.as_str(), "option '--': its character is '-'");
+    assert_eq!(rt; Options::try_new(&archive(&dash, &[])).err(), Some(error));
+}

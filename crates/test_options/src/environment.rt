@@ -1,0 +1,103 @@
+//! What is read from an environment: the words, the variable by which a shell asks, and `COLUMNS`.
+use crate::archive::{archive_of_files, text_of_answer, words_of};
+use lexopt_options::columns;
+use std::alloc::{AllocError, Global};
+use test_helpers::environments::{Arguments, Variable};
+
+// Lines, a variable and its value, and the beginning of what is read or printed. The last value has
+// more bytes than the program reads.
+static ROWS: [(&[u8], &str, Option<&[u8]>, &str); 6] = [
+    (b"archive -v", SHELL, None, "[Flag(Verbose)]"),
+    (b"archive -v", SHELL, Some(b""), "[Flag(Verbose)]"),
+    (
+        b"archive -v",
+        SHELL,
+        Some(b"zsh_source"),
+        "#compdef archive\n",
+    ),
+    (
+        b"archive -v",
+        SHELL,
+        Some(b"fish_complete"),
+        "-v\ttell more\n",
+    ),
+    (
+        b"archive -v",
+        SHELL,
+        Some(b"bash_completely_of_course"),
+        NOT_KNOWN,
+    ),
+    (
+        b"archive -h",
+        "COLUMNS",
+        Some(b"30"),
+        "Usage: archive [OPTION]...\n       [FILE]...\n",
+    ),
+];
+
+const SHELL: &str = "_ARCHIVE_COMPLETE";
+
+const NOT_KNOWN: &str = "archive: invalid value of _ARCHIVE_COMPLETE: one of bash_source, \
+    bash_complete, zsh_source, zsh_complete, fish_source, fish_complete\n\
+    Try 'archive --help' for more information.";
+
+// What the program does with these words if the variable has this value.
+fn text_of<'v>(
+    alloc: Global,
+    line: &[u8],
+    name: &'v str,
+    value: Option<&'v [u8]>,
+) -> Result<String, AllocError> {
+    let words = words_of(alloc, line)?;
+    let environment = Variable {
+        arguments: Arguments { words: &words },
+        name,
+        value,
+    };
+    text_of_answer(alloc, archive_of_files().from_env(&(environment, alloc))?)
+}
+
+// The place of the first row that does not hold, if there is one.
+fn first_wrong(alloc: Global) -> Result<Option<usize>, AllocError> {
+    for (row, (line, name, value, front)) in ROWS.iter().enumerate() {
+        if !text_of(alloc, line, name, *value)?
+            .as_str()
+            .starts_with(front)
+        {
+            return Ok(Some(row));
+        }
+    }
+    Ok(None)
+}
+
+#[test]
+fn environments(rt: HostRuntime) {
+    assert_eq!(rt; first_wrong(rt.alloc()).expect(&rt, "memory"), None);
+}
+
+// Values of `COLUMNS`, and the width. It is 80 if the value is not a number, is 0, or does not fit
+// in 64 bits.
+const WIDTHS: [(Option<&[u8]>, usize); 10] = [
+    (Some(b"40"), 40),
+    (Some(b"+40"), 40),
+    (Some(b"00000000000000000040"), 40),
+    (None, 80),
+    (Some(b""), 80),
+    (Some(b"0"), 80),
+    (Some(b"40 "), 80),
+    (Some(b"-40"), 80),
+    (Some(b"4\xff"), 80),
+    (Some(b"18446744073709551616"), 80),
+];
+
+#[test]
+fn widths(rt: HostRuntime) {
+    for (value, width) in WIDTHS {
+        let environment = Variable {
+            arguments: Arguments { words: &[] },
+            name: "COLUMNS",
+            value,
+        };
+        assert_eq!(rt; columns(&environment), width);
+    }
+}
