@@ -299,7 +299,9 @@ fn is_full(limit: Option<usize>, count: usize) -> bool
     }
 }
 
-// Reads what comes next in a line after `count` positionals, of which there may be `limit`.
+// Reads what comes next in a line after `count` positionals, of which there may be `limit`. It is
+// always inlined: a call would clear the places of its results, some 450 bytes, for each word.
+#[inline(always)]
 pub fn read_next<'a, F, V, P, M, S>(
     parser: &mut Parser,
     options: &Options<'a, F, V, P, M, S>,
