@@ -1,7 +1,7 @@
 //! The parser: a command line, of which some words have been read.
 ghost use Rattle.std.specs.Prelude.{◌≡◌, ◌≢◌, ◌↔◌, ◌⊎◌, ◌<◌, ◌≤◌, ℕ, List, [], ◌∷◌, Some, None};
 ghost use Rattle.std.specs.Prelude.{false, IsTrue, IsSome, IfOk, IfErr, OnErr, OnOk, codes};
-ghost use Rattle.std.specs.Prelude.{drop, length, string_bytes};
+ghost use Rattle.std.specs.Prelude.{drop, length, string_bytes, string_capacity};
 ghost use Rattle.std.specs.Option.{option_map};
 ghost use Rattle.std.specs.Iterator.{IsFiniteIterable};
 ghost use Rattle.lexopt_spec.specs.Pieces.{lossy};
@@ -903,18 +903,41 @@ fn read_long(word: &[u8]) -> (&[u8], State)
     }
 }
 
+// Replaces the kept name by the lossy text of a name with damage. Like the next function it is not
+// inlined, so that little of `keep_name` goes into each loop over the parser.
+#[cold]
+#[inline(never)]
+fn keep_lossy(alloc: Global, kept: &mut String, name: &[u8]) -> Result<(), AllocError>
+    ensures ok { OnOk result (string_bytes kept.new ≡ lossy name.now) }
+    ensures err { OnErr result (string_bytes kept.new ≡ string_bytes kept.old) }
+{
+    *kept = lossy_text(alloc, name)?;
+    Ok(())
+}
+
+// Makes room for a name of this many bytes in place of the kept one.
+#[cold]
+#[inline(never)]
+fn make_room(kept: &mut String, count: usize) -> Result<(), AllocError>
+    ensures same { string_bytes kept.new ≡ string_bytes kept.old }
+    ensures room { OnOk result (count ≤ string_capacity kept.new) }
+{
+    kept.reserve(count.saturating_sub(kept.len()))
+}
+
 // Replaces the kept name by the lossy text of this one, in which each damaged piece is one U+FFFD.
-// If memory runs out, the kept name stays.
+// If memory runs out, the kept name stays. It is always inlined: a call would take some 20 more
+// instructions for each long option.
+#[inline(always)]
 fn keep_name(alloc: Global, kept: &mut String, name: &[u8]) -> Result<(), AllocError>
     ensures ok { OnOk result (string_bytes kept.new ≡ lossy name.now) }
     ensures err { OnErr result (string_bytes kept.new ≡ string_bytes kept.old) }
 {
     let Ok(text) = str::from_utf8(name) else {
-        *kept = lossy_text(alloc, name)?;
-        return Ok(());
+        return keep_lossy(alloc, kept, name);
     };
     if kept.capacity() < text.len() {
-        kept.reserve(text.len().saturating_sub(kept.len()))?;
+        make_room(kept, text.len())?;
     }
     kept.clear();
     kept.push_str(text)
