@@ -3,7 +3,7 @@
 use lexopt::replay::{Item, Table, read_items};
 use std::alloc::AllocError;
 use std::process::Abort;
-use test_helpers::parsers::split_words;
+use test_helpers::parsers::words_of;
 
 // A table with the short option `-` and the long option `a=b`, of one value each.
 fn table_with_a_dash(rt: &(impl Abort + AllocGlobal)) -> Table {
@@ -25,7 +25,7 @@ fn push_items(text: &mut String, items: &[Item]) -> Result<(), AllocError> {
 // What these words are read as by that table: each item on a line of its own, or the message of the
 // error.
 fn text_of(rt: &(impl Abort + AllocGlobal), words: &[u8]) -> String {
-    let words = split_words(rt.alloc(), words).expect(rt, "memory");
+    let words = words_of(rt.alloc(), words).expect(rt, "memory");
     match read_items(rt.alloc(), words, true, &table_with_a_dash(rt)) {
         Ok(items) => {
             let mut text = String::new(rt.alloc());
@@ -39,7 +39,7 @@ fn text_of(rt: &(impl Abort + AllocGlobal), words: &[u8]) -> String {
 #[test]
 fn one_value_each(rt: HostRuntime) {
     for (words, text) in [
-        (b"-a-\nv".as_slice(), "Short \"a\"\nShort \"-\" = \"v\"\n"),
+        (b"-a- v".as_slice(), "Short \"a\"\nShort \"-\" = \"v\"\n"),
         (b"-a-", "missing argument for option '--'"),
         (b"--a=b", "unexpected argument for option '--a': \"b\""),
     ] {

@@ -1,9 +1,10 @@
 //! Each public call of `Commands`, and the words, the variable and `COLUMNS` of an environment.
-use crate::git::{Flag, Task, Value, git, words_of};
+use crate::git::{Flag, Task, Value, git};
 use lexopt_commands::{Command, CommandLine, Commands, Runs, Step};
 use lexopt_options::Request;
 use std::alloc::{AllocError, Global};
 use test_helpers::environments::{Arguments, Variable};
+use test_helpers::parsers::words_of;
 
 // A call that is given the words of a line, or, for a request, the words before the last and what
 // is typed.

@@ -1,7 +1,6 @@
-//! The declaration that the tests share, and the words of lines.
-use lexopt_commands::{Command, Commands, Runs};
-use lexopt_options::{Declaration, Names, Options, OsString, declare};
-use std::alloc::{AllocError, Global};
+//! The declaration that the tests share.
+use lexopt_commands::{Command, Commands, declare_commands};
+use lexopt_options::{Declaration, Names, Options, declare};
 
 #[derive(Debug, Clone, Copy, PartialEq, Eq)]
 pub enum Flag {
@@ -35,41 +34,14 @@ static GENERAL: Declaration<'static, Flag, Value, ()> = declare! {
     epilogue: ["It has no index."],
 };
 
-static COMMANDS: [Command<'static, Task>; 4] = [
-    Command {
-        name: "add",
-        help: "add files",
-        runs: Runs::Command(Task::Add),
-    },
-    Command {
-        name: "remove",
-        help: "remove files",
-        runs: Runs::Command(Task::Remove),
-    },
-    Command {
-        name: "remote",
-        help: "manage remotes",
-        runs: Runs::Command(Task::Remote),
-    },
-    Command {
-        name: "help",
-        help: "print the help of a command",
-        runs: Runs::Help,
-    },
+static COMMANDS: &[Command<'static, Task>] = declare_commands![
+    command(Task::Add, "add", "add files"),
+    command(Task::Remove, "remove", "remove files"),
+    command(Task::Remote, "remote", "manage remotes"),
+    help("help"),
 ];
 
 /// A program with general options and commands.
 pub fn git() -> Git<'static> {
-    Commands::new(Options::new(&GENERAL), &COMMANDS)
-}
-
-/// The words of a line, which has one space between two words. An empty word is between two spaces.
-pub fn words_of(alloc: Global, line: &[u8]) -> Result<Vec<OsString>, AllocError> {
-    let mut words = Vec::new(alloc);
-    if !line.is_empty() {
-        for word in line.split(|byte| *byte == b' ') {
-            words.push(OsString::from_bytes(alloc, word)?)?;
-        }
-    }
-    Ok(words)
+    Commands::new(Options::new(&GENERAL), COMMANDS)
 }

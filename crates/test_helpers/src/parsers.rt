@@ -2,12 +2,12 @@
 use lexopt_base::{Error, OsString, Parser};
 use std::alloc::{AllocError, Global};
 
-/// The words of these lines, one on each line.
-pub fn split_words(alloc: Global, lines: &[u8]) -> Result<Vec<OsString>, AllocError> {
+/// The words of a line, which has one space between two words. An empty word is between two spaces.
+pub fn words_of(alloc: Global, line: &[u8]) -> Result<Vec<OsString>, AllocError> {
     let mut words = Vec::new(alloc);
-    if !lines.is_empty() {
-        for line in lines.split(|byte| *byte == b'\n') {
-            words.push(OsString::from_bytes(alloc, line)?)?;
+    if !line.is_empty() {
+        for word in line.split(|byte| *byte == b' ') {
+            words.push(OsString::from_bytes(alloc, word)?)?;
         }
     }
     Ok(words)

@@ -64,7 +64,7 @@ enum Key {
     Valued(Valued),
 }
 
-#[derive(Drop)]
+#[derive(Default, Drop)]
 struct Settings {
     after_context: Option<OsString>,
     before_context: Option<OsString>,
@@ -106,7 +106,6 @@ struct Settings {
     follow: bool,
     max_columns: Option<OsString>,
     null: Option<OsString>,
-    files: Vec<OsString>,
 }
 
 // Both names of each option, and its key.
@@ -213,10 +212,15 @@ fn set_value(settings: &mut Settings, valued: Valued, word: OsString) {
     }
 }
 
-fn read_line(alloc: Global, parser: &mut Parser, settings: &mut Settings) -> Result<(), Error> {
+fn read_line(
+    alloc: Global,
+    parser: &mut Parser,
+    settings: &mut Settings,
+    files: &mut Vec<OsString>,
+) -> Result<(), Error> {
     for _ in 0..u64::MAX {
         match parser.next()? {
-            Some(Value(file)) => settings.files.push(file)?,
+            Some(Value(file)) => files.push(file)?,
             Some(argument) => match key_of(alloc, argument)? {
                 Key::Flag(flag) => set_flag(settings, flag),
                 Key::Valued(valued) => set_value(settings, valued, parser.value()?),
@@ -227,61 +231,20 @@ fn read_line(alloc: Global, parser: &mut Parser, settings: &mut Settings) -> Res
     Ok(())
 }
 
-fn read_settings(rt: &(impl Env + AllocGlobal)) -> Result<Settings, Error> {
+fn read_settings(rt: &(impl Env + AllocGlobal)) -> Result<(Settings, Vec<OsString>), Error> {
     let alloc = rt.alloc();
     let mut parser = Parser::from_env_os(rt, alloc)?;
-    let mut settings = Settings {
-        after_context: None,
-        before_context: None,
-        count: false,
-        depth: None,
-        regexp: None,
-        file: None,
-        glob: None,
-        heading: false,
-        ignore_case: false,
-        jobs: None,
-        keep_going: false,
-        files_with_matches: false,
-        max_count: None,
-        line_number: false,
-        only_matching: false,
-        pretty: false,
-        quiet: false,
-        replace: None,
-        sort: None,
-        type_of: None,
-        unrestricted: false,
-        invert_match: false,
-        word_regexp: false,
-        line_regexp: false,
-        type_not: None,
-        search_zip: false,
-        all: false,
-        buffer: None,
-        context: None,
-        dictionary: None,
-        encoding: None,
-        fixed_strings: false,
-        colors: None,
-        with_filename: false,
-        no_filename: false,
-        json: false,
-        separator: None,
-        follow: false,
-        max_columns: None,
-        null: None,
-        files: Vec::new(alloc),
-    };
-    read_line(alloc, &mut parser, &mut settings)?;
-    Ok(settings)
+    let mut settings = Settings::default();
+    let mut files = Vec::new(alloc);
+    read_line(alloc, &mut parser, &mut settings, &mut files)?;
+    Ok((settings, files))
 }
 
 fn main(rt: HostRuntime) -> io::Result<ExitCode> {
     match read_settings(&rt) {
-        Ok(settings) => {
+        Ok((settings, files)) => {
             println!(rt; "{:?} {:?}", settings.after_context, settings.max_count)?;
-            println!(rt; "{} {:?}", settings.quiet, settings.files)?;
+            println!(rt; "{} {:?}", settings.quiet, files)?;
             Ok(ExitCode::SUCCESS)
         }
         Err(error) => eprintln!(rt; "test_loop: {error}").map(|()| ExitCode::from(2)),

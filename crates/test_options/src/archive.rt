@@ -1,7 +1,6 @@
-//! The declaration that the tests share, the words of lines, and the text of what is read.
+//! The declaration that the tests share, and the text of what is read.
 use lexopt_options::{
-    Answer, Declaration, Declared, Leading, Line, Names, Options, OsString, Parsed, Positional,
-    declare,
+    Answer, Declaration, Declared, Leading, Line, Names, Options, Parsed, Positional, declare,
 };
 use std::alloc::{AllocError, Global};
 
@@ -90,17 +89,6 @@ pub fn archive<'a>(
         short_equals: true,
         guesses: &[],
     }
-}
-
-/// The words of a line, which has one space between two words. An empty word is between two spaces.
-pub fn words_of(alloc: Global, line: &[u8]) -> Result<Vec<OsString>, AllocError> {
-    let mut words = Vec::new(alloc);
-    if !line.is_empty() {
-        for word in line.split(|byte| *byte == b' ') {
-            words.push(OsString::from_bytes(alloc, word)?)?;
-        }
-    }
-    Ok(words)
 }
 
 /// What was read, as `Debug` writes it; a text that is printed; or a refusal.

@@ -1,12 +1,12 @@
 //! Each public call of `Options` on a line or a declaration.
 use crate::archive::{
-    ARCHIVE, ArchiveLeading, ArchiveLine, Flag, archive, archive_of_files, debug_of,
-    text_of_answer, words_of,
+    ARCHIVE, ArchiveLeading, ArchiveLine, Flag, archive, archive_of_files, debug_of, text_of_answer,
 };
 use lexopt_options::{
     DeclarationError, Declared, Leading, Line, Names, Options, OsString, Reason, Request, Shell,
 };
 use std::alloc::{AllocError, Global};
+use test_helpers::parsers::words_of;
 
 // A call that is given the words of a line, or, for a request, the words before the last and what
 // is typed.

@@ -1,8 +1,9 @@
 //! What is read from an environment: the words, the variable by which a shell asks, and `COLUMNS`.
-use crate::archive::{archive_of_files, text_of_answer, words_of};
+use crate::archive::{archive_of_files, text_of_answer};
 use lexopt_options::columns;
 use std::alloc::{AllocError, Global};
 use test_helpers::environments::{Arguments, Variable};
+use test_helpers::parsers::words_of;
 
 // Lines, a variable and its value, and the beginning of what is read or printed. The last value has
 // more bytes than the program reads.

@@ -82,7 +82,6 @@ pub enum Value {
 #[derive(Debug, Clone, Copy)]
 pub enum Word {
     File,
-    Target,
 }
 
 /// A flag, an option with a value, the help and the version.

@@ -6,22 +6,7 @@ use lexopt_options::{
 };
 use std::alloc::{AllocError, Global};
 use std::test::Fail;
-use test_helpers::parsers::split_words;
-
-// A required option, and two positionals. The first may occur more than once, and the second has a
-// list of words.
-static OWN: Declaration<'static, Flag, Value, Word> = declare! {
-    program: "own",
-    options: [
-        flag(Flag::Verbose, Names::Both('v', "verbose"), "tell more"),
-        value(Value::User, Names::Both('u', "user"), "NAME", "whose it is").required(),
-        help(Names::Both('h', "help")),
-    ],
-    positionals: [
-        at_least_once(Word::File, "FILE"),
-        once(Word::Target, "FORM").one_of(&["tar", "zip"]),
-    ],
-};
+use test_helpers::parsers::words_of;
 
 // A group of options for `PACK`.
 static MORE: Group<'static, Flag, Value> = declare_group! {
@@ -52,18 +37,13 @@ fn answer_outcome(
     Ok(Outcome::of(text.as_str() == wanted))
 }
 
-// Calls `answer` with these words, one on each line; or, with a value of the variable by which a
-// shell asks, `answer_request`.
-fn check_answer(
-    alloc: Global,
-    options: Options<'static, Flag, Value, Word>,
-    value: &[u8],
-    lines: &[u8],
-    wanted: &str,
-) -> Result<(), Fail> {
-    let Ok(words) = split_words(alloc, lines) else {
+// Calls `answer` with this line; or, with a value of the variable by which a shell asks,
+// `answer_request`.
+fn check_answer(alloc: Global, value: &[u8], line: &[u8], wanted: &str) -> Result<(), Fail> {
+    let Ok(words) = words_of(alloc, line) else {
         return out_of_memory_in("the list");
     };
+    let options = Options::new(&PACK);
     let (answer, call) = if value.is_empty() {
         (options.answer(alloc, words, 40), "answer")
     } else {
@@ -79,59 +59,32 @@ fn check_answer(
 // A value of the variable, a line, and what is read or printed.
 type Row = (&'static [u8], &'static [u8], &'static str);
 
-// Checks each row.
-fn check_answers(
-    alloc: Global,
-    options: Options<'static, Flag, Value, Word>,
-    rows: &[Row],
-) -> Result<(), Fail> {
-    for (value, lines, wanted) in rows {
-        check_answer(alloc, options, value, lines, wanted)?;
-    }
-    Ok(())
-}
-
 #[test]
 fn declared_lines(rt: HostRuntime) -> Result<(), Fail> {
-    let rows: [Row; 5] = [
+    let rows: [Row; 7] = [
         (
             b"",
-            b"-vo=x\n--output\ny\n--\n-f",
+            b"-vo=x --output y -- -f",
             "[Flag(Verbose), Value(Output, \"x\"), Value(Output, \"y\"), Positional(File, \"-f\")]",
         ),
         (
             b"",
-            b"-h\n--verbsoe",
+            b"-h --verbsoe",
             "Usage: pack [OPTION]... [FILE]...\nPacks.\n\n  \
             -v, --verbose\n             tell more\n  \
             -o, --output=FILE\n             write to this file\n  \
             -h, --help\n             print this help and exit\n      \
             --version\n             print the version and exit\n",
         ),
-        (b"", b"-v\n--version\n--verbsoe", "pack 1.0\n"),
+        (b"", b"-v --version --verbsoe", "pack 1.0\n"),
         (
             b"bash_complete",
-            b"-v\n-o\nx\n--",
+            b"-v -o x --",
             "--verbose\ttell more\n--output\twrite to this file\n\
             --help\tprint this help and exit\n--version\tprint the version and exit\n",
         ),
         // An attached value.
         (b"zsh_complete", b"-vofi", "files\t-vo\n"),
-    ];
-    check_answers(rt.alloc(), Options::new(&PACK), &rows)
-}
-
-// The hint is the nearest name; or the names that begin so, if none is near; or the long option,
-// which has one more dash.
-#[test]
-fn declared_hints(rt: HostRuntime) -> Result<(), Fail> {
-    let rows: [Row; 3] = [
-        (
-            b"",
-            b"-v\na\n--verbsoe",
-            "pack: invalid option '--verbsoe'; did you mean '--verbose'?\n\
-            Try 'pack --help' for more information.",
-        ),
         (
             b"",
             b"--ver",
@@ -139,44 +92,16 @@ fn declared_hints(rt: HostRuntime) -> Result<(), Fail> {
             Try 'pack --help' for more information.",
         ),
         (
-            b"",
-            b"-verbose",
-            "pack: invalid option '-e'; did you mean '--verbose'?\n\
-            Try 'pack --help' for more information.",
-        ),
-    ];
-    check_answers(rt.alloc(), Options::new(&PACK), &rows)
-}
-
-#[test]
-fn declared_required(rt: HostRuntime) -> Result<(), Fail> {
-    let rows: [Row; 5] = [
-        (
-            b"",
-            b"a\n-vu\nx\nb\n--\ntar",
-            "[Positional(File, \"a\"), Flag(Verbose), Value(User, \"x\"), Positional(File, \"b\"), \
-            Positional(Target, \"tar\")]",
-        ),
-        (
-            b"",
-            b"a\n-v\nzip",
-            "own: missing option '--user'\nTry 'own --help' for more information.",
-        ),
-        (
-            b"",
-            b"-v\na\nrar",
-            "own: invalid argument \"rar\" for FORM: one of tar, zip\n\
-            Try 'own --help' for more information.",
-        ),
-        (b"fish_complete", b"a\n", "+tar\n+zip\nfiles\n"),
-        (
             b"tcsh_source",
             b"-v",
-            "own: invalid value of _OWN_COMPLETE: one of bash_source, bash_complete, zsh_source, \
-            zsh_complete, fish_source, fish_complete\nTry 'own --help' for more information.",
+            "pack: invalid value of _PACK_COMPLETE: one of bash_source, bash_complete, zsh_source, \
+            zsh_complete, fish_source, fish_complete\nTry 'pack --help' for more information.",
         ),
     ];
-    check_answers(rt.alloc(), Options::new(&OWN), &rows)
+    for (value, line, wanted) in &rows {
+        check_answer(rt.alloc(), value, line, wanted)?;
+    }
+    Ok(())
 }
 
 // How a call went that is expected to return leading options, and a tail, with this text.
@@ -197,7 +122,7 @@ fn leading_outcome(
 #[test]
 fn declared_leading(rt: HostRuntime) -> Result<(), Fail> {
     let alloc = rt.alloc();
-    let Ok(words) = split_words(alloc, b"-v\n-o\nx\nadd\n-q\n--") else {
+    let Ok(words) = words_of(alloc, b"-v -o x add -q --") else {
         return out_of_memory_in("the list");
     };
     let wanted = "[Flag(Verbose), Value(Output, \"x\")] [\"add\", \"-q\", \"--\"]";

@@ -6,14 +6,14 @@ use lexopt::replay::read_items;
 use std::alloc::Global;
 use std::test::Fail;
 use test_helpers::items::table_of_each_kind;
-use test_helpers::parsers::split_words;
+use test_helpers::parsers::words_of;
 
 // Reads a line. Its items, one on each line, or its error are this text.
-fn check_reading(alloc: Global, lines: &[u8], wanted: &str) -> Result<(), Fail> {
+fn check_reading(alloc: Global, line: &[u8], wanted: &str) -> Result<(), Fail> {
     let Ok(table) = table_of_each_kind(alloc) else {
         return out_of_memory_in("the table");
     };
-    let Ok(words) = split_words(alloc, lines) else {
+    let Ok(words) = words_of(alloc, line) else {
         return out_of_memory_in("the list");
     };
     let mut text = String::with_capacity(alloc, 200)?;
@@ -35,16 +35,16 @@ fn check_reading(alloc: Global, lines: &[u8], wanted: &str) -> Result<(), Fail> 
 
 #[test]
 fn whole_lines(rt: HostRuntime) -> Result<(), Fail> {
-    for (lines, wanted) in [
+    for (line, wanted) in [
         (
-            b"-vo=x\n--out\ny\n-c\n--n\xff\n--cmd\n1\n2\n3\n4\n5\n--\n-f".as_slice(),
+            b"-vo=x --out y -c --n\xff --cmd 1 2 3 4 5 -- -f".as_slice(),
             "Short \"v\"\nShort \"o\" = \"x\"\nLong \"out\" = \"y\"\nShort \"c\"\nLong \"n\u{fffd}\"\nLong \"cmd\" = [\"1\", \"2\", \"3\", \"4\", \"5\"]\nValue \"-f\"\n",
         ),
-        (b"-v\n--out", "missing argument for option '--out'\n"),
-        (b"--cmd\n-v", "missing argument for option '--cmd'\n"),
+        (b"-v --out", "missing argument for option '--out'\n"),
+        (b"--cmd -v", "missing argument for option '--cmd'\n"),
         (b"-v=1", "unexpected argument for option '-v': \"1\"\n"),
     ] {
-        check_reading(rt.alloc(), lines, wanted)?;
+        check_reading(rt.alloc(), line, wanted)?;
     }
     Ok(())
 }
