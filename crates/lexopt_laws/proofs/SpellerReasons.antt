@@ -7,10 +7,12 @@ use Rattle.std.specs.List.{list_all}
 use Rattle.std.specs.Str.{is_utf8}
 use lib.Utf8.{scalar}
 use Rattle.lexopt_spec.specs.UnreadLine.{dash, equals, is_plain}
-use Rattle.lexopt_line_spec.specs.Table.{short, long, Item, option, many, positional, Kind, flag, one, optional, several, kind, Table}
+use Rattle.lexopt_line_spec.specs.Table.{Name, short, long, Item, option, many, positional, Kind, flag, one, optional, several, kind, Table}
 use Rattle.lexopt_line_spec.specs.Spelling.{Spells}
 use Rattle.lexopt_line_spec.specs.Speller.{Reason, no_name, equals_in_name, unexpected_value, missing_value, wants_many, not_many, empty_value, option_among_values, empty_name, past_separator, dash_without_flag, Place, open_line, in_cluster, after_values, after_positional, ended, is_positional, Fault, is_of_the_place}
-use Rattle.lexopt_line_spec.specs.SpellerTables.{Form, attached_form, short_form, long_form, words_form, short_words_form, short_many_form, long_many_form, Added, short_added, is_named, long_placed, long_added, adds, separator_comes_too_early, separator_is_due, is_plain_item, with_rest, with_rests, spelled_from, spelled}
+use Rattle.lexopt_line_spec.proofs.SpellerTables.{Form, attached_form, short_form, long_form, words_form, short_words_form, short_many_form, long_many_form, Added, short_added, is_named, long_placed, long_added, adds, separator_comes_too_early, separator_is_due, is_plain_item, with_rest, with_rests, spelled_from, spelled}
+use Rattle.lexopt_line_spec.specs.Speller.{HasNoForm, no_list}
+use Rattle.lexopt_line_spec.proofs.SpellerRows.{IsForm, short_row, short_many_row, long_row, long_many_row}
 use Rattle.lexopt_line_spec.proofs.SpellerAnswers.{none_is}
 use Rattle.lexopt_line_spec.proofs.SpellerTests.{has_equals}
 use Rattle.lexopt_line_spec.proofs.SpellerSound.{spelled_spells}
@@ -35,60 +37,18 @@ err_form s of = λ r is. sym (ap is_of_the_place (unformed s r is)) ∙ of
 ok_form : (f : Form) → OfItem (Ok f)
 ok_form f = λ r is. none_is r f (sym is)
 
-if_form : (b : Bool) (f g : Form) → OfItem (if b then Ok f else Ok g)
-if_form true f g = ok_form f
-if_form false f g = ok_form g
+of_no_form : (short_equals : Bool) (k : Kind) (name : Name) (item : Item) (r : Reason) → HasNoForm short_equals k name item r → is_of_the_place r ≡ false
+of_no_form short_equals k name item r (no_list n value) = refl
+of_no_form short_equals k name item r no_form = refl
 
-attached_of : (short_equals : Bool) (v : List ℕ) → OfItem (attached_form short_equals v)
-attached_of true [] = ok_form _
-attached_of false [] = err_form empty_value refl
-attached_of true (b ∷ bs) = if_form (b == equals) _ _
-attached_of false (b ∷ bs) = ok_form _
+of_form : (short_equals : Bool) (items : List Item) (k : Kind) (name : Name) (item : Item) (form : Result Form Reason) → IsForm short_equals items k name item form → OfItem form
+of_form short_equals items k name item (Ok f) is = ok_form f
+of_form short_equals items k name item (Err s) is = err_form s (of_no_form short_equals k name item s is)
 
-short_of : (short_equals : Bool) (k : Kind) (value : Option (List ℕ)) → OfItem (short_form short_equals k value)
-short_of short_equals flag None = ok_form _
-short_of short_equals flag (Some v) = err_form unexpected_value refl
-short_of short_equals one None = err_form missing_value refl
-short_of short_equals one (Some v) = ok_form _
-short_of short_equals optional None = ok_form _
-short_of short_equals optional (Some v) = attached_of short_equals v
-short_of short_equals several value = err_form wants_many refl
-
-long_of : (k : Kind) (value : Option (List ℕ)) → OfItem (long_form k value)
-long_of flag None = ok_form _
-long_of flag (Some v) = err_form unexpected_value refl
-long_of one None = err_form missing_value refl
-long_of one (Some v) = ok_form _
-long_of optional None = ok_form _
-long_of optional (Some v) = ok_form _
-long_of several value = err_form wants_many refl
-
-words_of_item : (plain : Bool) (values : List (List ℕ)) → OfItem (words_form plain values)
-words_of_item true values = ok_form _
-words_of_item false values = err_form option_among_values refl
-
-short_words_of : (first others : Bool) (v : List ℕ) (vs : List (List ℕ)) → OfItem (short_words_form first others v vs)
-short_words_of true others v vs = words_of_item others (v ∷ vs)
-short_words_of false true v vs = ok_form _
-short_words_of false false v vs = err_form option_among_values refl
-
-short_many_of : (joins : Bool) (k : Kind) (values : List (List ℕ)) → OfItem (short_many_form joins k values)
-short_many_of joins flag values = err_form not_many refl
-short_many_of joins one values = err_form not_many refl
-short_many_of joins optional values = err_form not_many refl
-short_many_of joins several [] = err_form missing_value refl
-short_many_of true several (v ∷ []) = ok_form _
-short_many_of false several (v ∷ []) = short_words_of (is_plain false v) true v []
-short_many_of true several (v ∷ w ∷ vs) = short_words_of (is_plain false v) (list_all (is_plain false) (w ∷ vs)) v (w ∷ vs)
-short_many_of false several (v ∷ w ∷ vs) = short_words_of (is_plain false v) (list_all (is_plain false) (w ∷ vs)) v (w ∷ vs)
-
-long_many_of : (k : Kind) (values : List (List ℕ)) → OfItem (long_many_form k values)
-long_many_of flag values = err_form not_many refl
-long_many_of one values = err_form not_many refl
-long_many_of optional values = err_form not_many refl
-long_many_of several [] = err_form missing_value refl
-long_many_of several (v ∷ []) = ok_form _
-long_many_of several (v ∷ w ∷ vs) = words_of_item (list_all (is_plain false) (v ∷ w ∷ vs)) (v ∷ w ∷ vs)
+short_many_of : (short_equals joins : Bool) (c : ℕ) (k : Kind) (values : List (List ℕ)) → OfItem (short_many_form (short_equals && joins) k values)
+short_many_of short_equals false c k values = of_form short_equals [] k (short c) (many (short c) values) _ (short_many_row short_equals [] c k values)
+short_many_of short_equals true c k values =
+    let items = positional [] ∷ option (short c) None ∷ [] in of_form short_equals items k (short c) (many (short c) values) _ (short_many_row short_equals items c k values)
 
 -- ---- an item that is not added
 
@@ -142,24 +102,14 @@ short_why true d place c form x r (Err s) form_is of either is = of_item (reason
 short_why true d ended c form x r (Ok f) form_is of either is =
     of_place (reason_of past_separator r refl is) (λ separator. refl) (short_in_cluster d c form x f either form_is)
 short_why true true in_cluster c form x r (Ok f) form_is of either is = none_is r _ (sym is)
-short_why true true open_line c form x r (Ok f) form_is of either is =
+short_why true true place c form x r (Ok f) form_is of either is =
     of_place (reason_of dash_without_flag r refl is) (no_separator r is) (short_in_cluster true c form x f either form_is)
-short_why true true after_values c form x r (Ok f) form_is of either is =
-    of_place (reason_of dash_without_flag r refl is) (no_separator r is) (short_in_cluster true c form x f either form_is)
-short_why true true after_positional c form x r (Ok f) form_is of either is =
-    of_place (reason_of dash_without_flag r refl is) (no_separator r is) (short_in_cluster true c form x f either form_is)
-short_why true false open_line c form x r (Ok f) form_is of either is = none_is r _ (sym is)
-short_why true false in_cluster c form x r (Ok f) form_is of either is = none_is r _ (sym is)
-short_why true false after_values c form x r (Ok f) form_is of either is = none_is r _ (sym is)
-short_why true false after_positional c form x r (Ok f) form_is of either is = none_is r _ (sym is)
+short_why true false place c form x r (Ok f) form_is of either is = none_is r _ (sym is)
 
 placed_why : (n : Bool) (place : Place) (name : List ℕ) (f : Form) (r : Reason) → Refusing (long_placed n place name f) r → Why (λ y e other. long_placed n other name f) place r
 placed_why false place name f r is = of_item (reason_of empty_name r refl is) (λ y e other a ok. none_is _ a ok)
 placed_why true ended name f r is = of_place (reason_of past_separator r refl is) (λ separator. refl) (λ y e. (_, refl))
-placed_why true open_line name f r is = none_is r _ (sym is)
-placed_why true in_cluster name f r is = none_is r _ (sym is)
-placed_why true after_values name f r is = none_is r _ (sym is)
-placed_why true after_positional name f r is = none_is r _ (sym is)
+placed_why true place name f r is = none_is r _ (sym is)
 
 long_why : (u e : Bool) (place : Place) (name : List ℕ) (form : Result Form Reason) (r : Reason) → OfItem form → Refusing (long_added u e place name form) r
     → Why (λ y d other. long_added u e other name form) place r
@@ -175,15 +125,15 @@ why : (t : Table) (short_equals joins due : Bool) (place : Place) (item : Item) 
     → Why (λ y e other. adds t short_equals y e other item) place r
 why t short_equals joins due place (option (short c) value) r is =
     let k = kind t (short c) in
-    short_why (scalar c) (c == dash) place c (λ y. short_form short_equals k value) joins r (short_form short_equals k value) refl (short_of short_equals k value) (λ x y f found. (f, found)) is
+    short_why (scalar c) (c == dash) place c (λ y. short_form short_equals k value) joins r (short_form short_equals k value) refl (of_form short_equals [] k (short c) (option (short c) value) _ (short_row short_equals [] c k value)) (λ x y f found. (f, found)) is
 why t short_equals joins due place (many (short c) values) r is =
     let k = kind t (short c) in
     short_why (scalar c) (c == dash) place c (λ y. short_many_form (short_equals && y) k values) joins r (short_many_form (short_equals && joins) k values) refl
-    (short_many_of (short_equals && joins) k values) (either_many short_equals k values) is
+    (short_many_of short_equals joins c k values) (either_many short_equals k values) is
 why t short_equals joins due place (option (long name) value) r is =
-    long_why (is_utf8 name) (has_equals name) place name (long_form (kind t (long name)) value) r (long_of (kind t (long name)) value) is
+    long_why (is_utf8 name) (has_equals name) place name (long_form (kind t (long name)) value) r (of_form short_equals [] (kind t (long name)) (long name) (option (long name) value) _ (long_row short_equals [] name (kind t (long name)) value)) is
 why t short_equals joins due place (many (long name) values) r is =
-    long_why (is_utf8 name) (has_equals name) place name (long_many_form (kind t (long name)) values) r (long_many_of (kind t (long name)) values) is
+    long_why (is_utf8 name) (has_equals name) place name (long_many_form (kind t (long name)) values) r (of_form short_equals [] (kind t (long name)) (long name) (many (long name) values) _ (long_many_row short_equals [] name (kind t (long name)) values)) is
 why t short_equals joins due place (positional w) r is = none_is r _ (sym is)
 
 -- ---- the item at fault

@@ -13,12 +13,13 @@ use Rattle.lexopt_line_spec.specs.Table.{Name, short, long, Item, option, many, 
 use Rattle.lexopt_line_spec.specs.Spelling as spelling
 use Rattle.lexopt_line_spec.specs.Spelling.{exact, After, nothing, attached, joined, NoValue, no_value, OneValue, attached_value, joined_value, next_word, OptionalValue, no_optional, attached_optional, joined_optional, joined_several, attached_several, several_words, Completes, IsAfterLast, nothing_more, a_value, marked_value, Cluster, flag_first, last_option, IsLong, name_alone, name_and_value, Group, cluster, Line, no_words, plain_word, group, separator, Spells}
 use Rattle.lexopt_line_spec.specs.Speller.{SpelledAs, Reason, Place, after_values, open_line}
-use Rattle.lexopt_line_spec.specs.SpellerTables.{short_form, short_many_form, Added, short_added, adds, separator_comes_too_early, separator_is_due, with_rest, with_rests, spelled_from, words_or_fault, spelled}
+use Rattle.lexopt_line_spec.proofs.SpellerFaults.{shown_as}
+use Rattle.lexopt_line_spec.proofs.SpellerTables.{short_form, short_many_form, Added, short_added, adds, separator_comes_too_early, separator_is_due, with_rest, with_rests, spelled_from, words_or_fault, spelled}
 use Rattle.lexopt_line_spec.proofs.Names.{spelled_shows}
 use Rattle.lexopt_line_spec.proofs.SpellerTests.{has_equals, none_passes, some_bytes}
 use Rattle.lexopt_line_spec.proofs.SpellerPlaces.{Can, can_split, ended_positional, words_place, short_through}
 use Rattle.lexopt_line_spec.proofs.SpellerComplete.{shown_can}
-use Rattle.lexopt_line_spec.proofs.SpellerAgrees.{are_words, words_are, shown_as}
+use Rattle.lexopt_line_spec.proofs.SpellerAgrees.{are_words, words_are}
 use Rattle.lexopt_line_spec.proofs.SpellerSound.{not_plain}
 
 -- ---- items whose values have one form

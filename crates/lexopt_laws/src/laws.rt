@@ -26,7 +26,6 @@ ghost use Rattle.lexopt_line_spec.specs.Readings.{IsReading, start};
 ghost use Rattle.lexopt_line_spec.specs.Spelling.{HaveWholeNames, Shows, Spells};
 ghost use Rattle.lexopt_line_spec.specs.Speller.{Fault, IsAtFault, past_separator, is_of_the_place};
 ghost use Rattle.lexopt_line_spec.specs.Speller.{HasFault, SpelledAs, is_positional};
-ghost use Rattle.lexopt_line_spec.specs.SpellerTables.{spelled};
 ghost use Rattle.lexopt_laws.specs.OneValueSpelling.{OneValueShows, OneValueSpells, OneValueTable};
 ghost use Rattle.lexopt_laws.specs.OneValueSpelling.{widened};
 ghost use Rattle.lexopt_spec.specs.Views.{Stage, TakesIf, ValueItem, ValueItems, WordItem};
@@ -343,17 +342,6 @@ pub fn items_have_one_answer()
         → HasFault t short_equals l f → HasFault t short_equals l g → f ≡ g }
     ensures not_both { (t : Table) (short_equals : Bool) (l : List Item) (words : List (List ℕ))
         (f : Fault) → SpelledAs t short_equals l words → HasFault t short_equals l f → ⊥ }
-{}
-
-/// What the definitions compute for a list of items, and the worked examples show, is exactly the
-/// result that the rules of `spell` describe: the same words, or the same item and reason.
-pub fn tables_compute_the_answer()
-    ensures words { (t : Table) (short_equals : Bool) (l : List Item) (words : List (List ℕ))
-        → (SpelledAs t short_equals l words → spelled t short_equals l ≡ Ok words)
-        × (spelled t short_equals l ≡ Ok words → SpelledAs t short_equals l words) }
-    ensures fault { (t : Table) (short_equals : Bool) (l : List Item) (f : Fault)
-        → (HasFault t short_equals l f → spelled t short_equals l ≡ Err f)
-        × (spelled t short_equals l ≡ Err f → HasFault t short_equals l f) }
 {}
 
 /// The words that the rules of `spell` choose for some items spell these items. If any words show

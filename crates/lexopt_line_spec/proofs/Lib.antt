@@ -28,6 +28,7 @@ pub mod OneReading
 pub mod ItemsRead
 pub mod LastOption
 pub mod Names
+pub mod SpellerTables
 pub mod SpellerTests
 pub mod SpellerAnswers
 pub mod SpellerForms

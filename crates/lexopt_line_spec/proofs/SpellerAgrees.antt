@@ -13,15 +13,13 @@ use lib.Utf8.{scalar}
 use Rattle.lexopt_spec.specs.UnreadLine.{dash, equals, IsPlain, is_plain}
 use Rattle.lexopt_spec.proofs.PlainFronts.{plain_holds, plain_passes}
 use Rattle.lexopt_line_spec.specs.Table.{Name, short, long, Item, option, many, positional, Kind, kind, Table}
-use Rattle.lexopt_line_spec.specs.Spelling.{After, nothing, attached, joined, Spells, Shows}
+use Rattle.lexopt_line_spec.specs.Spelling.{After, nothing, attached, joined}
 use Rattle.lexopt_line_spec.specs.Speller as rows
 use Rattle.lexopt_line_spec.specs.Speller.{Reason, no_name, equals_in_name, empty_name, past_separator, dash_without_flag, Place, open_line, in_cluster, after_values, after_positional, ended, BeginsRow, is_positional, NeedSeparator, HasForm, HasNoForm, after_bytes, Adds, GoesOn, IsOf, CannotBeSpelled, SpelledFrom, SpelledAs, FaultFrom, Fault, HasFault, IsAtFault}
-use Rattle.lexopt_line_spec.specs.SpellerTables.{Form, short_form, long_form, short_many_form, long_many_form, Added, with_form, short_added, is_named, long_placed, long_added, needs_no_separator, positional_added, adds, separator_comes_too_early, separator_is_due, is_plain_item, Rest, with_rest, with_rests, spelled_from, words_or_fault, spelled}
+use Rattle.lexopt_line_spec.proofs.SpellerTables.{Form, short_form, long_form, short_many_form, long_many_form, Added, with_form, short_added, is_named, long_placed, long_added, needs_no_separator, positional_added, adds, separator_comes_too_early, separator_is_due, is_plain_item, Rest, with_rest, with_rests, spelled_from, words_or_fault, spelled}
 use Rattle.lexopt_line_spec.proofs.Exact.{contains_first, contains_more}
 use Rattle.lexopt_line_spec.proofs.SpellerAnswers.{none_is}
 use Rattle.lexopt_line_spec.proofs.SpellerTests.{has_equals, no_equals, none_passes}
-use Rattle.lexopt_line_spec.proofs.SpellerSound.{spelled_spells}
-use Rattle.lexopt_line_spec.proofs.SpellerFaults.{shown_words, named_at_fault}
 use Rattle.lexopt_line_spec.proofs.SpellerRows.{plain_off, off_plain, test_fails, due_holds, due_passes, IsForm, form_of, has_form, has_no_form, short_row, short_many_row, long_row, long_many_row}
 
 -- ---- one item, from the tables
@@ -35,7 +33,7 @@ abbrev IsAnswer : Table → Bool → List Item → Place → Item → Result Add
 IsAnswer t short_equals later place item (Ok a) = IsAdded t short_equals later place item a.continues a.word a.words a.place
 IsAnswer t short_equals later place item (Err r) = CannotBeSpelled t short_equals later place item r
 
-dash_bytes : (after : After) → dash ∷ after_bytes after ≡ encode_utf8 dash ++ after_bytes after
+pub dash_bytes : (after : After) → dash ∷ after_bytes after ≡ encode_utf8 dash ++ after_bytes after
 dash_bytes after = ap (λ l. l ++ after_bytes after) (sym (encode_ascii dash (omega arith)))
 
 goes_on_row : (t : Table) (short_equals : Bool) (later : List Item) (c : ℕ) (item : Item) (f : Form) → c ≡ dash
@@ -61,79 +59,37 @@ short_answer t short_equals later false d place c item form scalar_is dash_is of
 short_answer t short_equals later true d place c item (Err r) scalar_is dash_is of is = rows.no_short_form c place item r scalar_is is
 short_answer t short_equals later true d ended c item (Ok f) scalar_is dash_is of is =
     rows.short_past_separator c f.place item f.after f.words scalar_is is
-short_answer t short_equals later true false open_line c item (Ok f) scalar_is dash_is of is =
-    rows.short_option c open_line f.place item f.after f.words scalar_is (λ same. true≢false (sym (eq-eqb c dash same) ∙ dash_is)) (λ e. let h : open_line ≡ ended = e in cc) is
-short_answer t short_equals later true false in_cluster c item (Ok f) scalar_is dash_is of is =
-    rows.short_option c in_cluster f.place item f.after f.words scalar_is (λ same. true≢false (sym (eq-eqb c dash same) ∙ dash_is)) (λ e. let h : in_cluster ≡ ended = e in cc) is
-short_answer t short_equals later true false after_values c item (Ok f) scalar_is dash_is of is =
-    rows.short_option c after_values f.place item f.after f.words scalar_is (λ same. true≢false (sym (eq-eqb c dash same) ∙ dash_is)) (λ e. let h : after_values ≡ ended = e in cc) is
-short_answer t short_equals later true false after_positional c item (Ok f) scalar_is dash_is of is =
-    rows.short_option c after_positional f.place item f.after f.words scalar_is (λ same. true≢false (sym (eq-eqb c dash same) ∙ dash_is)) (λ e. let h : after_positional ≡ ended = e in cc) is
 short_answer t short_equals later true true in_cluster c item (Ok f) scalar_is dash_is of is = goes_on_row t short_equals later c item f (eqb-true c dash dash_is) is
-short_answer t short_equals later true true open_line c item (Ok f) scalar_is dash_is of is =
-    dash_row t short_equals later c open_line item f (eqb-true c dash dash_is) (λ e. let h : open_line ≡ in_cluster = e in cc) (λ e. let h : open_line ≡ ended = e in cc) is
-short_answer t short_equals later true true after_values c item (Ok f) scalar_is dash_is of is =
-    dash_row t short_equals later c after_values item f (eqb-true c dash dash_is) (λ e. let h : after_values ≡ in_cluster = e in cc) (λ e. let h : after_values ≡ ended = e in cc) is
-short_answer t short_equals later true true after_positional c item (Ok f) scalar_is dash_is of is =
-    dash_row t short_equals later c after_positional item f (eqb-true c dash dash_is) (λ e. let h : after_positional ≡ in_cluster = e in cc) (λ e. let h : after_positional ≡ ended = e in cc) is
+short_answer t short_equals later true true place c item (Ok f) scalar_is dash_is of is =
+    dash_row t short_equals later c place item f (eqb-true c dash dash_is) (λ e. let h : place ≡ in_cluster = e in cc) (λ e. let h : place ≡ ended = e in cc) is
+short_answer t short_equals later true false place c item (Ok f) scalar_is dash_is of is =
+    rows.short_option c place f.place item f.after f.words scalar_is (λ same. true≢false (sym (eq-eqb c dash same) ∙ dash_is)) (λ e. let h : place ≡ ended = e in cc) is
 
 -- a long option has no value right after its name
-abbrev IsLongAfter : Name → After → Type 0
-IsLongAfter (short c) after = Unit {0}
-IsLongAfter (long name) nothing = Unit {0}
-IsLongAfter (long name) (attached v) = ⊥
-IsLongAfter (long name) (joined v) = Unit {0}
+pub none_attached : (short_equals : Bool) (later : List Item) (k : Kind) (name : List ℕ) (item : Item) (v : List ℕ) (words : List (List ℕ)) (next : Place)
+    → ¬ HasForm short_equals later k (long name) item (attached v) words next
+none_attached short_equals later k name item v words next form = elim form [ ]
 
-long_after : (short_equals : Bool) (later : List Item) (k : Kind) (name : Name) (item : Item) (after : After) (words : List (List ℕ)) (next : Place)
-    → HasForm short_equals later k name item after words next → IsLongAfter name after
-long_after short_equals later k name item after words next (rows.short_flag c) = tt
-long_after short_equals later k name item after words next (rows.long_flag n) = tt
-long_after short_equals later k name item after words next (rows.short_one c v) = tt
-long_after short_equals later k name item after words next (rows.long_one n v) = tt
-long_after short_equals later k name item after words next (rows.left_out (short c)) = tt
-long_after short_equals later k name item after words next (rows.left_out (long n)) = tt
-long_after short_equals later k name item after words next (rows.right_after c v some other) = tt
-long_after short_equals later k name item after words next (rows.equals_on c v begins on) = tt
-long_after short_equals later k name item after words next (rows.equals_off c v begins off) = tt
-long_after short_equals later k name item after words next (rows.empty_on c on) = tt
-long_after short_equals later k name item after words next (rows.long_optional n v) = tt
-long_after short_equals later k name item after words next (rows.lone_joined c v lone) = tt
-long_after short_equals later k name item after words next (rows.short_words c v vs calm all) = tt
-long_after short_equals later k name item after words next (rows.first_attached c v vs calm first all) = tt
-long_after short_equals later k name item after words next (rows.long_lone n v) = tt
-long_after short_equals later k name item after words next (rows.long_words n v w vs all) = tt
-
-abbrev no_name_bytes : List ℕ
-no_name_bytes = []
+-- a long option that is named
+named_answer : (t : Table) (short_equals : Bool) (later : List Item) (place : Place) (name : List ℕ) (item : Item) (after : After) (words : List (List ℕ)) (next : Place)
+    → IsUtf8 name → ¬ Contains name equals → (name ≢ []) ⊎ (after ≢ nothing) → HasForm short_equals later (kind t (long name)) (long name) item after words next
+    → IsAnswer t short_equals later place item (long_placed true place name (record { after = after; words = words; place = next }))
+named_answer t short_equals later ended name item after words next text none some is = rows.long_past_separator name next item after words text none some is
+named_answer t short_equals later place name item after words next text none some is =
+    rows.long_option name place next item after words text none some (λ e. let h : place ≡ ended = e in cc) is
 
 -- a long option, by whether it is named
 placed_answer : (t : Table) (short_equals : Bool) (later : List Item) (place : Place) (name : List ℕ) (item : Item) (after : After) (words : List (List ℕ)) (next : Place)
-    → IsUtf8 name → ¬ Contains name equals → HasForm short_equals later (kind t (long name)) (long name) item after words next → IsLongAfter (long name) after
+    → IsUtf8 name → ¬ Contains name equals → HasForm short_equals later (kind t (long name)) (long name) item after words next
     → IsAnswer t short_equals later place item (long_placed (is_named name after) place name (record { after = after; words = words; place = next }))
-placed_answer t short_equals later place [] item nothing words next text none is fits = rows.empty_long place next item words is
-placed_answer t short_equals later place [] item (attached v) words next text none is fits = absurd fits
-placed_answer t short_equals later place [] item (joined v) words next text none is fits =
-    named place (inr (λ e. let h : joined v ≡ nothing = e in cc))
-  where
-    named : (p : Place) → (no_name_bytes ≢ []) ⊎ (joined v ≢ nothing)
-        → IsAnswer t short_equals later p item (long_placed true p [] (record { after = joined v; words = words; place = next }))
-    named ended some = rows.long_past_separator [] next item (joined v) words text none some is
-    named open_line some = rows.long_option [] open_line next item (joined v) words text none some (λ e. let h : open_line ≡ ended = e in cc) is
-    named in_cluster some = rows.long_option [] in_cluster next item (joined v) words text none some (λ e. let h : in_cluster ≡ ended = e in cc) is
-    named after_values some = rows.long_option [] after_values next item (joined v) words text none some (λ e. let h : after_values ≡ ended = e in cc) is
-    named after_positional some = rows.long_option [] after_positional next item (joined v) words text none some (λ e. let h : after_positional ≡ ended = e in cc) is
-placed_answer t short_equals later place (b ∷ bs) item after words next text none is fits =
-    named place (inl (λ e. let h : b ∷ bs ≡ [] = e in cc))
-  where
-    named : (p : Place) → (b ∷ bs ≢ []) ⊎ (after ≢ nothing)
-        → IsAnswer t short_equals later p item (long_placed true p (b ∷ bs) (record { after = after; words = words; place = next }))
-    named ended some = rows.long_past_separator (b ∷ bs) next item after words text none some is
-    named open_line some = rows.long_option (b ∷ bs) open_line next item after words text none some (λ e. let h : open_line ≡ ended = e in cc) is
-    named in_cluster some = rows.long_option (b ∷ bs) in_cluster next item after words text none some (λ e. let h : in_cluster ≡ ended = e in cc) is
-    named after_values some = rows.long_option (b ∷ bs) after_values next item after words text none some (λ e. let h : after_values ≡ ended = e in cc) is
-    named after_positional some = rows.long_option (b ∷ bs) after_positional next item after words text none some (λ e. let h : after_positional ≡ ended = e in cc) is
+placed_answer t short_equals later place [] item nothing words next text none is = rows.empty_long place next item words is
+placed_answer t short_equals later place [] item (attached v) words next text none is = absurd (none_attached short_equals later (kind t (long [])) [] item v words next is)
+placed_answer t short_equals later place [] item (joined v) words next text none is =
+    named_answer t short_equals later place [] item (joined v) words next text none (inr (λ e. let h : joined v ≡ nothing = e in cc)) is
+placed_answer t short_equals later place (b ∷ bs) item after words next text none is =
+    named_answer t short_equals later place (b ∷ bs) item after words next text none (inl (λ e. let h : b ∷ bs ≡ [] = e in cc)) is
 
-contains_so : (name : List ℕ) → has_equals name ≡ true → Contains name equals
+pub contains_so : (name : List ℕ) → has_equals name ≡ true → Contains name equals
 contains_so [] has = absurd (true≢false (sym has))
 contains_so (b ∷ bs) has = by (b == equals) refl has (λ h. contains_so bs h)
   where
@@ -152,7 +108,6 @@ long_answer t short_equals later true false place name item (Err r) text_is equa
     rows.no_long_form name place item r (IsUtf8-from_is_utf8 name text_is) (no_equals name equals_is) is
 long_answer t short_equals later true false place name item (Ok f) text_is equals_is of is =
     placed_answer t short_equals later place name item f.after f.words f.place (IsUtf8-from_is_utf8 name text_is) (no_equals name equals_is) is
-    (long_after short_equals later (kind t (long name)) (long name) item f.after f.words f.place is)
 
 equals_pass : (name : List ℕ) → Contains name equals → has_equals name ≡ true
 equals_pass name has = list_any_at (λ b. b == equals) name has.0 equals has.1 (eq-eqb _ equals has.2)
@@ -162,7 +117,7 @@ no_bytes has = let within = has.1 in absurd (omega (arith, within))
 
 -- ---- positionals
 
-row_needs : (w : List ℕ) (later : List Item) → NeedSeparator later → NeedSeparator (positional w ∷ later)
+pub row_needs : (w : List ℕ) (later : List Item) → NeedSeparator later → NeedSeparator (positional w ∷ later)
 row_needs w later need = (
   w ∷ need.0,
   ap (λ l. positional w ∷ l) need.1,
@@ -237,30 +192,11 @@ adds_answer t short_equals later place (positional w) = positional_answer t shor
 form_is_of : (short_equals : Bool) (later : List Item) (k : Kind) (name : Name) (item : Item) (after : After) (words : List (List ℕ)) (next : Place)
     → HasForm short_equals later k name item after words next → IsOf name item
 form_is_of short_equals later k name item after words next (rows.short_flag c) = refl
-form_is_of short_equals later k name item after words next (rows.long_flag n) = refl
-form_is_of short_equals later k name item after words next (rows.short_one c v) = refl
-form_is_of short_equals later k name item after words next (rows.long_one n v) = refl
-form_is_of short_equals later k name item after words next (rows.left_out n) = refl
-form_is_of short_equals later k name item after words next (rows.right_after c v some other) = refl
-form_is_of short_equals later k name item after words next (rows.equals_on c v begins on) = refl
-form_is_of short_equals later k name item after words next (rows.equals_off c v begins off) = refl
-form_is_of short_equals later k name item after words next (rows.empty_on c on) = refl
-form_is_of short_equals later k name item after words next (rows.long_optional n v) = refl
-form_is_of short_equals later k name item after words next (rows.lone_joined c v lone) = refl
-form_is_of short_equals later k name item after words next (rows.short_words c v vs calm all) = refl
-form_is_of short_equals later k name item after words next (rows.first_attached c v vs calm first all) = refl
-form_is_of short_equals later k name item after words next (rows.long_lone n v) = refl
-form_is_of short_equals later k name item after words next (rows.long_words n v w vs all) = refl
+form_is_of short_equals later k name item after words next form = refl
 
 no_form_is_of : (short_equals : Bool) (k : Kind) (name : Name) (item : Item) (reason : Reason) → HasNoForm short_equals k name item reason → IsOf name item
 no_form_is_of short_equals k name item reason (rows.no_list n value) = refl
-no_form_is_of short_equals k name item reason (rows.with_list l n values other) = refl
-no_form_is_of short_equals k name item reason (rows.flag_with_value n v) = refl
-no_form_is_of short_equals k name item reason (rows.no_value_given n) = refl
-no_form_is_of short_equals k name item reason (rows.no_values_given n) = refl
-no_form_is_of short_equals k name item reason (rows.empty_off c off) = refl
-no_form_is_of short_equals k name item reason (rows.short_among c v vs among) = refl
-no_form_is_of short_equals k name item reason (rows.long_among n v w vs among) = refl
+no_form_is_of short_equals k name item reason form = refl
 
 -- the words that an option adds, by its name and its form
 abbrev added_by : Table → Bool → Bool → Place → Name → Item → Result Added Reason
@@ -302,41 +238,36 @@ long_by t short_equals later place name item form text none of is =
     ∙ ap (long_added true false place name) is
 
 short_at : (place : Place) (c : ℕ) (f : Form) → place ≢ ended → short_added true false place c (Ok f) ≡ Ok (with_form false (dash ∷ encode_utf8 c) f)
-short_at open_line c f other = refl
-short_at in_cluster c f other = refl
-short_at after_values c f other = refl
-short_at after_positional c f other = refl
 short_at ended c f other = absurd (other refl)
+short_at place c f other = refl
 
 dash_at : (place : Place) (c : ℕ) (f : Form) → place ≢ in_cluster → place ≢ ended → short_added true true place c (Ok f) ≡ Err dash_without_flag
-dash_at open_line c f other some = refl
 dash_at in_cluster c f other some = absurd (other refl)
-dash_at after_values c f other some = refl
-dash_at after_positional c f other some = refl
 dash_at ended c f other some = absurd (some refl)
+dash_at place c f other some = refl
 
-is_named_so : (name : List ℕ) (after : After) → (name ≢ []) ⊎ (after ≢ nothing) → IsLongAfter (long name) after → is_named name after ≡ true
-is_named_so (b ∷ bs) after some fits = refl
-is_named_so [] nothing (inl some) fits = absurd (some refl)
-is_named_so [] nothing (inr some) fits = absurd (some refl)
-is_named_so [] (attached v) some fits = absurd fits
-is_named_so [] (joined v) some fits = refl
+is_named_so : (name : List ℕ) (after : After) → (name ≢ []) ⊎ (after ≢ nothing) → ((v : List ℕ) → after ≢ attached v) → is_named name after ≡ true
+is_named_so (b ∷ bs) after some other = refl
+is_named_so [] nothing (inl some) other = absurd (some refl)
+is_named_so [] nothing (inr some) other = absurd (some refl)
+is_named_so [] (attached v) some other = absurd (other v refl)
+is_named_so [] (joined v) some other = refl
+
+-- a long option has no value right after its name
+not_attached : (short_equals : Bool) (later : List Item) (k : Kind) (name : List ℕ) (item : Item) (after : After) (words : List (List ℕ)) (next : Place)
+    → HasForm short_equals later k (long name) item after words next → (v : List ℕ) → after ≢ attached v
+not_attached short_equals later k name item after words next form v is =
+    none_attached short_equals later k name item v words next (subst (λ (x : After). HasForm short_equals later k (long name) item x words next) is form)
 
 long_at : (place : Place) (name : List ℕ) (f : Form) → place ≢ ended → long_placed true place name f ≡ Ok (with_form false (dash ∷ dash ∷ name) f)
-long_at open_line name f other = refl
-long_at in_cluster name f other = refl
-long_at after_values name f other = refl
-long_at after_positional name f other = refl
 long_at ended name f other = absurd (other refl)
+long_at place name f other = refl
 
 -- a positional that is not plain, at each place except after the separator
 off_added : (place : Place) (w : List ℕ) (due : Bool) → place ≢ ended
     → positional_added (needs_no_separator false due place) place w ≡ record { continues = false; word = dash ∷ dash ∷ []; words = w ∷ []; place = ended }
-off_added open_line w due other = refl
-off_added in_cluster w due other = refl
-off_added after_values w due other = refl
-off_added after_positional w due other = refl
 off_added ended w due other = absurd (other refl)
+off_added place w due other = refl
 
 -- the first of successive positionals, if the separator is due or it is not plain
 due_added : (place : Place) (w : List ℕ) (plain due : Bool) → BeginsRow place → (plain && not due) ≡ false
@@ -384,7 +315,7 @@ added_is t short_equals later place item word words next (rows.long_option name 
     long_by t short_equals later place name item _ text none (form_is_of short_equals later (kind t (long name)) (long name) item after words next form)
     (has_form short_equals later (kind t (long name)) (long name) item after words next form)
     ∙ ap (λ n. long_placed n place name (record { after = after; words = words; place = next }))
-    (is_named_so name after some (long_after short_equals later (kind t (long name)) (long name) item after words next form))
+    (is_named_so name after some (not_attached short_equals later (kind t (long name)) name item after words next form))
     ∙ long_at place name (record { after = after; words = words; place = next }) open_is
 added_is t short_equals later place item word words next (rows.after_separator w) = ap (λ a. Ok a) (last_added w (needs_no_separator (is_plain false w) (separator_is_due later) ended))
 added_is t short_equals later place item word words next (rows.separator_after_values w) =
@@ -437,7 +368,7 @@ refused_is t short_equals later place item reason (rows.long_past_separator name
     long_by t short_equals later ended name item _ text none (form_is_of short_equals later (kind t (long name)) (long name) item after words q form)
     (has_form short_equals later (kind t (long name)) (long name) item after words q form)
     ∙ ap (λ n. long_placed n ended name (record { after = after; words = words; place = q }))
-    (is_named_so name after some (long_after short_equals later (kind t (long name)) (long name) item after words q form))
+    (is_named_so name after some (not_attached short_equals later (kind t (long name)) name item after words q form))
 refused_is t short_equals later place item reason (rows.dash_alone p q i after words other open_is form) =
     short_by t short_equals later place dash item _ refl (form_is_of short_equals later (kind t (short dash)) (short dash) item after words q form)
     (has_form short_equals later (kind t (short dash)) (short dash) item after words q form)
@@ -556,16 +487,3 @@ same_faults t short_equals items f g one other =
 pub not_both : {X : Type 0} (t : Table) (short_equals : Bool) (items : List Item) (words : List (List ℕ)) (f : Fault) → SpelledAs t short_equals items words
     → HasFault t short_equals items f → X
 not_both t short_equals items words f one other = none_is f words (sym (fault_is t short_equals items f other) ∙ words_are t short_equals items words one)
-
--- ---- the items that the words spell, and the fault
-
-pub words_spell : (t : Table) (short_equals : Bool) (items : List Item) (words : List (List ℕ)) → SpelledAs t short_equals items words → Spells t short_equals words items
-words_spell t short_equals items words is = spelled_spells t short_equals items words (words_are t short_equals items words is)
-
-pub shown_as : (t : Table) (short_equals : Bool) (words : List (List ℕ)) (items : List Item) → Shows t short_equals words items
-    → (others : List (List ℕ)) × SpelledAs t short_equals items others
-shown_as t short_equals words items shows =
-    let some = shown_words t short_equals words items shows in (some.0, are_words t short_equals items some.0 some.1)
-
-pub fault_named : (t : Table) (short_equals : Bool) (items : List Item) (f : Fault) → HasFault t short_equals items f → IsAtFault t short_equals items f.index
-fault_named t short_equals items f is = named_at_fault t short_equals items f (fault_is t short_equals items f is)

@@ -3,7 +3,7 @@ use Rattle.std.proofs.Common.{◌≡◌}
 use Rattle.std.proofs.lemmas.Result.{IfOk-at_ok}
 use Rattle.std.specs.Prelude.{Result, Ok, Err}
 use Rattle.lexopt_line_spec.specs.Speller.{Reason, Fault}
-use Rattle.lexopt_line_spec.specs.SpellerTables.{Form, Added, Rest}
+use Rattle.lexopt_line_spec.proofs.SpellerTables.{Form, Added, Rest}
 
 -- the values of an option have this form
 abbrev pub Formed : Result Form Reason → Form → Type 0

@@ -12,7 +12,7 @@ use Rattle.lexopt_line_spec.specs.Table.{Name, short, long, Item, option, many, 
 use Rattle.lexopt_line_spec.specs.Spelling as spelling
 use Rattle.lexopt_line_spec.specs.Spelling.{damaged, After, nothing, attached, joined, no_value, attached_value, joined_value, next_word, no_optional, attached_optional, joined_optional, joined_several, attached_several, several_words, Completes, IsAfterLast, nothing_more, a_value, marked_value, Cluster, flag_first, last_option, IsLong, name_alone, name_and_value, Group, cluster, Line, no_words, plain_word, group, separator, Shows}
 use Rattle.lexopt_line_spec.specs.Speller.{Place, open_line, in_cluster, after_values, after_positional, ended}
-use Rattle.lexopt_line_spec.specs.SpellerTables.{Form, name_only, in_word, attached_form, short_form, long_form, words_form, short_words_form, short_many_form, long_many_form, Added, short_added, is_named, long_placed, long_added, needs_no_separator, positional_added, adds}
+use Rattle.lexopt_line_spec.proofs.SpellerTables.{Form, name_only, in_word, attached_form, short_form, long_form, words_form, short_words_form, short_many_form, long_many_form, Added, short_added, is_named, long_placed, long_added, needs_no_separator, positional_added, adds}
 use Rattle.lexopt_line_spec.proofs.Names.{letter_scalar}
 use Rattle.lexopt_spec.proofs.PlainFronts.{plain_passes}
 use Rattle.lexopt_line_spec.proofs.SpellerTests.{all_pass, has_equals, letter_dash, lossy_text, lossy_free, lossy_some}
@@ -158,14 +158,9 @@ short_is : (s d : Bool) (place : Place) (c : ℕ) (f : Form) → s ≡ true → 
     → (a : Added) × (short_added s d place c (Ok f) ≡ Ok a) × (a.place ≡ f.place)
 short_is false d place c f is at = absurd (true≢false (sym is))
 short_is true d ended c f is at = ⊎_elim (λ same. absurd (let e : ended ≡ in_cluster = same in cc)) (λ other. absurd (other.1 refl)) at
-short_is true false open_line c f is at = (_, refl, refl)
-short_is true false in_cluster c f is at = (_, refl, refl)
-short_is true false after_values c f is at = (_, refl, refl)
-short_is true false after_positional c f is at = (_, refl, refl)
-short_is true true open_line c f is at = ⊎_elim (λ same. absurd (let e : open_line ≡ in_cluster = same in cc)) (λ other. absurd (true≢false other.0)) at
+short_is true false place c f is at = (_, refl, refl)
 short_is true true in_cluster c f is at = (_, refl, refl)
-short_is true true after_positional c f is at = ⊎_elim (λ same. absurd (let e : after_positional ≡ in_cluster = same in cc)) (λ other. absurd (true≢false other.0)) at
-short_is true true after_values c f is at = ⊎_elim (λ same. absurd (let e : after_values ≡ in_cluster = same in cc)) (λ other. absurd (true≢false other.0)) at
+short_is true true place c f is at = ⊎_elim (λ same. absurd (let e : place ≡ in_cluster = same in cc)) (λ other. absurd (true≢false other.0)) at
 
 short_adds : (t : Table) (short_equals : Bool) (place : Place) (c : ℕ) (item : Item) (left : List (List ℕ)) → scalar c ≡ true → ShortPlace c place
     → ShortForm short_equals (kind t (short c)) (short c) item left → AddsAt t short_equals place item left
@@ -181,10 +176,7 @@ short_adds t short_equals place c item left is_scalar at (of_many joins values f
 placed_is : (n : Bool) (place : Place) (name : List ℕ) (f : Form) → n ≡ true → place ≢ ended → (a : Added) × (long_placed n place name f ≡ Ok a) × (a.place ≡ f.place)
 placed_is false place name f named at = absurd (true≢false (sym named))
 placed_is true ended name f named at = absurd (at refl)
-placed_is true open_line name f named at = (_, refl, refl)
-placed_is true in_cluster name f named at = (_, refl, refl)
-placed_is true after_values name f named at = (_, refl, refl)
-placed_is true after_positional name f named at = (_, refl, refl)
+placed_is true place name f named at = (_, refl, refl)
 
 long_is : (u e : Bool) (place : Place) (name : List ℕ) (f : Form) → u ≡ true → e ≡ false → place ≢ ended → is_named name f.after ≡ true
     → (a : Added) × (long_added u e place name (Ok f) ≡ Ok a) × (a.place ≡ f.place)

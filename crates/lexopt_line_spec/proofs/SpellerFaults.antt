@@ -8,14 +8,15 @@ use Rattle.lexopt_spec.specs.Steps.{Reply, end}
 use Rattle.lexopt_line_spec.specs.Table.{Item, Table}
 use Rattle.lexopt_line_spec.specs.Readings.{IsReading, start}
 use Rattle.lexopt_line_spec.specs.Spelling.{Shows, Spells}
-use Rattle.lexopt_line_spec.specs.Speller.{Reason, Place, open_line, is_positional, Fault, IsAtFault}
-use Rattle.lexopt_line_spec.specs.SpellerTables.{Added, adds, separator_comes_too_early, separator_is_due, Rest, with_rest, with_rests, spelled_from, words_or_fault, spelled}
+use Rattle.lexopt_line_spec.specs.Speller.{Reason, Place, open_line, is_positional, SpelledAs, Fault, HasFault, IsAtFault}
+use Rattle.lexopt_line_spec.proofs.SpellerTables.{Added, adds, separator_comes_too_early, separator_is_due, Rest, with_rest, with_rests, spelled_from, words_or_fault, spelled}
 use Rattle.lexopt_line_spec.proofs.Names.{spelled_shows}
 use Rattle.lexopt_line_spec.proofs.WholeLines.{shown_said, shown_read}
 use Rattle.lexopt_line_spec.proofs.SpellerAnswers.{Adding, none_is}
 use Rattle.lexopt_line_spec.proofs.SpellerSound.{spelled_spells}
 use Rattle.lexopt_line_spec.proofs.SpellerPlaces.{Can, nil_can, can_cons, can_split, adds_too, changed_can, due_positional, not_joined}
 use Rattle.lexopt_line_spec.proofs.SpellerComplete.{shown_can}
+use Rattle.lexopt_line_spec.proofs.SpellerAgrees.{are_words, fault_is}
 
 -- ---- items that are spelled, and items that are not
 
@@ -201,3 +202,13 @@ words_read t short_equals words items spells = shown_read t short_equals words i
 pub words_said : (t : Table) (short_equals : Bool) (words : List (List ℕ)) (items m : List Item) (final : Reply) → Spells t short_equals words items
     → IsReading t (start short_equals words) final m → (final ≡ end) × (items ≡ m)
 words_said t short_equals words items m final spells reading = shown_said t short_equals words items m final (spelled_shows t short_equals words items spells) reading
+
+-- ---- the words and the fault by the rows
+
+pub shown_as : (t : Table) (short_equals : Bool) (words : List (List ℕ)) (items : List Item) → Shows t short_equals words items
+    → (others : List (List ℕ)) × SpelledAs t short_equals items others
+shown_as t short_equals words items shows =
+    let some = shown_words t short_equals words items shows in (some.0, are_words t short_equals items some.0 some.1)
+
+pub fault_named : (t : Table) (short_equals : Bool) (items : List Item) (f : Fault) → HasFault t short_equals items f → IsAtFault t short_equals items f.index
+fault_named t short_equals items f is = named_at_fault t short_equals items f (fault_is t short_equals items f is)

@@ -1,165 +1,78 @@
 -- The form of an option completes its item.
-use Rattle.std.proofs.Common.{◌≡◌, ◌≢◌, ◌⊎◌, ℕ, ◌==◌, Bool, true, false, List, [], ◌∷◌, ◌++◌, Option, Some, None, refl, sym, ◌∙◌, arith, inl, inr, true≢false, cond}
-use Rattle.std.proofs.lemmas.Bool.{eq-eqb, and_from}
-use Rattle.std.proofs.lemmas.Result.{IfOk-at_ok}
-use Rattle.std.specs.Prelude.{Ok}
-use Rattle.std.specs.List.{list_all}
-use Rattle.lexopt_spec.specs.UnreadLine.{dash, equals, BeginsWith, is_plain, IsNormalIn}
-use Rattle.lexopt_line_spec.specs.Table.{Name, Item, option, many, Kind, flag, one, optional, several}
-use Rattle.lexopt_line_spec.specs.Spelling.{After, nothing, attached, joined, no_value, joined_value, next_word, no_optional, attached_optional, joined_optional, joined_several, attached_several, several_words, Completes, BeginsWithMark, IsAfterLast, nothing_more, a_value, marked_value}
-use Rattle.lexopt_line_spec.specs.Speller.{Place, open_line, in_cluster, after_values, after_bytes}
-use Rattle.lexopt_line_spec.specs.SpellerTables.{Form, name_only, in_word, attached_form, short_form, long_form, words_form, short_words_form, short_many_form, long_many_form}
-use Rattle.lexopt_line_spec.proofs.SpellerAnswers.{Formed, none_is}
-use Rattle.lexopt_line_spec.proofs.SpellerTests.{all_plain, dashed}
+use Rattle.std.proofs.Common.{◌≡◌, ◌≢◌, ◌⊎◌, ℕ, Bool, false, List, [], ◌∷◌, ◌++◌, None, refl, sym, ◌∙◌, arith, inl, inr, true≢false}
+use Rattle.lexopt_spec.specs.UnreadLine.{dash, equals, BeginsWith, IsNormalIn}
+use Rattle.lexopt_line_spec.specs.Table.{Name, short, long, Item, option, Kind, flag}
+use Rattle.lexopt_line_spec.specs.Spelling.{After, nothing, no_value, joined_value, next_word, no_optional, attached_optional, joined_optional, joined_several, attached_several, several_words, Completes, IsAfterLast, nothing_more, a_value, marked_value}
+use Rattle.lexopt_line_spec.specs.Speller as rows
+use Rattle.lexopt_line_spec.specs.Speller.{Place, open_line, in_cluster, after_values, after_bytes, HasForm}
+use Rattle.lexopt_line_spec.proofs.SpellerTests.{dashed}
+use Rattle.lexopt_line_spec.proofs.SpellerRows.{plain_off}
 
--- the form completes the item, and leads to an open line, to values, or after a flag to `flagged`
-pub record Holds (flagged : Place) (k : Kind) (name : Name) (item : Item) (f : Form) : Type 0 where
-  pub completes : (left : List (List ℕ)) → (f.place ≡ after_values → ¬ IsNormalIn false left) → Completes k name f.after (f.words ++ left) item left
-  pub place : (f.place ≡ open_line) ⊎ ((f.place ≡ after_values) ⊎ ((k ≡ flag) × (item ≡ option name None) × (f ≡ name_only flagged)))
+pub completed : (short_equals : Bool) (later : List Item) (k : Kind) (name : Name) (item : Item) (after : After) (words : List (List ℕ)) (next : Place) (left : List (List ℕ))
+    → HasForm short_equals later k name item after words next → (next ≡ after_values → ¬ IsNormalIn false left) → Completes k name after (words ++ left) item left
+completed short_equals later k name item after words next left (rows.short_flag c) none = no_value refl refl refl
+completed short_equals later k name item after words next left (rows.long_flag n) none = no_value refl refl refl
+completed short_equals later k name item after words next left (rows.short_one c v) none = next_word v refl refl refl
+completed short_equals later k name item after words next left (rows.long_one n v) none = joined_value v refl refl refl
+completed short_equals later k name item after words next left (rows.left_out n) none = no_optional refl refl refl
+completed short_equals later k name item after words next left (rows.right_after c v some other) none = attached_optional v refl refl refl
+completed short_equals later k name item after words next left (rows.equals_on c v begins on) none = joined_optional v refl refl refl
+completed short_equals later k name item after words next left (rows.equals_off c v begins off) none = attached_optional v refl refl refl
+completed short_equals later k name item after words next left (rows.empty_on c on) none = joined_optional [] refl refl refl
+completed short_equals later k name item after words next left (rows.long_optional n v) none = joined_optional v refl refl refl
+completed short_equals later k name item after words next left (rows.lone_joined c v lone) none = joined_several v refl refl refl
+completed short_equals later k name item after words next left (rows.short_words c v vs calm all) none =
+    several_words (v ∷ vs) refl (record { words_are = refl; plain = all; longest = none refl }) (λ nil. let e : v ∷ vs ≡ [] = nil in cc) refl
+completed short_equals later k name item after words next left (rows.first_attached c v vs calm first all) none =
+    attached_several v vs refl (record { words_are = refl; plain = all; longest = none refl }) refl
+completed short_equals later k name item after words next left (rows.long_lone n v) none = joined_several v refl refl refl
+completed short_equals later k name item after words next left (rows.long_words n v w vs all) none =
+    several_words (v ∷ w ∷ vs) refl (record { words_are = refl; plain = all; longest = none refl }) (λ nil. let e : v ∷ w ∷ vs ≡ [] = nil in cc) refl
 
--- the same for a short option
-pub record HoldsShort (short_equals : Bool) (k : Kind) (name : Name) (item : Item) (f : Form) : Type 0 where
-  pub holds : Holds in_cluster k name item f
-  pub after : IsAfterLast short_equals (after_bytes f.after) f.after
+-- ---- the text after a character
 
-abbrev pub NotAttached : After → Type 0
-NotAttached nothing = Unit {0}
-NotAttached (attached v) = ⊥
-NotAttached (joined v) = Unit {0}
+begins_some : (b : ℕ) (v : List ℕ) → BeginsWith b v → v ≢ []
+begins_some b [] begins = absurd begins
+begins_some b (c ∷ cs) begins = λ is. let e : c ∷ cs ≡ [] = is in cc
 
--- the same for a long option
-pub record HoldsLong (k : Kind) (name : Name) (item : Item) (f : Form) : Type 0 where
-  pub holds : Holds open_line k name item f
-  pub unattached : NotAttached f.after
+-- a word that is not plain does not begin with `=`
+dashed_after : (v : List ℕ) → BeginsWith dash v → ¬ BeginsWith equals v
+dashed_after [] begins mark = begins
+dashed_after (b ∷ bs) begins mark = let e : equals ≡ dash = sym mark ∙ begins in absurd (omega arith)
 
-nil_some : (b : ℕ) (bs : List ℕ) → b ∷ bs ≢ []
-nil_some b bs is = let e : b ∷ bs ≡ [] = is in cc
+pub after_last : (short_equals : Bool) (later : List Item) (k : Kind) (c : ℕ) (item : Item) (after : After) (words : List (List ℕ)) (next : Place)
+    → HasForm short_equals later k (short c) item after words next → IsAfterLast short_equals (after_bytes after) after
+after_last short_equals later k c item after words next (rows.short_flag x) = nothing_more refl refl
+after_last short_equals later k c item after words next (rows.short_one x v) = nothing_more refl refl
+after_last short_equals later k c item after words next (rows.left_out n) = nothing_more refl refl
+after_last short_equals later k c item after words next (rows.right_after x v some other) = a_value some (λ mark. other mark.1) refl
+after_last short_equals later k c item after words next (rows.equals_on x v begins on) = marked_value v on refl refl
+after_last short_equals later k c item after words next (rows.equals_off x v begins off) = a_value (begins_some equals v begins) (λ mark. true≢false (sym mark.0 ∙ off)) refl
+after_last short_equals later k c item after words next (rows.empty_on x on) = marked_value [] on refl refl
+after_last short_equals later k c item after words next (rows.lone_joined x v lone) = marked_value v lone.1 refl refl
+after_last short_equals later k c item after words next (rows.short_words x v vs calm all) = nothing_more refl refl
+after_last short_equals later k c item after words next (rows.first_attached x v vs calm first all) =
+    let begins = dashed v (plain_off v first) in a_value (begins_some dash v begins) (λ mark. dashed_after v begins mark.1) refl
 
-off_mark : (bytes : List ℕ) → ¬ BeginsWithMark false bytes
-off_mark bytes mark = true≢false (sym mark.0)
+-- ---- the place after an option
 
--- a word that is not plain does not begin with `=`, and is not empty
-dashed_after : (short_equals : Bool) (v : List ℕ) → BeginsWith dash v → IsAfterLast short_equals v (attached v)
-dashed_after short_equals [] begins = absurd begins
-dashed_after short_equals (b ∷ bs) begins = a_value (nil_some b bs) (λ mark. let e : equals ≡ dash = sym mark.1 ∙ begins in absurd (omega arith)) refl
+-- a short flag, after which its cluster goes on
+pub record IsFlag (k : Kind) (name : Name) (item : Item) (after : After) (words : List (List ℕ)) (next : Place) : Type 0 where
+  pub kind_is : k ≡ flag
+  pub item_is : item ≡ option name None
+  pub after_is : after ≡ nothing
+  pub words_are : words ≡ []
+  pub place_is : next ≡ in_cluster
 
--- ---- one value or none
+pub place_after : (short_equals : Bool) (later : List Item) (k : Kind) (name : Name) (item : Item) (after : After) (words : List (List ℕ)) (next : Place)
+    → HasForm short_equals later k name item after words next → ((next ≡ open_line) ⊎ (next ≡ after_values)) ⊎ IsFlag k name item after words next
+place_after short_equals later k name item after words next (rows.short_flag c) = inr (record { kind_is = refl; item_is = refl; after_is = refl; words_are = refl; place_is = refl })
+place_after short_equals later k name item after words next (rows.short_words c v vs calm all) = inl (inr refl)
+place_after short_equals later k name item after words next (rows.first_attached c v vs calm first all) = inl (inr refl)
+place_after short_equals later k name item after words next (rows.long_words n v w vs all) = inl (inr refl)
+place_after short_equals later k name item after words next form = inl (inl refl)
 
-alone_holds : (flagged : Place) (name : Name) → Holds flagged flag name (option name None) (name_only flagged)
-alone_holds flagged name = record { completes = λ left none. no_value refl refl refl; place = inr (inr (refl, refl, refl)) }
-
-attached_holds : (short_equals : Bool) (name : Name) (v : List ℕ) (f : Form) → attached_form short_equals v ≡ Ok f → HoldsShort short_equals optional name (option name (Some v)) f
-attached_holds true name [] f is = IfOk-at_ok (HoldsShort true optional name (option name (Some []))) is (record {
-  holds = record { completes = λ left none. joined_optional [] refl refl refl; place = inl refl };
-  after = marked_value [] refl refl refl;
-})
-attached_holds false name [] f is = none_is _ f is
-attached_holds true name (b ∷ bs) f is = by (b == equals) refl is
-  where
-    by : (t : Bool) → (b == equals) ≡ t
-        → Formed (cond t (Ok (in_word (joined (b ∷ bs)))) (Ok (in_word (attached (b ∷ bs))))) f
-        → HoldsShort true optional name (option name (Some (b ∷ bs))) f
-    by true mark h = IfOk-at_ok (HoldsShort true optional name (option name (Some (b ∷ bs)))) h (record {
-      holds = record { completes = λ left none. joined_optional (b ∷ bs) refl refl refl; place = inl refl };
-      after = marked_value (b ∷ bs) refl refl refl;
-    })
-    by false mark h = IfOk-at_ok (HoldsShort true optional name (option name (Some (b ∷ bs)))) h (record {
-      holds = record { completes = λ left none. attached_optional (b ∷ bs) refl refl refl; place = inl refl };
-      after = a_value (nil_some b bs) (λ is_mark. true≢false (sym (eq-eqb b equals is_mark.1) ∙ mark)) refl;
-    })
-attached_holds false name (b ∷ bs) f is = IfOk-at_ok (HoldsShort false optional name (option name (Some (b ∷ bs)))) is (record {
-  holds = record { completes = λ left none. attached_optional (b ∷ bs) refl refl refl; place = inl refl };
-  after = a_value (nil_some b bs) (off_mark (b ∷ bs)) refl;
-})
-
-pub short_holds : (short_equals : Bool) (k : Kind) (name : Name) (value : Option (List ℕ)) (f : Form) → short_form short_equals k value ≡ Ok f
-    → HoldsShort short_equals k name (option name value) f
-short_holds short_equals flag name None f is = IfOk-at_ok (HoldsShort short_equals flag name (option name None)) is
-    (record { holds = alone_holds in_cluster name; after = nothing_more refl refl })
-short_holds short_equals flag name (Some v) f is = none_is _ f is
-short_holds short_equals one name None f is = none_is _ f is
-short_holds short_equals one name (Some v) f is = IfOk-at_ok (HoldsShort short_equals one name (option name (Some v))) is (record {
-  holds = record { completes = λ left none. next_word v refl refl refl; place = inl refl };
-  after = nothing_more refl refl;
-})
-short_holds short_equals optional name None f is = IfOk-at_ok (HoldsShort short_equals optional name (option name None)) is (record {
-  holds = record { completes = λ left none. no_optional refl refl refl; place = inl refl };
-  after = nothing_more refl refl;
-})
-short_holds short_equals optional name (Some v) f is = attached_holds short_equals name v f is
-short_holds short_equals several name value f is = none_is _ f is
-
-pub long_holds : (k : Kind) (name : Name) (value : Option (List ℕ)) (f : Form) → long_form k value ≡ Ok f → HoldsLong k name (option name value) f
-long_holds flag name None f is = IfOk-at_ok (HoldsLong flag name (option name None)) is (record { holds = alone_holds open_line name; unattached = tt })
-long_holds flag name (Some v) f is = none_is _ f is
-long_holds one name None f is = none_is _ f is
-long_holds one name (Some v) f is = IfOk-at_ok (HoldsLong one name (option name (Some v))) is (record {
-  holds = record { completes = λ left none. joined_value v refl refl refl; place = inl refl };
-  unattached = tt;
-})
-long_holds optional name None f is = IfOk-at_ok (HoldsLong optional name (option name None)) is (record {
-  holds = record { completes = λ left none. no_optional refl refl refl; place = inl refl };
-  unattached = tt;
-})
-long_holds optional name (Some v) f is = IfOk-at_ok (HoldsLong optional name (option name (Some v))) is (record {
-  holds = record { completes = λ left none. joined_optional v refl refl refl; place = inl refl };
-  unattached = tt;
-})
-long_holds several name value f is = none_is _ f is
-
--- ---- several values
-
-words_hold : (flagged : Place) (name : Name) (v : List ℕ) (vs : List (List ℕ)) → list_all (is_plain false) (v ∷ vs) ≡ true
-    → Holds flagged several name (many name (v ∷ vs)) (record { after = nothing; words = v ∷ vs; place = after_values })
-words_hold flagged name v vs plain = record {
-  completes = λ left none. several_words (v ∷ vs) refl (record { words_are = refl; plain = all_plain (v ∷ vs) plain; longest = none refl })
-      (λ nil. let e : v ∷ vs ≡ [] = nil in cc) refl;
-  place = inr (inl refl);
-}
-
-short_words_hold : (short_equals p ps : Bool) (name : Name) (v : List ℕ) (vs : List (List ℕ)) (f : Form) → is_plain false v ≡ p → list_all (is_plain false) vs ≡ ps
-    → short_words_form p ps v vs ≡ Ok f → HoldsShort short_equals several name (many name (v ∷ vs)) f
-short_words_hold short_equals true true name v vs f first others is = IfOk-at_ok (HoldsShort short_equals several name (many name (v ∷ vs))) is (record {
-  holds = words_hold in_cluster name v vs (and_from _ _ first others);
-  after = nothing_more refl refl;
-})
-short_words_hold short_equals true false name v vs f first others is = none_is _ f is
-short_words_hold short_equals false true name v vs f first others is = IfOk-at_ok (HoldsShort short_equals several name (many name (v ∷ vs))) is (record {
-  holds = record {
-    completes = λ left none. attached_several v vs refl (record { words_are = refl; plain = all_plain vs others; longest = none refl }) refl;
-    place = inr (inl refl);
-  };
-  after = dashed_after short_equals v (dashed v first);
-})
-short_words_hold short_equals false false name v vs f first others is = none_is _ f is
-
-pub short_many_holds : (short_equals joins : Bool) (k : Kind) (name : Name) (values : List (List ℕ)) (f : Form) → (joins ≡ true → short_equals ≡ true)
-    → short_many_form joins k values ≡ Ok f → HoldsShort short_equals k name (many name values) f
-short_many_holds short_equals joins flag name values f may is = none_is _ f is
-short_many_holds short_equals joins one name values f may is = none_is _ f is
-short_many_holds short_equals joins optional name values f may is = none_is _ f is
-short_many_holds short_equals joins several name [] f may is = none_is _ f is
-short_many_holds short_equals true several name (v ∷ []) f may is = IfOk-at_ok (HoldsShort short_equals several name (many name (v ∷ []))) is (record {
-  holds = record { completes = λ left none. joined_several v refl refl refl; place = inl refl };
-  after = marked_value v (may refl) refl refl;
-})
-short_many_holds short_equals false several name (v ∷ []) f may is = short_words_hold short_equals (is_plain false v) true name v [] f refl refl is
-short_many_holds short_equals joins several name (v ∷ w ∷ vs) f may is =
-    short_words_hold short_equals (is_plain false v) (list_all (is_plain false) (w ∷ vs)) name v (w ∷ vs) f refl refl is
-
-long_words_hold : (p : Bool) (name : Name) (v : List ℕ) (vs : List (List ℕ)) (f : Form) → list_all (is_plain false) (v ∷ vs) ≡ p → words_form p (v ∷ vs) ≡ Ok f
-    → HoldsLong several name (many name (v ∷ vs)) f
-long_words_hold true name v vs f plain is =
-    IfOk-at_ok (HoldsLong several name (many name (v ∷ vs))) is (record { holds = words_hold open_line name v vs plain; unattached = tt })
-long_words_hold false name v vs f plain is = none_is _ f is
-
-pub long_many_holds : (k : Kind) (name : Name) (values : List (List ℕ)) (f : Form) → long_many_form k values ≡ Ok f → HoldsLong k name (many name values) f
-long_many_holds flag name values f is = none_is _ f is
-long_many_holds one name values f is = none_is _ f is
-long_many_holds optional name values f is = none_is _ f is
-long_many_holds several name [] f is = none_is _ f is
-long_many_holds several name (v ∷ []) f is = IfOk-at_ok (HoldsLong several name (many name (v ∷ []))) is (record {
-  holds = record { completes = λ left none. joined_several v refl refl refl; place = inl refl };
-  unattached = tt;
-})
-long_many_holds several name (v ∷ w ∷ vs) f is = long_words_hold (list_all (is_plain false) (v ∷ w ∷ vs)) name v (w ∷ vs) f refl is
+pub long_place : (short_equals : Bool) (later : List Item) (k : Kind) (name : List ℕ) (item : Item) (after : After) (words : List (List ℕ)) (next : Place)
+    → HasForm short_equals later k (long name) item after words next → (next ≡ open_line) ⊎ (next ≡ after_values)
+long_place short_equals later k name item after words next (rows.long_words n v w vs all) = inr refl
+long_place short_equals later k name item after words next form = inl refl

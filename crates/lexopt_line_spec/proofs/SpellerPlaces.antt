@@ -10,7 +10,7 @@ use lib.Utf8.{scalar}
 use Rattle.lexopt_spec.specs.UnreadLine.{dash, is_plain}
 use Rattle.lexopt_line_spec.specs.Table.{short, long, Item, option, many, positional, Kind, flag, one, optional, several, kind, Table}
 use Rattle.lexopt_line_spec.specs.Speller.{Reason, Place, open_line, in_cluster, after_values, after_positional, ended, is_positional, Fault}
-use Rattle.lexopt_line_spec.specs.SpellerTables.{Form, short_form, long_form, short_words_form, short_many_form, long_many_form, Added, short_added, is_named, long_placed, long_added, needs_no_separator, positional_added, adds, separator_comes_too_early, is_plain_item, separator_is_due, Rest, with_rest, with_rests, spelled_from}
+use Rattle.lexopt_line_spec.proofs.SpellerTables.{Form, short_form, long_form, short_words_form, short_many_form, long_many_form, Added, short_added, is_named, long_placed, long_added, needs_no_separator, positional_added, adds, separator_comes_too_early, is_plain_item, separator_is_due, Rest, with_rest, with_rests, spelled_from}
 use Rattle.lexopt_line_spec.proofs.SpellerAnswers.{Formed, Adding, Going, none_is}
 use Rattle.lexopt_line_spec.proofs.SpellerTests.{has_equals}
 
@@ -208,18 +208,10 @@ pub short_through : (s d : Bool) (place : Place) (c : ℕ) (form : Result Form R
 short_through false d place c form a is = none_is _ a is
 short_through true d place c (Err reason) a is = none_is _ a is
 short_through true d ended c (Ok f) a is = none_is _ a is
-short_through true true open_line c (Ok f) a is = none_is _ a is
-short_through true true after_values c (Ok f) a is = none_is _ a is
-short_through true true after_positional c (Ok f) a is = none_is _ a is
 short_through true true in_cluster c (Ok f) a is = IfOk-at_ok (Through true true in_cluster c (Ok f)) is
     (record { formed = f; is = refl; leads = refl; other = λ g. (_, refl, refl) })
-short_through true false open_line c (Ok f) a is = IfOk-at_ok (Through true false open_line c (Ok f)) is
-    (record { formed = f; is = refl; leads = refl; other = λ g. (_, refl, refl) })
-short_through true false after_positional c (Ok f) a is = IfOk-at_ok (Through true false after_positional c (Ok f)) is
-    (record { formed = f; is = refl; leads = refl; other = λ g. (_, refl, refl) })
-short_through true false in_cluster c (Ok f) a is = IfOk-at_ok (Through true false in_cluster c (Ok f)) is
-    (record { formed = f; is = refl; leads = refl; other = λ g. (_, refl, refl) })
-short_through true false after_values c (Ok f) a is = IfOk-at_ok (Through true false after_values c (Ok f)) is
+short_through true true place c (Ok f) a is = none_is _ a is
+short_through true false place c (Ok f) a is = IfOk-at_ok (Through true false place c (Ok f)) is
     (record { formed = f; is = refl; leads = refl; other = λ g. (_, refl, refl) })
 
 pub data Changed (x y due : Bool) (before after : Place) : Type 0 where

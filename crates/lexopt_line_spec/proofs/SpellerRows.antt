@@ -9,7 +9,7 @@ use Rattle.lexopt_line_spec.specs.Table.{Name, short, long, Item, option, many, 
 use Rattle.lexopt_line_spec.specs.Spelling.{After, attached, joined}
 use Rattle.lexopt_line_spec.specs.Speller as rows
 use Rattle.lexopt_line_spec.specs.Speller.{Reason, no_name, unexpected_value, missing_value, wants_many, not_many, empty_value, option_among_values, Place, open_line, in_cluster, after_values, is_positional, ArePositionals, ArePositionalThenOption, NeedSeparator, IsLoneAndJoined, HasForm, HasNoForm}
-use Rattle.lexopt_line_spec.specs.SpellerTables.{Form, in_word, attached_form, short_form, long_form, words_form, short_words_form, short_many_form, long_many_form, separator_comes_too_early, separator_is_due, is_plain_item}
+use Rattle.lexopt_line_spec.proofs.SpellerTables.{Form, in_word, attached_form, short_form, long_form, words_form, short_words_form, short_many_form, long_many_form, separator_comes_too_early, separator_is_due, is_plain_item}
 use Rattle.lexopt_spec.proofs.PlainFronts.{plain_holds, plain_passes}
 use Rattle.lexopt_line_spec.proofs.SpellerTests.{all_plain, all_pass}
 use Rattle.lexopt_line_spec.proofs.SpellerPlaces.{all_positional}
@@ -235,17 +235,12 @@ all_first v vs all = and_parts (is_plain false v) (list_all (is_plain false) vs)
 pub has_form : (short_equals : Bool) (later : List Item) (k : Kind) (name : Name) (item : Item) (after : After) (words : List (List ℕ)) (next : Place)
     → HasForm short_equals later k name item after words next
     → form_of short_equals (separator_comes_too_early later) k item ≡ Ok (record { after = after; words = words; place = next })
-has_form short_equals later k name item after words next (rows.short_flag c) = refl
-has_form short_equals later k name item after words next (rows.long_flag n) = refl
-has_form short_equals later k name item after words next (rows.short_one c v) = refl
-has_form short_equals later k name item after words next (rows.long_one n v) = refl
 has_form short_equals later k name item after words next (rows.left_out (short c)) = refl
 has_form short_equals later k name item after words next (rows.left_out (long n)) = refl
 has_form short_equals later k name item after words next (rows.right_after c v some other) = plain_form short_equals v some other
 has_form short_equals later k name item after words next (rows.equals_on c v begins on) = equals_form short_equals v begins on
 has_form short_equals later k name item after words next (rows.equals_off c v begins off) = off_form short_equals v begins off
 has_form short_equals later k name item after words next (rows.empty_on c on) = ap (λ x. attached_form x []) on
-has_form short_equals later k name item after words next (rows.long_optional n v) = refl
 has_form short_equals later k name item after words next (rows.lone_joined c v lone) = joined_form short_equals later v lone
 has_form short_equals later k name item after words next (rows.short_words c v vs calm all) =
     words_joined short_equals later v vs calm
@@ -255,18 +250,13 @@ has_form short_equals later k name item after words next (rows.first_attached c 
     words_joined short_equals later v vs calm
     ∙ ap (λ x. short_words_form x (list_all (is_plain false) vs) v vs) (plain_off v first)
     ∙ ap (λ x. short_words_form false x v vs) (all_pass vs all)
-has_form short_equals later k name item after words next (rows.long_lone n v) = refl
 has_form short_equals later k name item after words next (rows.long_words n v w vs all) = ap (λ x. words_form x (v ∷ w ∷ vs)) (all_pass (v ∷ w ∷ vs) all)
+has_form short_equals later k name item after words next form = refl
 
 other_many : (short_equals joins : Bool) (k : Kind) (name : Name) (values : List (List ℕ)) → k ≢ several → form_of short_equals joins k (many name values) ≡ Err not_many
-other_many short_equals joins flag (short c) values other = refl
-other_many short_equals joins one (short c) values other = refl
-other_many short_equals joins optional (short c) values other = refl
-other_many short_equals joins several (short c) values other = absurd (other refl)
-other_many short_equals joins flag (long n) values other = refl
-other_many short_equals joins one (long n) values other = refl
-other_many short_equals joins optional (long n) values other = refl
-other_many short_equals joins several (long n) values other = absurd (other refl)
+other_many short_equals joins several name values other = absurd (other refl)
+other_many short_equals joins k (short c) values other = refl
+other_many short_equals joins k (long n) values other = refl
 
 pub has_no_form : (short_equals : Bool) (later : List Item) (k : Kind) (name : Name) (item : Item) (reason : Reason) → HasNoForm short_equals k name item reason
     → form_of short_equals (separator_comes_too_early later) k item ≡ Err reason

@@ -1,23 +1,19 @@
 -- The words that the speller returns spell the items.
-use Rattle.std.proofs.Common.{◌≡◌, ◌≢◌, ◌⊎◌, ℕ, ◌==◌, ◌&&◌, not, Bool, true, false, List, [], ◌∷◌, ◌++◌, map, None, encode_utf8, refl, sym, ap, subst, ◌∙◌, arith, inl, inr, ⊎_elim, true≢false, append-nil, append_assoc}
-use Rattle.std.proofs.lemmas.Bool.{eq-eqb, eqb-true, and_parts}
-use Rattle.std.proofs.lemmas.Result.{IfOk-at_ok}
-use Rattle.std.proofs.lemmas.Str.{IsUtf8-from_is_utf8}
-use Rattle.std.specs.Prelude.{Result, Ok, Err}
+use Rattle.std.proofs.Common.{◌≡◌, ◌≢◌, ◌⊎◌, ℕ, Bool, false, List, [], ◌∷◌, ◌++◌, map, None, encode_utf8, refl, sym, ap, subst, ◌∙◌, arith, inl, inr, true≢false, append-nil, append_assoc}
+use Rattle.std.specs.Prelude.{Ok}
 use Rattle.std.specs.List.{Contains}
-use Rattle.std.specs.Str.{IsUtf8, is_utf8}
+use Rattle.std.specs.Str.{IsUtf8}
 use Rattle.std.specs.Char.{IsScalar}
-use lib.Utf8.{scalar}
-use Rattle.lexopt_spec.specs.UnreadLine.{dash, equals, BeginsWith, IsPlain, is_plain, IsNormalIn}
-use Rattle.lexopt_line_spec.specs.Table.{Name, short, long, Item, option, many, positional, flag, kind, Table}
+use Rattle.lexopt_spec.specs.UnreadLine.{dash, equals, BeginsWith, IsPlain, IsNormalIn}
+use Rattle.lexopt_line_spec.specs.Table.{short, long, Item, option, positional, Kind, kind, Table}
 use Rattle.lexopt_line_spec.specs.Spelling as spelling
 use Rattle.lexopt_line_spec.specs.Spelling.{exact, After, nothing, attached, joined, Completes, BeginsWithMark, IsAfterLast, Cluster, flag_first, last_option, nothing_more, IsLong, name_alone, name_and_value, Group, cluster, Line, no_words, plain_word, group, separator, Spells}
-use Rattle.lexopt_line_spec.specs.Speller.{Reason, Place, open_line, in_cluster, after_values, after_positional, ended, after_bytes, Fault}
-use Rattle.lexopt_line_spec.specs.SpellerTables.{Form, name_only, short_form, long_form, short_many_form, long_many_form, Added, with_form, short_added, is_named, long_placed, long_added, needs_no_separator, positional_added, adds, separator_comes_too_early, separator_is_due, Rest, put_in_front, with_rest, with_rests, spelled_from, words_or_fault, spelled}
-use Rattle.lexopt_spec.proofs.PlainFronts.{plain_holds}
-use Rattle.lexopt_line_spec.proofs.SpellerAnswers.{Adding, Going, none_is}
-use Rattle.lexopt_line_spec.proofs.SpellerTests.{has_equals, no_equals, dash_first, dash_begins, some_bytes}
-use Rattle.lexopt_line_spec.proofs.SpellerForms.{HoldsShort, HoldsLong, short_holds, long_holds, short_many_holds, long_many_holds, NotAttached}
+use Rattle.lexopt_line_spec.specs.Speller as rows
+use Rattle.lexopt_line_spec.specs.Speller.{Place, open_line, in_cluster, after_values, after_positional, ended, after_bytes, BeginsRow, HasForm, Adds, GoesOn, SpelledFrom, SpelledAs}
+use Rattle.lexopt_line_spec.proofs.SpellerTables.{Rest, spelled}
+use Rattle.lexopt_line_spec.proofs.SpellerTests.{dash_first, some_bytes}
+use Rattle.lexopt_line_spec.proofs.SpellerForms.{completed, after_last, IsFlag, place_after, long_place}
+use Rattle.lexopt_line_spec.proofs.SpellerAgrees.{none_attached, dash_bytes, are_words}
 
 -- ---- facts about the words, by their place
 
@@ -49,9 +45,6 @@ not_plain bytes some (inl e) = true≢false (sym e)
 not_plain bytes some (inr (inl e)) = some (let same : bytes ≡ [] = cc in same)
 not_plain bytes some (inr (inr other)) = other refl
 
-abbrev glue : Added → Rest → Rest
-glue a r = put_in_front a.continues (a.word ++ r.first) (a.words ++ r.words)
-
 -- the words after an option that is not a short flag
 closed_after : (t : Table) (short_equals : Bool) (place : Place) (r : Rest) (items : List Item) → (place ≡ open_line) ⊎ (place ≡ after_values) → Right t short_equals place r items
     → Closed t short_equals r items × (place ≡ after_values → ¬ IsNormalIn false r.words)
@@ -68,61 +61,45 @@ tail_nil : (name after first : List ℕ) → first ≡ [] → (name ++ after) ++
 tail_nil name after first none = ap (λ l. (name ++ after) ++ l) none ∙ append-nil (name ++ after)
 
 -- an option of a cluster, with the words after it
-clustered : (t : Table) (short_equals : Bool) (c : ℕ) (item : Item) (f : Form) (r : Rest) (items : List Item) → IsScalar c
-    → HoldsShort short_equals (kind t (short c)) (short c) item f → Right t short_equals f.place r items
-    → Clustered t short_equals ((encode_utf8 c ++ after_bytes f.after) ++ r.first) (f.words ++ r.words) (item ∷ items)
-clustered t short_equals c item f r items is_scalar holds right = ⊎_elim
-    (λ open_at. last (inl open_at))
-    (λ other. ⊎_elim
-    (λ values_at. last (inr values_at))
-    (λ flagged. in_flags flagged.0 flagged.1 flagged.2 (subst (λ (g : Form). Right t short_equals g.place r items) flagged.2 right))
-    other)
-    holds.holds.place
+clustered : (t : Table) (short_equals : Bool) (later : List Item) (c : ℕ) (item : Item) (after : After) (words : List (List ℕ)) (next : Place) (r : Rest) (items : List Item) → IsScalar c
+    → HasForm short_equals later (kind t (short c)) (short c) item after words next → Right t short_equals next r items
+    → Clustered t short_equals ((encode_utf8 c ++ after_bytes after) ++ r.first) (words ++ r.words) (item ∷ items)
+clustered t short_equals later c item after words next r items is_scalar form right = by (place_after short_equals later (kind t (short c)) (short c) item after words next form)
   where
-    last : (f.place ≡ open_line) ⊎ (f.place ≡ after_values) → Clustered t short_equals ((encode_utf8 c ++ after_bytes f.after) ++ r.first) (f.words ++ r.words) (item ∷ items)
-    last at =
-        let closed = closed_after t short_equals f.place r items at right in
-        record {
-          front = item ∷ [];
-          others = items;
-          left = r.words;
-          spelled = subst (λ (l : List ℕ). Cluster exact t short_equals (f.words ++ r.words) r.words l (item ∷ [])) (sym (tail_nil (encode_utf8 c) (after_bytes f.after) r.first closed.0.none))
-              (last_option c (encode_utf8 c) (after_bytes f.after) f.after item (is_scalar, refl) holds.after (holds.holds.completes r.words closed.1));
-          line = closed.0.line;
-          items_are = refl;
-        }
+    last : Closed t short_equals r items → (next ≡ after_values → ¬ IsNormalIn false r.words)
+        → Clustered t short_equals ((encode_utf8 c ++ after_bytes after) ++ r.first) (words ++ r.words) (item ∷ items)
+    last closed calm = record {
+      front = item ∷ [];
+      others = items;
+      left = r.words;
+      spelled = subst (λ (l : List ℕ). Cluster exact t short_equals (words ++ r.words) r.words l (item ∷ [])) (sym (tail_nil (encode_utf8 c) (after_bytes after) r.first closed.none))
+          (last_option c (encode_utf8 c) (after_bytes after) after item (is_scalar, refl) (after_last short_equals later (kind t (short c)) c item after words next form)
+          (completed short_equals later (kind t (short c)) (short c) item after words next r.words form calm));
+      line = closed.line;
+      items_are = refl;
+    }
 
-    alone : (k : kind t (short c) ≡ flag) → (item ≡ option (short c) None) → (f ≡ name_only in_cluster) → Closed t short_equals r items
-        → Clustered t short_equals ((encode_utf8 c ++ after_bytes f.after) ++ r.first) (f.words ++ r.words) (item ∷ items)
-    alone k item_is f_is closed =
-        let calm : f.place ≡ after_values → ¬ IsNormalIn false r.words =
-        λ values_at. absurd (let e : in_cluster ≡ after_values = sym (ap (λ (g : Form). g.place) f_is) ∙ values_at in cc) in
-        record {
-          front = item ∷ [];
-          others = items;
-          left = r.words;
-          spelled = subst (λ (l : List ℕ). Cluster exact t short_equals (f.words ++ r.words) r.words l (item ∷ [])) (sym (tail_nil (encode_utf8 c) (after_bytes f.after) r.first closed.none))
-              (last_option c (encode_utf8 c) (after_bytes f.after) f.after item (is_scalar, refl) holds.after (holds.holds.completes r.words calm));
-          line = closed.line;
-          items_are = refl;
-        }
-
-    in_flags : (k : kind t (short c) ≡ flag) → (item ≡ option (short c) None) → (f ≡ name_only in_cluster)
-        → Closed t short_equals r items ⊎ (BeginsWith dash r.first × Clustered t short_equals r.first r.words items)
-        → Clustered t short_equals ((encode_utf8 c ++ after_bytes f.after) ++ r.first) (f.words ++ r.words) (item ∷ items)
-    in_flags k item_is f_is (inl closed) = alone k item_is f_is closed
-    in_flags k item_is f_is (inr more) =
+    in_flags : IsFlag (kind t (short c)) (short c) item after words next → Closed t short_equals r items ⊎ (BeginsWith dash r.first × Clustered t short_equals r.first r.words items)
+        → Clustered t short_equals ((encode_utf8 c ++ after_bytes after) ++ r.first) (words ++ r.words) (item ∷ items)
+    in_flags flagged (inl closed) = last closed (λ values_at. absurd (let e : in_cluster ≡ after_values = sym flagged.place_is ∙ values_at in cc))
+    in_flags flagged (inr more) =
         let l = more.1 in
-        subst (λ (g : Form). Clustered t short_equals ((encode_utf8 c ++ after_bytes g.after) ++ r.first) (g.words ++ r.words) (item ∷ items)) (sym f_is)
+        subst (λ (a : After). Clustered t short_equals ((encode_utf8 c ++ after_bytes a) ++ r.first) (words ++ r.words) (item ∷ items)) (sym flagged.after_is)
+        (subst (λ (ws : List (List ℕ)). Clustered t short_equals ((encode_utf8 c ++ []) ++ r.first) (ws ++ r.words) (item ∷ items)) (sym flagged.words_are)
         (record {
           front = option (short c) None ∷ l.front;
           others = l.others;
           left = l.left;
           spelled = subst (λ (x : List ℕ). Cluster exact t short_equals r.words l.left (x ++ r.first) (option (short c) None ∷ l.front)) (sym (append-nil (encode_utf8 c)))
-              (flag_first c (encode_utf8 c) r.first l.front (is_scalar, refl) k (no_mark short_equals r.first more.0) l.spelled);
+              (flag_first c (encode_utf8 c) r.first l.front (is_scalar, refl) flagged.kind_is (no_mark short_equals r.first more.0) l.spelled);
           line = l.line;
-          items_are = ap (λ x. x ∷ items) item_is ∙ ap (λ x. option (short c) None ∷ x) l.items_are;
-        })
+          items_are = ap (λ x. x ∷ items) flagged.item_is ∙ ap (λ x. option (short c) None ∷ x) l.items_are;
+        }))
+
+    by : ((next ≡ open_line) ⊎ (next ≡ after_values)) ⊎ IsFlag (kind t (short c)) (short c) item after words next
+        → Clustered t short_equals ((encode_utf8 c ++ after_bytes after) ++ r.first) (words ++ r.words) (item ∷ items)
+    by (inl at) = let closed = closed_after t short_equals next r items at right in last closed.0 closed.1
+    by (inr flagged) = in_flags flagged (subst (λ (p : Place). Right t short_equals p r items) flagged.place_is right)
 
 -- a cluster as a word
 cluster_word : (t : Table) (short_equals : Bool) (bytes : List ℕ) (words : List (List ℕ)) (items : List Item) → ¬ BeginsWith dash bytes → Clustered t short_equals bytes words items
@@ -134,112 +111,64 @@ cluster_word t short_equals bytes words items other l =
 begins_name : (c : ℕ) (after first : List ℕ) → BeginsWith dash ((encode_utf8 c ++ after) ++ first) → c ≡ dash
 begins_name c after first begins = dash_first c (after ++ first) (subst (BeginsWith dash) (append_assoc (encode_utf8 c) after first) begins)
 
-name_begins : (c : ℕ) (after first : List ℕ) → c ≡ dash → BeginsWith dash ((encode_utf8 c ++ after) ++ first)
-name_begins c after first is = subst (BeginsWith dash) (sym (append_assoc (encode_utf8 c) after first)) (dash_begins c (after ++ first) is)
-
 name_some : (c : ℕ) (after first : List ℕ) → IsScalar c → (encode_utf8 c ++ after) ++ first ≢ []
 name_some c after first is_scalar none = some_bytes c (after ++ first) is_scalar (sym (append_assoc (encode_utf8 c) after first) ∙ none)
 
-new_word : (t : Table) (short_equals : Bool) (c : ℕ) (item : Item) (f : Form) (r : Rest) (items : List Item) → IsScalar c → c ≢ dash
-    → HoldsShort short_equals (kind t (short c)) (short c) item f → Right t short_equals f.place r items
-    → Closed t short_equals (glue (with_form false (dash ∷ encode_utf8 c) f) r) (item ∷ items) × ¬ IsNormalIn false ((glue (with_form false (dash ∷ encode_utf8 c) f) r).words)
-new_word t short_equals c item f r items is_scalar other holds right = (
-  record {
-    none = refl;
-    line = cluster_word t short_equals ((encode_utf8 c ++ after_bytes f.after) ++ r.first) (f.words ++ r.words) (item ∷ items)
-        (λ begins. other (begins_name c (after_bytes f.after) r.first begins))
-        (clustered t short_equals c item f r items is_scalar holds right);
-  },
-  not_plain ((encode_utf8 c ++ after_bytes f.after) ++ r.first) (name_some c (after_bytes f.after) r.first is_scalar),
-)
+-- ---- an option
 
-abbrev Leads : Table → Bool → Place → Item → Added → Type 0
-Leads t short_equals place item a = (r : Rest) (items : List Item) → Right t short_equals a.place r items → Right t short_equals place (glue a r) (item ∷ items)
+-- the words, at each place before the separator
+anywhere : (t : Table) (short_equals : Bool) (place : Place) (r : Rest) (items : List Item) → place ≢ ended → Closed t short_equals r items → ¬ IsNormalIn false r.words
+    → Right t short_equals place r items
+anywhere t short_equals open_line r items before closed none = closed
+anywhere t short_equals in_cluster r items before closed none = inl closed
+anywhere t short_equals after_values r items before closed none = (closed, none)
+anywhere t short_equals after_positional r items before closed none = closed
+anywhere t short_equals ended r items before closed none = absurd (before refl)
 
-short_right : (t : Table) (short_equals s d : Bool) (place : Place) (c : ℕ) (item : Item) (form : Result Form Reason) (a : Added) → scalar c ≡ s → (c == dash) ≡ d
-    → ((f : Form) → form ≡ Ok f → HoldsShort short_equals (kind t (short c)) (short c) item f) → Adding (short_added s d place c form) a → Leads t short_equals place item a
-short_right t short_equals false d place c item form a scalar_is dash_is holds is = none_is _ a is
-short_right t short_equals true d place c item (Err reason) a scalar_is dash_is holds is = none_is _ a is
-short_right t short_equals true d ended c item (Ok f) a scalar_is dash_is holds is = none_is _ a is
-short_right t short_equals true false open_line c item (Ok f) a scalar_is dash_is holds is = IfOk-at_ok (Leads t short_equals open_line item) is
-    (λ r items right. (new_word t short_equals c item f r items scalar_is (λ same. true≢false (sym (eq-eqb c dash same) ∙ dash_is)) (holds f refl) right).0)
-short_right t short_equals true false after_positional c item (Ok f) a scalar_is dash_is holds is = IfOk-at_ok (Leads t short_equals after_positional item) is
-    (λ r items right. (new_word t short_equals c item f r items scalar_is (λ same. true≢false (sym (eq-eqb c dash same) ∙ dash_is)) (holds f refl) right).0)
-short_right t short_equals true false in_cluster c item (Ok f) a scalar_is dash_is holds is = IfOk-at_ok (Leads t short_equals in_cluster item) is
-    (λ r items right. inl (new_word t short_equals c item f r items scalar_is (λ same. true≢false (sym (eq-eqb c dash same) ∙ dash_is)) (holds f refl) right).0)
-short_right t short_equals true false after_values c item (Ok f) a scalar_is dash_is holds is = IfOk-at_ok (Leads t short_equals after_values item) is
-    (λ r items right. new_word t short_equals c item f r items scalar_is (λ same. true≢false (sym (eq-eqb c dash same) ∙ dash_is)) (holds f refl) right)
-short_right t short_equals true true open_line c item (Ok f) a scalar_is dash_is holds is = none_is _ a is
-short_right t short_equals true true after_values c item (Ok f) a scalar_is dash_is holds is = none_is _ a is
-short_right t short_equals true true after_positional c item (Ok f) a scalar_is dash_is holds is = none_is _ a is
-short_right t short_equals true true in_cluster c item (Ok f) a scalar_is dash_is holds is = IfOk-at_ok (Leads t short_equals in_cluster item) is
-    (λ r items right. inr (name_begins c (after_bytes f.after) r.first (eqb-true c dash dash_is), clustered t short_equals c item f r items scalar_is (holds f refl) right))
+-- a new word, and then the rest
+abbrev glued : List ℕ → List (List ℕ) → Rest → Rest
+glued word words r = record { first = []; words = (word ++ r.first) ∷ (words ++ r.words) }
 
--- ---- long options
+short_right : (t : Table) (short_equals : Bool) (later : List Item) (c : ℕ) (place next : Place) (item : Item) (after : After) (words : List (List ℕ)) (r : Rest) (items : List Item)
+    → IsScalar c → c ≢ dash → place ≢ ended → HasForm short_equals later (kind t (short c)) (short c) item after words next → Right t short_equals next r items
+    → Right t short_equals place (glued (dash ∷ encode_utf8 c ++ after_bytes after) words r) (item ∷ items)
+short_right t short_equals later c place next item after words r items is_scalar other before form right =
+    anywhere t short_equals place _ (item ∷ items) before (record {
+      none = refl;
+      line = cluster_word t short_equals ((encode_utf8 c ++ after_bytes after) ++ r.first) (words ++ r.words) (item ∷ items)
+          (λ begins. other (begins_name c (after_bytes after) r.first begins)) (clustered t short_equals later c item after words next r items is_scalar form right);
+    })
+    (not_plain ((encode_utf8 c ++ after_bytes after) ++ r.first) (name_some c (after_bytes after) r.first is_scalar))
 
-long_closed : (t : Table) (short_equals : Bool) (name : Name) (item : Item) (f : Form) (r : Rest) (items : List Item) → HoldsLong (kind t name) name item f
-    → Right t short_equals f.place r items → Closed t short_equals r items × (f.place ≡ after_values → ¬ IsNormalIn false r.words)
-long_closed t short_equals name item f r items holds right = closed_after t short_equals f.place r items
-    (⊎_elim (λ at. inl at) (λ other. ⊎_elim (λ at. inr at) (λ flagged. inl (ap (λ (g : Form). g.place) flagged.2)) other) holds.holds.place) right
+is_long : (short_equals : Bool) (later : List Item) (k : Kind) (name : List ℕ) (item : Item) (after : After) (words : List (List ℕ)) (next : Place) → (name ≢ []) ⊎ (after ≢ nothing)
+    → HasForm short_equals later k (long name) item after words next → IsLong (name ++ after_bytes after) name after
+is_long short_equals later k name item nothing words next (inl some) form = name_alone some (append-nil name) refl
+is_long short_equals later k name item nothing words next (inr some) form = absurd (some refl)
+is_long short_equals later k name item (attached v) words next some form = absurd (none_attached short_equals later k name item v words next form)
+is_long short_equals later k name item (joined v) words next some form = name_and_value v refl refl
 
-is_long : (name : List ℕ) (after : After) → (after ≡ nothing → name ≢ []) → NotAttached after → IsLong (name ++ after_bytes after) name after
-is_long name nothing some free = name_alone (some refl) (append-nil name) refl
-is_long name (attached v) some free = absurd free
-is_long name (joined v) some free = name_and_value v refl refl
+long_closed : (t : Table) (short_equals : Bool) (later : List Item) (k : Kind) (name : List ℕ) (item : Item) (after : After) (words : List (List ℕ)) (next : Place) (r : Rest)
+    (items : List Item) → HasForm short_equals later k (long name) item after words next → Right t short_equals next r items
+    → Closed t short_equals r items × (next ≡ after_values → ¬ IsNormalIn false r.words)
+long_closed t short_equals later k name item after words next r items form right =
+    closed_after t short_equals next r items (long_place short_equals later k name item after words next form) right
 
-long_word : (t : Table) (short_equals : Bool) (name : List ℕ) (item : Item) (f : Form) (r : Rest) (items : List Item) → IsUtf8 name → ¬ Contains name equals
-    → (f.after ≡ nothing → name ≢ []) → HoldsLong (kind t (long name)) (long name) item f → Right t short_equals f.place r items
-    → Closed t short_equals (glue (with_form false (dash ∷ dash ∷ name) f) r) (item ∷ items) × ¬ IsNormalIn false ((glue (with_form false (dash ∷ dash ∷ name) f) r).words)
-long_word t short_equals name item f r items text none some holds right =
-    let closed = long_closed t short_equals (long name) item f r items holds right in
-    let after = after_bytes f.after in (
-      record {
-        none = refl;
-        line = subst (λ (w : List ℕ). Line exact t short_equals ((dash ∷ dash ∷ w) ∷ (f.words ++ r.words)) (item ∷ items)) (sym (tail_nil name after r.first closed.0.none))
-            (group ((dash ∷ dash ∷ (name ++ after)) ∷ (f.words ++ r.words)) r.words (item ∷ []) items
-            (spelling.long_option (name ++ after) name name f.after item (f.words ++ r.words) refl (is_long name f.after some holds.unattached) none (text, refl)
-            (holds.holds.completes r.words closed.1) refl)
-            closed.0.line);
-      },
-      not_plain (dash ∷ ((name ++ after) ++ r.first)) (λ nil. let e : dash ∷ ((name ++ after) ++ r.first) ≡ [] = nil in cc),
-    )
-
--- the same word at each place before the separator
-abbrev Anywhere : Table → Bool → Item → Added → Type 0
-Anywhere t short_equals item a = (r : Rest) (items : List Item) → Right t short_equals a.place r items → Closed t short_equals (glue a r) (item ∷ items) × ¬ IsNormalIn false ((glue a r).words)
-
-some_named : (name : List ℕ) (after : After) → is_named name after ≡ true → after ≡ nothing → name ≢ []
-some_named [] nothing named same nil = true≢false (sym named)
-some_named [] (attached v) named same nil = true≢false (sym named)
-some_named [] (joined v) named same nil = let e : joined v ≡ nothing = same in cc
-some_named (b ∷ bs) after named same nil = let e : b ∷ bs ≡ [] = nil in cc
-
-anywhere : (t : Table) (short_equals : Bool) (name : List ℕ) (item : Item) (f : Form) → IsUtf8 name → ¬ Contains name equals → is_named name f.after ≡ true
-    → HoldsLong (kind t (long name)) (long name) item f → Anywhere t short_equals item (with_form false (dash ∷ dash ∷ name) f)
-anywhere t short_equals name item f text none named holds = λ r items right.
-    long_word t short_equals name item f r items text none (some_named name f.after named) holds right
-
-placed_right : (t : Table) (short_equals n : Bool) (place : Place) (name : List ℕ) (item : Item) (f : Form) (a : Added) → IsUtf8 name → ¬ Contains name equals
-    → is_named name f.after ≡ n → HoldsLong (kind t (long name)) (long name) item f → Adding (long_placed n place name f) a → Leads t short_equals place item a
-placed_right t short_equals false place name item f a text none named holds is = none_is _ a is
-placed_right t short_equals true ended name item f a text none named holds is = none_is _ a is
-placed_right t short_equals true open_line name item f a text none named holds is = IfOk-at_ok (Leads t short_equals open_line item) is
-    (λ r items right. (anywhere t short_equals name item f text none named holds r items right).0)
-placed_right t short_equals true after_positional name item f a text none named holds is = IfOk-at_ok (Leads t short_equals after_positional item) is
-    (λ r items right. (anywhere t short_equals name item f text none named holds r items right).0)
-placed_right t short_equals true in_cluster name item f a text none named holds is = IfOk-at_ok (Leads t short_equals in_cluster item) is
-    (λ r items right. inl (anywhere t short_equals name item f text none named holds r items right).0)
-placed_right t short_equals true after_values name item f a text none named holds is = IfOk-at_ok (Leads t short_equals after_values item) is
-    (λ r items right. anywhere t short_equals name item f text none named holds r items right)
-
-long_right : (t : Table) (short_equals u e : Bool) (place : Place) (name : List ℕ) (item : Item) (form : Result Form Reason) (a : Added) → is_utf8 name ≡ u
-    → has_equals name ≡ e → ((f : Form) → form ≡ Ok f → HoldsLong (kind t (long name)) (long name) item f)
-    → Adding (long_added u e place name form) a → Leads t short_equals place item a
-long_right t short_equals false e place name item form a text none holds is = none_is _ a is
-long_right t short_equals true true place name item form a text none holds is = none_is _ a is
-long_right t short_equals true false place name item (Err reason) a text none holds is = none_is _ a is
-long_right t short_equals true false place name item (Ok f) a text none holds is =
-    placed_right t short_equals (is_named name f.after) place name item f a (IsUtf8-from_is_utf8 name text) (no_equals name none) refl (holds f refl) is
+long_right : (t : Table) (short_equals : Bool) (later : List Item) (name : List ℕ) (place next : Place) (item : Item) (after : After) (words : List (List ℕ)) (r : Rest) (items : List Item)
+    → IsUtf8 name → ¬ Contains name equals → (name ≢ []) ⊎ (after ≢ nothing) → place ≢ ended → HasForm short_equals later (kind t (long name)) (long name) item after words next
+    → Right t short_equals next r items → Right t short_equals place (glued (dash ∷ dash ∷ name ++ after_bytes after) words r) (item ∷ items)
+long_right t short_equals later name place next item after words r items text none some before form right =
+    let k = kind t (long name) in
+    let closed = long_closed t short_equals later k name item after words next r items form right in
+    let bytes = after_bytes after in
+    anywhere t short_equals place _ (item ∷ items) before (record {
+      none = refl;
+      line = subst (λ (w : List ℕ). Line exact t short_equals ((dash ∷ dash ∷ w) ∷ (words ++ r.words)) (item ∷ items)) (sym (tail_nil name bytes r.first closed.0.none))
+          (group ((dash ∷ dash ∷ (name ++ bytes)) ∷ (words ++ r.words)) r.words (item ∷ []) items
+          (spelling.long_option (name ++ bytes) name name after item (words ++ r.words) refl (is_long short_equals later k name item after words next some form) none (text, refl)
+          (completed short_equals later k (long name) item after words next r.words form closed.1) refl)
+          closed.0.line);
+    })
+    (not_plain (dash ∷ ((name ++ bytes) ++ r.first)) (λ nil. let e : dash ∷ ((name ++ bytes) ++ r.first) ≡ [] = nil in cc))
 
 -- ---- positionals
 
@@ -252,84 +181,66 @@ separator_line t short_equals w r items right =
     subst (λ (l : List ℕ). Line exact t short_equals (l ∷ w ∷ r.words) (positional w ∷ items)) (sym (first_nil (dash ∷ dash ∷ []) r.first right.0))
     (subst (λ (l : List Item). Line exact t short_equals ((dash ∷ dash ∷ []) ∷ w ∷ r.words) (positional w ∷ l)) (sym right.1) (separator (w ∷ r.words)))
 
-plain_line : (t : Table) (short_equals : Bool) (w : List ℕ) (r : Rest) (items : List Item) → is_plain false w ≡ true → Closed t short_equals r items
-    → Line exact t short_equals ((w ++ r.first) ∷ r.words) (positional w ∷ items)
-plain_line t short_equals w r items plain closed =
-    subst (λ (l : List ℕ). Line exact t short_equals (l ∷ r.words) (positional w ∷ items)) (sym (first_nil w r.first closed.none))
-    (plain_word w r.words items (plain_holds false w plain) closed.line)
+separator_right : (t : Table) (short_equals : Bool) (place : Place) (w : List ℕ) (r : Rest) (items : List Item) → place ≢ ended → Right t short_equals ended r items
+    → Right t short_equals place (glued (dash ∷ dash ∷ []) (w ∷ []) r) (positional w ∷ items)
+separator_right t short_equals place w r items before right =
+    anywhere t short_equals place _ (positional w ∷ items) before (record { none = refl; line = separator_line t short_equals w r items right })
+    (not_plain (dash ∷ r.first) (λ nil. let e : dash ∷ r.first ≡ [] = nil in cc))
 
-positional_right : (t : Table) (short_equals p : Bool) (place : Place) (w : List ℕ) → (p ≡ true → is_plain false w ≡ true) → Leads t short_equals place (positional w) (positional_added p place w)
-positional_right t short_equals p ended w plain r items right =
-    (refl, ap (λ l. positional w ∷ l) right.1 ∙ ap (λ x. positional x ∷ map positional r.words) (sym (first_nil w r.first right.0)))
-positional_right t short_equals p after_values w plain r items right = (
-  record { none = refl; line = separator_line t short_equals w r items right },
-  not_plain (dash ∷ r.first) (λ nil. let e : dash ∷ r.first ≡ [] = nil in cc),
-)
-positional_right t short_equals false open_line w plain r items right = record { none = refl; line = separator_line t short_equals w r items right }
-positional_right t short_equals false in_cluster w plain r items right = inl (record { none = refl; line = separator_line t short_equals w r items right })
-positional_right t short_equals false after_positional w plain r items right = record { none = refl; line = separator_line t short_equals w r items right }
-positional_right t short_equals true open_line w plain r items right = record { none = refl; line = plain_line t short_equals w r items (plain refl) right }
-positional_right t short_equals true in_cluster w plain r items right = inl (record { none = refl; line = plain_line t short_equals w r items (plain refl) right })
-positional_right t short_equals true after_positional w plain r items right = record { none = refl; line = plain_line t short_equals w r items (plain refl) right }
+plain_closed : (t : Table) (short_equals : Bool) (w : List ℕ) (r : Rest) (items : List Item) → IsPlain false w → Closed t short_equals r items
+    → Closed t short_equals (glued w [] r) (positional w ∷ items)
+plain_closed t short_equals w r items plain closed = record {
+  none = refl;
+  line = subst (λ (l : List ℕ). Line exact t short_equals (l ∷ r.words) (positional w ∷ items)) (sym (first_nil w r.first closed.none)) (plain_word w r.words items plain closed.line);
+}
 
-stands_plain : (p d : Bool) (place : Place) → needs_no_separator p d place ≡ true → p ≡ true
-stands_plain p d open_line is = (and_parts p (not d) is).0
-stands_plain p d in_cluster is = (and_parts p (not d) is).0
-stands_plain p d after_values is = is
-stands_plain p d after_positional is = is
-stands_plain p d ended is = is
+row_before : (place : Place) → BeginsRow place → place ≢ ended
+row_before place rows.row_at_open = λ e. let h : open_line ≡ ended = e in cc
+row_before place rows.row_at_cluster = λ e. let h : in_cluster ≡ ended = e in cc
 
 -- ---- all items
 
-adds_right : (t : Table) (short_equals joins due : Bool) (place : Place) (item : Item) (a : Added) → adds t short_equals joins due place item ≡ Ok a → Leads t short_equals place item a
-adds_right t short_equals joins due place (option (short c) value) a is =
-    short_right t short_equals (scalar c) (c == dash) place c (option (short c) value) (short_form short_equals (kind t (short c)) value) a refl refl
-    (λ f found. short_holds short_equals (kind t (short c)) (short c) value f found) is
-adds_right t short_equals joins due place (many (short c) values) a is =
-    short_right t short_equals (scalar c) (c == dash) place c (many (short c) values) (short_many_form (short_equals && joins) (kind t (short c)) values) a refl refl
-    (λ f found. short_many_holds short_equals (short_equals && joins) (kind t (short c)) (short c) values f (λ both. (and_parts short_equals joins both).0) found) is
-adds_right t short_equals joins due place (option (long name) value) a is =
-    long_right t short_equals (is_utf8 name) (has_equals name) place name (option (long name) value) (long_form (kind t (long name)) value) a refl refl
-    (λ f found. long_holds (kind t (long name)) (long name) value f found) is
-adds_right t short_equals joins due place (many (long name) values) a is =
-    long_right t short_equals (is_utf8 name) (has_equals name) place name (many (long name) values) (long_many_form (kind t (long name)) values) a refl refl
-    (λ f found. long_many_holds (kind t (long name)) (long name) values f found) is
-adds_right t short_equals joins due place (positional w) a is =
-    IfOk-at_ok (Leads t short_equals place (positional w)) is
-    (positional_right t short_equals (needs_no_separator (is_plain false w) due place) place w (stands_plain (is_plain false w) due place))
+adds_right : (t : Table) (short_equals : Bool) (later : List Item) (place : Place) (item : Item) (word : List ℕ) (words : List (List ℕ)) (next : Place) (r : Rest) (items : List Item)
+    → Adds t short_equals later place item word words next → Right t short_equals next r items → Right t short_equals place (glued word words r) (item ∷ items)
+adds_right t short_equals later place item word words next r items (rows.short_option c p q i after ws is_scalar other before form) right =
+    short_right t short_equals later c place next item after words r items is_scalar other before form right
+adds_right t short_equals later place item word words next r items (rows.long_option name p q i after ws text none some before form) right =
+    long_right t short_equals later name place next item after words r items text none some before form right
+adds_right t short_equals later place item word words next r items (rows.after_separator w) right =
+    (refl, ap (λ l. positional w ∷ l) right.1 ∙ ap (λ x. positional x ∷ map positional r.words) (sym (first_nil w r.first right.0)))
+adds_right t short_equals later place item word words next r items (rows.separator_after_values w) right =
+    separator_right t short_equals after_values w r items (λ e. let h : after_values ≡ ended = e in cc) right
+adds_right t short_equals later place item word words next r items (rows.separator_before_row w p begins need) right =
+    separator_right t short_equals place w r items (row_before place begins) right
+adds_right t short_equals later place item word words next r items (rows.separator_before_word w p before none) right = separator_right t short_equals place w r items before right
+adds_right t short_equals later place item word words next r items (rows.first_of_row w p rows.row_at_open plain calm) right = plain_closed t short_equals w r items plain right
+adds_right t short_equals later place item word words next r items (rows.first_of_row w p rows.row_at_cluster plain calm) right = inl (plain_closed t short_equals w r items plain right)
+adds_right t short_equals later place item word words next r items (rows.next_of_row w plain) right = plain_closed t short_equals w r items plain right
+
+goes_right : (t : Table) (short_equals : Bool) (later : List Item) (place : Place) (item : Item) (word : List ℕ) (words : List (List ℕ)) (next : Place) (r : Rest) (items : List Item)
+    → GoesOn t short_equals later place item word words next → Right t short_equals next r items
+    → Right t short_equals place (record { first = word ++ r.first; words = words ++ r.words }) (item ∷ items)
+goes_right t short_equals later place item word words next r items (rows.dash_option q i after ws form) right =
+    inr (
+      refl,
+      subst (λ (l : List ℕ). Clustered t short_equals (l ++ r.first) (words ++ r.words) (item ∷ items)) (sym (dash_bytes after))
+          (clustered t short_equals later dash item after words next r items refl form right),
+    )
 
 nil_right : (t : Table) (short_equals : Bool) (place : Place) → Right t short_equals place (record { first = []; words = [] }) []
-nil_right t short_equals open_line = record { none = refl; line = no_words }
-nil_right t short_equals in_cluster = inl (record { none = refl; line = no_words })
-nil_right t short_equals after_values = (record { none = refl; line = no_words }, λ h. h)
-nil_right t short_equals after_positional = record { none = refl; line = no_words }
 nil_right t short_equals ended = (refl, refl)
+nil_right t short_equals place = anywhere t short_equals place _ [] (λ e. let h : place ≡ ended = e in cc) (record { none = refl; line = no_words }) (λ h. h)
 
-abbrev From : Table → Bool → List Item → Type 0
-From t short_equals items = (place : Place) (r : Rest) → spelled_from t short_equals items place ≡ Ok r → Right t short_equals place r items
+spelled_right : (t : Table) (short_equals : Bool) (place : Place) (items : List Item) (bytes : List ℕ) (words : List (List ℕ)) → SpelledFrom t short_equals place items bytes words
+    → Right t short_equals place (record { first = bytes; words = words }) items
+spelled_right t short_equals place items bytes words (rows.no_items p) = nil_right t short_equals place
+spelled_right t short_equals place items bytes words (rows.new_word p next item later word others more ws added rest) =
+    adds_right t short_equals later place item word more next (record { first = others; words = ws }) later added (spelled_right t short_equals next later others ws rest)
+spelled_right t short_equals place items bytes words (rows.same_word p next item later word others more ws goes rest) =
+    goes_right t short_equals later place item word more next (record { first = others; words = ws }) later goes (spelled_right t short_equals next later others ws rest)
 
-after_item : (t : Table) (short_equals joins due : Bool) (place : Place) (item : Item) (items : List Item) (r : Rest) (a : Added) (rest : Result Rest Fault) → From t short_equals items
-    → adds t short_equals joins due place item ≡ Ok a → spelled_from t short_equals items a.place ≡ rest → Going (with_rest a rest) r → Right t short_equals place r (item ∷ items)
-after_item t short_equals joins due place item items r a (Err fault) later added_is rest_is is = none_is _ r is
-after_item t short_equals joins due place item items r a (Ok s) later added_is rest_is is = IfOk-at_ok (λ (x : Rest). Right t short_equals place x (item ∷ items)) is
-    (adds_right t short_equals joins due place item a added_is s items (later a.place s rest_is))
-
-first_item : (t : Table) (short_equals joins due : Bool) (place : Place) (item : Item) (items : List Item) (r : Rest) (o : Result Added Reason) → From t short_equals items
-    → adds t short_equals joins due place item ≡ o → Going (with_rests o (spelled_from t short_equals items)) r → Right t short_equals place r (item ∷ items)
-first_item t short_equals joins due place item items r (Err reason) later added_is is = none_is _ r is
-first_item t short_equals joins due place item items r (Ok a) later added_is is =
-    after_item t short_equals joins due place item items r a (spelled_from t short_equals items a.place) later added_is refl is
-
-spelled_right : (t : Table) (short_equals : Bool) (items : List Item) → From t short_equals items
-unfolding spelled_from
-spelled_right t short_equals [] = λ place r is. IfOk-at_ok (λ (s : Rest). Right t short_equals place s []) is (nil_right t short_equals place)
-spelled_right t short_equals (item ∷ items) = λ place r is.
-    first_item t short_equals (separator_comes_too_early items) (separator_is_due items) place item items r (adds t short_equals (separator_comes_too_early items) (separator_is_due items) place item) (spelled_right t short_equals items) refl is
+pub words_spell : (t : Table) (short_equals : Bool) (items : List Item) (words : List (List ℕ)) → SpelledAs t short_equals items words → Spells t short_equals words items
+words_spell t short_equals items words is = (spelled_right t short_equals open_line items [] words is).line
 
 pub spelled_spells : (t : Table) (short_equals : Bool) (items : List Item) (words : List (List ℕ)) → spelled t short_equals items ≡ Ok words → Spells t short_equals words items
-spelled_spells t short_equals items words is = go (spelled_from t short_equals items open_line) refl is
-  where
-    go : (o : Result Rest Fault) → spelled_from t short_equals items open_line ≡ o → words_or_fault o ≡ Ok words → Spells t short_equals words items
-    go (Err fault) from with_is = none_is fault words with_is
-    go (Ok r) from with_is =
-        IfOk-at_ok (λ (l : List (List ℕ)). Spells t short_equals l items) with_is (spelled_right t short_equals items open_line r from).line
+spelled_spells t short_equals items words is = words_spell t short_equals items words (are_words t short_equals items words is)

@@ -2,7 +2,6 @@ pub mod Bound
 pub mod Table
 pub mod Spelling
 pub mod Speller
-pub mod SpellerTables
 pub mod Readings
 pub mod ItemText
 pub mod Clusters

@@ -1,7 +1,6 @@
 -- The words that the speller chooses for items, or the item that cannot be spelled. The source is
 -- `docs/behaviour.md`, "From items back to words", after the POSIX Utility Syntax Guidelines and
--- GNU's long options. Each row of the tables there is a constructor here. `SpellerTables` computes
--- the same words and faults.
+-- GNU's long options. Each row of the tables there is a constructor here.
 use Rattle.std.specs.Prelude.{◌≡◌, ◌≢◌, ◌⊎◌, ℕ, suc, Bool, true, false, ◌<◌, List, [], ◌∷◌, ◌++◌}
 use Rattle.std.specs.Prelude.{length, take, map, Contains, Option, Some, None, encode_utf8}
 use Rattle.std.specs.Char.{IsScalar}

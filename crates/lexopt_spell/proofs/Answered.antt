@@ -3,7 +3,8 @@ use Rattle.std.proofs.Common.{ℕ, Bool, List}
 use Rattle.lexopt_line_spec.specs.Table.{Item, Table}
 use Rattle.lexopt_line_spec.specs.Spelling.{Shows}
 use Rattle.lexopt_line_spec.specs.Speller.{Fault, HasFault}
-use Rattle.lexopt_line_spec.proofs.SpellerAgrees.{shown_as, not_both}
+use Rattle.lexopt_line_spec.proofs.SpellerFaults.{shown_as}
+use Rattle.lexopt_line_spec.proofs.SpellerAgrees.{not_both}
 
 pub none_shown : {X : Type 0} (t : Table) (short_equals : Bool) (words : List (List ℕ)) (items : List Item) (f : Fault) → HasFault t short_equals items f
     → Shows t short_equals words items → X

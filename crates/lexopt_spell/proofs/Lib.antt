@@ -1,4 +1,6 @@
 mod Answered
+mod FormRows
+mod AddedRows
 mod After
 mod LastWord
 mod Resumed

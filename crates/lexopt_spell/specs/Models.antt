@@ -1,11 +1,11 @@
 -- The results of the speller's functions, as contracts see them.
 use Rattle.std.specs.Prelude.{ℕ, Bool, true, false, List, ◌∷◌, [], ◌++◌, Result, Ok, Err}
 use Rattle.std.specs.Prelude.{encode_utf8, string_bytes}
-use Rattle.lexopt_spec.specs.UnreadLine.{dash}
-use Rattle.lexopt_line_spec.specs.Table.{Item, Table}
+use Rattle.lexopt_spec.specs.UnreadLine.{dash, is_plain}
+use Rattle.lexopt_line_spec.specs.Table.{Item, Kind, Name, Table, option, many, positional}
 use Rattle.lexopt_line_spec.specs.Spelling as how
 use Rattle.lexopt_line_spec.specs.Speller as spec
-use Rattle.lexopt_line_spec.specs.SpellerTables as tables
+use Rattle.lexopt_line_spec.specs.Speller.{Adds, CannotBeSpelled, GoesOn, HasForm, HasNoForm}
 use Rattle.lexopt_line_spec.specs.Speller.{after_bytes}
 use Rattle.lexopt_spell.specs.declared.forms.Place.{Place}
 use Rattle.lexopt_spell.specs.declared.forms.Place.TheVariants.{Open, InCluster, AfterValues}
@@ -63,12 +63,32 @@ after_view Nothing = how.nothing
 after_view (Attached value) = how.attached value.now
 after_view (Joined value) = how.joined value.now
 
-abbrev pub form_view : Form → tables.Form
+-- the parts of a form
+pub record Parts : Type 0 where
+  pub after : how.After
+  pub words : List (List ℕ)
+  pub place : spec.Place
+
+abbrev pub form_view : Form → Parts
 form_view f = record { after = after_view f.after; words = f.words.now; place = place_view f.place }
 
-abbrev pub form_answer : Result Form Reason → Result tables.Form spec.Reason
-form_answer (Ok f) = Ok (form_view f)
-form_answer (Err reason) = Err (reason_view reason)
+-- an option of this kind and name, given as this item before the items `later`, has this form
+abbrev pub HasParts : Bool → List Item → Kind → Name → Item → Parts → Type 0
+HasParts short_equals later kind name item p =
+    HasForm short_equals later kind name item p.after p.words p.place
+
+-- the option has this form, or no form for this reason
+abbrev pub FormIs : Bool → List Item → Kind → Name → Item → Result Form Reason → Type 0
+FormIs short_equals later kind name item (Ok f) =
+    HasParts short_equals later kind name item (form_view f)
+FormIs short_equals later kind name item (Err reason) =
+    HasNoForm short_equals kind name item (reason_view reason)
+
+-- the item is an option or a plain positional
+abbrev pub is_plain_item : Item → Bool
+is_plain_item (option name value) = true
+is_plain_item (many name values) = true
+is_plain_item (positional word) = is_plain false word
 
 -- the bytes of a word, or the bytes that continue the word before
 abbrev pub word_bytes : Word → List ℕ
@@ -86,14 +106,23 @@ continues (Long name after) = false
 continues Separator = false
 continues (Positional word) = false
 
-abbrev pub added_view : Added → tables.Added
-added_view a = record {
-  continues = continues a.word;
-  word = word_bytes a.word;
-  words = a.words.now;
-  place = place_view a.place;
-}
+-- At this place, and before the items `later`, an item adds a word of its own, or continues the
+-- word before; and it leads to the place of the next item.
+abbrev pub AddsOrGoesOn : Bool → Table → Bool → List Item → spec.Place → Item → List ℕ
+    → List (List ℕ) → spec.Place → Type 0
+AddsOrGoesOn false t short_equals later place item word words next =
+    Adds t short_equals later place item word words next
+AddsOrGoesOn true t short_equals later place item word words next =
+    GoesOn t short_equals later place item word words next
 
-abbrev pub added_answer : Result Added Reason → Result tables.Added spec.Reason
-added_answer (Ok a) = Ok (added_view a)
-added_answer (Err reason) = Err (reason_view reason)
+-- the item adds these words
+abbrev pub AddsWords : Table → Bool → List Item → spec.Place → Item → Added → Type 0
+AddsWords t short_equals later place item a =
+    AddsOrGoesOn (continues a.word) t short_equals later place item (word_bytes a.word) a.words.now
+    (place_view a.place)
+
+-- the item adds these words, or cannot be spelled for this reason
+abbrev pub AddedIs : Table → Bool → List Item → spec.Place → Item → Result Added Reason → Type 0
+AddedIs t short_equals later place item (Ok a) = AddsWords t short_equals later place item a
+AddedIs t short_equals later place item (Err reason) =
+    CannotBeSpelled t short_equals later place item (reason_view reason)

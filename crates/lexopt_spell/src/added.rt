@@ -1,12 +1,15 @@
 //! The words that one item adds to those of the items before it.
-ghost use Rattle.std.specs.Prelude.{◌≡◌, ◌==◌, false, true, Ok, map, string_bytes};
-ghost use Rattle.std.specs.List.{list_all, list_any};
+ghost use Rattle.std.specs.Prelude.{◌≡◌, ◌≢◌, ◌⊎◌, ◌↔◌, ℕ, Bool, List, [], Contains, IsTrue, map};
+ghost use Rattle.std.specs.Prelude.{string_bytes, true};
+ghost use Rattle.std.specs.List.{list_all};
 ghost use Rattle.lexopt_spec.specs.UnreadLine as line;
-ghost use Rattle.lexopt_line_spec.specs.Speller as spec;
-ghost use Rattle.lexopt_line_spec.specs.SpellerTables as tables;
+ghost use Rattle.lexopt_line_spec.specs.Table as spec;
+ghost use Rattle.lexopt_line_spec.specs.Spelling as how;
+ghost use Rattle.lexopt_line_spec.specs.Speller.{ArePositionalThenOption, IsOf, NeedSeparator};
+ghost use Rattle.lexopt_line_spec.specs.Speller.{is_positional};
 ghost use Rattle.lexopt_items.specs.Items.{item_view, table_view};
-ghost use Rattle.lexopt_spell.specs.Models.{added_answer, added_view, after_view, form_answer};
-ghost use Rattle.lexopt_spell.specs.Models.{form_view, place_view};
+ghost use Rattle.lexopt_spell.specs.Models.{AddedIs, AddsWords, FormIs, HasParts, after_view};
+ghost use Rattle.lexopt_spell.specs.Models.{form_view, is_plain_item, place_view};
 
 use crate::forms::{
     After, Form, Place, is_plain, long_form, long_many_form, short_form, short_many_form,
@@ -28,17 +31,18 @@ pub struct Added<'a> {
 
 // Returns the words of a short option whose values have this form.
 fn short_added(place: Place, option: char, form: Form<'_>) -> Result<Added<'_>, Reason>
-    ensures { added_answer result
-        ≡ tables.short_added true (option == line.dash) (place_view place) option
-        (Ok (form_view form.entry)) }
+    ensures { (t : spec.Table) (short_equals : Bool) (later : List spec.Item) (item : spec.Item)
+        → HasParts short_equals later (spec.kind t (spec.short option)) (spec.short option) item
+        (form_view form.entry)
+        → AddedIs t short_equals later (place_view place) item result }
 {
+    if let Place::Ended = place {
+        return Err(Reason::PastSeparator);
+    }
     let word = match place {
-        Place::Ended => return Err(Reason::PastSeparator),
         _ if option != '-' => Word::Short(option, form.after),
         Place::InCluster => Word::Dash(form.after),
-        Place::Open | Place::AfterValues | Place::AfterPositional => {
-            return Err(Reason::DashWithoutFlag);
-        }
+        _ => return Err(Reason::DashWithoutFlag),
     };
     Ok(Added {
         word,
@@ -47,13 +51,23 @@ fn short_added(place: Place, option: char, form: Form<'_>) -> Result<Added<'_>, 
     })
 }
 
+// Returns whether a long option has a name, or a value after `=`.
+fn is_named(name: &String, after: After<'_>) -> bool
+    ensures { IsTrue result ↔ ((string_bytes name.now ≢ [])
+        ⊎ ((value : List ℕ) × (after_view after.entry ≡ how.joined value))) }
+{
+    !name.is_empty() || matches!(after, After::Joined(_))
+}
+
 // Returns the words of a long option whose values have this form. Its name has no `=`.
 fn long_placed<'a>(place: Place, name: &'a String, form: Form<'a>) -> Result<Added<'a>, Reason>
-    ensures { added_answer result
-        ≡ tables.long_placed (tables.is_named (string_bytes name.now) (after_view form.entry.after))
-        (place_view place) (string_bytes name.now) (form_view form.entry) }
+    ensures { (t : spec.Table) (short_equals : Bool) (later : List spec.Item) (item : spec.Item)
+        → ¬ Contains (string_bytes name.now) line.equals
+        → HasParts short_equals later (spec.kind t (spec.long (string_bytes name.now)))
+        (spec.long (string_bytes name.now)) item (form_view form.entry)
+        → AddedIs t short_equals later (place_view place) item result }
 {
-    if name.is_empty() && !matches!(form.after, After::Joined(_)) {
+    if !is_named(name, form.after) {
         return Err(Reason::EmptyName);
     }
     if let Place::Ended = place {
@@ -72,9 +86,11 @@ fn long_added<'a>(
     name: &'a String,
     form: Result<Form<'a>, Reason>,
 ) -> Result<Added<'a>, Reason>
-    ensures { added_answer result
-        ≡ tables.long_added true (list_any (λ b. b == line.equals) (string_bytes name.now))
-        (place_view place) (string_bytes name.now) (form_answer form.entry) }
+    ensures { (t : spec.Table) (short_equals : Bool) (later : List spec.Item) (item : spec.Item)
+        → IsOf (spec.long (string_bytes name.now)) item
+        → FormIs short_equals later (spec.kind t (spec.long (string_bytes name.now)))
+        (spec.long (string_bytes name.now)) item form.entry
+        → AddedIs t short_equals later (place_view place) item result }
 {
     if name.as_bytes().contains(&b'=') {
         return Err(Reason::EqualsInName);
@@ -84,14 +100,14 @@ fn long_added<'a>(
 
 // Returns whether an item is not an option.
 fn is_no_option(item: &Item) -> bool
-    ensures { result ≡ spec.is_positional (item_view item.now) }
+    ensures { result ≡ is_positional (item_view item.now) }
 {
     matches!(item, Item::Positional(_))
 }
 
 // Returns whether no item is an option.
 fn are_no_options(items: &[Item]) -> bool
-    ensures { result ≡ list_all (λ item. spec.is_positional (item_view item)) items.now }
+    ensures { result ≡ list_all (λ item. is_positional (item_view item)) items.now }
 {
     items.iter().all(|item| is_no_option(item))
 }
@@ -101,7 +117,7 @@ fn are_no_options(items: &[Item]) -> bool
 // It reads up to the first option, and is called only right after an option, so in all it reads
 // each item of a line at most once.
 fn separator_comes_too_early(items: &[Item]) -> bool
-    ensures { result ≡ tables.separator_comes_too_early (map item_view items.now) }
+    ensures { IsTrue result ↔ ArePositionalThenOption (map item_view items.now) }
 {
     match items {
         [] => false,
@@ -109,9 +125,17 @@ fn separator_comes_too_early(items: &[Item]) -> bool
     }
 }
 
+// Returns whether the only value of a short option of several is joined to it before these items.
+fn joins_only_value(short_equals: bool, after: &[Item]) -> bool
+    ensures { IsTrue result
+        ↔ ((short_equals ≡ true) × ArePositionalThenOption (map item_view after.now)) }
+{
+    short_equals && separator_comes_too_early(after)
+}
+
 // Returns whether an item is an option or a plain positional.
 fn is_plain_item(item: &Item) -> bool
-    ensures { result ≡ tables.is_plain_item (item_view item.now) }
+    ensures { result ≡ is_plain_item (item_view item.now) }
 {
     match item {
         Item::Positional(word) => is_plain(word),
@@ -121,7 +145,7 @@ fn is_plain_item(item: &Item) -> bool
 
 // Returns whether each item is an option or a plain positional.
 fn are_plain(items: &[Item]) -> bool
-    ensures { result ≡ list_all (λ item. tables.is_plain_item (item_view item)) items.now }
+    ensures { result ≡ list_all (λ item. is_plain_item (item_view item)) items.now }
 {
     items.iter().all(|item| is_plain_item(item))
 }
@@ -131,7 +155,7 @@ fn are_plain(items: &[Item]) -> bool
 // It reads up to the first option, and is called only at the first of successive positionals, so in
 // all it reads each item of a line at most twice.
 fn separator_is_due(items: &[Item]) -> bool
-    ensures { result ≡ tables.separator_is_due (map item_view items.now) }
+    ensures { IsTrue result ↔ NeedSeparator (map item_view items.now) }
 {
     are_no_options(items) && !are_plain(items)
 }
@@ -139,31 +163,27 @@ fn separator_is_due(items: &[Item]) -> bool
 // Returns the words of a positional that comes before these items. After several values a separator
 // keeps it from being one more value.
 fn positional_added<'a>(place: Place, word: &'a OsString, after: &[Item]) -> Added<'a>
-    ensures { added_view result
-        ≡ tables.positional_added (tables.needs_no_separator (line.is_plain false word.now)
-        (tables.separator_is_due (map item_view after.now)) (place_view place)) (place_view place)
-        word.now }
+    ensures { (t : spec.Table) (short_equals : Bool) → AddsWords t short_equals
+        (map item_view after.now) (place_view place) (spec.positional word.now) result }
 {
-    let needs_no_separator = match place {
-        Place::Ended => true,
-        Place::AfterValues => false,
-        Place::AfterPositional => is_plain(word),
-        Place::Open | Place::InCluster => is_plain(word) && !separator_is_due(after),
+    let next = match place {
+        Place::Ended => Place::Ended,
+        Place::AfterPositional if is_plain(word) => Place::AfterPositional,
+        Place::Open | Place::InCluster if is_plain(word) && !separator_is_due(after) => {
+            Place::AfterPositional
+        }
+        _ => {
+            return Added {
+                word: Word::Separator,
+                words: slice::from_ref(word),
+                place: Place::Ended,
+            };
+        }
     };
-    if !needs_no_separator {
-        return Added {
-            word: Word::Separator,
-            words: slice::from_ref(word),
-            place: Place::Ended,
-        };
-    }
     Added {
         word: Word::Positional(word),
         words: &[],
-        place: match place {
-            Place::Ended => Place::Ended,
-            _ => Place::AfterPositional,
-        },
+        place: next,
     }
 }
 
@@ -179,11 +199,8 @@ pub fn adds<'a>(
     short_equals: bool,
     table: &Table,
 ) -> Result<Added<'a>, Reason>
-    ensures { added_answer result
-        ≡ tables.adds (table_view table.now) short_equals
-        (tables.separator_comes_too_early (map item_view after.now))
-        (tables.separator_is_due (map item_view after.now))
-        (place_view place) (item_view item.now) }
+    ensures { AddedIs (table_view table.now) short_equals (map item_view after.now)
+        (place_view place) (item_view item.now) result }
 {
     match item {
         Item::Short(option, value) => {
@@ -192,7 +209,7 @@ pub fn adds<'a>(
         }
         Item::ShortMany(option, values) => {
             let kind = kind_of_short(table, *option);
-            let joins = short_equals && separator_comes_too_early(after);
+            let joins = joins_only_value(short_equals, after);
             short_added(place, *option, short_many_form(joins, kind, values)?)
         }
         Item::Long(name, value) => {

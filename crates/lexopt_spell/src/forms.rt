@@ -1,11 +1,14 @@
 //! The form of an option: whether its values come after its name in its word, or in words of their
 //! own.
-ghost use Rattle.std.specs.Prelude.{◌≡◌, false};
-ghost use Rattle.std.specs.List.{list_all};
-ghost use Rattle.lexopt_line_spec.specs.SpellerTables as tables;
+ghost use Rattle.std.specs.Prelude.{◌≡◌, ◌↔◌, ℕ, Bool, List, [], Some, IfErr, IfOk, IsTrue};
+ghost use Rattle.std.specs.Prelude.{false, true};
+ghost use Rattle.std.specs.List.{All, list_all};
 ghost use Rattle.lexopt_spec.specs.UnreadLine as line;
+ghost use Rattle.lexopt_line_spec.specs.Table as table;
+ghost use Rattle.lexopt_line_spec.specs.Spelling as how;
+ghost use Rattle.lexopt_line_spec.specs.Speller.{ArePositionalThenOption, after_values, open_line};
 ghost use Rattle.lexopt_items.specs.Items.{kind_view};
-ghost use Rattle.lexopt_spell.specs.Models.{after_view, form_answer, form_view, place_view};
+ghost use Rattle.lexopt_spell.specs.Models.{FormIs, after_view, form_view, place_view};
 
 use crate::spell::Reason;
 use lexopt_items::kinds::Kind;
@@ -49,7 +52,8 @@ pub struct Form<'a> {
 
 // Returns the form of an option that is only its name.
 fn name_only<'a>(place: Place) -> Form<'a>
-    ensures { form_view result ≡ tables.name_only (place_view place) }
+    ensures { form_view result
+        ≡ record { after = how.nothing; words = []; place = place_view place } }
 {
     Form {
         after: After::Nothing,
@@ -60,7 +64,8 @@ fn name_only<'a>(place: Place) -> Form<'a>
 
 // Returns the form of an option with all its values in its word.
 fn in_word(after: After<'_>) -> Form<'_>
-    ensures { form_view result ≡ tables.in_word (after_view after.entry) }
+    ensures { form_view result
+        ≡ record { after = after_view after.entry; words = []; place = open_line } }
 {
     Form {
         after,
@@ -73,7 +78,8 @@ fn in_word(after: After<'_>) -> Form<'_>
 // and `short_equals` is on, the value comes after `=` instead. With `short_equals` off an empty
 // value has no form.
 fn attached_form(short_equals: bool, value: &OsString) -> Result<Form<'_>, Reason>
-    ensures { form_answer result ≡ tables.attached_form short_equals value.now }
+    ensures { (c : ℕ) (later : List table.Item) → FormIs short_equals later table.optional
+        (table.short c) (table.option (table.short c) (Some value.now)) result }
 {
     match value.as_bytes() {
         [] => {
@@ -99,7 +105,8 @@ pub fn short_form(
     kind: Kind,
     value: &Option<OsString>,
 ) -> Result<Form<'_>, Reason>
-    ensures { form_answer result ≡ tables.short_form short_equals (kind_view kind) value.now }
+    ensures { (c : ℕ) (later : List table.Item) → FormIs short_equals later (kind_view kind)
+        (table.short c) (table.option (table.short c) value.now) result }
 {
     match (kind, value) {
         (Kind::Flag, None) => Ok(name_only(Place::InCluster)),
@@ -118,7 +125,9 @@ pub fn short_form(
 
 /// Returns the form of a long option with one value or none.
 pub fn long_form(kind: Kind, value: &Option<OsString>) -> Result<Form<'_>, Reason>
-    ensures { form_answer result ≡ tables.long_form (kind_view kind) value.now }
+    ensures { (short_equals : Bool) (name : List ℕ) (later : List table.Item)
+        → FormIs short_equals later (kind_view kind) (table.long name)
+        (table.option (table.long name) value.now) result }
 {
     match (kind, value) {
         (Kind::Flag, None) => Ok(name_only(Place::Open)),
@@ -148,8 +157,11 @@ fn all_plain(words: &[OsString]) -> bool
 
 // Returns the form of several values in words of their own.
 fn words_form(values: &[OsString]) -> Result<Form<'_>, Reason>
-    ensures { form_answer result
-        ≡ tables.words_form (list_all (line.is_plain false) values.now) values.now }
+    ensures form { IfOk result (λ form. form_view form
+        ≡ record { after = how.nothing; words = values.now; place = after_values }) }
+    ensures plain { IfOk result (λ form. All (line.IsPlain false) values.now) }
+    ensures reason { IfErr result (λ reason. reason ≡ Reason.OptionAmongValues) }
+    ensures not_plain { IfErr result (λ reason. All (line.IsPlain false) values.now → ⊥) }
 {
     if !all_plain(values) {
         return Err(Reason::OptionAmongValues);
@@ -164,9 +176,11 @@ fn words_form(values: &[OsString]) -> Result<Form<'_>, Reason>
 // Returns the form of several values of a short option of which the first is not plain: it comes
 // right after the character, and the others in words of their own.
 fn attached_words_form<'a>(first: &'a OsString, others: &'a [OsString]) -> Result<Form<'a>, Reason>
-    ensures { form_answer result
-        ≡ tables.short_words_form false (list_all (line.is_plain false) others.now) first.now
-        others.now }
+    ensures form { IfOk result (λ form. form_view form
+        ≡ record { after = how.attached first.now; words = others.now; place = after_values }) }
+    ensures plain { IfOk result (λ form. All (line.IsPlain false) others.now) }
+    ensures reason { IfErr result (λ reason. reason ≡ Reason.OptionAmongValues) }
+    ensures not_plain { IfErr result (λ reason. All (line.IsPlain false) others.now → ⊥) }
 {
     if !all_plain(others) {
         return Err(Reason::OptionAmongValues);
@@ -181,22 +195,32 @@ fn attached_words_form<'a>(first: &'a OsString, others: &'a [OsString]) -> Resul
 /// Returns the form of a short option with several values. `joins` is whether an only value is
 /// joined by `=`.
 pub fn short_many_form(joins: bool, kind: Kind, values: &[OsString]) -> Result<Form<'_>, Reason>
-    ensures { form_answer result ≡ tables.short_many_form joins (kind_view kind) values.now }
+    ensures { (short_equals : Bool) (c : ℕ) (later : List table.Item)
+        → (IsTrue joins ↔ ((short_equals ≡ true) × ArePositionalThenOption later))
+        → FormIs short_equals later (kind_view kind) (table.short c)
+        (table.many (table.short c) values.now) result }
 {
     let Kind::Several = kind else {
         return Err(Reason::NotMany);
     };
-    match values {
-        [] => Err(Reason::MissingValue),
-        [value] if joins => Ok(in_word(After::Joined(value))),
-        [first, ..] if is_plain(first) => words_form(values),
-        [first, others @ ..] => attached_words_form(first, others),
+    let [first, others @ ..] = values else {
+        return Err(Reason::MissingValue);
+    };
+    if joins && others.is_empty() {
+        return Ok(in_word(After::Joined(first)));
+    }
+    if is_plain(first) {
+        words_form(values)
+    } else {
+        attached_words_form(first, others)
     }
 }
 
 /// Returns the form of a long option with several values. An only value is joined by `=`.
 pub fn long_many_form(kind: Kind, values: &[OsString]) -> Result<Form<'_>, Reason>
-    ensures { form_answer result ≡ tables.long_many_form (kind_view kind) values.now }
+    ensures { (short_equals : Bool) (name : List ℕ) (later : List table.Item)
+        → FormIs short_equals later (kind_view kind) (table.long name)
+        (table.many (table.long name) values.now) result }
 {
     let Kind::Several = kind else {
         return Err(Reason::NotMany);

@@ -1,5 +1,5 @@
-use Rattle.lexopt_line_spec.proofs.SpellerAgrees.{words_spell, shown_as, fault_named}
-use Rattle.lexopt_line_spec.proofs.SpellerFaults.{same_fault, fault_none}
+use Rattle.lexopt_line_spec.proofs.SpellerSound.{words_spell}
+use Rattle.lexopt_line_spec.proofs.SpellerFaults.{same_fault, fault_none, shown_as, fault_named}
 use Rattle.lexopt_laws.proofs.laws.items_are_spelled_or_one_is_at_fault.Goals as goal
 
 pub returns-clause-spells : goal.returns-clause-spells

@@ -1,5 +1,6 @@
 -- The words that the relations of `Speller` choose, and the faults that they name, computed: what
--- an item adds at its place.
+-- an item adds at its place. Laws and worked examples about these relations are proved by it. No
+-- contract of code cites it.
 use Rattle.std.specs.Prelude.{ℕ, suc, Bool, true, false, ◌==◌, ◌&&◌, not, List, [], ◌∷◌, ◌++◌}
 use Rattle.std.specs.Prelude.{Option, Some, None, Result, Ok, Err, encode_utf8, if◌then◌else◌}
 use Rattle.std.specs.List.{list_any, list_all}
@@ -93,9 +94,7 @@ long_many_form several [] = Err missing_value
 long_many_form several (v ∷ []) = Ok (in_word (joined v))
 long_many_form several (v ∷ w ∷ vs) =
     words_form (list_all (is_plain false) (v ∷ w ∷ vs)) (v ∷ w ∷ vs)
-long_many_form flag values = Err not_many
-long_many_form one values = Err not_many
-long_many_form optional values = Err not_many
+long_many_form k values = Err not_many
 
 -- ---- one item
 
@@ -121,14 +120,9 @@ abbrev pub short_added : Bool → Bool → Place → ℕ → Result Form Reason 
 short_added false is_dash place c form = Err no_name
 short_added true is_dash place c (Err reason) = Err reason
 short_added true is_dash ended c (Ok f) = Err past_separator
-short_added true false open_line c (Ok f) = Ok (with_form false (dash ∷ encode_utf8 c) f)
-short_added true false in_cluster c (Ok f) = Ok (with_form false (dash ∷ encode_utf8 c) f)
-short_added true false after_values c (Ok f) = Ok (with_form false (dash ∷ encode_utf8 c) f)
-short_added true false after_positional c (Ok f) = Ok (with_form false (dash ∷ encode_utf8 c) f)
+short_added true false place c (Ok f) = Ok (with_form false (dash ∷ encode_utf8 c) f)
 short_added true true in_cluster c (Ok f) = Ok (with_form true (encode_utf8 c) f)
-short_added true true open_line c (Ok f) = Err dash_without_flag
-short_added true true after_values c (Ok f) = Err dash_without_flag
-short_added true true after_positional c (Ok f) = Err dash_without_flag
+short_added true true place c (Ok f) = Err dash_without_flag
 
 -- the name is not empty, or a value comes after `=`
 abbrev pub is_named : List ℕ → After → Bool
@@ -141,10 +135,7 @@ is_named (b ∷ bs) after = true
 abbrev pub long_placed : Bool → Place → List ℕ → Form → Result Added Reason
 long_placed false place name f = Err empty_name
 long_placed true ended name f = Err past_separator
-long_placed true open_line name f = Ok (with_form false (dash ∷ dash ∷ name) f)
-long_placed true in_cluster name f = Ok (with_form false (dash ∷ dash ∷ name) f)
-long_placed true after_values name f = Ok (with_form false (dash ∷ dash ∷ name) f)
-long_placed true after_positional name f = Ok (with_form false (dash ∷ dash ∷ name) f)
+long_placed true place name f = Ok (with_form false (dash ∷ dash ∷ name) f)
 
 -- a long option; the booleans are whether its name is UTF-8, and whether it has `=`
 abbrev pub long_added : Bool → Bool → Place → List ℕ → Result Form Reason → Result Added Reason
@@ -158,9 +149,7 @@ long_added true false place name (Ok f) = long_placed (is_named name f.after) pl
 abbrev pub needs_no_separator : Bool → Bool → Place → Bool
 needs_no_separator plain due open_line = plain && not due
 needs_no_separator plain due in_cluster = plain && not due
-needs_no_separator plain due after_values = plain
-needs_no_separator plain due after_positional = plain
-needs_no_separator plain due ended = plain
+needs_no_separator plain due place = plain
 
 -- a positional; the boolean is whether it needs no separator. After several values a separator
 -- keeps it from being one more value
@@ -168,17 +157,9 @@ abbrev pub positional_added : Bool → Place → List ℕ → Added
 positional_added alone ended w = record { continues = false; word = w; words = []; place = ended }
 positional_added alone after_values w =
     record { continues = false; word = dash ∷ dash ∷ []; words = w ∷ []; place = ended }
-positional_added false open_line w =
+positional_added false place w =
     record { continues = false; word = dash ∷ dash ∷ []; words = w ∷ []; place = ended }
-positional_added false in_cluster w =
-    record { continues = false; word = dash ∷ dash ∷ []; words = w ∷ []; place = ended }
-positional_added false after_positional w =
-    record { continues = false; word = dash ∷ dash ∷ []; words = w ∷ []; place = ended }
-positional_added true open_line w =
-    record { continues = false; word = w; words = []; place = after_positional }
-positional_added true in_cluster w =
-    record { continues = false; word = w; words = []; place = after_positional }
-positional_added true after_positional w =
+positional_added true place w =
     record { continues = false; word = w; words = []; place = after_positional }
 
 -- an item at this place; the booleans are `short_equals`, whether the only one of several values is
