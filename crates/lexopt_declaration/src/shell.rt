@@ -40,14 +40,20 @@ impl ShellRequest {
         ensures { (request : ShellRequest) → (result ≡ Some request)
             ↔ (value.now ≡ request_text request) }
     {
-        match value {
-            b"bash_source" => Some(ShellRequest::Script(Shell::Bash)),
-            b"zsh_source" => Some(ShellRequest::Script(Shell::Zsh)),
-            b"fish_source" => Some(ShellRequest::Script(Shell::Fish)),
-            b"bash_complete" => Some(ShellRequest::Completion(Shell::Bash)),
-            b"zsh_complete" => Some(ShellRequest::Completion(Shell::Zsh)),
-            b"fish_complete" => Some(ShellRequest::Completion(Shell::Fish)),
-            _ => None,
+        if value == b"bash_source".as_slice() {
+            Some(ShellRequest::Script(Shell::Bash))
+        } else if value == b"zsh_source".as_slice() {
+            Some(ShellRequest::Script(Shell::Zsh))
+        } else if value == b"fish_source".as_slice() {
+            Some(ShellRequest::Script(Shell::Fish))
+        } else if value == b"bash_complete".as_slice() {
+            Some(ShellRequest::Completion(Shell::Bash))
+        } else if value == b"zsh_complete".as_slice() {
+            Some(ShellRequest::Completion(Shell::Zsh))
+        } else if value == b"fish_complete".as_slice() {
+            Some(ShellRequest::Completion(Shell::Fish))
+        } else {
+            None
         }
     }
 }

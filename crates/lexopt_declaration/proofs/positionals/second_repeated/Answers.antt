@@ -1,9 +1,10 @@
-use Rattle.std.proofs.Common.{◌∙◌, Bool, ap, if◌then◌else◌, length, refl, sym}
+use Rattle.std.proofs.Common.{◌∙◌, Bool, ap, if◌then◌else◌, length, refl, sym, arith}
 use Rattle.std.proofs.lemmas.Option.{slice_get_read}
 use Rattle.std.specs.Option.{option_map}
 use Rattle.lexopt_options_spec.specs.Declaration as spec
 use Rattle.lexopt_declaration.specs.Models.{count_view}
 use Rattle.lexopt_declaration.proofs.Repeated.{no_second, second}
+use Rattle.std.proofs.lemmas.Grind.{common_steps}
 use Rattle.lexopt_declaration.proofs.positionals.second_repeated.Goals as goal
 
 pub returns-then-repeated : goal.returns-then-repeated
@@ -17,3 +18,6 @@ returns-then-repeated g c = (
 
 pub returns : goal.returns
 returns g c = no_second c.args.positionals.now c.loop-positional.positional-index c.loop-positional.repeated c.loop-positional-test.false c.loop-positional.invariant
+
+pub loop-positional-preserved : goal.loop-positional-preserved
+loop-positional-preserved g c = grind (arith, common_steps)

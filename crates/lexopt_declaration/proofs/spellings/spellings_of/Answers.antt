@@ -4,6 +4,7 @@ use Rattle.std.specs.List.{starts_with}
 use Rattle.std.proofs.lemmas.List.{take_all}
 use Rattle.lexopt_declaration.specs.Models.{option_view}
 use Rattle.lexopt_declaration.proofs.Spelled.{spelled_more, text_more}
+use Rattle.std.proofs.lemmas.Grind.{common_steps}
 use Rattle.lexopt_declaration.proofs.spellings.spellings_of.Goals as goal
 
 pub loop-option-preserved : goal.loop-option-preserved
@@ -17,3 +18,6 @@ pub returns-clause-spellings : goal.returns-clause-spellings
 returns-clause-spellings g c =
     c.loop-option.invariant.spellings
     ∙ ap (λ os. filter (λ p. starts_with nat_eq p.0 c.args.typed.now) (explained (map option_view os))) (take_all c.loop-option.option-index c.args.options.now (omega (arith, c.loop-option-test.false)))
+
+pub returns-clause-text : goal.returns-clause-text
+returns-clause-text g c = grind (arith, common_steps)
