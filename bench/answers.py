@@ -1,4 +1,4 @@
-"""The results that both programs of the comparison print (`answers.rs`, `answers.rt`)."""
+"""The results that both programs of the comparison print."""
 
 import re
 from dataclasses import dataclass

@@ -11,4 +11,6 @@ mod declarations;
 #[cfg(test)]
 mod environment;
 #[cfg(test)]
+mod large;
+#[cfg(test)]
 mod values;

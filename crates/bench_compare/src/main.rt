@@ -1,5 +1,5 @@
-//! Makes calls and writes their results, so that they can be compared with those of the Rust crate.
-//! `bench/src/bin/compare` makes the same calls there.
+//! Makes calls and writes their results. `bench/compare` compares these with the results of the Rust
+//! crate, of which `bench/src/bin/compare` asks the same.
 //!
 //! Each line of standard input is a case: a constructor, words and calls, with a space between
 //! them. The output for a case is a line: the result of each call and a space, and then the unread
@@ -13,10 +13,11 @@
 //!   then N items; `l` is `peek` and `as_slice`; `i` is `next_if` with the Nth wanted word; `e` is
 //!   `set_short_equals`, false if N is 0; `c` is `clone`, after which the copy is used; `b` is
 //!   `bin_name`.
+#![tactic(auto)]
 
-mod written;
+mod answers;
 
-use crate::answers::written::Answers;
+use answers::Answers;
 use anyhow::Result;
 use lexopt_base::prelude::ValueExt;
 use lexopt_base::{Arg, Error, OsString, Parser, RawArgs};
@@ -237,8 +238,7 @@ fn write_case(alloc: Global, case: &str, answers: &mut Answers) -> Result<(), Er
     make_calls(alloc, &mut parser, calls, answers)
 }
 
-/// Runs the cases of standard input.
-pub fn print(rt: &HostRuntime) -> Result<()> {
+fn main(rt: HostRuntime) -> Result<()> {
     let alloc = rt.alloc();
     let mut input = String::new(alloc);
     rt.reader().read_to_string(&mut input)?;
@@ -246,6 +246,6 @@ pub fn print(rt: &HostRuntime) -> Result<()> {
     for case in input.lines() {
         write_case(alloc, case, &mut answers)?;
     }
-    io::writer(rt).write_all(answers.text())?;
+    io::writer(&rt).write_all(answers.text())?;
     Ok(())
 }
