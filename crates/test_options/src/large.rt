@@ -54,29 +54,35 @@ macro_rules! group {
     };
 }
 
-macro_rules! groups {
-    ($($name:ident: $verb:literal, $first:literal;)*) => {
-        $(static $name: Group<'static, u16, u16> = group!($verb, $first);)*
-    };
-}
+static ADD: Group<'static, u16, u16> = group!("add", 0);
 
-groups! {
-    ADD: "add", 0;
-    ALLOW: "allow", 20;
-    COPY: "copy", 40;
-    COUNT: "count", 60;
-    HIDE: "hide", 80;
-    IGNORE: "ignore", 100;
-    KEEP: "keep", 120;
-    LIMIT: "limit", 140;
-    LIST: "list", 160;
-    MERGE: "merge", 180;
-    PRINT: "print", 200;
-    QUOTE: "quote", 220;
-    READ: "read", 240;
-    SKIP: "skip", 260;
-    SORT: "sort", 280;
-}
+static ALLOW: Group<'static, u16, u16> = group!("allow", 20);
+
+static COPY: Group<'static, u16, u16> = group!("copy", 40);
+
+static COUNT: Group<'static, u16, u16> = group!("count", 60);
+
+static HIDE: Group<'static, u16, u16> = group!("hide", 80);
+
+static IGNORE: Group<'static, u16, u16> = group!("ignore", 100);
+
+static KEEP: Group<'static, u16, u16> = group!("keep", 120);
+
+static LIMIT: Group<'static, u16, u16> = group!("limit", 140);
+
+static LIST: Group<'static, u16, u16> = group!("list", 160);
+
+static MERGE: Group<'static, u16, u16> = group!("merge", 180);
+
+static PRINT: Group<'static, u16, u16> = group!("print", 200);
+
+static QUOTE: Group<'static, u16, u16> = group!("quote", 220);
+
+static READ: Group<'static, u16, u16> = group!("read", 240);
+
+static SKIP: Group<'static, u16, u16> = group!("skip", 260);
+
+static SORT: Group<'static, u16, u16> = group!("sort", 280);
 
 static DECLARATION: Declaration<'static, u16, u16> = declare! {
     program: "large",
