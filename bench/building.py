@@ -1,4 +1,5 @@
-"""What the scripts of this folder share: building both programs, and running a command."""
+"""What the scripts of this folder share: files, a copy of the crates, building both programs, and
+running a command."""
 
 import os
 import shutil
@@ -12,6 +13,25 @@ TARGET = f"{HERE}/target"
 
 def stop(why):
     sys.exit(f"bench/{os.path.basename(sys.argv[0])}: {why}")
+
+
+def read(path):
+    with open(path, encoding="utf-8") as file:
+        return file.read()
+
+
+def write(path, text):
+    os.makedirs(os.path.dirname(path), exist_ok=True)
+    with open(path, "w", encoding="utf-8") as file:
+        file.write(text)
+
+
+def copy_crates(folder, names):
+    """Copies these crates into a folder, without what was built of them."""
+    for name in names:
+        if not os.path.exists(f"{folder}/crates/{name}"):
+            left_out = shutil.ignore_patterns("out")
+            shutil.copytree(f"{TOP}/crates/{name}", f"{folder}/crates/{name}", ignore=left_out)
 
 
 def call(command, **how):
