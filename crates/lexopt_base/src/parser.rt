@@ -1,7 +1,9 @@
 //! The parser: a command line, of which some words have been read.
 ghost use Rattle.std.specs.Prelude.{◌≡◌, ◌≢◌, ◌↔◌, ◌⊎◌, ◌<◌, ◌≤◌, ℕ, List, [], ◌∷◌, Some, None};
 ghost use Rattle.std.specs.Prelude.{false, IsTrue, IsSome, IfOk, IfErr, OnErr, OnOk, codes};
+ghost use Rattle.std.specs.List.{list_all};
 ghost use Rattle.std.specs.Prelude.{drop, length, string_bytes, string_capacity};
+ghost use Rattle.std.specs.Str.{is_utf8};
 ghost use Rattle.std.specs.Option.{option_map};
 ghost use Rattle.std.specs.Iterator.{IsFiniteIterable};
 ghost use Rattle.lexopt_spec.specs.Pieces.{lossy};
@@ -27,10 +29,8 @@ use lexopt_words::codepoint::{codepoint_at, lossy_text};
 use lexopt_words::error::{Arg, Error};
 use lexopt_words::os_string::{OsString, arguments};
 use lexopt_words::word::{WordKind, is_positional, kind_of};
-use std::alloc::{AllocError, AllocGlobal, Global};
-use std::env;
-use std::env::{Args, Env};
-use std::io::ErrorKind;
+use std::alloc::{AllocError, Global};
+use std::env::Env;
 use std::marker::Model;
 
 // What is left of the word just before the cursor. A position is a byte offset in that word. The
@@ -224,14 +224,14 @@ impl Parser {
     /// files: this creates a parser from the words that the program was called with only if all of
     /// them are UTF-8.
     ///
-    /// The first word is the binary name. The words come from `std::env::args`. No contract states
-    /// which words these are; only tests show that.
+    /// The first word is the binary name. No contract states which words these are; only tests show
+    /// that.
     ///
     /// # Errors
     ///
-    /// - `OutOfMemory` if memory runs out.
-    /// - `Custom` with the message `arguments unavailable` if `std::env::args` fails for another
-    ///   reason, such as a word that is not UTF-8. The message does not name the word.
+    /// - `OutOfMemory` if an allocation fails.
+    /// - `Custom` with the message `arguments unavailable` if a word is not UTF-8. The message does
+    ///   not name the word.
     ///
     /// # Examples
     ///
@@ -240,16 +240,18 @@ impl Parser {
     /// ```
     // It is not inlined, as `from_env_os` is not.
     #[inline(never)]
-    pub fn from_env<R: Env + AllocGlobal>(rt: &R, alloc: Global) -> Result<Parser, Error>
-        ensures ok { IfOk result (λ parser. (words : List (List ℕ)) × (parser ≡ invoked words)) }
+    pub fn from_env<R: Env>(rt: &R, alloc: Global) -> Result<Parser, Error>
+        ensures ok { IfOk result (λ parser. (words : List (List ℕ))
+            × IsTrue (list_all is_utf8 words)
+            × (parser ≡ invoked words)) }
         ensures err { IfErr result (λ e. (e ≡ Error.OutOfMemory)
             ⊎ IsCustom (codes "arguments unavailable") e) }
     {
-        match env::args(rt) {
-            Ok(texts) => Ok(Parser::invoked(alloc, words_of(alloc, texts)?)?),
-            Err(error) if error.kind() == ErrorKind::OutOfMemory => Err(Error::OutOfMemory),
-            Err(_) => Err(Error::from("arguments unavailable")),
+        let words = arguments(rt, alloc)?;
+        if !are_texts(&words) {
+            return Err(Error::from("arguments unavailable"));
         }
+        Ok(Parser::invoked(alloc, words)?)
     }
 
     /// Creates a parser from the words that the program was called with. This is the usual way to
@@ -278,8 +280,7 @@ impl Parser {
         ensures ok { IfOk result (λ parser. (words : List (List ℕ)) × (parser ≡ invoked words)) }
         ensures err { IfErr result (λ e. e ≡ Error.OutOfMemory) }
     {
-        let words = arguments(rt, alloc)?;
-        Ok(Parser::invoked(alloc, words)?)
+        Ok(Parser::invoked(alloc, arguments(rt, alloc)?)?)
     }
 
     /// Returns the name that the program was called by, for use in messages.
@@ -835,13 +836,17 @@ impl Clone for Parser {
     }
 }
 
-// Turns these texts into words. The texts are not copied.
-fn words_of(alloc: Global, texts: Args) -> Result<Vec<OsString>, AllocError> {
-    let mut words = Vec::with_capacity(alloc, texts.len())?;
-    for text in texts {
-        words.push(OsString::from_string(text))?;
-    }
-    Ok(words)
+// Returns whether all words are UTF-8.
+fn are_texts(words: &[OsString]) -> bool
+    ensures { result ≡ list_all is_utf8 words.now }
+{
+    words.iter().all(|word| is_text(word))
+}
+
+fn is_text(word: &OsString) -> bool
+    ensures { result ≡ is_utf8 word.now }
+{
+    word.as_bytes().is_utf8()
 }
 
 // Collects all items of an iterator. It is a function of its own so that one clause covers both
