@@ -1,12 +1,13 @@
 -- What can come in a line of a program with commands.
-use Rattle.std.proofs.Common.{◌≡◌, ◌<◌, ◌≤◌, ◌↔◌, ◌+◌, ◌⊎◌, ◌++◌, ◌∷◌, [], ℕ, Bool, IsTrue, List, length, take, get_or, Some, None, Vec, ap, arith, refl, sym, subst, ◌∙◌}
+use Rattle.std.proofs.Common.{◌≡◌, ◌<◌, ◌≤◌, ◌↔◌, ◌⊎◌, ◌++◌, ◌∷◌, [], ℕ, Bool, false, true, IsTrue, List, length, get_or, Some, None, Vec, ap, arith, inr, refl, sym, subst, ◌∙◌}
+use Rattle.std.specs.Bool.{MatchBool}
+use Rattle.std.proofs.lemmas.Bool.{false≢true}
 use Rattle.std.specs.Global.{Global}
-use Rattle.std.proofs.lemmas.List.{take_more}
+use Rattle.lexopt_spec.specs.UnreadLine.{IsPlain}
 use Rattle.lexopt_options_spec.specs.Asking.{first_asked}
-use Rattle.lexopt_options_spec.specs.Declaration.{Declaration}
 use Rattle.lexopt_options_spec.specs.Leading.{MeansLeading}
 use Rattle.lexopt_options_spec.specs.Legal as legal
-use Rattle.lexopt_options_spec.proofs.Wrapping.{Listed, one_listed}
+use Rattle.lexopt_options_spec.proofs.Roles.{other_name}
 use Rattle.lexopt_options.specs.declared.leading.Leading.{Leading}
 use Rattle.lexopt_options.specs.declared.leading.Leading.TheVariants as leading
 use Rattle.lexopt_options.specs.declared.options.Options.{Options}
@@ -16,52 +17,50 @@ use Rattle.lexopt_options.specs.Declarations.{declaration_of}
 use Rattle.lexopt_options.specs.LeadingLines.{IsLeadingOf, IsLeadingRead}
 use Rattle.lexopt_commands.proofs.LinesRead.{IsOfEach}
 use Rattle.lexopt_commands.specs.declared.answer.Step.{Step}
-use Rattle.lexopt_commands.specs.declared.command.Command.{Command}
 use Rattle.lexopt_commands.specs.declared.commands.Commands.{Commands}
-use Rattle.lexopt_commands.specs.Completions.{CanBeName, IsNameLine, IsOptionsText, IsPlaced, IsPlacedAfter, IsText, IsUnplaced, LeavesOnly, place}
+use Rattle.lexopt_commands.specs.Completions.{CanBeNamed, CannotBeNamed, ComesFirst, IsOptionsText, IsPlaced, IsPlacedAfter, IsText, IsUnplaced, LeavesEmptyWord, place}
 
-pub only_word : (words : List (List ℕ)) (word name : List ℕ) (b : Bool) → 1 ≤ length words → length words < 2 → word ≡ get_or words 0 word → (IsTrue b ↔ (word ≡ name)) → IsTrue b ↔ (words ≡ name ∷ [])
-only_word [] word name b some few is same = absurd (omega (arith, some))
-only_word (w ∷ []) word name b some few is same = (
+pub only_word : (words : List (List ℕ)) (word : List ℕ) (b : Bool) → 1 ≤ length words → length words < 2 → word ≡ get_or words 0 word → (IsTrue b ↔ (word ≡ [])) → IsTrue b ↔ (words ≡ [] ∷ [])
+only_word [] word b some few is same = absurd (omega (arith, some))
+only_word (w ∷ []) word b some few is same = (
   (λ yes. ap (λ x. x ∷ []) (sym is ∙ same.0 yes)),
   (λ alone. same.1 (is ∙ ap (λ l. get_or l 0 []) alone)),
 )
-only_word (w ∷ v ∷ words) word name b some few is same = absurd (omega (arith, few))
+only_word (w ∷ v ∷ words) word b some few is same = absurd (omega (arith, few))
 
 -- ---- the names of commands
 
--- by what is read of the words, with the name after them
-pub can_be_so : {F V P M S : Type 0} (o : Options F V P M S) (words : List (List ℕ)) (name : List ℕ) (found : Leading F V P M S) → IsLeadingRead o (words ++ name ∷ []) found
-    → ((l : List legal.Parsed) (rest : List (List ℕ)) → MeansLeading (declaration_of o) (words ++ name ∷ []) l rest → IsLeadingOf o l rest found) → LeavesOnly found name ↔ CanBeName (declaration_of o) words name
-can_be_so o words name (leading.Parsed parsed rest) read of = (
-  (λ only. (read.0, subst (λ r. MeansLeading (declaration_of o) (words ++ name ∷ []) read.0 r) only read.1, read.2)),
-  (λ there. (of there.0 (name ∷ []) there.1).2),
-)
-can_be_so o words name (leading.Asked asked) read of = (
-  (λ only. absurd only),
-  (λ there. let e : None ≡ Some _ = sym there.2 ∙ of there.0 (name ∷ []) there.1 in cc),
-)
-can_be_so o words name (leading.Refused refused) read of = ((λ only. absurd only), (λ there. of there.0 (name ∷ []) there.1))
+empty_plain : IsPlain false []
+empty_plain = inr (inr (λ begins. begins))
+
+-- by what is read of the words, with the empty word after them
+named_so : {F V P M S : Type 0} (o : Options F V P M S) (words : List (List ℕ)) (found : Leading F V P M S) (b : Bool) → IsLeadingRead o (words ++ [] ∷ []) found
+    → ((l : List legal.Parsed) (rest : List (List ℕ)) → MeansLeading (declaration_of o) (words ++ [] ∷ []) l rest → IsLeadingOf o l rest found) → (IsTrue b ↔ LeavesEmptyWord found)
+    → MatchBool b (CanBeNamed (declaration_of o) words) (CannotBeNamed (declaration_of o) words)
+named_so o words found true read of is = λ name plain. comes found read (is.0 refl) name plain
+  where
+    comes : (found : Leading _ _ _ _ _) → IsLeadingRead o (words ++ [] ∷ []) found → LeavesEmptyWord found → (name : List ℕ) → IsPlain false name → ComesFirst (declaration_of o) words name
+    comes (leading.Parsed parsed rest) read only name plain =
+        (read.0, other_name (declaration_of o) words read.0 [] name empty_plain plain (subst (λ r. MeansLeading (declaration_of o) (words ++ [] ∷ []) read.0 r) only read.1), read.2)
+    comes (leading.Asked asked) read only name plain = absurd only
+    comes (leading.Refused refused) read only name plain = absurd only
+named_so o words found false read of is = λ name plain there.
+    let means = other_name (declaration_of o) words there.0 name [] plain empty_plain there.1 in
+    false≢true (is.1 (left found there.0 there.2 (of there.0 ([] ∷ []) means)))
+  where
+    left : (found : Leading _ _ _ _ _) (l : List legal.Parsed) → first_asked (declaration_of o).options l ≡ None → IsLeadingOf o l ([] ∷ []) found → LeavesEmptyWord found
+    left (leading.Parsed parsed rest) l nothing own = own.2
+    left (leading.Asked asked) l nothing own = let e : None ≡ Some _ = sym nothing ∙ own in cc
+    left (leading.Refused refused) l nothing own = own
 
 -- the same, for the options and words that calls return
-pub can_be_name_so : {F V P M S : Type 0} (o own : Options F V P M S) (words others : List (List ℕ)) (name : List ℕ) (found : Leading F V P M S) (b : Bool) → own ≡ o → others ≡ words ++ name ∷ [] → IsLeadingRead own others found
-    → ((l : List legal.Parsed) (rest : List (List ℕ)) → MeansLeading (declaration_of own) others l rest → IsLeadingOf own l rest found) → (IsTrue b ↔ LeavesOnly found name) → IsTrue b ↔ CanBeName (declaration_of o) words name
-can_be_name_so {F} {V} {P} {M} {S} o own words others name found b same are read of only =
-    let both : LeavesOnly found name ↔ CanBeName (declaration_of o) words name =
-    can_be_so o words name found (subst (λ ws. IsLeadingRead o ws found) are (subst (λ x. IsLeadingRead x others found) same read))
-    (λ l rest means. subst (λ x. IsLeadingOf x l rest found) same (of l rest (subst (λ ws. MeansLeading (declaration_of own) ws l rest) (sym are) (subst (λ (x : Options F V P M S). MeansLeading (declaration_of x) (words ++ name ∷ []) l rest) (sym same) means))))
-    in
-    ((λ yes. both.0 (only.0 yes)), (λ there. only.1 (both.1 there)))
-
--- the text has the lines for these commands
-abbrev pub AreNames : {C : Type 0} → Declaration → List (List ℕ) → List ℕ → List (Command C) → List ℕ → Type 0
-AreNames d words typed commands text = Listed (λ (c : Command _). IsNameLine d words typed c) (λ (line : List ℕ). line) [] commands text
-
-pub name_more : {C : Type 0} (d : Declaration) (words : List (List ℕ)) (typed : List ℕ) (commands : List (Command C)) (i : ℕ) (c : Command C) (text new line : List ℕ) → i < length commands → c ≡ get_or commands i c
-    → AreNames d words typed (take i commands) text → IsNameLine d words typed c line → new ≡ text ++ line → AreNames d words typed (take (i + 1) commands) new
-name_more d words typed commands i c text new line within is had own same =
-    subst (λ cs. AreNames d words typed cs new) (sym (take_more commands i c within ∙ ap (λ x. take i commands ++ x ∷ []) (sym is)))
-    (subst (λ bs. AreNames d words typed (take i commands ++ c ∷ []) bs) (sym same) (one_listed (λ (x : Command _). IsNameLine d words typed x) (λ (l : List ℕ). l) [] (take i commands) text c line had own))
+pub can_be_named_so : {F V P M S : Type 0} (o own : Options F V P M S) (words others : List (List ℕ)) (found : Leading F V P M S) (b : Bool) → own ≡ o → others ≡ words ++ [] ∷ [] → IsLeadingRead own others found
+    → ((l : List legal.Parsed) (rest : List (List ℕ)) → MeansLeading (declaration_of own) others l rest → IsLeadingOf own l rest found) → (IsTrue b ↔ LeavesEmptyWord found)
+    → MatchBool b (CanBeNamed (declaration_of o) words) (CannotBeNamed (declaration_of o) words)
+can_be_named_so {F} {V} {P} {M} {S} o own words others found b same are read of only =
+    named_so o words found b (subst (λ ws. IsLeadingRead o ws found) are (subst (λ x. IsLeadingRead x others found) same read))
+    (λ l rest means. subst (λ x. IsLeadingOf x l rest found) same (of l rest (subst (λ ws. MeansLeading (declaration_of own) ws l rest) (sym are) (subst (λ (x : Options F V P M S). MeansLeading (declaration_of x) (words ++ [] ∷ []) l rest) (sym same) means))))
+    only
 
 -- ---- the place of a word
 

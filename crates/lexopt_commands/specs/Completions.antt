@@ -1,9 +1,10 @@
 -- What can come where a word is typed in a line of a program with commands. The source is
 -- `docs/behaviour.md`.
 use Rattle.std.specs.Prelude.{◌≡◌, ◌⊎◌, ◌++◌, ◌∷◌, ℕ, if◌then◌else◌, nat_eq, List, []}
-use Rattle.std.specs.Prelude.{Option, Some, None, codes, string_bytes}
-use Rattle.std.specs.List.{AllZip, concat, flat_map, starts_with}
+use Rattle.std.specs.Prelude.{Option, Some, None, codes, false, string_bytes}
+use Rattle.std.specs.List.{flat_map, starts_with}
 use Rattle.std.specs.Str.{chars}
+use Rattle.lexopt_spec.specs.UnreadLine.{IsPlain}
 use Rattle.lexopt_options_spec.specs.Asking.{first_asked}
 use Rattle.lexopt_options_spec.specs.Declaration.{Declaration}
 use Rattle.lexopt_options_spec.specs.Help.{line_feed}
@@ -37,22 +38,30 @@ name_line c = codes "+" ++ c.name.now ++ codes "\t" ++ flat_map on_one_line (cha
 abbrev pub begun_line : {C : Type 0} → List ℕ → Command C → List ℕ
 begun_line typed c = if starts_with nat_eq c.name.now typed then name_line c else []
 
--- this name can come after these words: the words are general options that ask for nothing, and the
--- name is the first word after them
-abbrev pub CanBeName : Declaration → List (List ℕ) → List ℕ → Type 0
-CanBeName d words name = (l : List legal.Parsed) × MeansLeading d (words ++ name ∷ []) l (name ∷ [])
-    × (first_asked d.options l ≡ None)
+-- these words are general options that ask for nothing, and this word is the first after them
+abbrev pub ComesFirst : Declaration → List (List ℕ) → List ℕ → Type 0
+ComesFirst d words name = (l : List legal.Parsed)
+    × MeansLeading d (words ++ name ∷ []) l (name ∷ []) × (first_asked d.options l ≡ None)
 
--- the line for a command whose name can come and begins with what was typed; no line for another
-abbrev pub IsNameLine : {C : Type 0} → Declaration → List (List ℕ) → List ℕ → Command C → List ℕ
-    → Type 0
-IsNameLine d words typed c line = (CanBeName d words c.name.now × (line ≡ begun_line typed c))
-    ⊎ ((¬ CanBeName d words c.name.now) × (line ≡ []))
+-- the name of a command can come after these words, whichever it is
+abbrev pub CanBeNamed : Declaration → List (List ℕ) → Type 0
+CanBeNamed d words = (name : List ℕ) → IsPlain false name → ComesFirst d words name
 
--- general options are legal, and this is the only word after them
-abbrev pub LeavesOnly : {F V P M S : Type 0} → Leading F V P M S → List ℕ → Type 0
-LeavesOnly (leading.Parsed parsed rest) name = rest.items ≡ name ∷ []
-LeavesOnly found name = ⊥
+-- no name can come
+abbrev pub CannotBeNamed : Declaration → List (List ℕ) → Type 0
+CannotBeNamed d words = (name : List ℕ) → IsPlain false name → ¬ ComesFirst d words name
+
+-- the lines for the commands whose names begin with what was typed, if a name can come
+abbrev pub AreNames : {C F V P M S : Type 0} → Commands C F V P M S → List (List ℕ) → List ℕ
+    → List ℕ → Type 0
+AreNames c words typed text = (CanBeNamed (declaration_of c.options) words
+    × (text ≡ flat_map (begun_line typed) c.commands.now))
+    ⊎ (CannotBeNamed (declaration_of c.options) words × (text ≡ []))
+
+-- general options are legal, and the empty word is the only one after them
+abbrev pub LeavesEmptyWord : {F V P M S : Type 0} → Leading F V P M S → Type 0
+LeavesEmptyWord (leading.Parsed parsed rest) = rest.items ≡ [] ∷ []
+LeavesEmptyWord found = ⊥
 
 -- ---- where a word is typed
 
@@ -94,9 +103,8 @@ place commands (word ∷ rest) = place_of commands (runs_of commands word) rest
 -- general declaration
 abbrev pub IsOptionsText : {C F V P M S : Type 0} → Commands C F V P M S → List (List ℕ) → List ℕ
     → List ℕ → Type 0
-IsOptionsText c words typed text = (lines : List (List ℕ))
-    × AllZip (IsNameLine (declaration_of c.options) words typed) c.commands.now lines
-    × (own : List ℕ) × IsCompletionText c.options words typed own × (text ≡ concat lines ++ own)
+IsOptionsText c words typed text = (names : List ℕ) × AreNames c words typed names
+    × (own : List ℕ) × IsCompletionText c.options words typed own × (text ≡ names ++ own)
 
 -- what to do where this is typed at this place, after these general options
 abbrev pub IsPlaced : {C F V P M S : Type 0} → Commands C F V P M S → List (List ℕ) → List ℕ

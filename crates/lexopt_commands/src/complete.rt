@@ -6,7 +6,7 @@ ghost use Rattle.std.specs.Global.{Global};
 ghost use Rattle.lexopt_options.specs.declared.leading.Leading.TheVariants as leadings;
 ghost use Rattle.lexopt_options.specs.declared.parsed.Parsed as rust;
 ghost use Rattle.std.specs.List.{flat_map};
-ghost use Rattle.lexopt_commands.specs.Completions.{LeavesOnly, begun_line, name_line, place};
+ghost use Rattle.lexopt_commands.specs.Completions.{LeavesEmptyWord, begun_line, name_line, place};
 ghost use Rattle.lexopt_commands.specs.Completions.{place_at_help};
 ghost use Rattle.lexopt_commands.specs.Views.{place_view};
 
@@ -62,29 +62,22 @@ fn place_after<C: Copy>(commands: &[Command<'_, C>], words: Vec<OsString>) -> Pl
     }
 }
 
-// Whether a word is this text.
-fn is_word(word: &OsString, text: &str) -> bool
-    ensures { IsTrue result ↔ (word.now ≡ text.now) }
-{
-    word.as_bytes() == text.as_bytes()
-}
-
-// Whether this is the only word.
-fn is_only(words: &[OsString], name: &str) -> bool
-    ensures { IsTrue result ↔ (words.now ≡ name.now ∷ []) }
+// Whether the empty word is the only one.
+fn is_empty_word(words: &[OsString]) -> bool
+    ensures { IsTrue result ↔ (words.now ≡ [] ∷ []) }
 {
     match words {
-        [word] => is_word(word, name),
+        [word] => word.is_empty(),
         _ => false,
     }
 }
 
-// Whether general options are legal, and this is the only word after them.
-fn leaves_only<F, V, P, M, S>(leading: &Leading<'_, F, V, P, M, S>, name: &str) -> bool
-    ensures { IsTrue result ↔ LeavesOnly leading.now name.now }
+// Whether general options are legal, and the empty word is the only one after them.
+fn leaves_empty_word<F, V, P, M, S>(leading: &Leading<'_, F, V, P, M, S>) -> bool
+    ensures { IsTrue result ↔ LeavesEmptyWord leading.now }
 {
     match leading {
-        Leading::Parsed(_, rest) => is_only(rest, name),
+        Leading::Parsed(_, rest) => is_empty_word(rest),
         Leading::Asked(_) => false,
         Leading::Refused(_) => false,
     }
@@ -154,61 +147,41 @@ fn begun_names<C>(
 impl<'a, C: Copy, F: Copy, V: Copy, P: Copy, M: Copy, S: Copy> Commands<'a, C, F, V, P, M, S> {
     ghost use Rattle.std.specs.Prelude.{◌≡◌, ◌↔◌, ◌⊎◌, ◌++◌, ℕ, [], IfOk, IsTrue, List, OnOk};
     ghost use Rattle.std.specs.Prelude.{string_bytes};
-    ghost use Rattle.std.specs.List.{AllZip, concat};
+    ghost use Rattle.std.specs.Bool.{MatchBool};
     ghost use Rattle.lexopt_options.specs.Completions.{HasPositional};
     ghost use Rattle.lexopt_options.specs.Declarations.{declaration_of};
-    ghost use Rattle.lexopt_commands.specs.Completions.{CanBeName, IsCompletionStep, IsNameLine};
-    ghost use Rattle.lexopt_commands.specs.Completions.{IsOptionsText, IsPlaced, place};
+    ghost use Rattle.lexopt_commands.specs.Completions.{AreNames, CanBeNamed, CannotBeNamed};
+    ghost use Rattle.lexopt_commands.specs.Completions.{IsCompletionStep, IsOptionsText, IsPlaced};
+    ghost use Rattle.lexopt_commands.specs.Completions.{place};
 
-    // Whether this name can come after these words.
-    fn can_be_name(&self, alloc: Global, words: &[OsString], name: &str) -> Result<bool, AllocError>
-        ensures { IfOk result (λ b. IsTrue b
-            ↔ CanBeName (declaration_of self.now.options) words.now name.now) }
+    // Whether the name of a command can come after these words. The empty word stands for it, since
+    // it is read as each of them would be.
+    fn can_be_named(&self, alloc: Global, words: &[OsString]) -> Result<bool, AllocError>
+        ensures { IfOk result (λ b. MatchBool b
+            (CanBeNamed (declaration_of self.now.options) words.now)
+            (CannotBeNamed (declaration_of self.now.options) words.now)) }
     {
         let mut copy = copies(alloc, words)?;
-        copy.push(OsString::from_text(alloc, name)?)?;
+        copy.push(OsString::new(alloc))?;
         let leading = self.options().read_leading(alloc, copy)?;
-        Ok(leaves_only(&leading, name))
+        Ok(leaves_empty_word(&leading))
     }
 
-    // Adds the line for a command, if its name begins with what was typed and can come after these
-    // words.
-    fn push_possible(
-        &self,
-        alloc: Global,
-        text: &mut String,
-        words: &[OsString],
-        typed: &OsString,
-        command: &Command<'_, C>,
-    ) -> Result<(), AllocError>
-        ensures { OnOk result ((line : List ℕ)
-            × IsNameLine (declaration_of self.now.options) words.now typed.now command.now line
-            × (string_bytes text.new ≡ string_bytes text.old ++ line)) }
-    {
-        if self.can_be_name(alloc, words, command.name)? {
-            push_begun(text, command, typed)
-        } else {
-            Ok(())
-        }
-    }
-
-    // The lines for the commands whose names begin with what was typed, and can come after these
-    // words.
+    // The lines for the commands whose names begin with what was typed, if a name can come after
+    // these words.
     fn possible_names(
         &self,
         alloc: Global,
         words: &[OsString],
         typed: &OsString,
     ) -> Result<String, AllocError>
-        ensures { IfOk result (λ text. (lines : List (List ℕ))
-            × AllZip (IsNameLine (declaration_of self.now.options) words.now typed.now)
-            self.now.commands.now lines × (string_bytes text ≡ concat lines)) }
+        ensures { IfOk result (λ text. AreNames self.now words.now typed.now (string_bytes text)) }
     {
-        let mut text = String::new(alloc);
-        for command in self.commands() {
-            self.push_possible(alloc, &mut text, words, typed, command)?;
+        if self.can_be_named(alloc, words)? {
+            begun_names(alloc, self.commands(), typed)
+        } else {
+            Ok(String::new(alloc))
         }
-        Ok(text)
     }
 
     // What can come where no command is among the words: names, and what can come by the general

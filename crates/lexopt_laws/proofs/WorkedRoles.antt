@@ -14,7 +14,7 @@ use Rattle.lexopt_options_spec.specs.Declaration.{Declaration, Positional}
 use Rattle.lexopt_options_spec.specs.Legal.{Parsed, MeansFront, IsWithin, most, option, several, positional}
 use Rattle.lexopt_options_spec.specs.Stops.{Mistake, StopsAt, unknown_option, missing_value, unexpected_value, unexpected_argument, missing_argument, missing_option, invalid_argument, invalid_value, not_declared, value_of_flag, one_too_many}
 use Rattle.lexopt_options_spec.specs.Stops as stop
-use Rattle.lexopt_options_spec.specs.Completion.{IsOpen, IsOption, IsPlainRole, IsDashedRole, JoinsValue, Role, role_of, value_of}
+use Rattle.lexopt_options_spec.specs.Completion.{IsOpen, IsOption, JoinsValue, value_of}
 use Rattle.lexopt_options_spec.proofs.LastWords.{same_last as one_last}
 use Rattle.std.specs.Str.{IsUtf8}
 use Rattle.lexopt_options_spec.proofs.Fronts.{comes_to, no_front, one_front}
@@ -22,44 +22,6 @@ use Rattle.lexopt_laws.specs.Sample.{sample, files}
 use Rattle.lexopt_laws.proofs.WorkedMeans.{front_of}
 use Rattle.lexopt_laws.proofs.WorkedOpen.{open_of}
 use Rattle.lexopt_laws.proofs.WorkedStops.{at_first, after_flag}
-
--- ---- the last thing that is read
-
-no_last : (l : List Parsed) (s : Parsed) → [] ≡ l ++ s ∷ [] → ⊥
-no_last [] s is = let e : [] ≡ s ∷ [] = is in cc
-no_last (x ∷ l) s is = let e : [] ≡ x ∷ (l ++ s ∷ []) = is in cc
-
-same_last : (l m : List Parsed) (s t : Parsed) → l ++ s ∷ [] ≡ m ++ t ∷ [] → (l ≡ m) × (s ≡ t)
-same_last [] [] s t is = let e : s ∷ [] ≡ t ∷ [] = is in (refl, cc)
-same_last [] (y ∷ m) s t is = let e : s ∷ [] ≡ y ∷ (m ++ t ∷ []) = is in let rest : [] ≡ m ++ t ∷ [] = cc in absurd (no_last m t rest)
-same_last (x ∷ l) [] s t is = let e : x ∷ (l ++ s ∷ []) ≡ t ∷ [] = is in let rest : [] ≡ l ++ s ∷ [] = cc in absurd (no_last l s rest)
-same_last (x ∷ l) (y ∷ m) s t is = let e : x ∷ (l ++ s ∷ []) ≡ y ∷ (m ++ t ∷ []) = is in let rest : l ++ s ∷ [] ≡ m ++ t ∷ [] = cc in
-    let head : x ≡ y = cc in
-    let parts = same_last l m s t rest in
-    (ap (λ z. z ∷ l) head ∙ ap (λ k. y ∷ k) parts.0, parts.1)
-
--- so it has one role
-same_role : (l m : List Parsed) (s t : Parsed) → l ++ s ∷ [] ≡ m ++ t ∷ [] → role_of l s ≡ role_of m t
-same_role l m s t is = let parts = same_last l m s t is in ap (λ k. role_of k s) parts.0 ∙ ap (role_of m) parts.1
-
--- ---- roles
-
--- the words with the empty word mean this, so the role is that of its last part, and no other
-pub plain_is : (d : Declaration) (words : List (List ℕ)) (before : List Parsed) (s : Parsed) → MeansFront d (words ++ [] ∷ []) (before ++ s ∷ []) → (r : Role) → IsPlainRole d words (Some r) → role_of before s ≡ r
-plain_is d words before s means r (others, t, other, is) =
-    same_role before others s t (one_front d (words ++ [] ∷ []) (before ++ s ∷ []) (others ++ t ∷ []) means other) ∙ is
-
-pub dashed_is : (d : Declaration) (words : List (List ℕ)) (before : List Parsed) (s : Parsed) → MeansFront d (words ++ (dash ∷ dash ∷ []) ∷ []) (before ++ s ∷ []) → (r : Role)
-    → IsDashedRole d words (Some r) → role_of before s ≡ r
-dashed_is d words before s means r (others, t, other, unparsed, is) =
-    same_role before others s t (one_front d (words ++ (dash ∷ dash ∷ []) ∷ []) (before ++ s ∷ []) (others ++ t ∷ []) means other) ∙ is
-
--- where an option can come, a separator adds nothing
-pub open_dashed : (d : Declaration) (words : List (List ℕ)) (l : List Parsed) → IsOpen d words l → IsDashedRole d words None
-open_dashed d words l is before s means = subst (MeansFront d words) (one_front d (words ++ (dash ∷ dash ∷ []) ∷ []) l (before ++ s ∷ []) is.with_separator means) is.front
-
-pub not_dashed : (d : Declaration) (words : List (List ℕ)) → IsDashedRole d words None → (r : Role) → IsDashedRole d words (Some r) → ⊥
-not_dashed d words none r (before, s, means, unparsed, is) = unparsed (none before s means)
 
 -- ---- lines with the empty word
 

@@ -5,7 +5,7 @@
 //! list accepts fast and slow, and FORM accepts tar.
 ghost use Rattle.std.specs.Prelude.{◌≡◌, ◌++◌, [], ◌∷◌, ℕ, List, Option, Some, None, true, false};
 ghost use Rattle.std.specs.Prelude.{codes, map};
-ghost use Rattle.lexopt_spec.specs.UnreadLine.{joined, no_tail, rest};
+ghost use Rattle.lexopt_spec.specs.UnreadLine.{BeginsWith, dash, joined, no_tail, rest};
 ghost use Rattle.lexopt_line_spec.specs.Table as spec;
 ghost use Rattle.lexopt_line_spec.specs.Table.{flag, long, many, one, optional, short};
 ghost use Rattle.lexopt_options_spec.specs.Asking.{AskFor, all_but_last, asked_at, asked_by};
@@ -13,8 +13,8 @@ ghost use Rattle.lexopt_options_spec.specs.Asking.{first_asked, parsed_before};
 ghost use Rattle.lexopt_options_spec.specs.Completion.{AreOwners, AreOwnersIn, CanOwn};
 ghost use Rattle.lexopt_options_spec.specs.Completion.{AreText, CanOccur, Completes, IsOpen};
 ghost use Rattle.lexopt_options_spec.specs.Completion.{IsOption, IsText, names_of, spelling};
-ghost use Rattle.lexopt_options_spec.specs.Completion.{HasRole, IsDashedRole, IsJoined};
-ghost use Rattle.lexopt_options_spec.specs.Completion.{IsPlainRole, Role, argument};
+ghost use Rattle.lexopt_options_spec.specs.Completion.{EndsWith, Extends, HasRole, IsJoined};
+ghost use Rattle.lexopt_options_spec.specs.Completion.{Role, argument};
 ghost use Rattle.lexopt_options_spec.specs.Completion.{role_of, spellings, value_of};
 ghost use Rattle.lexopt_options_spec.specs.Examples.{joined_after};
 ghost use Rattle.lexopt_options_spec.specs.Completion.{value};
@@ -1036,87 +1036,68 @@ fn values_are_not_joined()
     ensures no_value { IsJoined (sample [] true) [] (codes "-b") (joined_after 2 (codes "-b")) → ⊥ }
 {}
 
-// What a word is that is not an option.
+// What a word is that is not an option, where no dash was typed first.
 fn plain_words_have_roles()
-    ensures after_a_flag { IsPlainRole (sample (files ∷ []) true) (codes "-v" ∷ [])
-        (Some (argument 0)) }
-    ensures after_a_positional { IsPlainRole (sample (files ∷ []) true) (codes "a" ∷ [])
-        (Some (argument 1)) }
-    ensures no_more_positionals { IsPlainRole (sample [] true) (codes "-v" ∷ []) None }
-    ensures after_an_optional_value { IsPlainRole (sample (files ∷ []) true) (codes "-b" ∷ [])
-        (Some (argument 0)) }
-    ensures value_due { IsPlainRole (sample [] true) (codes "-o" ∷ []) (Some (value 1)) }
-    ensures first_value_due { IsPlainRole (sample [] true) (codes "-x" ∷ []) (Some (value 3)) }
-    ensures one_more_value { IsPlainRole (sample [] true) (codes "-x" ∷ codes "a" ∷ [])
-        (Some (value 3)) }
-    ensures after_the_separator { IsPlainRole (sample (files ∷ []) true) (codes "--" ∷ [])
-        (Some (argument 0)) }
-    ensures after_a_mistake { IsPlainRole (sample (files ∷ []) true) (codes "-z" ∷ []) None }
+    ensures after_a_flag { (typed : List ℕ) → (¬ BeginsWith dash typed)
+        → HasRole (sample (files ∷ []) true) (codes "-v" ∷ []) typed (Some (argument 0)) }
+    ensures after_a_positional { (typed : List ℕ) → (¬ BeginsWith dash typed)
+        → HasRole (sample (files ∷ []) true) (codes "a" ∷ []) typed (Some (argument 1)) }
+    ensures no_more_positionals { (typed : List ℕ) → (¬ BeginsWith dash typed)
+        → HasRole (sample [] true) (codes "-v" ∷ []) typed None }
+    ensures after_an_optional_value { (typed : List ℕ) → (¬ BeginsWith dash typed)
+        → HasRole (sample (files ∷ []) true) (codes "-b" ∷ []) typed (Some (argument 0)) }
+    ensures value_due { (typed : List ℕ) → (¬ BeginsWith dash typed)
+        → HasRole (sample [] true) (codes "-o" ∷ []) typed (Some (value 1)) }
+    ensures first_value_due { (typed : List ℕ) → (¬ BeginsWith dash typed)
+        → HasRole (sample [] true) (codes "-x" ∷ []) typed (Some (value 3)) }
+    ensures one_more_value { (typed : List ℕ) → (¬ BeginsWith dash typed)
+        → HasRole (sample [] true) (codes "-x" ∷ codes "a" ∷ []) typed (Some (value 3)) }
+    ensures after_the_separator { (typed : List ℕ) → (¬ BeginsWith dash typed)
+        → HasRole (sample (files ∷ []) true) (codes "--" ∷ []) typed (Some (argument 0)) }
+    ensures after_a_mistake { (typed : List ℕ) → (¬ BeginsWith dash typed)
+        → HasRole (sample (files ∷ []) true) (codes "-z" ∷ []) typed None }
 {}
 
-// What such a word is not.
-fn plain_words_have_no_other_role()
-    ensures after_a_flag { IsPlainRole (sample (files ∷ []) true) (codes "-v" ∷ []) None → ⊥ }
-    ensures after_a_positional { IsPlainRole (sample (files ∷ []) true) (codes "a" ∷ [])
-        (Some (argument 0)) → ⊥ }
-    ensures no_more_positionals { (role : Role)
-        → IsPlainRole (sample [] true) (codes "-v" ∷ []) (Some role) → ⊥ }
-    ensures after_an_optional_value { IsPlainRole (sample (files ∷ []) true) (codes "-b" ∷ [])
-        (Some (value 2)) → ⊥ }
-    ensures value_due { (n : ℕ)
-        → IsPlainRole (sample [] true) (codes "-o" ∷ []) (Some (argument n)) → ⊥ }
-    ensures first_value_due { IsPlainRole (sample [] true) (codes "-x" ∷ []) None → ⊥ }
-    ensures one_more_value { (n : ℕ) → IsPlainRole (sample (files ∷ []) true)
-        (codes "-x" ∷ codes "a" ∷ []) (Some (argument n)) → ⊥ }
-    ensures after_the_separator { IsPlainRole (sample (files ∷ []) true) (codes "--" ∷ []) None
-        → ⊥ }
-    ensures after_a_mistake { (role : Role)
-        → IsPlainRole (sample (files ∷ []) true) (codes "-z" ∷ []) (Some role) → ⊥ }
-{}
-
-// What a word is that begins with a dash and is not an option.
+// What it is where a dash was typed first.
 fn dashed_words_have_roles()
-    ensures after_a_flag { IsDashedRole (sample (files ∷ []) true) (codes "-v" ∷ []) None }
-    ensures after_an_optional_value { IsDashedRole (sample (files ∷ []) true) (codes "-b" ∷ [])
-        None }
-    ensures value_due { IsDashedRole (sample [] true) (codes "-o" ∷ []) (Some (value 1)) }
-    ensures first_value_due { IsDashedRole (sample [] true) (codes "-x" ∷ []) None }
-    ensures one_more_value { IsDashedRole (sample [] true) (codes "-x" ∷ codes "a" ∷ []) None }
-    ensures after_the_separator { IsDashedRole (sample (files ∷ []) true) (codes "--" ∷ [])
-        (Some (argument 0)) }
-    ensures after_a_mistake { IsDashedRole (sample (files ∷ []) true) (codes "-z" ∷ []) None }
+    ensures after_a_flag { (typed : List ℕ) → BeginsWith dash typed
+        → HasRole (sample (files ∷ []) true) (codes "-v" ∷ []) typed None }
+    ensures after_an_optional_value { (typed : List ℕ) → BeginsWith dash typed
+        → HasRole (sample (files ∷ []) true) (codes "-b" ∷ []) typed None }
+    ensures value_due { (typed : List ℕ) → BeginsWith dash typed
+        → HasRole (sample [] true) (codes "-o" ∷ []) typed (Some (value 1)) }
+    ensures first_value_due { (typed : List ℕ) → BeginsWith dash typed
+        → HasRole (sample [] true) (codes "-x" ∷ []) typed None }
+    ensures one_more_value { (typed : List ℕ) → BeginsWith dash typed
+        → HasRole (sample [] true) (codes "-x" ∷ codes "a" ∷ []) typed None }
+    ensures after_the_separator { (typed : List ℕ) → BeginsWith dash typed
+        → HasRole (sample (files ∷ []) true) (codes "--" ∷ []) typed (Some (argument 0)) }
+    ensures after_a_mistake { (typed : List ℕ) → BeginsWith dash typed
+        → HasRole (sample (files ∷ []) true) (codes "-z" ∷ []) typed None }
 {}
 
-// What such a word is not.
-fn dashed_words_have_no_other_role()
-    ensures after_a_flag { (role : Role)
-        → IsDashedRole (sample (files ∷ []) true) (codes "-v" ∷ []) (Some role) → ⊥ }
-    ensures after_an_optional_value { (role : Role)
-        → IsDashedRole (sample (files ∷ []) true) (codes "-b" ∷ []) (Some role) → ⊥ }
-    ensures value_due { IsDashedRole (sample [] true) (codes "-o" ∷ []) None → ⊥ }
-    ensures not_an_argument { (n : ℕ)
-        → IsDashedRole (sample [] true) (codes "-o" ∷ []) (Some (argument n)) → ⊥ }
-    ensures first_value_due { (role : Role)
-        → IsDashedRole (sample [] true) (codes "-x" ∷ []) (Some role) → ⊥ }
-    ensures one_more_value { (role : Role)
-        → IsDashedRole (sample [] true) (codes "-x" ∷ codes "a" ∷ []) (Some role) → ⊥ }
-    ensures after_the_separator { IsDashedRole (sample (files ∷ []) true) (codes "--" ∷ []) None
-        → ⊥ }
-    ensures after_a_mistake { (role : Role)
-        → IsDashedRole (sample (files ∷ []) true) (codes "-z" ∷ []) (Some role) → ⊥ }
+// Words that are longer than what was typed, and not an option.
+fn words_are_longer()
+    ensures anything { Extends [] (codes "a") }
+    ensures more_of_it { Extends (codes "f") (codes "fi") }
+    ensures a_dash_alone { Extends [] (codes "-") }
+    ensures dashed { Extends (codes "-") (codes "-x") }
+    ensures not_shorter { Extends (codes "fi") (codes "f") → ⊥ }
+    ensures not_the_same { Extends (codes "f") (codes "f") → ⊥ }
+    ensures not_another { Extends (codes "f") (codes "a") → ⊥ }
+    ensures not_an_option { Extends [] (codes "-x") → ⊥ }
 {}
 
-// What was typed first decides which of the two roles a word has.
-fn words_have_roles()
-    ensures plain { HasRole (sample (files ∷ []) true) (codes "-v" ∷ []) (codes "f")
-        (Some (argument 0)) }
-    ensures nothing_typed { HasRole (sample (files ∷ []) true) (codes "-v" ∷ []) []
-        (Some (argument 0)) }
-    ensures dash { HasRole (sample (files ∷ []) true) (codes "-v" ∷ []) (codes "-") None }
-    ensures not_none { HasRole (sample (files ∷ []) true) (codes "-v" ∷ []) (codes "f") None
-        → ⊥ }
-    ensures not_after_a_dash { HasRole (sample (files ∷ []) true) (codes "-v" ∷ []) (codes "-")
-        (Some (argument 0)) → ⊥ }
+// What ends with a word.
+fn what_is_read_ends_with_words()
+    ensures value { EndsWith (codes "a") (option 1 (Some (codes "a"))) }
+    ensures last_of_several { EndsWith (codes "b") (several 3 (codes "a" ∷ codes "b" ∷ [])) }
+    ensures positional { EndsWith (codes "a") (positional (codes "a")) }
+    ensures not_without_a_value { EndsWith (codes "a") (option 1 None) → ⊥ }
+    ensures not_another_value { EndsWith (codes "-oa") (option 1 (Some (codes "a"))) → ⊥ }
+    ensures not_the_first_of_several {
+        EndsWith (codes "a") (several 3 (codes "a" ∷ codes "b" ∷ [])) → ⊥ }
+    ensures not_another_positional { EndsWith (codes "a") (positional (codes "b")) → ⊥ }
 {}
 
 // The forms that labels show.

@@ -4,7 +4,8 @@ ghost use Rattle.std.specs.Prelude.{Option, None, Some, true};
 ghost use Rattle.std.specs.List.{All};
 ghost use Rattle.lexopt_line_spec.specs.Table.{Name};
 ghost use Rattle.lexopt_options_spec.specs.Asking.{AskFor, first_asked, parsed_before};
-ghost use Rattle.lexopt_options_spec.specs.Completion.{AreOwners, AreOwnersIn, AreText, Role};
+ghost use Rattle.lexopt_options_spec.specs.Completion.{AreOwners, AreOwnersIn, AreText};
+ghost use Rattle.lexopt_options_spec.specs.Completion.{HasRole, Role};
 ghost use Rattle.lexopt_options_spec.specs.Declaration.{Asked, Declaration, Declared, Positional};
 ghost use Rattle.lexopt_options_spec.specs.Declaration.{accepts, has_name, index_of, is_sound};
 ghost use Rattle.lexopt_options_spec.specs.Declaration.{are_listable, listed};
@@ -32,6 +33,13 @@ pub fn each_line_means_something_or_stops()
         → StopsAt d words l m → StopsAt d words k n → (l ≡ k) × (m ≡ n) }
     ensures not_both { (d : Declaration) (words : List (List ℕ)) (l k : List Parsed) (m : Mistake)
         → Means d words l → StopsAt d words k m → ⊥ }
+{}
+
+/// All words that begin with what was typed, are longer, and are not options have at most one role
+/// where they are typed: each is a value of the same option, or a positional after as many others.
+pub fn each_place_has_one_role()
+    ensures { (d : Declaration) (words : List (List ℕ)) (typed : List ℕ) (r s : Option Role)
+        → HasRole d words typed r → HasRole d words typed s → r ≡ s }
 {}
 
 /// A line asks for at most one thing, such as the help. If the line means a list, it can only ask

@@ -4,8 +4,9 @@ use Rattle.std.proofs.Common.{Result, Ok, Err, IfOk, OnOk}
 use Rattle.std.specs.Global.{Global}
 use Rattle.std.specs.List.{Contains, flat_map, starts_with}
 use Rattle.std.specs.Str.{IsUtf8}
-use Rattle.std.proofs.Common.{◌<◌, ◌⊎◌, position, ⊎_elim}
-use Rattle.std.proofs.lemmas.Bool.{cases_eq, eq-eqb, false≢true}
+use Rattle.std.proofs.Common.{◌<◌, ◌⊎◌, nat_lt, position, length-append, ⊎_elim}
+use Rattle.std.proofs.Math.Seq.{take-append_seam}
+use Rattle.std.proofs.lemmas.Bool.{eq-eqb, false≢true, lt-ltb, ltb-true}
 use Rattle.std.proofs.lemmas.List.Quantifiers.{position-Some}
 use Rattle.std.proofs.lemmas.List.{get_or-drop, length-map, map-append}
 use Rattle.std.proofs.lemmas.Option.{slice_get-map}
@@ -18,12 +19,13 @@ use Rattle.lexopt_line_spec.specs.Table as table
 use Rattle.lexopt_line_spec.specs.Table.{Item, Name}
 use Rattle.lexopt_spec.specs.UnreadLine.{BeginsWith, dash}
 use Rattle.lexopt_options_spec.specs.Completion as spec
-use Rattle.lexopt_options_spec.specs.Completion.{AreText, Completes, HasRole, IsDashedRole, IsJoined, IsOpen, IsOption, IsPlainRole, JoinsValue, explained, explained_by, joined_at, list_of, listed_by, names_of, offered_values, spelling, spellings, values_at}
+use Rattle.lexopt_options_spec.specs.Completion.{AreText, Completes, HasRole, IsJoined, IsOpen, IsOption, JoinsValue, explained, explained_by, joined_at, list_of, listed_by, names_of, offered_values, spelling, spellings, values_at}
 use Rattle.lexopt_options_spec.proofs.Fronts.{one_front}
-use Rattle.lexopt_options_spec.proofs.LastWords.{no_last, same_last}
+use Rattle.lexopt_options_spec.proofs.LastWords.{Ending, ending, has_last, has_none, no_last, same_last}
 use Rattle.lexopt_options_spec.proofs.OpenLines.{dashes}
 use Rattle.lexopt_options_spec.proofs.OpenWords as open_words
 use Rattle.lexopt_options_spec.proofs.OpenWords.{EndsInOne, OpenOrNot, takes_any_word, open_or_not, open_adds}
+use Rattle.lexopt_options_spec.proofs.Roles.{extends, means_with_empty, no_role_of_dashed, no_role_of_plain, no_role_where_open, role_of_dashed, role_of_plain, takes_empty}
 use Rattle.lexopt_options_spec.proofs.Occurs.{AreNamed, occurs_accepted, occurs_open, occurs_taken}
 use Rattle.lexopt_options_spec.proofs.Taken.{CanBeTaken, filled}
 use Rattle.lexopt_options_spec.specs.Declaration.{Positional, are_listable}
@@ -134,42 +136,35 @@ mapped_last : (before : List Indexed) (last : Indexed) → map indexed_view (bef
 mapped_last [] last = refl
 mapped_last (x ∷ before) last = ap (λ l. indexed_view x ∷ l) (mapped_last before last)
 
-pub some_role : (d : Declaration) (words : List (List ℕ)) (parsed : List Indexed) (r : Option Place) → MeansFront d (words ++ [] ∷ []) (map indexed_view parsed)
+pub some_role : (d : Declaration) (words : List (List ℕ)) (typed : List ℕ) (parsed : List Indexed) (r : Option Place) → ¬ BeginsWith dash typed → MeansFront d (words ++ [] ∷ []) (map indexed_view parsed)
     → IsLastPlace parsed r
-    → IsPlainRole d words (option_map place_view r)
-some_role d words parsed None means none = λ before s other.
-    no_last before s (sym (ap (map indexed_view) none) ∙ one_front d (words ++ [] ∷ []) (map indexed_view parsed) (before ++ s ∷ []) means other)
-some_role d words parsed (Some role) means (counted, (before, last, items_are, role_is)) = (
-  map indexed_view before,
-  indexed_view last,
-  subst (MeansFront d (words ++ [] ∷ [])) (ap (map indexed_view) items_are ∙ mapped_last before last) means,
-  role_is,
-)
+    → HasRole d words typed (option_map place_view r)
+some_role d words typed parsed None undashed means none = no_role_of_plain d words typed undashed
+    (λ before s other. no_last before s (sym (ap (map indexed_view) none) ∙ one_front d (words ++ [] ∷ []) (map indexed_view parsed) (before ++ s ∷ []) means other))
+some_role d words typed parsed (Some role) undashed means (counted, (before, last, items_are, role_is)) =
+    subst (λ x. HasRole d words typed (Some x)) role_is
+    (role_of_plain d words typed (map indexed_view before) (indexed_view last) undashed (subst (MeansFront d (words ++ [] ∷ [])) (ap (map indexed_view) items_are ∙ mapped_last before last) means))
+
+pub unsaid_role : (d : Declaration) (words : List (List ℕ)) (typed : List ℕ) → ¬ BeginsWith dash typed → IsPart d (words ++ [] ∷ []) None → HasRole d words typed None
+unsaid_role d words typed undashed none = no_role_of_plain d words typed undashed (λ before s. none (before ++ s ∷ []))
 
 -- ---- what `--` is
 
--- where an option can come, it adds nothing
-pub no_dashed : (d : Declaration) (words : List (List ℕ)) → Opens d words true → IsDashedRole d words None
-no_dashed d words opens = λ before s other.
-    let there = opens.0 refl in
-    subst (MeansFront d words) (one_front d (words ++ dashes ∷ []) there.0 (before ++ s ∷ []) there.1.with_separator other) there.1.front
+pub no_dashed : (d : Declaration) (words : List (List ℕ)) (typed : List ℕ) → BeginsWith dash typed → Opens d words true → HasRole d words typed None
+no_dashed d words typed dashed opens = let there = opens.0 refl in no_role_where_open d words typed there.0 dashed there.1
 
-pub unsaid_dashed : (d : Declaration) (words : List (List ℕ)) → IsPart d (words ++ dashes ∷ []) None → IsDashedRole d words None
-unsaid_dashed d words none = λ before s other. absurd (none (before ++ s ∷ []) other)
+pub unsaid_dashed : (d : Declaration) (words : List (List ℕ)) (typed : List ℕ) → BeginsWith dash typed → IsPart d (words ++ dashes ∷ []) None → HasRole d words typed None
+unsaid_dashed d words typed dashed none = no_role_of_dashed d words typed dashed (λ before s. none (before ++ s ∷ []))
 
-pub some_dashed : (d : Declaration) (words : List (List ℕ)) (parsed : List Indexed) (r : Option Place) → Opens d words false → MeansFront d (words ++ dashes ∷ []) (map indexed_view parsed)
-    → IsLastPlace parsed r
-    → IsDashedRole d words (option_map place_view r)
-some_dashed d words parsed None closed means none = λ before s other.
-    absurd (no_last before s (sym (ap (map indexed_view) none) ∙ one_front d (words ++ dashes ∷ []) (map indexed_view parsed) (before ++ s ∷ []) means other))
-some_dashed d words parsed (Some role) closed means (counted, (before, last, items_are, role_is)) =
-    let dashed = subst (MeansFront d (words ++ dashes ∷ [])) (ap (map indexed_view) items_are ∙ mapped_last before last) means in (
-      map indexed_view before,
-      indexed_view last,
-      dashed,
-      (λ front. false≢true (closed.1 (map indexed_view before ++ indexed_view last ∷ [], record { front = front; with_separator = dashed }))),
-      role_is,
-    )
+pub some_dashed : (d : Declaration) (words : List (List ℕ)) (typed : List ℕ) (parsed : List Indexed) (r : Option Place) → BeginsWith dash typed → Opens d words false
+    → MeansFront d (words ++ dashes ∷ []) (map indexed_view parsed) → IsLastPlace parsed r
+    → HasRole d words typed (option_map place_view r)
+some_dashed d words typed parsed None dashed closed means none = no_role_of_dashed d words typed dashed
+    (λ before s other. no_last before s (sym (ap (map indexed_view) none) ∙ one_front d (words ++ dashes ∷ []) (map indexed_view parsed) (before ++ s ∷ []) means other))
+some_dashed d words typed parsed (Some role) dashed closed means (counted, (before, last, items_are, role_is)) =
+    subst (λ x. HasRole d words typed (Some x)) role_is
+    (role_of_dashed d words typed (map indexed_view before) (indexed_view last) (λ l is. false≢true (closed.1 (l, is)))
+    (subst (MeansFront d (words ++ dashes ∷ [])) (ap (map indexed_view) items_are ∙ mapped_last before last) means))
 
 -- ---- a value in the word of its option
 
@@ -361,14 +356,10 @@ declared_by options (item ∷ items) l [] s parsed is earlier =
 last_declared : (d : Declaration) (words : List (List ℕ)) (before : List legal.Parsed) (s : legal.Parsed) → MeansFront d words (before ++ s ∷ []) → IsDeclared (length d.options) (spec.role_of before s)
 last_declared d words before s means = declared_by d.options means.items (before ++ s ∷ []) before s means.parsed refl before
 
-starts_so : (typed : List ℕ) → BeginsWith dash typed ⊎ (¬ BeginsWith dash typed)
-starts_so [] = inr (λ begins. begins)
-starts_so (b ∷ bs) = ⊎_elim (λ same. inl same) (λ other. inr other) (cases_eq b dash)
-
 pub role_declared : (d : Declaration) (words : List (List ℕ)) (typed : List ℕ) (role : spec.Role) → HasRole d words typed (Some role) → IsDeclared (length d.options) role
-role_declared d words typed role is = ⊎_elim
-    (λ begins. let there = is.dashed begins in subst (IsDeclared (length d.options)) there.4 (last_declared d _ there.0 there.1 there.2))
-    (λ not. let there = is.plain not in subst (IsDeclared (length d.options)) there.3 (last_declared d _ there.0 there.1 there.2)) (starts_so typed)
+role_declared d words typed role is =
+    let there = is (typed ++ 0x61 ∷ []) (extends typed 0x61 (λ same. omega (arith, same))) in
+    subst (IsDeclared (length d.options)) there.3 (last_declared d _ there.0 there.1 there.2.means)
 
 pub joined_declared : (d : Declaration) (words : List (List ℕ)) (typed : List ℕ) (i : ℕ) (before : List ℕ) → JoinsValue d words typed i before → i < length d.options
 joined_declared d words typed i before joins = of joins.last joins.is (last_declared d (typed ∷ []) joins.others joins.last joins.word_means)
@@ -488,12 +479,55 @@ pub some_positional : (d : Declaration) (words own : List (List ℕ)) (parsed it
 some_positional d words own parsed items count same are means is =
     let front = subst (λ ws. MeansFront d ws (map indexed_view parsed)) same means in
     let counted : positional_count (map indexed_view parsed) ≡ count = counts_are parsed ∙ ap (λ l. length (filter (λ x. taken.is_positional x) l)) (sym are) ∙ sym is in (
-      (λ some. (map indexed_view parsed, front, omega (arith, some, counted))),
-      (λ there.
-          let one = ap positional_count (one_front d words there.0 (map indexed_view parsed) there.1 front) in
-          let more = there.2 in
-          omega (arith, more, one, counted)),
+      (λ some. (map indexed_view parsed, omega (arith, some, counted), inl front)),
+      (λ there. ⊎_elim
+          (λ own_front. let one = ap positional_count (one_front d words there.0 (map indexed_view parsed) own_front front) in let more = there.1 in omega (arith, more, one, counted))
+          (λ other. absurd (other.0 (map indexed_view parsed) front)) there.2),
     )
 
-pub no_positional : (d : Declaration) (words own : List (List ℕ)) → own ≡ words → IsPart d own None → HasPositional d words → ⊥
-no_positional d words own same none there = none there.0 (subst (λ ws. MeansFront d ws there.0) (sym same) there.1)
+-- all but the last are counted
+pub before_last : (parsed front : List Indexed) (count : ℕ) → 1 ≤ length parsed → front ≡ take (length parsed - 1) parsed → count ≡ length (filter (λ x. taken.is_positional x) front)
+    → IsTrue (nat_lt 0 count) ↔ ((before : List Indexed) × (last : Indexed) × (parsed ≡ before ++ last ∷ []) × (0 < positional_count (map indexed_view before)))
+before_last parsed front count some front_is count_is = at (ending parsed)
+  where
+    at : Ending parsed → IsTrue (nat_lt 0 count) ↔ ((before : List Indexed) × (last : Indexed) × (parsed ≡ before ++ last ∷ []) × (0 < positional_count (map indexed_view before)))
+    at (has_none none) = let e = ap length none in absurd (omega (arith, e, some))
+    at (has_last f x is) = (
+      (λ yes. let more = ltb-true 0 count yes in (f, x, is, omega (arith, more, counted))),
+      (λ there.
+          let same = ap (λ l. positional_count (map indexed_view l)) (same_last f there.0 x there.1 (sym is ∙ there.2)).0 in
+          let more = there.3 in
+          lt-ltb 0 count (omega (arith, more, same, counted))),
+    )
+      where
+        front_so : front ≡ f
+        front_so = let e = length-append f (x ∷ []) in
+            front_is ∙ ap (λ l. take (length l - 1) l) is ∙ ap (λ (n : ℕ). take n (f ++ x ∷ [])) (omega (arith, e)) ∙ take-append_seam f (x ∷ [])
+
+        counted : positional_count (map indexed_view f) ≡ count
+        counted = counts_are f ∙ ap (λ l. length (filter (λ x. taken.is_positional x) l)) (sym front_so) ∙ sym count_is
+
+-- with the empty word these words mean this
+pub positional_before : (d : Declaration) (words : List (List ℕ)) (parsed items : List Indexed) (b : Bool) → items ≡ parsed → ((l : List legal.Parsed) → ¬ MeansFront d words l) → MeansFront d (words ++ [] ∷ []) (map indexed_view parsed)
+    → (IsTrue b ↔ ((before : List Indexed) × (last : Indexed) × (items ≡ before ++ last ∷ []) × (0 < positional_count (map indexed_view before)))) → IsTrue b ↔ HasPositional d words
+positional_before d words parsed items b same none means is = (
+  (λ yes.
+      let there = is.0 yes in
+      let taken_so = takes_empty d words (map indexed_view there.0) (indexed_view there.1) (subst (MeansFront d (words ++ [] ∷ [])) (ap (map indexed_view) (sym same ∙ there.2) ∙ mapped_last there.0 there.1) means) in
+      (map indexed_view there.0, there.3, inr (none, [], taken_so.0, taken_so.1))),
+  (λ there. ⊎_elim
+      (λ front. absurd (none there.0 front))
+      (λ other.
+          let empty = means_with_empty d words other.1 there.0 other.2 none other.3 in
+          let all = one_front d (words ++ [] ∷ []) (map indexed_view parsed) (there.0 ++ empty.0 ∷ []) means empty.1 in
+          let at = last_of parsed there.0 empty.0 all in
+          let before_is = (same_last (map indexed_view at.0) there.0 (indexed_view at.1) empty.0 (sym (mapped_last at.0 at.1) ∙ ap (map indexed_view) (sym at.2) ∙ all)).0 in
+          is.1 (at.0, at.1, same ∙ at.2, subst (λ l. 0 < positional_count l) (sym before_is) there.1))
+      there.2),
+)
+
+pub no_positional : (d : Declaration) (words : List (List ℕ)) → ((l : List legal.Parsed) → ¬ MeansFront d words l) → IsPart d (words ++ [] ∷ []) None → HasPositional d words → ⊥
+no_positional d words none no_more there = ⊎_elim
+    (λ front. none there.0 front)
+    (λ other. let empty = means_with_empty d words other.1 there.0 other.2 none other.3 in no_more (there.0 ++ empty.0 ∷ []) empty.1)
+    there.2

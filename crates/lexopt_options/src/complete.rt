@@ -4,11 +4,11 @@ ghost use Rattle.std.specs.Prelude.{◌<◌, None, Some, filter, length, nat_eq,
 ghost use Rattle.lexopt_spec.specs.UnreadLine.{BeginsWith, dash};
 ghost use Rattle.std.specs.List.{flat_map, starts_with};
 ghost use Rattle.lexopt_options_spec.specs.Declaration.{Declaration};
-ghost use Rattle.lexopt_options_spec.specs.Legal.{are_accepted, positional_words};
+ghost use Rattle.lexopt_options_spec.specs.Legal.{are_accepted, positional_count};
+ghost use Rattle.lexopt_options_spec.specs.Legal.{positional_words};
 ghost use Rattle.lexopt_options_spec.proofs.Taken.{CanBeTaken};
 ghost use Rattle.lexopt_options_spec.specs.Completion as spec;
-ghost use Rattle.lexopt_options_spec.specs.Completion.{HasRole, IsDashedRole, IsJoined, IsOption};
-ghost use Rattle.lexopt_options_spec.specs.Completion.{IsPlainRole};
+ghost use Rattle.lexopt_options_spec.specs.Completion.{HasRole, IsJoined, IsOption};
 ghost use Rattle.lexopt_options.specs.Completions.{CanCome, Opens, TakeAnyWord, ends_in_one};
 ghost use Rattle.lexopt_options.specs.Completions.{IsLastPlace, is_one, joined_values, values_so};
 ghost use Rattle.lexopt_options.specs.Completions.{word_values, words_so};
@@ -63,8 +63,8 @@ pub struct Completion<'a, F, V = Infallible, M = Infallible, S = Infallible> {
     /// positionals to which it can belong; then, if the value of an option is typed in the word
     /// itself, that word with each value in the list of this option.
     pub values: Vec<String>,
-    /// What a word that is not an option would be there, if one can come. It is judged by the empty
-    /// word, or by the word `--` if a dash was typed first.
+    /// What a word is there that begins with what was typed, is longer, and is not an option,
+    /// whichever it is; `None` if no such word can come.
     pub word: Option<Role<'a, F, V, M, S>>,
     /// If that word would be a positional: the indices of the declared positionals that it can
     /// belong to, whether or not more words come after it.
@@ -181,11 +181,13 @@ fn last_place(parsed: &[Indexed]) -> Option<Place>
     }
 }
 
-// What an empty word is after some words. `plain` is what is read from them with it.
+// What a word is that begins with `typed`, which has no dash first, and is not an option. `plain` is
+// what is read from the words before it with an empty word after them.
 fn plain_place(plain: &Option<Vec<Indexed>>) -> Option<Place>
     ensures counted { IsCounted result }
-    ensures role { (d : Declaration) (words : List (List ℕ)) → IsPart d (words ++ [] ∷ []) plain.now
-        → IsPlainRole d words (option_map place_view result) }
+    ensures role { (d : Declaration) (words : List (List ℕ)) (typed : List ℕ)
+        → (¬ BeginsWith dash typed) → IsPart d (words ++ [] ∷ []) plain.now
+        → HasRole d words typed (option_map place_view result) }
 {
     match plain {
         Some(parsed) => last_place(parsed),
@@ -193,13 +195,14 @@ fn plain_place(plain: &Option<Vec<Indexed>>) -> Option<Place>
     }
 }
 
-// What `--` is after some words, if it is not the separator. `dashed` is what is read from them
-// with it.
+// What a word is that begins with `typed`, which has a dash first, and is not an option. `dashed` is
+// what is read from the words before it with `--` after them.
 fn dashed_place(opens: bool, dashed: &Option<Vec<Indexed>>) -> Option<Place>
     ensures counted { IsCounted result }
-    ensures role { (d : Declaration) (words : List (List ℕ)) → Opens d words opens
+    ensures role { (d : Declaration) (words : List (List ℕ)) (typed : List ℕ)
+        → BeginsWith dash typed → Opens d words opens
         → IsPart d (words ++ (dash ∷ dash ∷ []) ∷ []) dashed.now
-        → IsDashedRole d words (option_map place_view result) }
+        → HasRole d words typed (option_map place_view result) }
 {
     if opens {
         return None;
@@ -235,6 +238,17 @@ fn place_after(
         dashed_place(opens, dashed)
     } else {
         plain_place(plain)
+    }
+}
+
+// Whether a positional is among these, the last left out.
+fn has_positional_before_last(parsed: &[Indexed]) -> bool
+    ensures { IsTrue result ↔ ((before : List Indexed) × (last : Indexed)
+        × (parsed.now ≡ before ++ last ∷ []) × (0 < positional_count (map indexed_view before))) }
+{
+    match parsed {
+        [before @ .., _] => word_count(before) > 0,
+        [] => false,
     }
 }
 
@@ -439,6 +453,8 @@ impl<'a, F, V, P, M, S> Options<'a, F, V, P, M, S> {
     ghost use Rattle.std.specs.Prelude.{Option, option_map};
     ghost use Rattle.lexopt_options_spec.specs.Completion.{AreOwnersIn, HasRole, IsJoined};
     ghost use Rattle.std.specs.Prelude.{◌↔◌, IsTrue};
+    ghost use Rattle.lexopt_options_spec.specs.Legal as legal;
+    ghost use Rattle.lexopt_options_spec.specs.Legal.{MeansFront};
     ghost use Rattle.lexopt_options.specs.Completions.{AreOffered, CanCome, HasPositional};
     ghost use Rattle.lexopt_options.specs.Completions.{IsCompletion, Opens};
     ghost use Rattle.lexopt_options.specs.Declarations.{declaration_of, options_of};
@@ -557,10 +573,26 @@ impl<'a, F, V, P, M, S> Options<'a, F, V, P, M, S> {
         }
     }
 
+    // Whether a positional is among these words, which mean nothing without a word after them.
+    fn has_positional_before_value(
+        &self,
+        alloc: Global,
+        words: &[OsString],
+    ) -> Result<bool, AllocError>
+        ensures { ((l : List legal.Parsed) → ¬ MeansFront (declaration_of self.now) words.now l)
+            → IfOk result (λ b. IsTrue b ↔ HasPositional (declaration_of self.now) words.now) }
+    {
+        match self.read_with(alloc, words, "")? {
+            Some(parsed) => Ok(has_positional_before_last(&parsed)),
+            None => Ok(false),
+        }
+    }
+
     /// Returns whether a positional is among these words.
     ///
-    /// They are read as the beginning of a line: something may be missing after them. If no line
-    /// begins with them, the result is `false`. The words are copied.
+    /// They are read as the beginning of a line: something may be missing after them, such as the
+    /// value of the last option. If no line begins with them, the result is `false`. The words are
+    /// copied.
     ///
     /// # Errors
     ///
@@ -570,7 +602,7 @@ impl<'a, F, V, P, M, S> Options<'a, F, V, P, M, S> {
     {
         match self.read_part(alloc, copies(alloc, words)?)? {
             Some(parsed) => Ok(word_count(&parsed) > 0),
-            None => Ok(false),
+            None => self.has_positional_before_value(alloc, words),
         }
     }
 
@@ -607,9 +639,9 @@ impl<'a, F, V, P, M, S> Options<'a, F, V, P, M, S> {
     ) -> Result<Completion<'a, F, V, M, S>, AllocError>
         // This is exactly what can come there: the spellings of declared options that begin with
         // what was typed, and after which some words make a legal line where that option occurs;
-        // what a word is that is not an option, judged by the empty word or by `--`, and to which
-        // positionals it can belong; the option whose value is typed in the word; and the values in
-        // the lists of these that begin with what was typed.
+        // what each longer word is that begins so and is not an option, and to which positionals it
+        // can belong; the option whose value is typed in the word; and the values in the lists of
+        // these that begin with what was typed.
         ensures { IfOk result (λ completion.
             IsCompletion self.now words.now typed.now completion) }
     {

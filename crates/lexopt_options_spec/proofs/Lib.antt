@@ -25,3 +25,4 @@ pub mod LabelTexts
 pub mod Wrapping
 pub mod OneHelp
 pub mod Shares
+pub mod Roles

@@ -299,7 +299,7 @@ both_parsed options (x ∷ xs) ys (s ∷ l) m is other =
 
 -- ---- where an option can come, each declared option can
 
-longer : {X : Type 0} (l : List X) (x : X) (m : List X) → l ++ x ∷ m ≢ l
+pub longer : {X : Type 0} (l : List X) (x : X) (m : List X) → l ++ x ∷ m ≢ l
 longer l x m is = let e = ap length is in let f = length-append l (x ∷ m) in absurd (omega (arith, e, f))
 
 positionals_append : (xs ys : List (List ℕ)) → map spec.positional (xs ++ ys) ≡ map spec.positional xs ++ map spec.positional ys

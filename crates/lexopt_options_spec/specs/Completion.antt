@@ -1,13 +1,13 @@
 -- What can come where a word is typed, after the words before it.
 -- The source is `docs/behaviour.md`.
-use Rattle.std.specs.Prelude.{◌≡◌, ◌<◌, ◌++◌, ℕ}
-use Rattle.std.specs.Prelude.{true, nat_eq, List, [], ◌∷◌, map, Option, Some, None}
+use Rattle.std.specs.Prelude.{◌≡◌, ◌≢◌, ◌<◌, ◌++◌, ℕ}
+use Rattle.std.specs.Prelude.{true, false, nat_eq, List, [], ◌∷◌, map, Option, Some, None}
 use Rattle.std.specs.Prelude.{encode_utf8, filter, slice_get, unwrap_or}
 use Rattle.std.specs.Char.{IsScalar}
 use Rattle.std.specs.List.{Contains, flat_map, list_any, starts_with}
 use Rattle.std.specs.Option.{option_map, option_to_list}
 use Rattle.std.specs.Str.{IsUtf8}
-use Rattle.lexopt_spec.specs.UnreadLine.{dash, BeginsWith}
+use Rattle.lexopt_spec.specs.UnreadLine.{dash, BeginsWith, IsPlain}
 use Rattle.lexopt_line_spec.specs.Table.{Name, short, long}
 use Rattle.lexopt_options_spec.specs.Declaration.{Declaration, Declared, has_name, index_of}
 use Rattle.lexopt_options_spec.specs.Declaration.{Positional, Words, listed}
@@ -95,30 +95,33 @@ role_of before (option i v) = value i
 role_of before (several i values) = value i
 role_of before (positional word) = argument (positional_count before)
 
--- what the empty word, which is not an option, is after these words; `None` if nothing is read with
--- it
-abbrev pub IsPlainRole : Declaration → List (List ℕ) → Option Role → Type 0
-IsPlainRole d words None =
-    (before : List Parsed) (s : Parsed) → ¬ MeansFront d (words ++ [] ∷ []) (before ++ s ∷ [])
-IsPlainRole d words (Some role) = (before : List Parsed) × (s : Parsed)
-    × MeansFront d (words ++ [] ∷ []) (before ++ s ∷ []) × (role_of before s ≡ role)
+-- what is read is this word whole, or ends with it: it is the value, the last of several values, or
+-- the positional
+abbrev pub EndsWith : List ℕ → Parsed → Type 0
+EndsWith w (option i v) = v ≡ Some w
+EndsWith w (several i values) = (others : List (List ℕ)) × (values ≡ others ++ w ∷ [])
+EndsWith w (positional word) = word ≡ w
 
--- what the word `--` is after these words, if it is not the separator; `None` if nothing more is
--- read with it than without it
-abbrev pub IsDashedRole : Declaration → List (List ℕ) → Option Role → Type 0
-IsDashedRole d words None = (before : List Parsed) (s : Parsed)
-    → MeansFront d (words ++ (dash ∷ dash ∷ []) ∷ []) (before ++ s ∷ [])
-    → MeansFront d words (before ++ s ∷ [])
-IsDashedRole d words (Some role) = (before : List Parsed) × (s : Parsed)
-    × MeansFront d (words ++ (dash ∷ dash ∷ []) ∷ []) (before ++ s ∷ [])
-    × (¬ MeansFront d words (before ++ s ∷ [])) × (role_of before s ≡ role)
+-- with w after them these words mean this, and what is read last ends with w: no option is in w
+pub record Takes (d : Declaration) (words : List (List ℕ)) (w : List ℕ) (before : List Parsed)
+    (last : Parsed) : Type 0 where
+  pub means : MeansFront d (words ++ w ∷ []) (before ++ last ∷ [])
+  pub whole : EndsWith w last
 
--- What a word is that is not an option, and is longer than what was typed of it: what the empty
--- word is, or `--` if a dash was typed first.
-pub record HasRole (d : Declaration) (words : List (List ℕ)) (typed : List ℕ) (role : Option Role)
-    : Type 0 where
-  pub plain : ¬ BeginsWith dash typed → IsPlainRole d words role
-  pub dashed : BeginsWith dash typed → IsDashedRole d words role
+-- w begins with what was typed, and is longer; and it is plain, unless a dash was typed first
+pub record Extends (typed w : List ℕ) : Type 0 where
+  pub begins : starts_with nat_eq w typed ≡ true
+  pub longer : w ≢ typed
+  pub plain : ¬ BeginsWith dash typed → IsPlain false w
+
+-- What each word is, after these words, that begins with what was typed, is longer, and is not an
+-- option. `None` means that no such word is a value or a positional; but the separator comes after
+-- what the words mean without it.
+abbrev pub HasRole : Declaration → List (List ℕ) → List ℕ → Option Role → Type 0
+HasRole d words typed None = (w : List ℕ) → Extends typed w → (before : List Parsed) (last : Parsed)
+    → Takes d words w before last → MeansFront d words (before ++ last ∷ [])
+HasRole d words typed (Some role) = (w : List ℕ) → Extends typed w → (before : List Parsed)
+    × (last : Parsed) × Takes d words w before last × (role_of before last ≡ role)
 
 -- ---- a value in the word of its option
 

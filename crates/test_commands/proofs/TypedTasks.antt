@@ -1,6 +1,8 @@
 -- What three commands do to complete a word, by the clauses of `Commands::answer_request`.
-use Rattle.std.proofs.Common.{◌≡◌, ◌⊎◌, ℕ, List, [], ◌∷◌, None, map, sym, subst, ◌∙◌, ⊎_elim}
-use Rattle.std.specs.List.{AllZip, flat_map}
+use Rattle.std.proofs.Common.{◌≡◌, ◌⊎◌, ℕ, false, List, [], ◌∷◌, ◌++◌, None, map, codes, refl, ap, inl, inr, sym, subst, ◌∙◌, ⊎_elim}
+use Rattle.std.specs.List.{AllZip, concat, flat_map}
+use Rattle.lexopt_spec.specs.UnreadLine.{dash, IsPlain}
+use Rattle.lexopt_line_spec.proofs.Worked.{not_begins}
 use Rattle.lexopt_options_spec.specs.Asking.{first_asked}
 use Rattle.lexopt_options_spec.specs.Declaration.{Declaration}
 use Rattle.lexopt_options_spec.specs.Leading.{MeansLeading}
@@ -16,7 +18,7 @@ use Rattle.lexopt_commands.specs.declared.answer.Step.{Step}
 use Rattle.lexopt_commands.specs.declared.answer.Step.TheVariants as step
 use Rattle.lexopt_commands.specs.declared.command.Command.{Command}
 use Rattle.lexopt_commands.specs.declared.commands.Commands.{Commands}
-use Rattle.lexopt_commands.specs.Completions.{IsCompletionStep, IsNameLine, IsOptionsText, IsPlaced, IsPlacedAfter, IsText, IsUnplaced, at_help, at_options, begun_line, in_command, name_line, nowhere, place}
+use Rattle.lexopt_commands.specs.Completions.{AreNames, CanBeNamed, CannotBeNamed, IsCompletionStep, IsOptionsText, IsPlaced, IsPlacedAfter, IsText, IsUnplaced, at_help, at_options, begun_line, in_command, name_line, nowhere, place}
 use Rattle.test_commands.specs.declared.callers.Task.{Task}
 use Rattle.test_commands.specs.Tasks as tasks
 use Rattle.test_commands.specs.Tasks.{AreOffered, IsTaskAsked, IsWritten, task_lines}
@@ -82,33 +84,63 @@ nothing_written c o words typed l rest it same none there means is =
     let p = placed_so c o words typed l rest it same none means is in
     written_nowhere c words typed p.0 it (subst (λ x. IsPlaced c words typed p.0 x it) there p.2)
 
-offered_at_options : {F V P M S : Type 0} (c : Commands Task F V P M S) (words : List (List ℕ)) (typed : List ℕ) (parsed : List (Parsed F V P M S)) (it : Step Task F V P M S)
-    → ((lines : List (List ℕ)) → AllZip (IsNameLine (declaration_of c.options) words typed) c.commands.now lines → AllZip (tasks.IsLineOf (declaration_of c.options) words typed) task_lines lines)
-    → IsPlaced c words typed parsed at_options it → AreOffered c.options words typed it
-offered_at_options c words typed parsed (step.Command own key (request.Completion before last)) so is = is
-offered_at_options c words typed parsed (step.Command own key (request.Line others)) so is = is
-offered_at_options c words typed parsed (step.Command own key (request.Script shell)) so is = is
-offered_at_options c words typed parsed (step.Command own key request.Unknown) so is = is
-offered_at_options c words typed parsed (step.Text text) so is = (is.0, so is.0 is.1, is.2, is.3, is.4)
-offered_at_options c words typed parsed (step.Refused refused) so is = is
-
-pub options_offered : {F V P M S : Type 0} (c : Commands Task F V P M S) (o : Options F V P M S) (words : List (List ℕ)) (typed : List ℕ) (l : List legal.Parsed) (it : Step Task F V P M S) → c.options ≡ o
-    → first_asked (declaration_of o).options l ≡ None → MeansLeading (declaration_of o) words l []
-    → ((lines : List (List ℕ)) → AllZip (IsNameLine (declaration_of c.options) words typed) c.commands.now lines → AllZip (tasks.IsLineOf (declaration_of c.options) words typed) task_lines lines) → IsCompletionStep c words typed it
-    → AreOffered o words typed it
-options_offered {F} {V} {P} {M} {S} c o words typed l it same none means so is =
-    let p = placed_so c o words typed l [] it same none means is in
-    subst (λ (x : Options F V P M S). AreOffered x words typed it) same (offered_at_options c words typed p.0 it so p.2)
+-- ---- the names of the commands
 
 -- the name of a command, and its line
 abbrev pub name_and_line : Command Task → List ℕ × List ℕ
 name_and_line c = (c.name.now, name_line c)
 
-pub lines_so : (d : Declaration) (words : List (List ℕ)) (typed : List ℕ) (commands : List (Command Task)) (lines : List (List ℕ)) → AllZip (IsNameLine d words typed) commands lines → AllZip (tasks.IsLineOf d words typed) (map name_and_line commands) lines
-lines_so d words typed [] [] zip = zip
-lines_so d words typed [] (l ∷ ls) zip = zip
-lines_so d words typed (c ∷ cs) [] zip = zip
-lines_so d words typed (c ∷ cs) (l ∷ ls) zip = (zip.0, lines_so d words typed cs ls zip.1)
+-- a text has the line of each of these names
+abbrev pub AreLines : Declaration → List (List ℕ) → List ℕ → List (List ℕ × List ℕ) → List ℕ → Type 0
+AreLines d words typed ps text = (lines : List (List ℕ)) × AllZip (tasks.IsLineOf d words typed) ps lines × (text ≡ concat lines)
+
+ArePlain : List (List ℕ × List ℕ) → Type 0
+ArePlain [] = Unit {0}
+ArePlain (p ∷ ps) = IsPlain false p.0 × ArePlain ps
+
+each_line : (d : Declaration) (words : List (List ℕ)) (typed : List ℕ) (ps : List (List ℕ × List ℕ)) → ArePlain ps → CanBeNamed d words → AreLines d words typed ps (flat_map (tasks.begun typed) ps)
+each_line d words typed [] plain named = ([], tt, refl)
+each_line d words typed (p ∷ ps) plain named =
+    let rest = each_line d words typed ps plain.1 named in (tasks.begun typed p ∷ rest.0, (inl (named p.0 plain.0, refl), rest.1), ap (λ l. tasks.begun typed p ++ l) rest.2)
+
+no_line : (d : Declaration) (words : List (List ℕ)) (typed : List ℕ) (ps : List (List ℕ × List ℕ)) → ArePlain ps → CannotBeNamed d words → AreLines d words typed ps []
+no_line d words typed [] plain never = ([], tt, refl)
+no_line d words typed (p ∷ ps) plain never =
+    let rest = no_line d words typed ps plain.1 never in ([] ∷ rest.0, (inr (never p.0 plain.0, refl), rest.1), rest.2)
+
+begun_pairs : (typed : List ℕ) (commands : List (Command Task)) → flat_map (begun_line typed) commands ≡ flat_map (tasks.begun typed) (map name_and_line commands)
+begun_pairs typed [] = refl
+begun_pairs typed (c ∷ cs) = ap (λ l. begun_line typed c ++ l) (begun_pairs typed cs)
+
+tasks_plain : ArePlain task_lines
+tasks_plain = (inr (inr (not_begins dash (codes "add") refl)), inr (inr (not_begins dash (codes "remote") refl)), inr (inr (not_begins dash (codes "help") refl)), tt)
+
+pub lines_so : {F V P M S : Type 0} (c : Commands Task F V P M S) (words : List (List ℕ)) (typed text : List ℕ) → map name_and_line c.commands.now ≡ task_lines → AreNames c words typed text
+    → AreLines (declaration_of c.options) words typed task_lines text
+lines_so {F} {V} {P} {M} {S} c words typed text are names = ⊎_elim
+    (λ some.
+        subst (AreLines (declaration_of c.options) words typed task_lines) (sym (some.1 ∙ begun_pairs typed c.commands.now ∙ ap (flat_map (tasks.begun typed)) are))
+        (each_line (declaration_of c.options) words typed task_lines tasks_plain some.0))
+    (λ none. subst (AreLines (declaration_of c.options) words typed task_lines) (sym none.1) (no_line (declaration_of c.options) words typed task_lines tasks_plain none.0))
+    names
+
+offered_at_options : {F V P M S : Type 0} (c : Commands Task F V P M S) (words : List (List ℕ)) (typed : List ℕ) (parsed : List (Parsed F V P M S)) (it : Step Task F V P M S)
+    → ((text : List ℕ) → AreNames c words typed text → AreLines (declaration_of c.options) words typed task_lines text)
+    → IsPlaced c words typed parsed at_options it → AreOffered c.options words typed it
+offered_at_options c words typed parsed (step.Command own key (request.Completion before last)) so is = is
+offered_at_options c words typed parsed (step.Command own key (request.Line others)) so is = is
+offered_at_options c words typed parsed (step.Command own key (request.Script shell)) so is = is
+offered_at_options c words typed parsed (step.Command own key request.Unknown) so is = is
+offered_at_options c words typed parsed (step.Text text) so is = let names = so is.0 is.1 in (names.0, names.1, is.2, is.3, is.4 ∙ ap (λ l. l ++ is.2) names.2)
+offered_at_options c words typed parsed (step.Refused refused) so is = is
+
+pub options_offered : {F V P M S : Type 0} (c : Commands Task F V P M S) (o : Options F V P M S) (words : List (List ℕ)) (typed : List ℕ) (l : List legal.Parsed) (it : Step Task F V P M S) → c.options ≡ o
+    → first_asked (declaration_of o).options l ≡ None → MeansLeading (declaration_of o) words l []
+    → ((text : List ℕ) → AreNames c words typed text → AreLines (declaration_of c.options) words typed task_lines text) → IsCompletionStep c words typed it
+    → AreOffered o words typed it
+options_offered {F} {V} {P} {M} {S} c o words typed l it same none means so is =
+    let p = placed_so c o words typed l [] it same none means is in
+    subst (λ (x : Options F V P M S). AreOffered x words typed it) same (offered_at_options c words typed p.0 it so p.2)
 
 -- ---- where the words are not general options that ask for nothing, nor with words after them
 
@@ -132,15 +164,15 @@ nothing_offered {F} {V} {P} {M} {S} c o words typed it same neither has is =
     ⊎_elim (λ own. subst (λ t. IsWritten t it) own.1 (written it un.text un.is_text)) (λ other. absurd (other.0 (subst (λ (x : Options F V P M S). HasPositional (declaration_of x) words) (sym same) has))) un.offered
 
 offered_so : {F V P M S : Type 0} (c : Commands Task F V P M S) (words : List (List ℕ)) (typed text : List ℕ) (it : Step Task F V P M S)
-    → ((lines : List (List ℕ)) → AllZip (IsNameLine (declaration_of c.options) words typed) c.commands.now lines → AllZip (tasks.IsLineOf (declaration_of c.options) words typed) task_lines lines)
+    → ((text : List ℕ) → AreNames c words typed text → AreLines (declaration_of c.options) words typed task_lines text)
     → IsText it text → IsOptionsText c words typed text → AreOffered c.options words typed it
 offered_so c words typed text (step.Command parsed key own) so is are = is
-offered_so c words typed text (step.Text found) so is are = (are.0, so are.0 are.1, are.2, are.3, is ∙ are.4)
+offered_so c words typed text (step.Text found) so is are = let names = so are.0 are.1 in (names.0, names.1, are.2, are.3, is ∙ are.4 ∙ ap (λ l. l ++ are.2) names.2)
 offered_so c words typed text (step.Refused refused) so is are = is
 
 pub options_offered_too : {F V P M S : Type 0} (c : Commands Task F V P M S) (o : Options F V P M S) (words : List (List ℕ)) (typed : List ℕ) (it : Step Task F V P M S) → c.options ≡ o
     → ((l : List legal.Parsed) (rest : List (List ℕ)) → MeansLeading (declaration_of o) words l rest → first_asked (declaration_of o).options l ≡ None → ⊥) → (¬ HasPositional (declaration_of o) words)
-    → ((lines : List (List ℕ)) → AllZip (IsNameLine (declaration_of c.options) words typed) c.commands.now lines → AllZip (tasks.IsLineOf (declaration_of c.options) words typed) task_lines lines) → IsCompletionStep c words typed it
+    → ((text : List ℕ) → AreNames c words typed text → AreLines (declaration_of c.options) words typed task_lines text) → IsCompletionStep c words typed it
     → AreOffered o words typed it
 options_offered_too {F} {V} {P} {M} {S} c o words typed it same neither none so is =
     let un = unplaced c o words typed it same neither is in

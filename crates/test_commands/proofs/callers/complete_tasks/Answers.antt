@@ -1,10 +1,8 @@
-use Rattle.std.proofs.Common.{◌∷◌, [], ℕ, List, ap, codes, map, subst}
-use Rattle.std.specs.List.{AllZip, flat_map}
+use Rattle.std.proofs.Common.{◌∷◌, [], ℕ, List, ap, codes, map}
+use Rattle.std.specs.List.{flat_map}
 use Rattle.std.proofs.lemmas.Result.{IfOk-weaker}
 use Rattle.lexopt_line_spec.proofs.Computing.{computing}
-use Rattle.lexopt_options.specs.Declarations.{declaration_of}
-use Rattle.lexopt_commands.specs.Completions.{IsNameLine, begun_line, place}
-use Rattle.test_commands.specs.Tasks.{IsLineOf}
+use Rattle.lexopt_commands.specs.Completions.{begun_line, place}
 use Rattle.test_commands.specs.declared.callers.Task.TheVariants as task
 use Rattle.test_commands.proofs.TypedTasks.{lines_so, name_and_line, names_written, nothing_offered, nothing_written, options_offered, options_offered_too, task_asked}
 use Rattle.test_commands.proofs.callers.complete_tasks.Goals as goal
@@ -36,10 +34,7 @@ unfolding computing
 returns-clause-options g c = λ l none means.
     let words = c.args.words.items in
     let typed = c.args.typed in
-    let d = declaration_of c.new.result.options in
-    let so = λ (lines : List (List ℕ)) (zip : AllZip (IsNameLine d words typed) c.new.result.commands.now lines).
-    subst (λ (ps : List (List ℕ × List ℕ)). AllZip (IsLineOf d words typed) ps lines) (ap (map name_and_line) c.new.ensures.commands) (lines_so d words typed c.new.result.commands.now lines zip)
-    in
+    let so = λ (text : List ℕ). lines_so c.new.result words typed text (ap (map name_and_line) c.new.ensures.commands) in
     IfOk-weaker c.answer_request.result _ _ (λ it is. options_offered c.new.result c.args.options words typed l it c.new.ensures.options none means so is) c.answer_request.ensures
 
 pub returns-clause-after_a_positional : goal.returns-clause-after_a_positional
@@ -51,8 +46,5 @@ unfolding computing
 returns-clause-after_a_mistake g c = λ neither none.
     let words = c.args.words.items in
     let typed = c.args.typed in
-    let d = declaration_of c.new.result.options in
-    let so = λ (lines : List (List ℕ)) (zip : AllZip (IsNameLine d words typed) c.new.result.commands.now lines).
-    subst (λ (ps : List (List ℕ × List ℕ)). AllZip (IsLineOf d words typed) ps lines) (ap (map name_and_line) c.new.ensures.commands) (lines_so d words typed c.new.result.commands.now lines zip)
-    in
+    let so = λ (text : List ℕ). lines_so c.new.result words typed text (ap (map name_and_line) c.new.ensures.commands) in
     IfOk-weaker c.answer_request.result _ _ (λ it is. options_offered_too c.new.result c.args.options words typed it c.new.ensures.options neither none so is) c.answer_request.ensures

@@ -1,8 +1,9 @@
-use Rattle.std.proofs.Common.{subst}
-use Rattle.std.proofs.lemmas.Bool.{false≢true, lt-ltb, ltb-true}
+use Rattle.std.proofs.Common.{subst, sym}
+use Rattle.std.proofs.lemmas.Bool.{lt-ltb, ltb-true}
+use Rattle.lexopt_options_spec.specs.Legal.{MeansFront}
 use Rattle.lexopt_options.specs.Declarations.{declaration_of}
 use Rattle.lexopt_options.specs.Fronts.{IsPart}
-use Rattle.lexopt_options.proofs.Completing.{no_positional, some_positional}
+use Rattle.lexopt_options.proofs.Completing.{some_positional}
 use Rattle.lexopt_options.proofs.options.Options.has_positional.Goals as goal
 
 pub returns-in-Some : goal.returns-in-Some
@@ -15,5 +16,5 @@ returns-in-Some g c =
 pub returns-in-None : goal.returns-in-None
 returns-in-None g c =
     let d = declaration_of c.args.self.now in
-    let none = subst (IsPart d c.in_ok-copies.field-0.items) c.in-None.is c.in_ok-parsed.ensures in
-    ((λ yes. absurd (false≢true yes)), (λ there. absurd (no_positional d c.args.words.now c.in_ok-copies.field-0.items c.in_ok-copies.ensures none there)))
+    c.has_positional_before_value.ensures (λ l means.
+        subst (IsPart d c.in_ok-copies.field-0.items) c.in-None.is c.in_ok-parsed.ensures l (subst (λ ws. MeansFront d ws l) (sym c.in_ok-copies.ensures) means))

@@ -1,9 +1,0 @@
-use Rattle.std.proofs.Common.{◌++◌, ◌∷◌, [], List, ℕ, ap, ◌∙◌}
-use Rattle.lexopt_commands.proofs.Placed.{can_be_name_so}
-use Rattle.lexopt_commands.proofs.commands.Commands.can_be_name.Goals as goal
-
-pub returns : goal.returns
-returns g c =
-    can_be_name_so c.args.self.now.options c.options.result c.args.words.now c.push.new.self.items c.args.name.now c.in_ok-leading.leading c.leaves_only.result c.options.ensures
-    (c.in_ok-push.ensures.items ∙ ap (λ (l : List (List ℕ)). l ++ c.in_ok-from_text.field-0 ∷ []) c.in_ok-copy.ensures ∙ ap (λ (w : List ℕ). c.args.words.now ++ w ∷ []) c.in_ok-from_text.ensures)
-    c.in_ok-leading.ensures.leading c.in_ok-leading.ensures.answered c.leaves_only.ensures
