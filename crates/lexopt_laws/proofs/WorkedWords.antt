@@ -16,9 +16,11 @@ use Rattle.lexopt_options_spec.specs.Places.{ArePlaces, AreShares, AreTaken, Can
 use Rattle.lexopt_options_spec.specs.Completion.{CanOccur, IsOpen}
 use Rattle.lexopt_options_spec.specs.Stops.{Mistake, ReadsUpTo, Stops, StopsAt, invalid_argument, missing_argument, not_taken, too_few}
 use Rattle.lexopt_options_spec.proofs.Fronts.{one_front}
-use Rattle.lexopt_options_spec.proofs.Shares.{greedy, greedy_are_shares}
+use Rattle.lexopt_options_spec.proofs.Shares.{greedy_are_shares}
+use Rattle.lexopt_options_spec.specs.Places.{greedy}
 use Rattle.lexopt_options_spec.proofs.Occurs.{occurs_taken}
-use Rattle.lexopt_options_spec.proofs.Taken.{AreFilled, CanBeTaken}
+use Rattle.lexopt_options_spec.proofs.Taken.{AreFilled}
+use Rattle.lexopt_options_spec.specs.Completion.{CanBeTaken}
 use Rattle.lexopt_laws.specs.Sample.{demanding_sample, files, form_in_list, mode_in_list, new, sample, sources}
 use Rattle.lexopt_laws.proofs.SomeAnswer.{nothing_read, one_more}
 use Rattle.lexopt_laws.proofs.WorkedOpen.{open_of}

@@ -27,7 +27,8 @@ use Rattle.lexopt_options_spec.proofs.OpenWords as open_words
 use Rattle.lexopt_options_spec.proofs.OpenWords.{EndsInOne, OpenOrNot, takes_any_word, open_or_not, open_adds}
 use Rattle.lexopt_options_spec.proofs.Roles.{extends, means_with_empty, no_role_of_dashed, no_role_of_plain, no_role_where_open, role_of_dashed, role_of_plain, takes_empty}
 use Rattle.lexopt_options_spec.proofs.Occurs.{AreNamed, occurs_accepted, occurs_open, occurs_taken}
-use Rattle.lexopt_options_spec.proofs.Taken.{CanBeTaken, filled}
+use Rattle.lexopt_options_spec.proofs.Taken.{filled}
+use Rattle.lexopt_options_spec.specs.Completion.{CanBeTaken}
 use Rattle.lexopt_options_spec.specs.Declaration.{Positional, are_listable}
 use Rattle.lexopt_options_spec.specs.Legal.{positional_count, positional_words}
 use Rattle.lexopt_options_spec.specs.Completion.{words_at}

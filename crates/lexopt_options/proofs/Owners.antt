@@ -9,7 +9,8 @@ use Rattle.lexopt_options_spec.specs.Declaration as spec
 use Rattle.lexopt_options_spec.specs.Legal.{IsWithin, most}
 use Rattle.lexopt_options_spec.specs.Places.{least}
 use Rattle.lexopt_options_spec.specs.Places.{ArePlaces, AreShares, CanTake, needs, owners}
-use Rattle.lexopt_options_spec.proofs.Shares.{extra, greedy, shares_are_greedy, some_places}
+use Rattle.lexopt_options_spec.proofs.Shares.{shares_are_greedy, some_places}
+use Rattle.lexopt_options_spec.specs.Places.{extra, greedy}
 use Rattle.lexopt_declaration.specs.Models.{positional_view}
 use Rattle.lexopt_declaration.specs.declared.declaration.Positional.{Positional}
 use Rattle.lexopt_options.specs.Keys.{AllFirst, HasKey}

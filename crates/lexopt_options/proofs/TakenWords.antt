@@ -14,8 +14,10 @@ use Rattle.lexopt_options_spec.specs.Declaration as spec
 use Rattle.lexopt_options_spec.specs.Legal as legal
 use Rattle.lexopt_options_spec.specs.Legal.{IsWithin, most, positional_count, positional_words}
 use Rattle.lexopt_options_spec.specs.Places.{AreShares, AreTaken, ArePlaces, IsNotTaken, least, owners, refused_word, takes_at}
-use Rattle.lexopt_options_spec.proofs.Shares.{greedy, greedy_are_shares, least_fits, shares_are_greedy, some_places}
-use Rattle.lexopt_options_spec.proofs.Taken.{CanBeTaken, owned_soon, refused_take, taken_soon}
+use Rattle.lexopt_options_spec.proofs.Shares.{greedy_are_shares, least_fits, shares_are_greedy, some_places}
+use Rattle.lexopt_options_spec.specs.Places.{greedy}
+use Rattle.lexopt_options_spec.proofs.Taken.{owned_soon, refused_take, taken_soon}
+use Rattle.lexopt_options_spec.specs.Completion.{CanBeTaken}
 use Rattle.lexopt_options.proofs.Owners.{owner_within, take_get}
 use Rattle.lexopt_declaration.specs.Models.{positional_view, words_view}
 use Rattle.lexopt_declaration.specs.declared.declaration.Declared.{Declared}

@@ -10,7 +10,7 @@ use Rattle.lexopt_options_spec.specs.Completion.{explained, list_of, offered_val
 use Rattle.lexopt_options_spec.specs.Completion.{words_at}
 use Rattle.lexopt_options_spec.specs.Legal as legal
 use Rattle.lexopt_options_spec.specs.Legal.{are_accepted, positional_words}
-use Rattle.lexopt_options_spec.proofs.Taken.{CanBeTaken}
+use Rattle.lexopt_options_spec.specs.Completion.{CanBeTaken}
 use Rattle.lexopt_declaration.specs.Models.{spelling_view, words_view}
 use Rattle.lexopt_options.specs.declared.complete.Completion.{Completion}
 use Rattle.lexopt_options.specs.declared.complete.Joined.{Joined}

@@ -6,7 +6,7 @@ ghost use Rattle.std.specs.List.{flat_map, starts_with};
 ghost use Rattle.lexopt_options_spec.specs.Declaration.{Declaration};
 ghost use Rattle.lexopt_options_spec.specs.Legal.{are_accepted, positional_count};
 ghost use Rattle.lexopt_options_spec.specs.Legal.{positional_words};
-ghost use Rattle.lexopt_options_spec.proofs.Taken.{CanBeTaken};
+ghost use Rattle.lexopt_options_spec.specs.Completion.{CanBeTaken};
 ghost use Rattle.lexopt_options_spec.specs.Completion as spec;
 ghost use Rattle.lexopt_options_spec.specs.Completion.{HasRole, IsJoined, IsOption};
 ghost use Rattle.lexopt_options.specs.Completions.{CanCome, Opens, TakeAnyWord, ends_in_one};

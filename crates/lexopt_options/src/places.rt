@@ -4,7 +4,7 @@ ghost use Rattle.std.specs.Prelude.{slice_get, true};
 ghost use Rattle.lexopt_options_spec.specs.Legal as legal;
 ghost use Rattle.lexopt_options_spec.specs.Places as spec;
 ghost use Rattle.lexopt_options_spec.specs.Places.{ArePlaces, least, owners};
-ghost use Rattle.lexopt_options_spec.proofs.Shares.{extra, greedy};
+ghost use Rattle.lexopt_options_spec.specs.Places.{extra, greedy};
 ghost use Rattle.lexopt_declaration.specs.Models.{count_view, positional_view};
 ghost use Rattle.lexopt_declaration.specs.declared.declaration.Declared.{Declared};
 ghost use Rattle.lexopt_options.specs.Keys as keys;

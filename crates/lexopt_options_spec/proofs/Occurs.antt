@@ -24,7 +24,8 @@ use Rattle.lexopt_options_spec.proofs.Lists.{first_same, same_somes}
 use Rattle.lexopt_options_spec.proofs.Listed.{accepted_append, accepted_front, accepts_here, list_good, one_accepted, option_there, single_accepted, slice_get_at, value_fits, value_for, value_plain}
 use Rattle.lexopt_options_spec.proofs.Sound.{IsGoodName, found, good}
 use Rattle.lexopt_options_spec.proofs.Tables.{kind_of_name, none_before, position_here}
-use Rattle.lexopt_options_spec.proofs.Taken.{AreFilled, CanBeTaken, can_be_taken, words_append, words_count, words_same}
+use Rattle.lexopt_options_spec.proofs.Taken.{AreFilled, can_be_taken, words_append, words_count, words_same}
+use Rattle.lexopt_options_spec.specs.Completion.{CanBeTaken}
 use Rattle.lexopt_options_spec.proofs.OpenLines.{OpenLine, Parts, open_to_the_end, up_to_separator, dashes, continues, parts}
 
 -- ---- words that are not values

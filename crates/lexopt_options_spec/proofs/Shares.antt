@@ -6,21 +6,9 @@ use Rattle.std.specs.List.{AllZip, list_any, sum_by}
 use Rattle.lexopt_options_spec.specs.Declaration.{Count, Positional, once, at_most_once, any_number, at_least_once, has_to_occur, may_repeat}
 use Rattle.lexopt_options_spec.specs.Legal.{IsWithin, most}
 use Rattle.lexopt_options_spec.specs.Places.{least, required}
-use Rattle.lexopt_options_spec.specs.Places.{AreFirst, ArePlaces, AreShares, CanTake, NoneSpare, has_room, needs, owners}
+use Rattle.lexopt_options_spec.specs.Places.{AreFirst, ArePlaces, AreShares, CanTake, NoneSpare, extra, greedy, has_room, needs, owners}
 
 -- ---- to each as many as can
-
--- how many of the words that are not required belong to the first positional
-abbrev pub extra : Count → ℕ → ℕ
-extra once spare = 0
-extra at_most_once spare = min 1 spare
-extra any_number spare = spare
-extra at_least_once spare = spare
-
--- the shares, where this many words are not required
-abbrev pub greedy : List Positional → ℕ → List ℕ
-greedy [] spare = []
-greedy (p ∷ ps) spare = (needs p.count + extra p.count spare) ∷ greedy ps (spare - extra p.count spare)
 
 abbrev total : List ℕ → ℕ
 total shares = sum_by (λ n. n) shares

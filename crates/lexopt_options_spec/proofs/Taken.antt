@@ -6,10 +6,12 @@ use Rattle.std.specs.List.{sum_by}
 use Rattle.std.specs.Option.{option_map}
 use Rattle.lexopt_options_spec.specs.Completion.{CanOwn}
 use Rattle.lexopt_options_spec.specs.Declaration.{Count, Positional, once, at_most_once, any_number, at_least_once, are_listable, list_fault}
+use Rattle.lexopt_options_spec.specs.Completion.{CanBeTaken}
 use Rattle.lexopt_options_spec.specs.Legal.{IsWithin, Parsed, option, several, positional, most, positional_count, positional_words}
 use Rattle.lexopt_options_spec.specs.Places.{AreShares, AreTaken, ArePlaces, IsNotTaken, least, needs, owners, refused_word, takes_at}
 use Rattle.lexopt_options_spec.proofs.Listed.{value_fits, value_for}
-use Rattle.lexopt_options_spec.proofs.Shares.{extra, greedy, greedy_are_shares, least_fits, one_places, shares_are_greedy, some_places}
+use Rattle.lexopt_options_spec.proofs.Shares.{greedy_are_shares, least_fits, one_places, shares_are_greedy, some_places}
+use Rattle.lexopt_options_spec.specs.Places.{extra, greedy}
 use Rattle.lexopt_options_spec.proofs.Sound.{no_fault}
 
 -- ---- the words of the positionals that are read
@@ -56,15 +58,6 @@ taken_or_not ps words within = let some = some_places ps (length words) within i
     go places are (Some found) is = inr (found.0, found.1, record { places = places; are_places = are; refused = is })
 
 -- ---- with more words after them
-
--- with some more words, each of these belongs to a positional that accepts it
-pub record CanBeTaken (ps : List Positional) (words : List (List ℕ)) : Type 0 where
-  pub count : ℕ
-  pub longer : length words ≤ count
-  pub within : IsWithin count (most ps)
-  pub places : List ℕ
-  pub are_places : ArePlaces ps count places
-  pub none : refused_word ps places words ≡ None
 
 none_first : (b : Bool) (o : Option (ℕ × List ℕ)) (p : ℕ × List ℕ) → cond b o (Some p) ≡ None → (b ≡ true) × (o ≡ None)
 none_first true o p is = (refl, is)

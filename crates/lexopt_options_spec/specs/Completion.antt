@@ -1,6 +1,6 @@
 -- What can come where a word is typed, after the words before it.
 -- The source is `docs/behaviour.md`.
-use Rattle.std.specs.Prelude.{◌≡◌, ◌≢◌, ◌<◌, ◌++◌, ℕ}
+use Rattle.std.specs.Prelude.{◌≡◌, ◌≢◌, ◌<◌, ◌≤◌, ◌++◌, ℕ, length}
 use Rattle.std.specs.Prelude.{true, false, nat_eq, List, [], ◌∷◌, map, Option, Some, None}
 use Rattle.std.specs.Prelude.{encode_utf8, filter, slice_get, unwrap_or}
 use Rattle.std.specs.Char.{IsScalar}
@@ -13,7 +13,7 @@ use Rattle.lexopt_options_spec.specs.Declaration.{Declaration, Declared, has_nam
 use Rattle.lexopt_options_spec.specs.Declaration.{Positional, Words, listed}
 use Rattle.lexopt_options_spec.specs.Legal.{IsWithin, Parsed, Means, MeansFront, most, option}
 use Rattle.lexopt_options_spec.specs.Legal.{positional, positional_count, several}
-use Rattle.lexopt_options_spec.specs.Places.{ArePlaces}
+use Rattle.lexopt_options_spec.specs.Places.{ArePlaces, refused_word}
 
 -- the word that spells the option of this name, and nothing else
 abbrev pub spelling : Name → List ℕ
@@ -185,6 +185,15 @@ pub record AreOwners (ps : List Positional) (n : ℕ) (owners : List ℕ) : Type
 abbrev pub AreOwnersIn : List Positional → Option Role → List ℕ → Type 0
 AreOwnersIn ps (Some (argument n)) owners = AreOwners ps n owners
 AreOwnersIn ps role owners = owners ≡ []
+
+-- with some more words, each of these belongs to a positional that accepts it
+pub record CanBeTaken (ps : List Positional) (words : List (List ℕ)) : Type 0 where
+  pub count : ℕ
+  pub longer : length words ≤ count
+  pub within : IsWithin count (most ps)
+  pub places : List ℕ
+  pub are_places : ArePlaces ps count places
+  pub none : refused_word ps places words ≡ None
 
 -- ---- values in lists
 

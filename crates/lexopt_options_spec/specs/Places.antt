@@ -1,6 +1,7 @@
 -- Which positional of a declaration each word of a line belongs to. The source is
 -- `docs/behaviour.md`.
-use Rattle.std.specs.Prelude.{◌≡◌, ◌≤◌, ◌==◌, ◌++◌, ℕ, suc, Bool, true, false, List, [], ◌∷◌, max}
+use Rattle.std.specs.Prelude.{◌≡◌, ◌≤◌, ◌==◌, ◌+◌, ◌-◌, ◌++◌, ℕ, suc, Bool, true, false, List, [], ◌∷◌}
+use Rattle.std.specs.Prelude.{max, min}
 use Rattle.std.specs.Prelude.{Option, Some, None, filter, if◌then◌else◌, length, replicate}
 use Rattle.std.specs.Prelude.{slice_get, take, unwrap_or}
 use Rattle.std.specs.List.{AllZip, sum_by}
@@ -58,6 +59,18 @@ pub record AreShares (ps : List Positional) (count : ℕ) (shares : List ℕ) : 
   pub each : AllZip (λ p n. CanTake p.count n) ps shares
   pub all : sum_by (λ n. n) shares ≡ count
   pub first : AreFirst ps shares
+
+-- how many of the words that are not required belong to the first positional
+abbrev pub extra : Count → ℕ → ℕ
+extra once spare = 0
+extra at_most_once spare = min 1 spare
+extra any_number spare = spare
+extra at_least_once spare = spare
+
+-- the same numbers, computed, where this many words are not required
+abbrev pub greedy : List Positional → ℕ → List ℕ
+greedy [] spare = []
+greedy (p ∷ ps) spare = (needs p.count + extra p.count spare) ∷ greedy ps (spare - extra p.count spare)
 
 -- for each word the index of its positional, counted from this index
 abbrev pub owners : ℕ → List ℕ → List ℕ

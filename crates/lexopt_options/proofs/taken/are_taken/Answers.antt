@@ -1,7 +1,7 @@
 use Rattle.std.proofs.Common.{ap, arith, is_none, map, sym, ◌∙◌}
 use Rattle.lexopt_declaration.specs.Models.{positional_view}
 use Rattle.lexopt_options_spec.specs.Places.{owners}
-use Rattle.lexopt_options_spec.proofs.Shares.{greedy}
+use Rattle.lexopt_options_spec.specs.Places.{greedy}
 use Rattle.lexopt_options.specs.Taken.{indexed_words}
 use Rattle.lexopt_options.proofs.TakenWords.{at_end, at_first, at_later, at_next, at_no_place, at_refused, at_same, index_no_word, index_past, index_word}
 use Rattle.lexopt_options.proofs.taken.are_taken.Goals.{in-Positional, in-Some+else-not-takes_at, in_default-place_of, in_default}

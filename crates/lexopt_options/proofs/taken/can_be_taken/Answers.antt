@@ -2,7 +2,7 @@ use Rattle.std.proofs.Common.{ap, arith, is_none, map, refl, sym, ◌≡◌, ◌
 use Rattle.std.proofs.lemmas.Bool.{false≢true}
 use Rattle.lexopt_declaration.specs.Models.{positional_view}
 use Rattle.lexopt_options_spec.specs.Places.{least, owners, refused_word}
-use Rattle.lexopt_options_spec.proofs.Shares.{greedy}
+use Rattle.lexopt_options_spec.specs.Places.{greedy}
 use Rattle.lexopt_options.specs.Taken.{indexed_words}
 use Rattle.lexopt_options.proofs.TakenWords.{and_not, index_counted, is_nothing, taken_found, taken_never}
 use Rattle.lexopt_options.proofs.taken.can_be_taken.Goals as goal

@@ -1,7 +1,7 @@
 use Rattle.std.proofs.Common.{◌≡◌, ◌≤◌, ◌<◌, ◌-◌, ℕ, None, map}
 use Rattle.lexopt_declaration.specs.Models.{positional_view}
 use Rattle.lexopt_options_spec.specs.Places.{least, owners, refused_word}
-use Rattle.lexopt_options_spec.proofs.Shares.{greedy}
+use Rattle.lexopt_options_spec.specs.Places.{greedy}
 use Rattle.lexopt_options.specs.Taken.{indexed_words}
 use Rattle.lexopt_options.proofs.taken.can_be_taken.Given as goal
 

@@ -2,7 +2,7 @@ use Rattle.std.proofs.Common.{arith, map, refl, sym, ◌≡◌, ◌-◌, ◌∙�
 use Rattle.std.proofs.lemmas.Bool.{false≢true}
 use Rattle.lexopt_declaration.specs.Models.{positional_view}
 use Rattle.lexopt_options_spec.specs.Places.{least, owners}
-use Rattle.lexopt_options_spec.proofs.Shares.{greedy}
+use Rattle.lexopt_options_spec.specs.Places.{greedy}
 use Rattle.lexopt_options.proofs.TakenWords.{and_not, owned_found, owned_never, same_option, same_place}
 use Rattle.lexopt_options.proofs.taken.can_own.Goals as goal
 

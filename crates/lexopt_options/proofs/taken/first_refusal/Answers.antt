@@ -1,7 +1,7 @@
 use Rattle.std.proofs.Common.{arith, map, sym, ◌∙◌}
 use Rattle.lexopt_declaration.specs.Models.{positional_view}
 use Rattle.lexopt_options_spec.specs.Places.{owners}
-use Rattle.lexopt_options_spec.proofs.Shares.{greedy}
+use Rattle.lexopt_options_spec.specs.Places.{greedy}
 use Rattle.lexopt_options.proofs.TakenWords.{at_end, at_later, at_next, at_no_place, at_refused, at_same, parsed_no_word, parsed_past, parsed_word}
 use Rattle.lexopt_options.proofs.taken.first_refusal.Goals.{in-Positional, in-Some+in_ok-mistake+in_default-2, in_default-place_of, in_default}
 use Rattle.lexopt_options.proofs.taken.first_refusal.Goals as goal
