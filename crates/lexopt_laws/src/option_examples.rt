@@ -1095,8 +1095,7 @@ fn what_is_read_ends_with_words()
     ensures positional { EndsWith (codes "a") (positional (codes "a")) }
     ensures not_without_a_value { EndsWith (codes "a") (option 1 None) → ⊥ }
     ensures not_another_value { EndsWith (codes "-oa") (option 1 (Some (codes "a"))) → ⊥ }
-    ensures not_the_first_of_several {
-        EndsWith (codes "a") (several 3 (codes "a" ∷ codes "b" ∷ [])) → ⊥ }
+    ensures not_the_first_of_several { EndsWith (codes "a") (several 3 (codes "a" ∷ codes "b" ∷ [])) → ⊥ }
     ensures not_another_positional { EndsWith (codes "a") (positional (codes "b")) → ⊥ }
 {}
 

@@ -519,11 +519,11 @@ positional_before d words parsed items b same none means is = (
   (λ there. ⊎_elim
       (λ front. absurd (none there.0 front))
       (λ other.
-          let empty = means_with_empty d words other.1 there.0 other.2 none other.3 in
-          let all = one_front d (words ++ [] ∷ []) (map indexed_view parsed) (there.0 ++ empty.0 ∷ []) means empty.1 in
-          let at = last_of parsed there.0 empty.0 all in
-          let before_is = (same_last (map indexed_view at.0) there.0 (indexed_view at.1) empty.0 (sym (mapped_last at.0 at.1) ∙ ap (map indexed_view) (sym at.2) ∙ all)).0 in
-          is.1 (at.0, at.1, same ∙ at.2, subst (λ l. 0 < positional_count l) (sym before_is) there.1))
+      let empty = means_with_empty d words other.1 there.0 other.2 none other.3 in
+      let all = one_front d (words ++ [] ∷ []) (map indexed_view parsed) (there.0 ++ empty.0 ∷ []) means empty.1 in
+      let at = last_of parsed there.0 empty.0 all in
+      let before_is = (same_last (map indexed_view at.0) there.0 (indexed_view at.1) empty.0 (sym (mapped_last at.0 at.1) ∙ ap (map indexed_view) (sym at.2) ∙ all)).0 in
+      is.1 (at.0, at.1, same ∙ at.2, subst (λ l. 0 < positional_count l) (sym before_is) there.1))
       there.2),
 )
 

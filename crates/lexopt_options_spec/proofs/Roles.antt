@@ -169,15 +169,18 @@ ends d words p before s means = go (parts exact (table d.options) d.short_equals
     -- the value of an option
     value_due : (front : List Item) (name : Name) → means.items ≡ front ++ spec.option name (Some p) ∷ [] → ((q : List ℕ) → OpenLine exact t d.short_equals (words ++ q ∷ []) (front ++ spec.option name (Some q) ∷ []))
         → Ends d words before s p
-    value_due front name are spelled = any_word (λ q. (record {
-      last = legal.option index.0 (Some q);
-      takes = record {
-        means = exchange d (words ++ q ∷ []) front (spec.option name (Some q)) before s (legal.option index.0 (Some q)) at.before_are means.within
-            (open_spells t d.short_equals (words ++ q ∷ []) (front ++ spec.option name (Some q) ∷ []) (spelled q)) (ap (option_map (λ i. legal.option i (Some q))) index.1) (ap counts index.2);
-        whole = refl;
-      };
-      role = ap (role_of before) index.2;
-    }, λ i values same. cc))
+    value_due front name are spelled = any_word (λ q. (
+      record {
+        last = legal.option index.0 (Some q);
+        takes = record {
+          means = exchange d (words ++ q ∷ []) front (spec.option name (Some q)) before s (legal.option index.0 (Some q)) at.before_are means.within
+              (open_spells t d.short_equals (words ++ q ∷ []) (front ++ spec.option name (Some q) ∷ []) (spelled q)) (ap (option_map (λ i. legal.option i (Some q))) index.1) (ap counts index.2);
+          whole = refl;
+        };
+        role = ap (role_of before) index.2;
+      },
+      λ i values same. cc,
+    ))
       where
         at : Exchanged d before s front (spec.option name (Some p))
         at = exchanged d (words ++ p ∷ []) before s means front (spec.option name (Some p)) are
@@ -250,8 +253,8 @@ ends d words p before s means = go (parts exact (table d.options) d.short_equals
         let e = after_separator words open_words rest r p x are is in
         let last_are = items_are ∙ ap (λ l. front ++ map spec.positional l) is ∙ parsed_after front r x ∙ ap (λ y. (front ++ map spec.positional r) ++ spec.positional y ∷ []) (sym e.1) in
         any_word (λ q.
-            let a = positional_due (front ++ map spec.positional r) last_are q (more_positionals t d.short_equals words open_words r (q ∷ []) (front ++ map spec.positional r) front e.0 refl opens) in
-            (a, λ i values same. cc))
+        let a = positional_due (front ++ map spec.positional r) last_are q (more_positionals t d.short_equals words open_words r (q ∷ []) (front ++ map spec.positional r) front e.0 refl opens) in
+        (a, λ i values same. cc))
 
     go : Parts exact t d.short_equals (words ++ p ∷ []) means.items → Ends d words before s p
     go (open_to_the_end opens) = takes (taken exact t d.short_equals words (words ++ p ∷ []) p means.items refl opens)

@@ -119,8 +119,8 @@ pub lines_so : {F V P M S : Type 0} (c : Commands Task F V P M S) (words : List 
     → AreLines (declaration_of c.options) words typed task_lines text
 lines_so {F} {V} {P} {M} {S} c words typed text are names = ⊎_elim
     (λ some.
-        subst (AreLines (declaration_of c.options) words typed task_lines) (sym (some.1 ∙ begun_pairs typed c.commands.now ∙ ap (flat_map (tasks.begun typed)) are))
-        (each_line (declaration_of c.options) words typed task_lines tasks_plain some.0))
+    subst (AreLines (declaration_of c.options) words typed task_lines) (sym (some.1 ∙ begun_pairs typed c.commands.now ∙ ap (flat_map (tasks.begun typed)) are))
+    (each_line (declaration_of c.options) words typed task_lines tasks_plain some.0))
     (λ none. subst (AreLines (declaration_of c.options) words typed task_lines) (sym none.1) (no_line (declaration_of c.options) words typed task_lines tasks_plain none.0))
     names
 

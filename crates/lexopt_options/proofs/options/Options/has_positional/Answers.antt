@@ -17,4 +17,4 @@ pub returns-in-None : goal.returns-in-None
 returns-in-None g c =
     let d = declaration_of c.args.self.now in
     c.has_positional_before_value.ensures (λ l means.
-        subst (IsPart d c.in_ok-copies.field-0.items) c.in-None.is c.in_ok-parsed.ensures l (subst (λ ws. MeansFront d ws l) (sym c.in_ok-copies.ensures) means))
+    subst (IsPart d c.in_ok-copies.field-0.items) c.in-None.is c.in_ok-parsed.ensures l (subst (λ ws. MeansFront d ws l) (sym c.in_ok-copies.ensures) means))

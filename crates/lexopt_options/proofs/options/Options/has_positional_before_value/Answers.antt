@@ -13,6 +13,7 @@ returns-in-Some g c = λ none.
 
 pub returns-in-None : goal.returns-in-None
 returns-in-None g c = λ none.
-    let d = declaration_of c.args.self.now in
-    ((λ yes. absurd (false≢true yes)),
-    (λ there. absurd (no_positional d c.args.words.now none (subst (IsPart d (c.args.words.now ++ [] ∷ [])) c.in-None.is c.in_ok-parsed.ensures) there)))
+    let d = declaration_of c.args.self.now in (
+      (λ yes. absurd (false≢true yes)),
+      (λ there. absurd (no_positional d c.args.words.now none (subst (IsPart d (c.args.words.now ++ [] ∷ [])) c.in-None.is c.in_ok-parsed.ensures) there)),
+    )
