@@ -52,9 +52,9 @@ abbrev pub CannotBeNamed : Declaration → List (List ℕ) → Type 0
 CannotBeNamed d words = (name : List ℕ) → IsPlain false name → ¬ ComesFirst d words name
 
 -- the lines for the commands whose names begin with what was typed, if a name can come
-abbrev pub AreNames : {C F V P M S : Type 0} → Commands C F V P M S → List (List ℕ) → List ℕ
+abbrev pub IsNamesText : {C F V P M S : Type 0} → Commands C F V P M S → List (List ℕ) → List ℕ
     → List ℕ → Type 0
-AreNames c words typed text = (CanBeNamed (declaration_of c.options) words
+IsNamesText c words typed text = (CanBeNamed (declaration_of c.options) words
     × (text ≡ flat_map (begun_line typed) c.commands.now))
     ⊎ (CannotBeNamed (declaration_of c.options) words × (text ≡ []))
 
@@ -103,7 +103,7 @@ place commands (word ∷ rest) = place_of commands (runs_of commands word) rest
 -- general declaration
 abbrev pub IsOptionsText : {C F V P M S : Type 0} → Commands C F V P M S → List (List ℕ) → List ℕ
     → List ℕ → Type 0
-IsOptionsText c words typed text = (names : List ℕ) × AreNames c words typed names
+IsOptionsText c words typed text = (names : List ℕ) × IsNamesText c words typed names
     × (own : List ℕ) × IsCompletionText c.options words typed own × (text ≡ names ++ own)
 
 -- what to do where this is typed at this place, after these general options

@@ -150,7 +150,7 @@ impl<'a, C: Copy, F: Copy, V: Copy, P: Copy, M: Copy, S: Copy> Commands<'a, C, F
     ghost use Rattle.std.specs.Bool.{MatchBool};
     ghost use Rattle.lexopt_options.specs.Completions.{HasPositional};
     ghost use Rattle.lexopt_options.specs.Declarations.{declaration_of};
-    ghost use Rattle.lexopt_commands.specs.Completions.{AreNames, CanBeNamed, CannotBeNamed};
+    ghost use Rattle.lexopt_commands.specs.Completions.{IsNamesText, CanBeNamed, CannotBeNamed};
     ghost use Rattle.lexopt_commands.specs.Completions.{IsCompletionStep, IsOptionsText, IsPlaced};
     ghost use Rattle.lexopt_commands.specs.Completions.{place};
 
@@ -175,7 +175,7 @@ impl<'a, C: Copy, F: Copy, V: Copy, P: Copy, M: Copy, S: Copy> Commands<'a, C, F
         words: &[OsString],
         typed: &OsString,
     ) -> Result<String, AllocError>
-        ensures { IfOk result (λ text. AreNames self.now words.now typed.now (string_bytes text)) }
+        ensures { IfOk result (λ text. IsNamesText self.now words.now typed.now (string_bytes text)) }
     {
         if self.can_be_named(alloc, words)? {
             begun_names(alloc, self.commands(), typed)

@@ -18,7 +18,7 @@ use Rattle.lexopt_commands.specs.declared.answer.Step.{Step}
 use Rattle.lexopt_commands.specs.declared.answer.Step.TheVariants as step
 use Rattle.lexopt_commands.specs.declared.command.Command.{Command}
 use Rattle.lexopt_commands.specs.declared.commands.Commands.{Commands}
-use Rattle.lexopt_commands.specs.Completions.{AreNames, CanBeNamed, CannotBeNamed, IsCompletionStep, IsOptionsText, IsPlaced, IsPlacedAfter, IsText, IsUnplaced, at_help, at_options, begun_line, in_command, name_line, nowhere, place}
+use Rattle.lexopt_commands.specs.Completions.{IsNamesText, CanBeNamed, CannotBeNamed, IsCompletionStep, IsOptionsText, IsPlaced, IsPlacedAfter, IsText, IsUnplaced, at_help, at_options, begun_line, in_command, name_line, nowhere, place}
 use Rattle.test_commands.specs.declared.callers.Task.{Task}
 use Rattle.test_commands.specs.Tasks as tasks
 use Rattle.test_commands.specs.Tasks.{AreOffered, IsTaskAsked, IsWritten, task_lines}
@@ -115,7 +115,7 @@ begun_pairs typed (c ∷ cs) = ap (λ l. begun_line typed c ++ l) (begun_pairs t
 tasks_plain : ArePlain task_lines
 tasks_plain = (inr (inr (not_begins dash (codes "add") refl)), inr (inr (not_begins dash (codes "remote") refl)), inr (inr (not_begins dash (codes "help") refl)), tt)
 
-pub lines_so : {F V P M S : Type 0} (c : Commands Task F V P M S) (words : List (List ℕ)) (typed text : List ℕ) → map name_and_line c.commands.now ≡ task_lines → AreNames c words typed text
+pub lines_so : {F V P M S : Type 0} (c : Commands Task F V P M S) (words : List (List ℕ)) (typed text : List ℕ) → map name_and_line c.commands.now ≡ task_lines → IsNamesText c words typed text
     → AreLines (declaration_of c.options) words typed task_lines text
 lines_so {F} {V} {P} {M} {S} c words typed text are names = ⊎_elim
     (λ some.
@@ -125,7 +125,7 @@ lines_so {F} {V} {P} {M} {S} c words typed text are names = ⊎_elim
     names
 
 offered_at_options : {F V P M S : Type 0} (c : Commands Task F V P M S) (words : List (List ℕ)) (typed : List ℕ) (parsed : List (Parsed F V P M S)) (it : Step Task F V P M S)
-    → ((text : List ℕ) → AreNames c words typed text → AreLines (declaration_of c.options) words typed task_lines text)
+    → ((text : List ℕ) → IsNamesText c words typed text → AreLines (declaration_of c.options) words typed task_lines text)
     → IsPlaced c words typed parsed at_options it → AreOffered c.options words typed it
 offered_at_options c words typed parsed (step.Command own key (request.Completion before last)) so is = is
 offered_at_options c words typed parsed (step.Command own key (request.Line others)) so is = is
@@ -136,7 +136,7 @@ offered_at_options c words typed parsed (step.Refused refused) so is = is
 
 pub options_offered : {F V P M S : Type 0} (c : Commands Task F V P M S) (o : Options F V P M S) (words : List (List ℕ)) (typed : List ℕ) (l : List legal.Parsed) (it : Step Task F V P M S) → c.options ≡ o
     → first_asked (declaration_of o).options l ≡ None → MeansLeading (declaration_of o) words l []
-    → ((text : List ℕ) → AreNames c words typed text → AreLines (declaration_of c.options) words typed task_lines text) → IsCompletionStep c words typed it
+    → ((text : List ℕ) → IsNamesText c words typed text → AreLines (declaration_of c.options) words typed task_lines text) → IsCompletionStep c words typed it
     → AreOffered o words typed it
 options_offered {F} {V} {P} {M} {S} c o words typed l it same none means so is =
     let p = placed_so c o words typed l [] it same none means is in
@@ -164,7 +164,7 @@ nothing_offered {F} {V} {P} {M} {S} c o words typed it same neither has is =
     ⊎_elim (λ own. subst (λ t. IsWritten t it) own.1 (written it un.text un.is_text)) (λ other. absurd (other.0 (subst (λ (x : Options F V P M S). HasPositional (declaration_of x) words) (sym same) has))) un.offered
 
 offered_so : {F V P M S : Type 0} (c : Commands Task F V P M S) (words : List (List ℕ)) (typed text : List ℕ) (it : Step Task F V P M S)
-    → ((text : List ℕ) → AreNames c words typed text → AreLines (declaration_of c.options) words typed task_lines text)
+    → ((text : List ℕ) → IsNamesText c words typed text → AreLines (declaration_of c.options) words typed task_lines text)
     → IsText it text → IsOptionsText c words typed text → AreOffered c.options words typed it
 offered_so c words typed text (step.Command parsed key own) so is are = is
 offered_so c words typed text (step.Text found) so is are = let names = so are.0 are.1 in (names.0, names.1, are.2, are.3, is ∙ are.4 ∙ ap (λ l. l ++ are.2) names.2)
@@ -172,7 +172,7 @@ offered_so c words typed text (step.Refused refused) so is are = is
 
 pub options_offered_too : {F V P M S : Type 0} (c : Commands Task F V P M S) (o : Options F V P M S) (words : List (List ℕ)) (typed : List ℕ) (it : Step Task F V P M S) → c.options ≡ o
     → ((l : List legal.Parsed) (rest : List (List ℕ)) → MeansLeading (declaration_of o) words l rest → first_asked (declaration_of o).options l ≡ None → ⊥) → (¬ HasPositional (declaration_of o) words)
-    → ((text : List ℕ) → AreNames c words typed text → AreLines (declaration_of c.options) words typed task_lines text) → IsCompletionStep c words typed it
+    → ((text : List ℕ) → IsNamesText c words typed text → AreLines (declaration_of c.options) words typed task_lines text) → IsCompletionStep c words typed it
     → AreOffered o words typed it
 options_offered_too {F} {V} {P} {M} {S} c o words typed it same neither none so is =
     let un = unplaced c o words typed it same neither is in

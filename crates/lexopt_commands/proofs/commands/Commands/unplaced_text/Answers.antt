@@ -1,0 +1,18 @@
+use Rattle.std.proofs.Common.{inl, inr, subst, sym, ◌∙◌}
+use Rattle.std.proofs.lemmas.Bool.{false≢true}
+use Rattle.std.proofs.lemmas.Result.{IfOk-weaker}
+use Rattle.lexopt_options.specs.declared.options.Options.{Options}
+use Rattle.lexopt_options.specs.Completions.{HasPositional}
+use Rattle.lexopt_options.specs.Declarations.{declaration_of}
+use Rattle.lexopt_commands.proofs.commands.Commands.unplaced_text.Goals as goal
+
+pub returns-then-branch : goal.returns-then-branch
+returns-then-branch g c =
+    inl (subst (λ (o : Options _ _ _ _ _). HasPositional (declaration_of o) c.args.words.now) c.options.ensures (c.in_ok-has_positional.ensures.0 c.if-branch.true), c.new.ensures.bytes)
+
+pub returns-else-branch : goal.returns-else-branch
+returns-else-branch g c =
+    let none = λ has.
+    false≢true (sym c.if-branch.false ∙ c.in_ok-has_positional.ensures.1 (subst (λ (o : Options _ _ _ _ _). HasPositional (declaration_of o) c.args.words.now) (sym c.options.ensures) has))
+    in
+    IfOk-weaker c.options_text.result _ _ (λ text is. inr (none, is)) c.options_text.ensures
