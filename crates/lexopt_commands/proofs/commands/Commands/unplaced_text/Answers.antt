@@ -11,8 +11,7 @@ returns-then-branch g c =
     inl (subst (λ (o : Options _ _ _ _ _). HasPositional (declaration_of o) c.args.words.now) c.options.ensures (c.in_ok-has_positional.ensures.0 c.if-branch.true), c.new.ensures.bytes)
 
 pub returns-else-branch : goal.returns-else-branch
-returns-else-branch g c =
-    let none = λ has.
-    false≢true (sym c.if-branch.false ∙ c.in_ok-has_positional.ensures.1 (subst (λ (o : Options _ _ _ _ _). HasPositional (declaration_of o) c.args.words.now) (sym c.options.ensures) has))
-    in
-    IfOk-weaker c.options_text.result _ _ (λ text is. inr (none, is)) c.options_text.ensures
+returns-else-branch g c = IfOk-weaker c.options_text.result _ _ (λ text is. inr (none, is)) c.options_text.ensures
+  where
+    none : HasPositional (declaration_of c.args.self.now.options) c.args.words.now → ⊥
+    none has = false≢true (sym c.if-branch.false ∙ c.in_ok-has_positional.ensures.1 (subst (λ (o : Options _ _ _ _ _). HasPositional (declaration_of o) c.args.words.now) (sym c.options.ensures) has))
