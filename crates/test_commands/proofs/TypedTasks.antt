@@ -94,7 +94,7 @@ name_and_line c = (c.name.now, name_line c)
 abbrev pub AreLines : Declaration → List (List ℕ) → List ℕ → List (List ℕ × List ℕ) → List ℕ → Type 0
 AreLines d words typed ps text = (lines : List (List ℕ)) × AllZip (tasks.IsLineOf d words typed) ps lines × (text ≡ concat lines)
 
-ArePlain : List (List ℕ × List ℕ) → Type 0
+abbrev ArePlain : List (List ℕ × List ℕ) → Type 0
 ArePlain [] = Unit {0}
 ArePlain (p ∷ ps) = IsPlain false p.0 × ArePlain ps
 
@@ -113,7 +113,7 @@ begun_pairs typed [] = refl
 begun_pairs typed (c ∷ cs) = ap (λ l. begun_line typed c ++ l) (begun_pairs typed cs)
 
 tasks_plain : ArePlain task_lines
-tasks_plain = (inr (inr (not_begins dash (codes "add") refl)), inr (inr (not_begins dash (codes "remote") refl)), inr (inr (not_begins dash (codes "help") refl)), tt)
+tasks_plain = (inr (inr (not_begins dash (codes "add") refl)), (inr (inr (not_begins dash (codes "remote") refl)), (inr (inr (not_begins dash (codes "help") refl)), tt)))
 
 pub lines_so : {F V P M S : Type 0} (c : Commands Task F V P M S) (words : List (List ℕ)) (typed text : List ℕ) → map name_and_line c.commands.now ≡ task_lines → IsNamesText c words typed text
     → AreLines (declaration_of c.options) words typed task_lines text
