@@ -154,8 +154,8 @@ impl<'a, C: Copy, F: Copy, V: Copy, P: Copy, M: Copy, S: Copy> Commands<'a, C, F
     ghost use Rattle.lexopt_commands.specs.Completions.{IsCompletionStep, IsOptionsText, IsPlaced};
     ghost use Rattle.lexopt_commands.specs.Completions.{place};
 
-    // Whether the name of a command can come after these words. The empty word stands for it, since
-    // it is read as each of them would be.
+    // Whether the name of a command can come after these words. It is enough to try the empty word,
+    // because every plain word is read in the same way.
     fn can_be_named(&self, alloc: Global, words: &[OsString]) -> Result<bool, AllocError>
         ensures { IfOk result (λ b. MatchBool b
             (CanBeNamed (declaration_of self.now.options) words.now)
