@@ -18,7 +18,7 @@ ghost use Rattle.lexopt_words.specs.Message.{IsCustom};
 ghost use Rattle.lexopt_spec.specs.Views.{WordItem, available};
 ghost use Rattle.lexopt_base.specs.Refusals.{HasPending, IsMissing, RefusesPending, TakesPending};
 ghost use Rattle.lexopt_base.specs.Refusals.{take_reply};
-ghost use Rattle.lexopt_base.specs.Pending.{IsCounted};
+ghost use Rattle.lexopt_base.specs.Pending.{IsCounted, is_joined};
 ghost use Rattle.lexopt_base.specs.Views.{RawArgsFailWith, BeginFailsWith};
 ghost use Rattle.lexopt_base.specs.Models.{IsLongRead, IsShortRead};
 
@@ -700,12 +700,42 @@ impl Parser {
         self.words.left()
     }
 
-    // Returns whether the separator has been read.
+    /// Returns whether the separator `--` has been read. Every word after it is a positional.
+    ///
+    /// It is for libraries that build on the parser.
+    ///
+    /// # Examples
+    ///
+    /// ```rust
+    /// // After `advance` returned `Found::Value` for `x` of `-- x`, this is `true`.
+    /// let is_past = parser.is_past_separator();
+    /// ```
     #[inline(always)]
-    fn is_ended(&self) -> bool
+    pub fn is_past_separator(&self) -> bool
         ensures { result ≡ self.now.ended }
     {
         matches!(self.state, State::FinishedOpts)
+    }
+
+    /// Returns whether a value that `=` joins to the last option is still to be taken.
+    ///
+    /// It is for libraries that build on the parser. If it is `true`, that value is the only one
+    /// that [`Parser::values`] would give.
+    ///
+    /// # Examples
+    ///
+    /// ```rust
+    /// // After `advance` returned `Found::Short('o')`, this is `true` for `-o=x`, and `false` for
+    /// // `-ox` and `-o x`.
+    /// let is_joined = parser.has_joined_value();
+    /// ```
+    pub fn has_joined_value(&self) -> bool
+        ensures { result ≡ is_joined (pending self.now) }
+    {
+        match self.pending() {
+            Some(pending) => pending.is_joined,
+            None => false,
+        }
     }
 
     // Returns whether the next word can be one of several values.
@@ -714,7 +744,7 @@ impl Parser {
         ensures { IsTrue result ↔ IsNormalIn self.now.ended self.now.words }
     {
         match self.words.first() {
-            Some(word) => self.is_ended() || is_positional(word.as_bytes()),
+            Some(word) => self.is_past_separator() || is_positional(word.as_bytes()),
             None => false,
         }
     }

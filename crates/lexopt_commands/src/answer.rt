@@ -180,7 +180,7 @@ impl<'a, C: Copy, F: Copy, V: Copy, P: Copy, M: Copy, S: Copy> Commands<'a, C, F
     {
         match request {
             Request::Line(words) => self.answer(alloc, words, width),
-            Request::Completion(words, typed) => self.completion_step(alloc, &words, typed),
+            Request::Completion(words, typed) => self.completion_step(alloc, words, typed),
             Request::Script(shell) => Ok(Step::Text(self.options().script(alloc, shell)?)),
             Request::Unknown => {
                 Ok(Step::Refused(general(self.options().unknown_request(alloc)?)))

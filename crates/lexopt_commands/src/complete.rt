@@ -189,13 +189,13 @@ impl<'a, C: Copy, F: Copy, V: Copy, P: Copy, M: Copy, S: Copy> Commands<'a, C, F
     fn options_text(
         &self,
         alloc: Global,
-        words: &[OsString],
+        words: Vec<OsString>,
         typed: &OsString,
     ) -> Result<String, AllocError>
         ensures { IfOk result (λ text.
-            IsOptionsText self.now words.now typed.now (string_bytes text)) }
+            IsOptionsText self.now words.items typed.now (string_bytes text)) }
     {
-        let mut text = self.possible_names(alloc, words, typed)?;
+        let mut text = self.possible_names(alloc, &words, typed)?;
         let own = self.options().completion_text(alloc, words, typed)?;
         text.push_str(own.as_str())?;
         Ok(text)
@@ -206,16 +206,17 @@ impl<'a, C: Copy, F: Copy, V: Copy, P: Copy, M: Copy, S: Copy> Commands<'a, C, F
     fn unplaced_text(
         &self,
         alloc: Global,
-        words: &[OsString],
+        words: Vec<OsString>,
         typed: &OsString,
     ) -> Result<String, AllocError>
         ensures { IfOk result (λ text.
-            (HasPositional (declaration_of self.now.options) words.now
+            (HasPositional (declaration_of self.now.options) words.items
             × (string_bytes text ≡ []))
-            ⊎ ((¬ HasPositional (declaration_of self.now.options) words.now)
-            × IsOptionsText self.now words.now typed.now (string_bytes text))) }
+            ⊎ ((¬ HasPositional (declaration_of self.now.options) words.items)
+            × IsOptionsText self.now words.items typed.now (string_bytes text))) }
     {
-        if self.options().has_positional(alloc, words)? {
+        let copy = copies(alloc, &words)?;
+        if self.options().has_positional(alloc, copy)? {
             Ok(String::new(alloc))
         } else {
             self.options_text(alloc, words, typed)
@@ -226,12 +227,12 @@ impl<'a, C: Copy, F: Copy, V: Copy, P: Copy, M: Copy, S: Copy> Commands<'a, C, F
     fn placed_step(
         &self,
         alloc: Global,
-        words: &[OsString],
+        words: Vec<OsString>,
         typed: OsString,
         parsed: Vec<Parsed<F, V, P, M, S>>,
         rest: Vec<OsString>,
     ) -> Result<Step<'a, C, F, V, P, M, S>, AllocError>
-        ensures { IfOk result (λ step. IsPlaced self.now words.now typed parsed.items
+        ensures { IfOk result (λ step. IsPlaced self.now words.items typed parsed.items
             (place self.now.commands.now rest.items) step) }
     {
         match place_after(self.commands(), rest) {
@@ -248,12 +249,12 @@ impl<'a, C: Copy, F: Copy, V: Copy, P: Copy, M: Copy, S: Copy> Commands<'a, C, F
     pub(crate) fn completion_step(
         &self,
         alloc: Global,
-        words: &[OsString],
+        words: Vec<OsString>,
         typed: OsString,
     ) -> Result<Step<'a, C, F, V, P, M, S>, AllocError>
-        ensures { IfOk result (λ step. IsCompletionStep self.now words.now typed step) }
+        ensures { IfOk result (λ step. IsCompletionStep self.now words.items typed step) }
     {
-        let leading = self.options().read_leading(alloc, copies(alloc, words)?)?;
+        let leading = self.options().read_leading(alloc, copies(alloc, &words)?)?;
         match parsed_of(leading) {
             Some((parsed, rest)) => self.placed_step(alloc, words, typed, parsed, rest),
             None => Ok(Step::Text(self.unplaced_text(alloc, words, &typed)?)),

@@ -43,10 +43,15 @@ impl Values {
     }
 }
 
-// Takes all values of the last option, which has several. It is a function of its own, and not
-// inlined, so that the code for other options stays short.
+/// Takes all values of the last option, which has several.
+///
+/// # Errors
+///
+/// - `MissingValue` if there is none.
+/// - `OutOfMemory` if memory runs out. Some of the values may have been taken.
+// It is not inlined, so that the code for other options stays short.
 #[inline(never)]
-fn read_several(alloc: Global, parser: &mut Parser) -> Result<Vec<OsString>, Refusal>
+pub fn read_several(alloc: Global, parser: &mut Parser) -> Result<Vec<OsString>, Refusal>
     ensures ok { IfOk result (λ values.
         ReadsValues Kind.Several parser.old (Values.All values) parser.new) }
     ensures err { IfErr result (λ refused. ValuesEndBy Kind.Several parser.old refused) }

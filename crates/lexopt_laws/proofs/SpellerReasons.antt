@@ -1,16 +1,16 @@
 -- The reason of an item at fault is about the item, which no words spell, or about its place.
-use Rattle.std.proofs.Common.{◌≡◌, ◌≢◌, ℕ, suc, ◌==◌, ◌&&◌, not, Bool, true, false, List, [], ◌∷◌, ◌++◌, take, drop, Option, Some, None, refl, sym, ap, subst, ◌∙◌, true≢false}
+use Rattle.std.proofs.Common.{◌≡◌, ◌≢◌, ℕ, suc, ◌==◌, ◌&&◌, not, Bool, true, false, List, [], ◌∷◌, ◌++◌, take, drop, None, refl, sym, ap, subst, ◌∙◌, true≢false}
 use Rattle.std.proofs.lemmas.Bool.{ne_eqb}
-use Rattle.std.specs.Prelude.{Result, Ok, Err, if◌then◌else◌}
+use Rattle.std.specs.Prelude.{Result, Ok, Err}
 use Rattle.std.specs.Char.{IsScalar}
 use Rattle.std.specs.List.{list_all}
 use Rattle.std.specs.Str.{is_utf8}
 use lib.Utf8.{scalar}
-use Rattle.lexopt_spec.specs.UnreadLine.{dash, equals, is_plain}
+use Rattle.lexopt_spec.specs.UnreadLine.{dash}
 use Rattle.lexopt_line_spec.specs.Table.{Name, short, long, Item, option, many, positional, Kind, flag, one, optional, several, kind, Table}
 use Rattle.lexopt_line_spec.specs.Spelling.{Spells}
-use Rattle.lexopt_line_spec.specs.Speller.{Reason, no_name, equals_in_name, unexpected_value, missing_value, wants_many, not_many, empty_value, option_among_values, empty_name, past_separator, dash_without_flag, Place, open_line, in_cluster, after_values, after_positional, ended, is_positional, Fault, is_of_the_place}
-use Rattle.lexopt_line_spec.proofs.SpellerTables.{Form, attached_form, short_form, long_form, words_form, short_words_form, short_many_form, long_many_form, Added, short_added, is_named, long_placed, long_added, adds, separator_comes_too_early, separator_is_due, is_plain_item, with_rest, with_rests, spelled_from, spelled}
+use Rattle.lexopt_line_spec.specs.Speller.{Reason, no_name, equals_in_name, empty_name, past_separator, dash_without_flag, Place, open_line, in_cluster, ended, is_positional, Fault, is_of_the_place}
+use Rattle.lexopt_line_spec.proofs.SpellerTables.{Form, short_form, long_form, short_many_form, long_many_form, Added, short_added, is_named, long_placed, long_added, adds, separator_comes_too_early, separator_is_due, is_plain_item, with_rest, with_rests, spelled_from, spelled}
 use Rattle.lexopt_line_spec.specs.Speller.{HasNoForm, no_list}
 use Rattle.lexopt_line_spec.proofs.SpellerRows.{IsForm, short_row, short_many_row, long_row, long_many_row}
 use Rattle.lexopt_line_spec.proofs.SpellerAnswers.{none_is}

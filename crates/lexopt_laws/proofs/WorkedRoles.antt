@@ -1,100 +1,69 @@
 -- What a word is after short lines.
-use Rattle.std.proofs.Common.{◌≡◌, ℕ, true, false, List, [], ◌∷◌, ◌++◌, Some, None, codes, length, refl, ap, arith, subst, sym, ◌∙◌, inl, lit≤}
-use Rattle.lexopt_spec.specs.UnreadLine.{dash}
+use Rattle.std.proofs.Common.{◌≡◌, ℕ, true, false, ◌&&◌, not, map, List, [], ◌∷◌, ◌++◌, Some, None, codes, length, refl, ap, arith, sym, ◌∙◌, inl, lit≤}
+use Rattle.std.proofs.lemmas.Bool.{false≢true}
+use Rattle.lexopt_spec.specs.UnreadLine.{dash, BeginsWith}
 use Rattle.lexopt_spec.specs.Steps.{nothing_to_take, joined_value}
 use Rattle.lexopt_spec.specs.Runs.{value, values}
 use Rattle.lexopt_spec.specs.UnreadLine.{no_tail}
+use Rattle.lexopt_spec.proofs.PlainFronts.{plain_passes}
 use Rattle.lexopt_line_spec.specs.Table as spec
 use Rattle.lexopt_line_spec.specs.Table.{Item, short, long, kind}
 use Rattle.lexopt_line_spec.specs.Spelling as lines
-use Rattle.lexopt_line_spec.specs.Spelling.{nothing, no_value, no_optional, several_words, nothing_more, no_words, separator}
+use Rattle.lexopt_line_spec.specs.Spelling.{nothing, no_value, no_optional, several_words, nothing_more, no_words, plain_word, separator, Spells}
 use Rattle.lexopt_line_spec.proofs.Computing.{computing}
-use Rattle.lexopt_line_spec.proofs.Worked.{last_of, flag_of, value_after, cluster_line, joined_line, plain_line, plain_front_is, some, reads_first, reads_joined, reads_plain, misses_values}
-use Rattle.lexopt_options_spec.specs.Declaration.{Declaration, Positional}
-use Rattle.lexopt_options_spec.specs.Legal.{Parsed, MeansFront, IsWithin, most, option, several, positional}
-use Rattle.lexopt_options_spec.specs.Stops.{Mistake, StopsAt, unknown_option, missing_value, unexpected_value, unexpected_argument, missing_argument, missing_option, invalid_argument, invalid_value, not_declared, value_of_flag, one_too_many}
+use Rattle.lexopt_line_spec.proofs.SpellerRows.{plain_off}
+use Rattle.lexopt_line_spec.proofs.Worked.{last_of, flag_of, value_after, cluster_line, joined_line, plain_line, plain_front_is, some, stops, reads_first, reads_joined, misses_values}
+use Rattle.lexopt_options_spec.specs.Declaration.{Declaration, Positional, table}
+use Rattle.lexopt_options_spec.specs.Legal.{Parsed, MeansFront, IsWithin, most, parsed_item, positional_count, option, several, positional}
+use Rattle.lexopt_options_spec.specs.Stops.{StopsAt, unknown_option, missing_value, unexpected_value, missing_argument, missing_option, invalid_argument, invalid_value, not_declared, value_of_flag}
 use Rattle.lexopt_options_spec.specs.Stops as stop
-use Rattle.lexopt_options_spec.specs.Completion.{IsOpen, IsOption, JoinsValue, value_of}
+use Rattle.lexopt_options_spec.specs.Completion.{HasRole, IsOpen, IsOption, JoinsValue, value_of}
+use Rattle.lexopt_options_spec.specs.States.{State, anything, due, first, further, ended, Says, Leaves, leaves_anything, leaves_due, leaves_first, leaves_further, leaves_ended, LeadsNowhere, role_in}
+use Rattle.lexopt_options_spec.proofs.States.{never_open, role_there}
 use Rattle.lexopt_options_spec.proofs.LastWords.{same_last as one_last}
 use Rattle.std.specs.Str.{IsUtf8}
 use Rattle.lexopt_options_spec.proofs.Fronts.{comes_to, no_front, one_front}
 use Rattle.lexopt_laws.specs.Sample.{sample, files}
 use Rattle.lexopt_laws.proofs.WorkedMeans.{front_of}
-use Rattle.lexopt_laws.proofs.WorkedOpen.{open_of}
 use Rattle.lexopt_laws.proofs.WorkedStops.{at_first, after_flag}
 
--- ---- lines with the empty word
+-- ---- what the next word is
+
+says_of : {d : Declaration} {words : List (List ℕ)} {l : List Parsed} (items : List Item) → Spells (table d.options) d.short_equals words items → map (parsed_item d.options) items ≡ map (λ s. Some s) l → Says d words l
+says_of items spelled parsed = record { items = items; spelled = spelled; parsed = parsed }
 
 -- `-v`
-pub flag_empty : MeansFront (sample (files ∷ []) true) (codes "-v" ∷ [] ∷ []) (option 0 None ∷ positional [] ∷ [])
+pub flag_leaves : (positionals : List Positional) → Leaves (sample positionals true) (codes "-v" ∷ []) (option 0 None ∷ []) anything
 unfolding kind computing
-flag_empty = front_of (spec.option (short 0x76) None ∷ spec.positional [] ∷ [])
-    (cluster_line (codes "v") _ refl (last_of 0x76 [] nothing _ refl (nothing_more refl refl) (no_value refl refl refl)) (plain_line [] refl no_words)) refl tt
+flag_leaves positionals = leaves_anything
+    (record {
+      says = says_of (spec.option (short 0x76) None ∷ []) (cluster_line (codes "v") _ refl (last_of 0x76 [] nothing _ refl (nothing_more refl refl) (no_value refl refl refl)) no_words) refl;
+      with_separator = says_of (spec.option (short 0x76) None ∷ [])
+          (cluster_line (codes "v") _ refl (last_of 0x76 [] nothing _ refl (nothing_more refl refl) (no_value refl refl refl)) (separator [])) refl;
+    })
+    (λ w plain. says_of (spec.option (short 0x76) None ∷ spec.positional w ∷ [])
+    (cluster_line (codes "v") _ refl (last_of 0x76 [] nothing _ refl (nothing_more refl refl) (no_value refl refl refl)) (plain_word w [] [] plain no_words)) refl)
 
 -- `a`
-pub positional_empty : MeansFront (sample (files ∷ []) true) (codes "a" ∷ [] ∷ []) (positional (codes "a") ∷ positional [] ∷ [])
-positional_empty = front_of (spec.positional (codes "a") ∷ spec.positional [] ∷ []) (plain_line (codes "a") refl (plain_line [] refl no_words)) refl tt
-
--- `-v`, where there is no positional
-pub no_flag_empty : (l : List Parsed) → MeansFront (sample [] true) (codes "-v" ∷ [] ∷ []) l → ⊥
-unfolding kind computing
-no_flag_empty l means =
-    let stops : StopsAt (sample [] true) (codes "-v" ∷ [] ∷ []) (option 0 None ∷ []) (unexpected_argument []) =
-    after_flag (short 0x76) 0 _ refl refl (lit≤ tt) (inl (reads_first _ 0x76 [] ([] ∷ []) refl refl refl refl)) (one_too_many [] _ (inl (reads_plain _ [] [] refl refl refl refl)) refl) in
-    no_front _ _ (option 0 None ∷ []) (unexpected_argument []) (comes_to stops) (λ count same. let e : unexpected_argument [] ≡ missing_argument count = same in cc) (λ index same. let e : unexpected_argument [] ≡ missing_option index = same in cc) (λ index value same. let e : unexpected_argument [] ≡ invalid_value index value = same in cc) (λ index word same. let e : unexpected_argument [] ≡ invalid_argument index word = same in cc) l means
+pub positional_leaves : Leaves (sample (files ∷ []) true) (codes "a" ∷ []) (positional (codes "a") ∷ []) anything
+positional_leaves = leaves_anything
+    (record {
+      says = says_of (spec.positional (codes "a") ∷ []) (plain_line (codes "a") refl no_words) refl;
+      with_separator = says_of (spec.positional (codes "a") ∷ []) (plain_line (codes "a") refl (separator [])) refl;
+    })
+    (λ w plain. says_of (spec.positional (codes "a") ∷ spec.positional w ∷ []) (plain_line (codes "a") refl (plain_word w [] [] plain no_words)) refl)
 
 -- `-b`
-pub optional_empty : MeansFront (sample (files ∷ []) true) (codes "-b" ∷ [] ∷ []) (option 2 None ∷ positional [] ∷ [])
+pub optional_leaves : Leaves (sample (files ∷ []) true) (codes "-b" ∷ []) (option 2 None ∷ []) anything
 unfolding kind computing
-optional_empty = front_of (spec.option (short 0x62) None ∷ spec.positional [] ∷ [])
-    (cluster_line (codes "b") _ refl (last_of 0x62 [] nothing _ refl (nothing_more refl refl) (no_optional refl refl refl)) (plain_line [] refl no_words)) refl tt
-
--- `-o`
-pub value_empty : MeansFront (sample [] true) (codes "-o" ∷ [] ∷ []) (option 1 (Some []) ∷ [])
-unfolding kind computing
-value_empty = front_of (spec.option (short 0x6F) (Some []) ∷ [])
-    (cluster_line (codes "o") _ refl (last_of 0x6F [] nothing _ refl (nothing_more refl refl) (lines.next_word [] refl refl refl)) no_words) refl (lit≤ tt)
-
--- `-x`
-pub several_empty : MeansFront (sample [] true) (codes "-x" ∷ [] ∷ []) (several 3 ([] ∷ []) ∷ [])
-unfolding kind computing
-several_empty = front_of (spec.many (short 0x78) ([] ∷ []) ∷ [])
-    (cluster_line (codes "x") _ refl (last_of 0x78 [] nothing _ refl (nothing_more refl refl) (several_words ([] ∷ []) refl (plain_front_is _ [] refl refl) (some _ _) refl)) no_words)
-    refl (lit≤ tt)
-
--- `-x a`
-pub more_empty : (positionals : List Positional) → IsWithin 0 (most positionals) → MeansFront (sample positionals true) (codes "-x" ∷ codes "a" ∷ [] ∷ []) (several 3 (codes "a" ∷ [] ∷ []) ∷ [])
-unfolding kind computing
-more_empty positionals within = front_of (spec.many (short 0x78) (codes "a" ∷ [] ∷ []) ∷ [])
-    (cluster_line (codes "x") _ refl
-    (last_of 0x78 [] nothing _ refl (nothing_more refl refl) (several_words (codes "a" ∷ [] ∷ []) refl (plain_front_is _ [] refl refl) (some _ _) refl)) no_words)
-    refl within
-
--- `--`
-pub separator_empty : MeansFront (sample (files ∷ []) true) (codes "--" ∷ [] ∷ []) (positional [] ∷ [])
-separator_empty = front_of (spec.positional [] ∷ []) (separator ([] ∷ [])) refl tt
-
--- `-z`, whatever comes after it
-pub no_unknown : (more : List (List ℕ)) (l : List Parsed) → MeansFront (sample (files ∷ []) true) (codes "-z" ∷ more) l → ⊥
-unfolding kind computing
-no_unknown more l means =
-    let stops : StopsAt (sample (files ∷ []) true) (codes "-z" ∷ more) [] (unknown_option (short 0x7A) no_tail) =
-    at_first (not_declared (short 0x7A) _ (inl (reads_first _ 0x7A [] more refl refl refl refl)) refl) in
-    no_front _ _ [] (unknown_option (short 0x7A) no_tail) (comes_to stops) (λ count same. let e : unknown_option (short 0x7A) no_tail ≡ missing_argument count = same in cc) (λ index same. let e : unknown_option (short 0x7A) no_tail ≡ missing_option index = same in cc) (λ index value same. let e : unknown_option (short 0x7A) no_tail ≡ invalid_value index value = same in cc) (λ index word same. let e : unknown_option (short 0x7A) no_tail ≡ invalid_argument index word = same in cc) l means
-
--- ---- lines with a separator
-
--- `-v` and `-b` before a positional
-pub open_flag : IsOpen (sample (files ∷ []) true) (codes "-v" ∷ []) (option 0 None ∷ [])
-unfolding kind computing
-open_flag = open_of (spec.option (short 0x76) None ∷ []) (cluster_line (codes "v") _ refl (last_of 0x76 [] nothing _ refl (nothing_more refl refl) (no_value refl refl refl)) no_words)
-    (cluster_line (codes "v") _ refl (last_of 0x76 [] nothing _ refl (nothing_more refl refl) (no_value refl refl refl)) (separator [])) refl tt
-
-pub open_optional : IsOpen (sample (files ∷ []) true) (codes "-b" ∷ []) (option 2 None ∷ [])
-unfolding kind computing
-open_optional = open_of (spec.option (short 0x62) None ∷ [])
-    (cluster_line (codes "b") _ refl (last_of 0x62 [] nothing _ refl (nothing_more refl refl) (no_optional refl refl refl)) no_words)
-    (cluster_line (codes "b") _ refl (last_of 0x62 [] nothing _ refl (nothing_more refl refl) (no_optional refl refl refl)) (separator [])) refl tt
+optional_leaves = leaves_anything
+    (record {
+      says = says_of (spec.option (short 0x62) None ∷ []) (cluster_line (codes "b") _ refl (last_of 0x62 [] nothing _ refl (nothing_more refl refl) (no_optional refl refl refl)) no_words) refl;
+      with_separator = says_of (spec.option (short 0x62) None ∷ [])
+          (cluster_line (codes "b") _ refl (last_of 0x62 [] nothing _ refl (nothing_more refl refl) (no_optional refl refl refl)) (separator [])) refl;
+    })
+    (λ w plain. says_of (spec.option (short 0x62) None ∷ spec.positional w ∷ [])
+    (cluster_line (codes "b") _ refl (last_of 0x62 [] nothing _ refl (nothing_more refl refl) (no_optional refl refl refl)) (plain_word w [] [] plain no_words)) refl)
 
 -- `-o`
 pub means_no_value : (l : List Parsed) → MeansFront (sample [] true) (codes "-o" ∷ []) l → ⊥
@@ -104,32 +73,72 @@ means_no_value l means =
     at_first (stop.no_value (short 0x6F) 1 (codes "-o") value _ _ (inl (reads_first _ 0x6F [] [] refl refl refl refl)) refl refl (inl (nothing_to_take refl refl refl refl))) in
     no_front _ _ [] (missing_value 1 (codes "-o")) (comes_to stops) (λ count same. let e : missing_value 1 (codes "-o") ≡ missing_argument count = same in cc) (λ index same. let e : missing_value 1 (codes "-o") ≡ missing_option index = same in cc) (λ index value same. let e : missing_value 1 (codes "-o") ≡ invalid_value index value = same in cc) (λ index word same. let e : missing_value 1 (codes "-o") ≡ invalid_argument index word = same in cc) l means
 
-pub value_dashes : MeansFront (sample [] true) (codes "-o" ∷ codes "--" ∷ []) (option 1 (Some (codes "--")) ∷ [])
+pub value_leaves : Leaves (sample [] true) (codes "-o" ∷ []) [] (due 1)
 unfolding kind computing
-value_dashes = front_of (spec.option (short 0x6F) (Some (codes "--")) ∷ [])
-    (cluster_line (codes "o") _ refl (last_of 0x6F [] nothing _ refl (nothing_more refl refl) (lines.next_word (codes "--") refl refl refl)) no_words) refl (lit≤ tt)
+value_leaves = leaves_due 1 means_no_value
+    (λ w. says_of (spec.option (short 0x6F) (Some w) ∷ [])
+    (cluster_line (codes "o") _ refl (last_of 0x6F [] nothing _ refl (nothing_more refl refl) (lines.next_word w refl refl refl)) no_words) refl)
 
 -- `-x`
-pub no_several_dashes : (l : List Parsed) → MeansFront (sample [] true) (codes "-x" ∷ codes "--" ∷ []) l → ⊥
+means_no_values : (more : List (List ℕ)) → stops false more ≡ true → (l : List Parsed) → MeansFront (sample [] true) (codes "-x" ∷ more) l → ⊥
 unfolding kind computing
-no_several_dashes l means =
-    let stops : StopsAt (sample [] true) (codes "-x" ∷ codes "--" ∷ []) [] (missing_value 3 (codes "-x")) =
-    at_first (stop.no_value (short 0x78) 3 (codes "-x") (values 1) _ _ (inl (reads_first _ 0x78 [] (codes "--" ∷ []) refl refl refl refl)) refl (1, refl) (inl (misses_values 1 _ refl refl))) in
+means_no_values more stop_there l means =
+    let stops : StopsAt (sample [] true) (codes "-x" ∷ more) [] (missing_value 3 (codes "-x")) =
+    at_first (stop.no_value (short 0x78) 3 (codes "-x") (values 1) _ _ (inl (reads_first _ 0x78 [] more refl refl refl refl)) refl (1, refl) (inl (misses_values 1 _ refl stop_there))) in
     no_front _ _ [] (missing_value 3 (codes "-x")) (comes_to stops) (λ count same. let e : missing_value 3 (codes "-x") ≡ missing_argument count = same in cc) (λ index same. let e : missing_value 3 (codes "-x") ≡ missing_option index = same in cc) (λ index value same. let e : missing_value 3 (codes "-x") ≡ invalid_value index value = same in cc) (λ index word same. let e : missing_value 3 (codes "-x") ≡ invalid_argument index word = same in cc) l means
 
--- `--`, and `-- --`
-pub separator_means : MeansFront (sample (files ∷ []) true) (codes "--" ∷ []) []
-separator_means = front_of [] (separator []) refl tt
+pub several_leaves : Leaves (sample [] true) (codes "-x" ∷ []) [] (first 3)
+unfolding kind computing
+several_leaves = leaves_first 3 (means_no_values [] refl)
+    (λ w plain. says_of (spec.many (short 0x78) (w ∷ []) ∷ [])
+    (cluster_line (codes "x") _ refl
+    (last_of 0x78 [] nothing _ refl (nothing_more refl refl)
+    (several_words (w ∷ []) refl (plain_front_is _ [] (ap (λ b. b && true) (plain_passes false w plain)) refl) (some _ _) refl)) no_words) refl)
+    (λ w m other. means_no_values (w ∷ []) (ap not (plain_off w other)) m)
 
-pub separator_dashes : MeansFront (sample (files ∷ []) true) (codes "--" ∷ codes "--" ∷ []) (positional (codes "--") ∷ [])
-separator_dashes = front_of (spec.positional (codes "--") ∷ []) (separator (codes "--" ∷ [])) refl tt
+-- `-x a`
+pub values_leave : Leaves (sample [] true) (codes "-x" ∷ codes "a" ∷ []) (several 3 (codes "a" ∷ []) ∷ []) (further 3)
+unfolding kind computing
+values_leave = leaves_further 3 [] (codes "a" ∷ []) refl
+    (record {
+      says = says_of (spec.many (short 0x78) (codes "a" ∷ []) ∷ [])
+          (cluster_line (codes "x") _ refl (last_of 0x78 [] nothing _ refl (nothing_more refl refl) (several_words (codes "a" ∷ []) refl (plain_front_is _ [] refl refl) (some _ _) refl)) no_words) refl;
+      with_separator = says_of (spec.many (short 0x78) (codes "a" ∷ []) ∷ [])
+          (cluster_line (codes "x") _ refl
+          (last_of 0x78 [] nothing _ refl (nothing_more refl refl) (several_words (codes "a" ∷ []) refl (plain_front_is _ (codes "--" ∷ []) refl refl) (some _ _) refl)) (separator [])) refl;
+    })
+    (λ w plain. says_of (spec.many (short 0x78) (codes "a" ∷ w ∷ []) ∷ [])
+    (cluster_line (codes "x") _ refl
+    (last_of 0x78 [] nothing _ refl (nothing_more refl refl)
+    (several_words (codes "a" ∷ w ∷ []) refl (plain_front_is _ [] (ap (λ b. b && true) (plain_passes false w plain)) refl) (some _ _) refl)) no_words) refl)
 
-pub separator_unsaid : ¬ MeansFront (sample (files ∷ []) true) (codes "--" ∷ []) (positional (codes "--") ∷ [])
-separator_unsaid means = let e : [] ≡ positional (codes "--") ∷ [] = one_front _ _ [] (positional (codes "--") ∷ []) separator_means means in cc
+-- `--`
+pub separator_leaves : Leaves (sample (files ∷ []) true) (codes "--" ∷ []) [] ended
+separator_leaves = leaves_ended (says_of [] (separator []) refl) (λ w. says_of (spec.positional w ∷ []) (separator (w ∷ [])) refl)
 
 pub closed : (l : List Parsed) → IsOpen (sample (files ∷ []) true) (codes "--" ∷ []) l → ⊥
-closed l is =
-    let e : [] ≡ positional (codes "--") ∷ [] = one_front _ _ [] l separator_means is.front ∙ one_front _ _ l (positional (codes "--") ∷ []) is.with_separator separator_dashes in cc
+closed = never_open (sample (files ∷ []) true) (codes "--" ∷ []) [] ended separator_leaves refl
+
+-- `-z`, whatever comes after it
+no_unknown : (more : List (List ℕ)) (l : List Parsed) → MeansFront (sample (files ∷ []) true) (codes "-z" ∷ more) l → ⊥
+unfolding kind computing
+no_unknown more l means =
+    let stops : StopsAt (sample (files ∷ []) true) (codes "-z" ∷ more) [] (unknown_option (short 0x7A) no_tail) =
+    at_first (not_declared (short 0x7A) _ (inl (reads_first _ 0x7A [] more refl refl refl refl)) refl) in
+    no_front _ _ [] (unknown_option (short 0x7A) no_tail) (comes_to stops) (λ count same. let e : unknown_option (short 0x7A) no_tail ≡ missing_argument count = same in cc) (λ index same. let e : unknown_option (short 0x7A) no_tail ≡ missing_option index = same in cc) (λ index value same. let e : unknown_option (short 0x7A) no_tail ≡ invalid_value index value = same in cc) (λ index word same. let e : unknown_option (short 0x7A) no_tail ≡ invalid_argument index word = same in cc) l means
+
+pub unknown_nowhere : LeadsNowhere (sample (files ∷ []) true) (codes "-z" ∷ [])
+unknown_nowhere = record { here = no_unknown []; with_more = λ w. no_unknown (w ∷ []) }
+
+-- where no dash was typed first
+pub plain_role : {d : Declaration} {words : List (List ℕ)} {l : List Parsed} {s : State} (typed : List ℕ) → ¬ BeginsWith dash typed → Leaves d words l s → IsWithin (positional_count l) (most d.positionals)
+    → HasRole d words typed (role_in d.positionals (positional_count l) false s)
+plain_role {d} {words} {l} {s} typed undashed = role_there d words typed l s false (λ is. absurd (false≢true is), λ begins. absurd (undashed begins))
+
+-- where one was
+pub dashed_role : {d : Declaration} {words : List (List ℕ)} {l : List Parsed} {s : State} (typed : List ℕ) → BeginsWith dash typed → Leaves d words l s → IsWithin (positional_count l) (most d.positionals)
+    → HasRole d words typed (role_in d.positionals (positional_count l) true s)
+dashed_role {d} {words} {l} {s} typed dashed = role_there d words typed l s true (λ is. dashed, λ begins. refl)
 
 -- ---- values in the word of their option
 

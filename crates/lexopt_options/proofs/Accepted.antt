@@ -38,7 +38,7 @@ none_never (v ∷ values) = go (position (λ (w : List ℕ). false) (v ∷ value
     go (Some i) is = absurd (false≢true (position-Some (λ (w : List ℕ). false) (v ∷ values) i v is).1)
 
 -- a place that was found in a list has a value
-first_there : (p : List ℕ → Bool) (values : List (List ℕ)) → is_none (option_and_then (λ n. slice_get values n) (position p values)) ≡ is_none (position p values)
+pub first_there : (p : List ℕ → Bool) (values : List (List ℕ)) → is_none (option_and_then (λ n. slice_get values n) (position p values)) ≡ is_none (position p values)
 first_there p [] = refl
 first_there p (v ∷ values) = go (position p (v ∷ values)) refl
   where
@@ -46,7 +46,7 @@ first_there p (v ∷ values) = go (position p (v ∷ values)) refl
     go None is = refl
     go (Some i) is = ap is_none (slice_get-get_or (v ∷ values) i v (position-Some p (v ∷ values) i v is).0)
 
-none_cond : (b : Bool) (value : List ℕ) → is_none (cond b None (Some value)) ≡ b
+pub none_cond : (b : Bool) (value : List ℕ) → is_none (cond b None (Some value)) ≡ b
 none_cond true value = refl
 none_cond false value = refl
 

@@ -28,7 +28,6 @@ use Rattle.lexopt_options.specs.Declarations.{options_of}
 use Rattle.lexopt_options.specs.declared.options.Options.{Options}
 use Rattle.lexopt_options.specs.Keys.{AreParsedAs, HasKind, IsParsedAs, IsByKey}
 use Rattle.lexopt_options.specs.Kinds.{kind_at}
-use Rattle.lexopt_options.specs.Reading.{AreAll, IsAtMostOne, IsOne}
 
 -- ---- the option at an index
 
@@ -80,21 +79,6 @@ tells_help own i o inside at is = asked_is (options_of own) i kind.Help (has_kin
 pub tells_version : {F V P M S : Type 0} (own : Options F V P M S) (i : ℕ) (o : Declared F V M S) (text : _) → i < length (options_of own) → o ≡ get_or (options_of own) i o → o.kind ≡ kind.Version text
     → IsByKey {P = P} (options_of own) (legal.option i None) (told.Asked (asked.Version text))
 tells_version own i o text inside at is = asked_is (options_of own) i (kind.Version text) (has_kind (options_of own) i o (kind.Version text) inside at is)
-
--- ---- the values of a kind
-
-pub reads_one : (u v : UnreadLine) (values : Values) → ReadsValues One u values v → IsOne values
-reads_one u v (AtMostOne None) reads = reads
-reads_one u v (AtMostOne (Some word)) reads = tt
-reads_one u v (All words) reads = reads
-
-pub reads_at_most_one : (u v : UnreadLine) (values : Values) → ReadsValues Optional u values v → IsAtMostOne values
-reads_at_most_one u v (AtMostOne word) reads = tt
-reads_at_most_one u v (All words) reads = reads
-
-pub reads_all : (u v : UnreadLine) (values : Values) → ReadsValues Several u values v → AreAll values
-reads_all u v (AtMostOne word) reads = reads
-reads_all u v (All words) reads = tt
 
 -- ---- what a list means
 

@@ -7,6 +7,7 @@ pub mod LeadingRead
 pub mod Asking
 pub mod Owners
 pub mod TakenWords
+pub mod Fronts
 pub mod Completing
 pub mod Seen
 pub mod Accepted

@@ -19,7 +19,6 @@ use Rattle.lexopt_options_spec.specs.Declaration.{has, index_of}
 use Rattle.lexopt_items.specs.Items.{ReadsValues, kind_view}
 use Rattle.lexopt_items.specs.declared.kinds.Kind.{Kind}
 use Rattle.lexopt_items.specs.declared.values.Values.{Values}
-use Rattle.lexopt_options.specs.declared.indexed.Indexed.{Indexed}
 use Rattle.lexopt_options.specs.declared.options.Options.{Options}
 use Rattle.lexopt_options.specs.declared.parsed.Parsed.{Parsed}
 use Rattle.lexopt_options.specs.declared.parsed.ByKey.{ByKey}
@@ -29,7 +28,7 @@ use Rattle.lexopt_options.specs.Keys.{AllFirst, AreParsedAs, HasKey, IsParsedAs,
 use Rattle.lexopt_options_spec.specs.Stops as stops
 use Rattle.lexopt_options.specs.declared.mistake.Mistake.{Mistake}
 use Rattle.lexopt_options.specs.Mistakes.{IsMistake}
-use Rattle.lexopt_options.specs.Reading.{StopsAtOption, StopsByKey, AreSeen, IsReadByKey, ReadsParsed, indexed_view, noted, parsed_with}
+use Rattle.lexopt_options.specs.Reading.{StopsAtOption, StopsByKey, AreSeen, IsReadByKey, ReadsParsed, noted, parsed_with}
 use Rattle.lexopt_options.specs.declared.parsed.Parsed.TheVariants as variant
 use Rattle.lexopt_declaration.specs.Models.{positional_view}
 use Rattle.lexopt_declaration.specs.declared.declaration.Positional.{Positional}
@@ -183,24 +182,24 @@ option_is index (AtMostOne value) = eq-eqb index index refl
 option_is index (All values) = eq-eqb index index refl
 
 -- an option with its values, and what it means
-pub read_so : {F V P M S : Type 0} (o : Options F V P M S) (count : ℕ) (u v w : UnreadLine) (name : Name) (k : Kind) (index : ℕ) (values : Values) (s : Indexed) (t : ByKey F V P M S)
-    → kind_view k ≡ kind_at (declaration_of o).options index → Next u (option_reply name) v → index_of (declaration_of o).options name ≡ Some index → indexed_view s ≡ parsed_with index values
-    → ReadsValues k v values w → IsByKey (options_of o) (indexed_view s) t → refused_value (declaration_of o).options (indexed_view s) ≡ None → IsReadByKey (declaration_of o) (options_of o) index count u (Ok t) w
-read_so o count u v w name k index values s t k_is step found is reads tells unrefused =
-    (indexed_view s, option_parsed (declaration_of o) count u v w name k index s o.sound k_is step found (values, is, reads), tells, ap counts is ∙ no_count index values, subst (IsOption index) (sym is) (option_with index values), unrefused)
+pub read_so : {F V P M S : Type 0} (o : Options F V P M S) (count : ℕ) (u v w : UnreadLine) (name : Name) (k : Kind) (index : ℕ) (values : Values) (t : ByKey F V P M S)
+    → kind_view k ≡ kind_at (declaration_of o).options index → Next u (option_reply name) v → index_of (declaration_of o).options name ≡ Some index → ReadsValues k v values w
+    → IsByKey (options_of o) (parsed_with index values) t → refused_value (declaration_of o).options (parsed_with index values) ≡ None → IsReadByKey (declaration_of o) (options_of o) index count u (Ok t) w
+read_so o count u v w name k index values t k_is step found reads tells unrefused =
+    (parsed_with index values, option_parsed (declaration_of o) count u v w name k index values o.sound k_is step found reads, tells, no_count index values, option_with index values, unrefused)
 
 -- an option with a value that it does not accept
-pub refused_so : {F V P M S : Type 0} (o : Options F V P M S) (count : ℕ) (u v w : UnreadLine) (name : Name) (k : Kind) (index : ℕ) (values : Values) (s : Indexed) (m : Mistake) (value : List ℕ)
-    → kind_view k ≡ kind_at (declaration_of o).options index → Next u (option_reply name) v → index_of (declaration_of o).options name ≡ Some index → indexed_view s ≡ parsed_with index values
-    → ReadsValues k v values w → (refused_value (declaration_of o).options (indexed_view s) ≡ Some value) × IsMistake (declaration_of o) m (stops.invalid_value index value)
+pub refused_so : {F V P M S : Type 0} (o : Options F V P M S) (count : ℕ) (u v w : UnreadLine) (name : Name) (k : Kind) (index : ℕ) (values : Values) (m : Mistake) (value : List ℕ)
+    → kind_view k ≡ kind_at (declaration_of o).options index → Next u (option_reply name) v → index_of (declaration_of o).options name ≡ Some index → ReadsValues k v values w
+    → (refused_value (declaration_of o).options (parsed_with index values) ≡ Some value) × IsMistake (declaration_of o) m (stops.invalid_value index value)
     → StopsByKey (declaration_of o) count u m
-refused_so o count u v w name k index values s m value k_is step found is reads refused = record {
+refused_so o count u v w name k index values m value k_is step found reads refused = record {
   why = stops.invalid_value index value;
   told = refused.1;
   of_option = tt;
-  stops = λ l line counted. stops.not_accepted (indexed_view s) index value w
-      (one_more (declaration_of o) u u w [] 0 (indexed_view s) (nothing_read (declaration_of o) u line) refl (option_parsed (declaration_of o) 0 u v w name k index s o.sound k_is step found (values, is, reads)))
-      (subst (λ x. legal.is_option index x ≡ true) (sym is) (option_is index values)) refused.0;
+  stops = λ l line counted. stops.not_accepted (parsed_with index values) index value w
+      (one_more (declaration_of o) u u w [] 0 (parsed_with index values) (nothing_read (declaration_of o) u line) refl (option_parsed (declaration_of o) 0 u v w name k index values o.sound k_is step found reads))
+      (option_is index values) refused.0;
 }
 
 pub by_key : (d : spec.Declaration) (count : ℕ) (u : UnreadLine) (m : Mistake) → StopsAtOption d u m → StopsByKey d count u m

@@ -41,12 +41,11 @@ use Rattle.lexopt_items.specs.declared.kinds.Kind.TheVariants.{Flag, One, Option
 use Rattle.lexopt_items.specs.declared.values.Values.{Values}
 use Rattle.lexopt_items.specs.declared.values.Values.TheVariants.{AtMostOne, All}
 use Rattle.lexopt_items.proofs.ReadsItems.{option_read, positional_read}
-use Rattle.lexopt_options.specs.declared.indexed.Indexed.{Indexed}
 use Rattle.lexopt_options.specs.declared.mistake.Mistake.{Mistake}
 use Rattle.lexopt_options.specs.Mistakes.{IsMistake}
-use Rattle.lexopt_options.specs.Reading.{ReadsParsed, StopsAtOption, StopsBy, StopsWithin, UndeclaredNext, indexed_view, parsed_with}
+use Rattle.lexopt_options.specs.Reading.{ReadsParsed, StopsAtOption, StopsBy, StopsWithin, UndeclaredNext, parsed_with}
 
-option_item : (d : Declaration) (name : Name) (index : ℕ) (values : Values) → index_of d.options name ≡ Some index → parsed_item d.options (item_with name values) ≡ Some (parsed_with index values)
+pub option_item : (d : Declaration) (name : Name) (index : ℕ) (values : Values) → index_of d.options name ≡ Some index → parsed_item d.options (item_with name values) ≡ Some (parsed_with index values)
 option_item d name index (AtMostOne value) found = ap (option_map (λ i. legal.option i value)) found
 option_item d name index (All values) found = ap (option_map (λ i. legal.several i values.items)) found
 
@@ -83,19 +82,16 @@ option_first t u v w name Several (All values) is step reads = first_several nam
 option_first t u v w name k values is step reads = absurd reads
 
 -- an option that is declared, with its values
-pub option_parsed : (d : Declaration) (count : ℕ) (u v w : UnreadLine) (name : Name) (k : Kind) (index : ℕ) (parsed : Indexed) → is_sound d.options ≡ true → kind_view k ≡ kind_at d.options index
-    → Next u (option_reply name) v → index_of d.options name ≡ Some index → (values : Values) × (indexed_view parsed ≡ parsed_with index values) × ReadsValues k v values w
-    → ReadsParsed d count u (indexed_view parsed) w
-option_parsed d count u v w name k index parsed sound k_is step found reads =
-    let values = reads.0 in
-    subst (λ (s : legal.Parsed). ReadsParsed d count u s w) (sym reads.1) (record {
-      item = item_with name values;
-      reads = option_first (table d.options) u v w name k values (k_is ∙ kind_of_index d.options name index sound found) step reads.2;
-      shorter = (option_read (table d.options) u v w name k values (k_is ∙ kind_of_index d.options name index sound found) step reads.2).1;
-      parsed = option_item d name index values found;
-      line = λ line. values_line k v w values reads.2 (step_line calls.next u (option_reply name) v line step);
-      within = λ within. same_count count (counts (parsed_with index values)) (most d.positionals) (no_count index values) within;
-    })
+pub option_parsed : (d : Declaration) (count : ℕ) (u v w : UnreadLine) (name : Name) (k : Kind) (index : ℕ) (values : Values) → is_sound d.options ≡ true → kind_view k ≡ kind_at d.options index
+    → Next u (option_reply name) v → index_of d.options name ≡ Some index → ReadsValues k v values w → ReadsParsed d count u (parsed_with index values) w
+option_parsed d count u v w name k index values sound k_is step found reads = record {
+  item = item_with name values;
+  reads = option_first (table d.options) u v w name k values (k_is ∙ kind_of_index d.options name index sound found) step reads;
+  shorter = (option_read (table d.options) u v w name k values (k_is ∙ kind_of_index d.options name index sound found) step reads).1;
+  parsed = option_item d name index values found;
+  line = λ line. values_line k v w values reads (step_line calls.next u (option_reply name) v line step);
+  within = λ within. same_count count (counts (parsed_with index values)) (most d.positionals) (no_count index values) within;
+}
 
 -- what a call returned
 pub answered : (u w : UnreadLine) (r x : Result Found Refusal) → RepliesWith Next u (advance_reply w.last r) w → r ≡ x → RepliesWith Next u (advance_reply w.last x) w

@@ -24,8 +24,6 @@ use Rattle.lexopt_declaration.specs.declared.declaration.Declared.{Declared}
 use Rattle.lexopt_declaration.specs.declared.declaration.Positional.{Positional}
 use Rattle.lexopt_declaration.specs.declared.declaration.Words.{Words}
 use Rattle.lexopt_declaration.specs.declared.declaration.Words.TheVariants as words
-use Rattle.lexopt_options.specs.declared.indexed.Indexed.{Indexed}
-use Rattle.lexopt_options.specs.declared.indexed.Indexed.TheVariants as indexed
 use Rattle.lexopt_options.specs.declared.parsed.Parsed.{Parsed}
 use Rattle.lexopt_options.specs.declared.parsed.Parsed.TheVariants as parsed
 use Rattle.lexopt_options.specs.declared.mistake.Mistake.{Mistake}
@@ -34,9 +32,8 @@ use Rattle.lexopt_options_spec.specs.Stops as stops
 use Rattle.lexopt_options.specs.Mistakes.{IsMistake}
 use Rattle.lexopt_options.specs.Keys as keys
 use Rattle.lexopt_options.specs.Keys.{AreParsedAs, parsed_words}
-use Rattle.lexopt_options.specs.Reading.{indexed_view}
 use Rattle.lexopt_options.specs.Taken as taken
-use Rattle.lexopt_options.specs.Taken.{has_list, indexed_words}
+use Rattle.lexopt_options.specs.Taken.{has_list}
 
 -- ---- by the number of words that are not required
 
@@ -223,39 +220,16 @@ words_are options (s ∷ l) (parsed.Maybe key value ∷ xs) are = ap (λ t. posi
 words_are options (s ∷ l) (parsed.Values key values ∷ xs) are = ap (λ t. positional_words (t ∷ l)) are.0.2 ∙ words_are options l xs are.1
 words_are options (s ∷ l) (parsed.Positional key word ∷ xs) are = ap (λ t. positional_words (t ∷ l)) are.0 ∙ ap (λ ws. word ∷ ws) (words_are options l xs are.1)
 
--- ---- the words that were read by indices
+-- ---- the words themselves
 
-index_front : (xs : List Indexed) (k : ℕ) (x : Indexed) → k < length xs → x ≡ get_or xs k x → indexed_words (drop k xs) ≡ indexed_words (x ∷ drop (k + 1) xs)
-index_front xs k x within is = ap indexed_words (drop_more xs k x within ∙ ap (λ y. y ∷ drop (k + 1) xs) (sym is))
+pub word_next : (words : List (List ℕ)) (k : ℕ) (w : List ℕ) → k < length words → w ≡ get_or words k w → drop k words ≡ w ∷ drop (k + 1) words
+word_next words k w within is = drop_more words k w within ∙ ap (λ x. x ∷ drop (k + 1) words) (sym is)
 
-pub index_word : (xs : List Indexed) (k : ℕ) (x : Indexed) (w : List ℕ) → k < length xs → x ≡ get_or xs k x → x ≡ indexed.Positional w → indexed_words (drop k xs) ≡ w ∷ indexed_words (drop (k + 1) xs)
-index_word xs k x w within is word = index_front xs k x within is ∙ ap (λ y. indexed_words (y ∷ drop (k + 1) xs)) word
-
-pub index_no_word : (xs : List Indexed) (k : ℕ) (x : Indexed) → k < length xs → x ≡ get_or xs k x → ((w : List ℕ) → x ≡ indexed.Positional w → ⊥) → indexed_words (drop k xs) ≡ indexed_words (drop (k + 1) xs)
-index_no_word xs k x within is other = index_front xs k x within is ∙ go x other
-  where
-    go : (y : Indexed) → ((w : List ℕ) → y ≡ indexed.Positional w → ⊥) → indexed_words (y ∷ drop (k + 1) xs) ≡ indexed_words (drop (k + 1) xs)
-    go (indexed.Option index value) other = refl
-    go (indexed.Several index values) other = refl
-    go (indexed.Positional word) other = absurd (other word refl)
-
-pub index_past : (xs : List Indexed) (k : ℕ) → length xs ≤ k → indexed_words (drop k xs) ≡ []
-index_past [] zero past = refl
-index_past [] (suc k) past = refl
-index_past (x ∷ xs) zero past = absurd (omega (arith, past))
-index_past (x ∷ xs) (suc k) past = index_past xs k (omega (arith, past))
-
-pub index_counted : (xs : List Indexed) → length (filter (λ x. taken.is_positional x) xs) ≡ length (indexed_words xs)
-index_counted [] = refl
-index_counted (indexed.Option index value ∷ xs) = index_counted xs
-index_counted (indexed.Several index values ∷ xs) = index_counted xs
-index_counted (indexed.Positional word ∷ xs) = ap suc (index_counted xs)
-
-pub index_words_are : (xs : List Indexed) → positional_words (map indexed_view xs) ≡ indexed_words xs
-index_words_are [] = refl
-index_words_are (indexed.Option index value ∷ xs) = index_words_are xs
-index_words_are (indexed.Several index values ∷ xs) = index_words_are xs
-index_words_are (indexed.Positional word ∷ xs) = ap (λ ws. word ∷ ws) (index_words_are xs)
+pub none_left : (words : List (List ℕ)) (k : ℕ) → length words ≤ k → drop k words ≡ []
+none_left [] zero past = refl
+none_left [] (suc k) past = refl
+none_left (w ∷ words) zero past = absurd (omega (arith, past))
+none_left (w ∷ words) (suc k) past = none_left words k (omega (arith, past))
 
 -- ---- where there are no lists
 

@@ -45,10 +45,6 @@ front d words l v w sound read ends =
     (says_items (table d.options) (start d.short_equals words) v read.items read.read steps.end [] (reads_last (table d.options) v w steps.end tt ends)))
     read.parsed read.within
 
-pub front_of : (d : Declaration) (words : List (List ℕ)) (l : List legal.Parsed) (u v w : UnreadLine) → is_sound d.options ≡ true → u ≡ start d.short_equals words → ReadsUpTo d u l v → Next v steps.end w
-    → MeansFront d words l
-front_of d words l u v w sound is read ends = front d words l v w sound (subst (λ (x : UnreadLine). ReadsUpTo d x l v) is read) ends
-
 counted_so : (d : Declaration) (l : List legal.Parsed) (words : List (List ℕ)) → positional_words l ≡ words → positional_count l ≡ length words
 counted_so d l words is = sym (words_count l) ∙ ap length is
 
@@ -76,15 +72,6 @@ line_stopped d words l u v count why is read counted stops accepted = record {
   read = subst (λ (x : UnreadLine). ReadsUpTo d x l v) is read;
   stops = stops l counted;
   accepted = accepted;
-}
-
--- the same, even if an option does not accept a value
-pub part_stopped : (d : Declaration) (words : List (List ℕ)) (l : List legal.Parsed) (u v : UnreadLine) (count : ℕ) (why : stops.Mistake) → u ≡ start d.short_equals words → ReadsUpTo d u l v
-    → count ≡ positional_count l → ((m : List legal.Parsed) → count ≡ positional_count m → Stops d m v why) → ComesTo d words l why
-part_stopped d words l u v count why is read counted stops = record {
-  there = v;
-  read = subst (λ (x : UnreadLine). ReadsUpTo d x l v) is read;
-  stops = stops l counted;
 }
 
 -- ---- what is wrong at the end
@@ -185,10 +172,3 @@ line_of o words (line.Asked asked) read l means =
     ap (first_asked (declaration_of o).options) (later.1 ∙ append_assoc read.before (read.parsed ∷ []) later.0)
     ∙ asked_here (declaration_of o).options read.before later.0 read.parsed (asked_view asked) read.none_before read.asks
 line_of o words (line.Refused refused) read l means = absurd (nothing_parsed (declaration_of o) words read.read read.why read.stops l means)
-
--- ---- a part of a line
-
--- if the reading stops before the end of the line, the words mean nothing
-pub nothing_part : (d : Declaration) (words : List (List ℕ)) (l : List legal.Parsed) (why : stops.Mistake) → IsEarly why → ComesTo d words l why → (parsed : List legal.Parsed) → MeansFront d words parsed → ⊥
-nothing_part d words l why early stops parsed means =
-    no_front d words l why stops (λ count is. subst IsEarly is early) (λ index is. subst IsEarly is early) (λ index value is. subst IsEarly is early) (λ index word is. subst IsEarly is early) parsed means

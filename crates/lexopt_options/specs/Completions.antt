@@ -1,6 +1,6 @@
 -- What can come where a word is typed, as contracts see it.
-use Rattle.std.specs.Prelude.{◌≡◌, ◌<◌, ◌⊎◌, ◌↔◌, ◌∷◌, ◌++◌, ℕ, Bool, true, false, IsTrue, List, []}
-use Rattle.std.specs.Prelude.{Option, Some, None, filter, length, map, nat_eq, string_bytes}
+use Rattle.std.specs.Prelude.{◌≡◌, ◌<◌, ◌⊎◌, ◌↔◌, ◌++◌, ℕ, Bool, true, IsTrue, List, []}
+use Rattle.std.specs.Prelude.{Option, Some, None, filter, map, nat_eq, string_bytes}
 use Rattle.std.specs.List.{Contains, flat_map, starts_with}
 use Rattle.lexopt_options_spec.specs.Declaration.{Declaration, Positional}
 use Rattle.lexopt_options_spec.specs.Completion as spec
@@ -17,12 +17,8 @@ use Rattle.lexopt_options.specs.declared.complete.Joined.{Joined}
 use Rattle.lexopt_options.specs.declared.complete.Role.{Role}
 use Rattle.lexopt_options.specs.declared.complete.Role.TheVariants as role
 use Rattle.lexopt_options.specs.declared.options.Options.{Options}
-use Rattle.lexopt_options.specs.declared.indexed.Indexed.{Indexed}
-use Rattle.lexopt_options.specs.declared.indexed.Indexed.TheVariants as indexed
 use Rattle.lexopt_options.specs.Declarations.{declaration_of, options_of}
-use Rattle.lexopt_options.specs.declared.complete.Place.{Place}
-use Rattle.lexopt_options.specs.Reading.{indexed_view}
-use Rattle.lexopt_options.specs.Roles.{IsCounted, IsJoinedAt, IsRoleAt, place_view}
+use Rattle.lexopt_options.specs.Roles.{IsJoinedAt, IsRoleAt}
 
 -- exactly the spellings that can come where this was typed after these words, each with the help
 -- text of its option, in the order of the declaration
@@ -98,27 +94,3 @@ Opens d words b = IsTrue b ↔ ((l : List legal.Parsed) × IsOpen d words l)
 abbrev pub CanCome : Declaration → List (List ℕ) → Bool → Type 0
 CanCome d words b = IsTrue b ↔ ((l : List legal.Parsed) × IsOpen d words l
     × (are_accepted d.options l ≡ true) × CanBeTaken d.positionals (positional_words l))
-
--- it is not an option of several values
-abbrev pub is_one : Indexed → Bool
-is_one (indexed.Option index value) = true
-is_one (indexed.Several index values) = false
-is_one (indexed.Positional word) = true
-
--- anything is read, and the last thing is not an option of several values
-abbrev pub ends_in_one : List Indexed → Bool
-ends_in_one [] = false
-ends_in_one (s ∷ []) = is_one s
-ends_in_one (s ∷ t ∷ l) = ends_in_one (t ∷ l)
-
--- as much is read with `--` as with an empty word, and the last thing that is read with the empty
--- word is not an option of several values
-abbrev pub TakeAnyWord : List Indexed → List Indexed → Type 0
-TakeAnyWord l m = (length l ≡ length m) × (ends_in_one m ≡ true)
-
--- what the last word is, by the last thing that is read, if anything is
-abbrev pub IsLastPlace : List Indexed → Option Place → Type 0
-IsLastPlace parsed None = parsed ≡ []
-IsLastPlace parsed (Some place) = IsCounted (Some place) × ((before : List Indexed) × (last : Indexed)
-    × (parsed ≡ before ++ last ∷ [])
-    × (spec.role_of (map indexed_view before) (indexed_view last) ≡ place_view place))

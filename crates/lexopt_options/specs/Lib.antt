@@ -8,7 +8,7 @@ pub mod Messages
 pub mod Mistakes
 pub mod Lines
 pub mod LeadingLines
-pub mod Fronts
+pub mod States
 pub mod Names
 pub mod Completions
 pub mod Roles

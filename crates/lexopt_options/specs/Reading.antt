@@ -1,5 +1,5 @@
 -- What is read from a line, as contracts see it, and what one step of the reading reads.
-use Rattle.std.specs.Prelude.{None, ◌≡◌, ◌≢◌, ◌<◌, ◌+◌, ◌++◌, ◌∷◌, ℕ, Bool, true, false, List, [], Some}
+use Rattle.std.specs.Prelude.{None, ◌≡◌, ◌≢◌, ◌<◌, ◌+◌, ◌++◌, ◌∷◌, ◌⊎◌, ℕ, Bool, true, false, List, [], Some}
 use Rattle.std.specs.Prelude.{Option, Result, Ok, Err, slice_get}
 use Rattle.lexopt_spec.specs.UnreadLine.{UnreadLine, IsLine, long_option}
 use Rattle.lexopt_spec.specs.Steps as steps
@@ -21,18 +21,11 @@ use Rattle.lexopt_items.specs.declared.values.Values.TheVariants.{AtMostOne, All
 use Rattle.lexopt_options.specs.declared.mistake.Mistake.{Mistake}
 use Rattle.lexopt_options.specs.declared.read.Outcome.{Outcome}
 use Rattle.lexopt_options.specs.declared.read.Outcome.TheVariants as outcome
-use Rattle.lexopt_options.specs.declared.indexed.Indexed.{Indexed}
-use Rattle.lexopt_options.specs.declared.indexed.Indexed.TheVariants as indexed
 use Rattle.lexopt_declaration.specs.Models.{option_view}
 use Rattle.lexopt_declaration.specs.declared.declaration.Declared.{Declared}
 use Rattle.lexopt_options.specs.declared.parsed.ByKey.{ByKey}
 use Rattle.lexopt_options.specs.Keys.{IsByKey}
 use Rattle.lexopt_options.specs.Mistakes.{IsMistake}
-
-abbrev pub indexed_view : Indexed → spec.Parsed
-indexed_view (indexed.Option index value) = spec.option index value
-indexed_view (indexed.Several index values) = spec.several index values.items
-indexed_view (indexed.Positional word) = spec.positional word
 
 -- an option with these values
 abbrev pub parsed_with : ℕ → Values → spec.Parsed
@@ -81,6 +74,12 @@ pub record StopsByKey (d : Declaration) (count : ℕ) (u : UnreadLine) (mistake 
   pub of_option : IsOfOption why
   pub stops : (l : List spec.Parsed) → IsLine u → count ≡ positional_count l → Stops d l u why
 
+-- an option without values has one, or there is one positional more than the limit
+abbrev pub StopsNext : Option ℕ → ℕ → UnreadLine → Type 0
+StopsNext limit count u = ((option value : List ℕ) × (v : UnreadLine)
+    × Next u (steps.unexpected option value) v)
+    ⊎ ((word : List ℕ) × (v : UnreadLine) × Next u (steps.positional word) v × (limit ≡ Some count))
+
 -- After `count` positionals, of which there may be `limit`, the reading stops with this mistake.
 -- Without a limit it is a mistake of an option, whatever was read before.
 pub record StopsWithin (d : Declaration) (limit : Option ℕ) (count : ℕ) (u : UnreadLine)
@@ -91,6 +90,7 @@ pub record StopsWithin (d : Declaration) (limit : Option ℕ) (count : ℕ) (u :
   pub stops : (l : List spec.Parsed) → limit ≡ most d.positionals → count ≡ positional_count l
       → Stops d l u why
   pub of_option : limit ≡ None → IsOfOption why × ((l : List spec.Parsed) → Stops d l u why)
+  pub next : StopsNext limit count u
 
 -- an option comes next that is not declared: the short one with this character, or a long one
 abbrev pub UndeclaredNext : Declaration → UnreadLine → Option ℕ → UnreadLine → Type 0
@@ -132,14 +132,8 @@ noted false index seen = seen
 
 -- ---- what one option is
 
--- the option is read with its values, or it is the mistake that it has none
-abbrev pub IsRead : Declaration → ℕ → UnreadLine → Result Indexed Mistake → UnreadLine → Type 0
-IsRead d count u (Ok parsed) v =
-    ReadsParsed d count u (indexed_view parsed) v × (counts (indexed_view parsed) ≡ 0)
-IsRead d count u (Err mistake) v = StopsBy d count u mistake
-
--- the same for the option at this index, by its key; or it is the mistake that it does not accept a
--- value
+-- the option at this index is read with its values, by its key; or it is the mistake that it has
+-- none, or does not accept one
 abbrev pub IsReadByKey : {F V P M S : Type 0} → Declaration → List (Declared F V M S) → ℕ → ℕ
     → UnreadLine → Result (ByKey F V P M S) Mistake → UnreadLine → Type 0
 IsReadByKey d options index count u (Ok told) v = (s : spec.Parsed) × ReadsParsed d count u s v
@@ -154,17 +148,3 @@ abbrev pub IsInvalidValue : {F V M S : Type 0} → Declared F V M S → List ℕ
 IsInvalidValue option value mistake = (d : Declaration) (i : ℕ)
     → slice_get d.options i ≡ Some (option_view option)
     → IsMistake d mistake (stops.invalid_value i value)
-
--- ---- the values of an option
-
-abbrev pub IsOne : Values → Type 0
-IsOne (AtMostOne (Some word)) = Unit {0}
-IsOne values = ⊥
-
-abbrev pub IsAtMostOne : Values → Type 0
-IsAtMostOne (AtMostOne word) = Unit {0}
-IsAtMostOne values = ⊥
-
-abbrev pub AreAll : Values → Type 0
-AreAll (All words) = Unit {0}
-AreAll values = ⊥

@@ -8,8 +8,6 @@ use Rattle.lexopt_declaration.specs.Models.{positional_view, words_view}
 use Rattle.lexopt_declaration.specs.declared.declaration.Positional.{Positional}
 use Rattle.lexopt_declaration.specs.declared.declaration.Words.{Words}
 use Rattle.lexopt_declaration.specs.declared.declaration.Words.TheVariants.{Listed}
-use Rattle.lexopt_options.specs.declared.indexed.Indexed.{Indexed}
-use Rattle.lexopt_options.specs.declared.indexed.Indexed.TheVariants as indexed
 use Rattle.lexopt_options.specs.declared.mistake.Mistake.{Mistake}
 use Rattle.lexopt_options.specs.Mistakes.{IsMistake}
 
@@ -41,13 +39,3 @@ IsRefusalAt positionals index word found = MatchOption found
     (takes_at (map positional_view positionals) index word ≡ true)
     (λ mistake. (takes_at (map positional_view positionals) index word ≡ false)
     × IsInvalid positionals index word mistake)
-
-abbrev pub is_positional : Indexed → Bool
-is_positional (indexed.Positional word) = true
-is_positional own = false
-
--- the words of the positionals, in order
-abbrev pub indexed_words : List Indexed → List (List ℕ)
-indexed_words [] = []
-indexed_words (indexed.Positional word ∷ l) = word ∷ indexed_words l
-indexed_words (own ∷ l) = indexed_words l

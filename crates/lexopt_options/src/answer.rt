@@ -262,7 +262,8 @@ impl<F, V, P, M, S> Options<'_, F, V, P, M, S> {
     /// Returns what can come where `typed` is typed after `words`, as the scripts for shells read
     /// it.
     ///
-    /// The words are without the name of the program. The text has these lines, in this order:
+    /// The words are without the name of the program. This call consumes them. The text has these
+    /// lines, in this order:
     ///
     /// - Unless nothing was typed, one for each spelling that can come: the spelling, a tab, and
     ///   the help text of its option, with a blank for each control character of ASCII.
@@ -285,17 +286,17 @@ impl<F, V, P, M, S> Options<'_, F, V, P, M, S> {
     ///
     /// ```rust
     /// let typed = OsString::from_text(alloc, "--o")?;
-    /// let text = options.completion_text(alloc, &[], &typed)?;
+    /// let text = options.completion_text(alloc, Vec::new(alloc), &typed)?;
     /// // "--output\tthe archive\n"
     /// ```
     pub fn completion_text(
         &self,
         alloc: Global,
-        words: &[OsString],
+        words: Vec<OsString>,
         typed: &OsString,
     ) -> Result<String, AllocError>
         ensures { IfOk result (λ text.
-            IsCompletionText self.now words.now typed.now (string_bytes text)) }
+            IsCompletionText self.now words.items typed.now (string_bytes text)) }
     {
         let completion = self.complete(alloc, words, typed)?;
         text_of(alloc, self.positionals(), typed, &completion)
@@ -456,7 +457,7 @@ impl<'a, F: Copy, V: Copy, P: Copy, M: Copy, S: Copy> Options<'a, F, V, P, M, S>
         match request {
             Request::Line(words) => self.answer(alloc, words, width),
             Request::Completion(words, typed) => {
-                Ok(Answer::Text(self.completion_text(alloc, &words, &typed)?))
+                Ok(Answer::Text(self.completion_text(alloc, words, &typed)?))
             }
             Request::Script(shell) => Ok(Answer::Text(self.script(alloc, shell)?)),
             Request::Unknown => Ok(Answer::Refused(self.unknown_request(alloc)?)),

@@ -1,35 +1,29 @@
 //! What can come where a word is typed, for the completion of shells.
 ghost use Rattle.std.specs.Prelude.{◌≡◌, ◌↔◌, ◌∷◌, ◌++◌, ℕ, IfOk, IsTrue, List, MatchOption, OnOk, []};
-ghost use Rattle.std.specs.Prelude.{◌<◌, None, Some, filter, length, nat_eq, map, option_map, slice_get, string_bytes, true};
-ghost use Rattle.lexopt_spec.specs.UnreadLine.{BeginsWith, dash};
+ghost use Rattle.std.specs.Prelude.{◌<◌, Some, filter, length, nat_eq, map, option_map, slice_get};
+ghost use Rattle.std.specs.Prelude.{string_bytes, true};
 ghost use Rattle.std.specs.List.{flat_map, starts_with};
-ghost use Rattle.lexopt_options_spec.specs.Declaration.{Declaration};
-ghost use Rattle.lexopt_options_spec.specs.Legal.{are_accepted, positional_count};
-ghost use Rattle.lexopt_options_spec.specs.Legal.{positional_words};
-ghost use Rattle.lexopt_options_spec.specs.Completion.{CanBeTaken};
-ghost use Rattle.lexopt_options_spec.specs.Completion as spec;
-ghost use Rattle.lexopt_options_spec.specs.Completion.{HasRole, IsJoined, IsOption};
-ghost use Rattle.lexopt_options.specs.Completions.{CanCome, Opens, TakeAnyWord, ends_in_one};
-ghost use Rattle.lexopt_options.specs.Completions.{IsLastPlace, is_one, joined_values, values_so};
-ghost use Rattle.lexopt_options.specs.Completions.{word_values, words_so};
-ghost use Rattle.lexopt_declaration.specs.Models.{positional_view};
-ghost use Rattle.lexopt_options.specs.Declarations.{declaration_of};
-ghost use Rattle.lexopt_options.specs.Fronts.{IsPart};
-ghost use Rattle.lexopt_options.specs.Reading.{indexed_view};
-ghost use Rattle.lexopt_options.specs.declared.indexed.Indexed.{Indexed};
-ghost use Rattle.lexopt_options_spec.specs.Legal.{MeansFront};
 ghost use Rattle.std.specs.Str.{IsUtf8};
-ghost use Rattle.lexopt_options.specs.Roles.{IsCounted, IsDeclared, IsRole, joined_view};
-ghost use Rattle.lexopt_options.specs.Roles.{place_view};
+ghost use Rattle.lexopt_spec.specs.UnreadLine.{BeginsWith, dash};
+ghost use Rattle.lexopt_options_spec.specs.Completion.{IsJoined};
+ghost use Rattle.lexopt_options_spec.specs.Declaration as spec;
+ghost use Rattle.lexopt_options_spec.specs.Declaration.{Declaration};
+ghost use Rattle.lexopt_options_spec.specs.Legal.{most};
+ghost use Rattle.lexopt_options_spec.specs.States as states;
+ghost use Rattle.lexopt_declaration.specs.Models.{positional_view};
+ghost use Rattle.lexopt_options.specs.Completions.{CanCome, Opens, joined_values, values_so};
+ghost use Rattle.lexopt_options.specs.Completions.{word_values, words_so};
+ghost use Rattle.lexopt_options.specs.Declarations.{declaration_of};
+ghost use Rattle.lexopt_options.specs.Roles.{IsCounted, IsDeclared, IsRole, joined_view, place_view};
+ghost use Rattle.lexopt_options.specs.States.{IsFrontOf, IsLast, state_view};
 
-use crate::indexed::Indexed;
-use crate::listed::are_accepted;
+use crate::front::{Front, State};
 use crate::options::Options;
-use crate::taken::{can_be_taken, owners_of, word_count};
+use crate::read::is_full;
+use crate::taken::{can_be_taken, owners_of};
 use lexopt_declaration::declaration::{Declared, Positional};
 use lexopt_declaration::spellings::{Spelling, add_joined, add_values, spellings_of};
 use lexopt_words::os_string::OsString;
-use lexopt_words::words::copies;
 use std::alloc::{AllocError, Global};
 use std::convert::Infallible;
 use std::str;
@@ -85,131 +79,83 @@ enum Place {
 
 // ---- where an option can come
 
-// Whether this is not an option of several values.
-fn is_one(parsed: &Indexed) -> bool
-    ensures { result ≡ is_one parsed.now }
+// Whether an option can come in this state.
+fn opens(state: State) -> bool
+    ensures { result ≡ states.opens (state_view state) }
 {
-    match parsed {
-        Indexed::Option(_, _) | Indexed::Positional(_) => true,
-        Indexed::Several(_, _) => false,
-    }
+    matches!(state, State::Anything | State::Further(_))
 }
 
-// Whether anything is read, and the last thing is not an option of several values.
-fn ends_in_one(parsed: &[Indexed]) -> bool
-    ensures { result ≡ ends_in_one parsed.now }
+// Whether an option can come after words that mean this.
+fn is_open(front: &Option<Front>) -> bool
+    ensures { (d : Declaration) (words : List (List ℕ)) → IsFrontOf d words front.now
+        → Opens d words result }
 {
-    match parsed {
-        [.., last] => is_one(last),
-        [] => false,
-    }
-}
-
-// Whether the next word is taken whatever it looks like: as a value, or as a positional after the
-// separator. That is so if as much is read with `--` as with an empty word, and the last thing that
-// is read with the empty word is not an option of several values.
-fn take_any_word(dashed: &[Indexed], plain: &[Indexed]) -> bool
-    ensures { IsTrue result ↔ TakeAnyWord dashed.now plain.now }
-{
-    dashed.len() == plain.len() && ends_in_one(plain)
-}
-
-// Whether an option can come after some words. `dashed` is what is read from these words with `--`
-// after them, `plain` with an empty word after them.
-fn is_open(dashed: &Option<Vec<Indexed>>, plain: &Option<Vec<Indexed>>) -> bool
-    ensures { (d : Declaration) (words : List (List ℕ))
-        → IsPart d (words ++ (dash ∷ dash ∷ []) ∷ []) dashed.now
-        → IsPart d (words ++ [] ∷ []) plain.now → Opens d words result }
-{
-    match dashed {
-        Some(dashed) => match plain {
-            Some(plain) => !take_any_word(dashed, plain),
-            None => true,
-        },
+    match front {
+        Some(front) => opens(front.state),
         None => false,
     }
 }
 
-// Whether, with some more words, each option accepts its values, and the positionals the words.
-fn can_be_legal<F, V, P, M, S>(options: &Options<'_, F, V, P, M, S>, parsed: &[Indexed]) -> bool
-    ensures { let d = declaration_of options.now in IsTrue result ↔
-        ((are_accepted d.options (map indexed_view parsed.now) ≡ true)
-        × CanBeTaken d.positionals (positional_words (map indexed_view parsed.now))) }
-{
-    are_accepted(options.options(), parsed) && can_be_taken(options.positionals(), parsed)
-}
-
-// Whether a declared option can come after some words: `opens` means that an option can, and with
-// some more words each option has to accept its values, and the positionals the words. `dashed` is
-// what is read from these words with `--` after them.
-fn can_come<F, V, P, M, S>(
-    options: &Options<'_, F, V, P, M, S>,
-    opens: bool,
-    dashed: &Option<Vec<Indexed>>,
-) -> bool
-    ensures { (words : List (List ℕ)) → Opens (declaration_of options.now) words opens
-        → IsPart (declaration_of options.now) (words ++ (dash ∷ dash ∷ []) ∷ []) dashed.now
+// Whether a declared option can come after words that mean this: an option can, and with some more
+// words each option accepts its values, and the positionals the words.
+fn can_come<F, V, P, M, S>(options: &Options<'_, F, V, P, M, S>, front: &Option<Front>) -> bool
+    ensures { (words : List (List ℕ)) → IsFrontOf (declaration_of options.now) words front.now
         → CanCome (declaration_of options.now) words result }
 {
-    let Some(dashed) = dashed else {
-        return false;
-    };
-    opens && can_be_legal(options, dashed)
+    match front {
+        Some(front) => {
+            if !opens(front.state) {
+                return false;
+            }
+            if !front.accepted {
+                return false;
+            }
+            can_be_taken(options.positionals(), &front.words)
+        }
+        None => false,
+    }
 }
 
 // ---- a word that is not an option
 
-// What the last word is. `last`, the last thing of `parsed`, is read from it.
-fn place_of(parsed: &[Indexed], last: &Indexed) -> Place
-    ensures { (before : List Indexed) → parsed.now ≡ before ++ last.now ∷ []
-        → IsCounted (Some result)
-        × (spec.role_of (map indexed_view before) (indexed_view last.now) ≡ place_view result) }
-{
-    match last {
-        Indexed::Option(index, _) | Indexed::Several(index, _) => Place::Value(*index),
-        Indexed::Positional(_) => Place::Argument(word_count(parsed)),
-    }
-}
-
-// What the last word is, if anything is read.
-fn last_place(parsed: &[Indexed]) -> Option<Place>
-    ensures { IsLastPlace parsed.now result }
-{
-    match parsed {
-        [.., last] => Some(place_of(parsed, last)),
-        [] => None,
-    }
-}
-
-// What a word is that begins with `typed`, which has no dash first, and is not an option. `plain` is
-// what is read from the words before it with an empty word after them.
-fn plain_place(plain: &Option<Vec<Indexed>>) -> Option<Place>
+// A positional after these words, if one more is allowed.
+fn room(limit: Option<usize>, words: &Vec<OsString>) -> Option<Place>
     ensures counted { IsCounted result }
-    ensures role { (d : Declaration) (words : List (List ℕ)) (typed : List ℕ)
-        → (¬ BeginsWith dash typed) → IsPart d (words ++ [] ∷ []) plain.now
-        → HasRole d words typed (option_map place_view result) }
+    ensures room { (ps : List spec.Positional) → limit ≡ most ps
+        → option_map place_view result ≡ states.room ps (length words.now.items) }
 {
-    match plain {
-        Some(parsed) => last_place(parsed),
-        None => None,
-    }
-}
-
-// What a word is that begins with `typed`, which has a dash first, and is not an option. `dashed` is
-// what is read from the words before it with `--` after them.
-fn dashed_place(opens: bool, dashed: &Option<Vec<Indexed>>) -> Option<Place>
-    ensures counted { IsCounted result }
-    ensures role { (d : Declaration) (words : List (List ℕ)) (typed : List ℕ)
-        → BeginsWith dash typed → Opens d words opens
-        → IsPart d (words ++ (dash ∷ dash ∷ []) ∷ []) dashed.now
-        → HasRole d words typed (option_map place_view result) }
-{
-    if opens {
+    let count = words.len();
+    if is_full(limit, count) {
         return None;
     }
-    match dashed {
-        Some(parsed) => last_place(parsed),
-        None => None,
+    Some(Place::Argument(count + 1))
+}
+
+// What a word is after words that mean this, if it is not an option. `is_dashed` means that a dash
+// was typed first.
+fn place_after(limit: Option<usize>, front: &Front, is_dashed: bool) -> Option<Place>
+    ensures counted { IsCounted result }
+    ensures role { (ps : List spec.Positional) → limit ≡ most ps → option_map place_view result
+        ≡ states.role_in ps (length front.now.words.items) is_dashed (state_view front.now.state) }
+{
+    match front.state {
+        State::Anything => {
+            if is_dashed {
+                None
+            } else {
+                room(limit, &front.words)
+            }
+        }
+        State::Due(index) => Some(Place::Value(index)),
+        State::First(index) | State::Further(index) => {
+            if is_dashed {
+                None
+            } else {
+                Some(Place::Value(index))
+            }
+        }
+        State::Ended => room(limit, &front.words),
     }
 }
 
@@ -218,38 +164,6 @@ fn begins_with_dash(typed: &OsString) -> bool
     ensures { IsTrue result ↔ BeginsWith dash typed.now }
 {
     typed.as_bytes().first() == Some(&b'-')
-}
-
-// What a word is that begins with `typed` and is not an option, after some words. `dashed` is what
-// is read from these words with `--` after them, `plain` with an empty word after them.
-fn place_after(
-    typed: &OsString,
-    opens: bool,
-    dashed: &Option<Vec<Indexed>>,
-    plain: &Option<Vec<Indexed>>,
-) -> Option<Place>
-    ensures counted { IsCounted result }
-    ensures role { (d : Declaration) (words : List (List ℕ)) → Opens d words opens
-        → IsPart d (words ++ (dash ∷ dash ∷ []) ∷ []) dashed.now
-        → IsPart d (words ++ [] ∷ []) plain.now
-        → HasRole d words typed.now (option_map place_view result) }
-{
-    if begins_with_dash(typed) {
-        dashed_place(opens, dashed)
-    } else {
-        plain_place(plain)
-    }
-}
-
-// Whether a positional is among these, the last left out.
-fn has_positional_before_last(parsed: &[Indexed]) -> bool
-    ensures { IsTrue result ↔ ((before : List Indexed) × (last : Indexed)
-        × (parsed.now ≡ before ++ last ∷ []) × (0 < positional_count (map indexed_view before))) }
-{
-    match parsed {
-        [before @ .., _] => word_count(before) > 0,
-        [] => false,
-    }
 }
 
 // ---- a value in the word of its option
@@ -261,37 +175,6 @@ fn one_word(alloc: Global, word: &OsString) -> Result<Vec<OsString>, AllocError>
     let mut words = Vec::new(alloc);
     words.push(word.clone()?)?;
     Ok(words)
-}
-
-// The index of an option and its first value, if this is an option that has a value.
-fn value_of(parsed: &Indexed) -> Option<(usize, &OsString)>
-    ensures { MatchOption result (spec.value_of (indexed_view parsed.now) ≡ None)
-        (λ found. IsOption found.0 (indexed_view parsed.now)
-        × (spec.value_of (indexed_view parsed.now) ≡ Some found.1.now)) }
-{
-    match parsed {
-        Indexed::Option(index, Some(value)) => Some((*index, value)),
-        Indexed::Several(index, values) => match values.first() {
-            Some(value) => Some((*index, value)),
-            None => None,
-        },
-        Indexed::Option(_, None) | Indexed::Positional(_) => None,
-    }
-}
-
-// The index of an option and its first value, if that is what is read last.
-fn last_value(parsed: &[Indexed]) -> Option<(usize, &OsString)>
-    ensures { MatchOption result
-        ((others : List Indexed) (last : Indexed) → parsed.now ≡ others ++ last ∷ []
-        → spec.value_of (indexed_view last) ≡ None)
-        (λ found. (others : List Indexed) × (last : Indexed) × (parsed.now ≡ others ++ last ∷ [])
-        × IsOption found.0 (indexed_view last)
-        × (spec.value_of (indexed_view last) ≡ Some found.1.now)) }
-{
-    match parsed {
-        [.., last] => value_of(last),
-        [] => None,
-    }
 }
 
 // What comes before this value, if the word ends with it, and what comes before it is UTF-8.
@@ -309,18 +192,18 @@ fn text_before(alloc: Global, word: &[u8], value: &[u8]) -> Result<Option<String
     }
 }
 
-// The index of the option whose value is in the word, and what comes before the value. `parsed` is
-// what is read from the word alone.
+// The index of the option whose value is in the word, and what comes before the value. `last` is what
+// the word alone means last.
 fn joined_value(
     alloc: Global,
-    parsed: &[Indexed],
+    last: Option<(usize, OsString)>,
     typed: &OsString,
 ) -> Result<Option<(usize, String)>, AllocError>
     ensures { (d : Declaration) (words : List (List ℕ)) → Opens d words true
-        → MeansFront d (typed.now ∷ []) (map indexed_view parsed.now)
+        → IsLast d (typed.now ∷ []) last
         → IfOk result (λ found. IsJoined d words typed.now (option_map joined_view found)) }
 {
-    let Some((index, value)) = last_value(parsed) else {
+    let Some((index, value)) = last else {
         return Ok(None);
     };
     match text_before(alloc, typed.as_bytes(), value.as_bytes())? {
@@ -449,36 +332,16 @@ fn values_for<F, V, P, M, S>(
 }
 
 impl<'a, F, V, P, M, S> Options<'a, F, V, P, M, S> {
-    ghost use Rattle.std.specs.Prelude.{◌∷◌, ◌++◌, ℕ, [], IfOk, List, map, string_bytes};
-    ghost use Rattle.std.specs.Prelude.{Option, option_map};
+    ghost use Rattle.std.specs.Prelude.{◌↔◌, ℕ, IfOk, IsTrue, List, Option, map, option_map};
+    ghost use Rattle.lexopt_options_spec.specs.Completion as completion;
     ghost use Rattle.lexopt_options_spec.specs.Completion.{AreOwnersIn, HasRole, IsJoined};
-    ghost use Rattle.std.specs.Prelude.{◌↔◌, IsTrue};
-    ghost use Rattle.lexopt_options_spec.specs.Legal as legal;
-    ghost use Rattle.lexopt_options_spec.specs.Legal.{MeansFront};
+    ghost use Rattle.lexopt_declaration.specs.Models.{spelling_view};
     ghost use Rattle.lexopt_options.specs.Completions.{AreOffered, CanCome, HasPositional};
     ghost use Rattle.lexopt_options.specs.Completions.{IsCompletion, Opens};
     ghost use Rattle.lexopt_options.specs.Declarations.{declaration_of, options_of};
-    ghost use Rattle.lexopt_options_spec.specs.Completion as spec;
-    ghost use Rattle.lexopt_declaration.specs.Models.{spelling_view};
     ghost use Rattle.lexopt_options.specs.Roles.{IsCounted, IsJoinedAt, IsRoleAt, joined_view};
     ghost use Rattle.lexopt_options.specs.Roles.{place_view};
-    ghost use Rattle.lexopt_options.specs.Fronts.{IsPart};
-
-    // What these words mean with this word after them, even if something is missing; `None` if no
-    // line begins with them.
-    fn read_with(
-        &self,
-        alloc: Global,
-        words: &[OsString],
-        word: &str,
-    ) -> Result<Option<Vec<Indexed>>, AllocError>
-        ensures { IfOk result (λ found.
-            IsPart (declaration_of self.now) (words.now ++ word.now ∷ []) found) }
-    {
-        let mut copy = copies(alloc, words)?;
-        copy.push(OsString::from_text(alloc, word)?)?;
-        self.read_part(alloc, copy)
-    }
+    ghost use Rattle.lexopt_options.specs.States.{IsFrontOf};
 
     // The spellings that begin with what was typed; none if no option can come there.
     fn spellings_for(
@@ -516,8 +379,8 @@ impl<'a, F, V, P, M, S> Options<'a, F, V, P, M, S> {
         if !opens {
             return Ok(None);
         }
-        match self.read_part(alloc, one_word(alloc, typed)?)? {
-            Some(parsed) => joined_value(alloc, &parsed, typed),
+        match self.front(alloc, one_word(alloc, typed)?)? {
+            Some(front) => joined_value(alloc, front.last, typed),
             None => Ok(None),
         }
     }
@@ -526,13 +389,13 @@ impl<'a, F, V, P, M, S> Options<'a, F, V, P, M, S> {
     fn joined(
         &self,
         alloc: Global,
-        words: &[OsString],
         opens: bool,
         typed: &OsString,
     ) -> Result<Option<Joined<'a, F, V, M, S>>, AllocError>
-        requires { Opens (declaration_of self.now) words.now opens }
-        ensures { IfOk result (λ found. (joined : Option spec.Joined)
-            × IsJoined (declaration_of self.now) words.now typed.now joined
+        requires { (words : List (List ℕ)) × Opens (declaration_of self.now) words opens }
+        ensures { IfOk result (λ found. (words : List (List ℕ))
+            → Opens (declaration_of self.now) words opens → (joined : Option completion.Joined)
+            × IsJoined (declaration_of self.now) words typed.now joined
             × IsJoinedAt (options_of self.now) joined found) }
     {
         match self.joined_option(alloc, opens, typed)? {
@@ -544,14 +407,21 @@ impl<'a, F, V, P, M, S> Options<'a, F, V, P, M, S> {
         }
     }
 
+    // What a word is after words that mean this, if it is not an option.
+    fn place(&self, front: &Option<Front>, typed: &OsString) -> Option<Place>
+        ensures counted { IsCounted result }
+        ensures role { (words : List (List ℕ)) → IsFrontOf (declaration_of self.now) words front.now
+            → HasRole (declaration_of self.now) words typed.now (option_map place_view result) }
+    {
+        match front {
+            Some(front) => place_after(self.most(), front, begins_with_dash(typed)),
+            None => None,
+        }
+    }
+
     // What a word is at this place, with the option itself.
-    fn role(
-        &self,
-        words: &[OsString],
-        typed: &OsString,
-        place: Option<Place>,
-    ) -> Option<Role<'a, F, V, M, S>>
-        requires { HasRole (declaration_of self.now) words.now typed.now
+    fn role(&self, typed: &OsString, place: Option<Place>) -> Option<Role<'a, F, V, M, S>>
+        requires { (words : List (List ℕ)) × HasRole (declaration_of self.now) words typed.now
             (option_map place_view place) }
         ensures { IsRoleAt (options_of self.now) (option_map place_view place) result }
     {
@@ -573,44 +443,30 @@ impl<'a, F, V, P, M, S> Options<'a, F, V, P, M, S> {
         }
     }
 
-    // Whether a positional is among these words, which mean nothing without a word after them.
-    fn has_positional_before_value(
-        &self,
-        alloc: Global,
-        words: &[OsString],
-    ) -> Result<bool, AllocError>
-        ensures { ((l : List legal.Parsed) → ¬ MeansFront (declaration_of self.now) words.now l)
-            → IfOk result (λ b. IsTrue b ↔ HasPositional (declaration_of self.now) words.now) }
-    {
-        match self.read_with(alloc, words, "")? {
-            Some(parsed) => Ok(has_positional_before_last(&parsed)),
-            None => Ok(false),
-        }
-    }
-
     /// Returns whether a positional is among these words.
     ///
     /// They are read as the beginning of a line: something may be missing after them, such as the
-    /// value of the last option. If no line begins with them, the result is `false`. The words are
-    /// copied.
+    /// value of the last option. If no line begins with them, the result is `false`. This call
+    /// consumes the words.
     ///
     /// # Errors
     ///
     /// Returns `AllocError` if an allocation fails.
-    pub fn has_positional(&self, alloc: Global, words: &[OsString]) -> Result<bool, AllocError>
-        ensures { IfOk result (λ b. IsTrue b ↔ HasPositional (declaration_of self.now) words.now) }
+    pub fn has_positional(&self, alloc: Global, words: Vec<OsString>) -> Result<bool, AllocError>
+        ensures { IfOk result (λ b.
+            IsTrue b ↔ HasPositional (declaration_of self.now) words.items) }
     {
-        match self.read_part(alloc, copies(alloc, words)?)? {
-            Some(parsed) => Ok(word_count(&parsed) > 0),
-            None => self.has_positional_before_value(alloc, words),
+        match self.front(alloc, words)? {
+            Some(front) => Ok(!front.words.is_empty()),
+            None => Ok(false),
         }
     }
 
     /// Returns what can come where `typed` is typed after `words`, for the completion of shells.
     ///
-    /// The words are without the name of the program. They are copied. It is not known how many
-    /// words will follow, so a word may be able to belong to several positionals, such as the
-    /// second word of `SOURCE... DEST` to either.
+    /// The words are without the name of the program. This call consumes them, and reads them once.
+    /// It is not known how many words will follow, so a word may be able to belong to several
+    /// positionals, such as the second word of `SOURCE... DEST` to either.
     ///
     /// # Errors
     ///
@@ -623,7 +479,7 @@ impl<'a, F, V, P, M, S> Options<'a, F, V, P, M, S> {
     /// ```rust
     /// let words = vec![in alloc; OsString::from_text(alloc, "-v")?]?;
     /// let typed = OsString::from_text(alloc, "--")?;
-    /// let completion = options.complete(alloc, &words, &typed)?;
+    /// let completion = options.complete(alloc, words, &typed)?;
     /// for spelling in &completion.spellings {
     ///     // --verbose, --output, --mode, --help, --version
     ///     println!(rt; "{}", spelling.text)?;
@@ -634,7 +490,7 @@ impl<'a, F, V, P, M, S> Options<'a, F, V, P, M, S> {
     pub fn complete(
         &self,
         alloc: Global,
-        words: &[OsString],
+        words: Vec<OsString>,
         typed: &OsString,
     ) -> Result<Completion<'a, F, V, M, S>, AllocError>
         // This is exactly what can come there: the spellings of declared options that begin with
@@ -643,18 +499,15 @@ impl<'a, F, V, P, M, S> Options<'a, F, V, P, M, S> {
         // can belong; the option whose value is typed in the word; and the values in the lists of
         // these that begin with what was typed.
         ensures { IfOk result (λ completion.
-            IsCompletion self.now words.now typed.now completion) }
+            IsCompletion self.now words.items typed.now completion) }
     {
-        let dashed = self.read_with(alloc, words, "--")?;
-        let plain = self.read_with(alloc, words, "")?;
-        let opens = is_open(&dashed, &plain);
-        let can_come = can_come(self, opens, &dashed);
-        let place = place_after(typed, opens, &dashed, &plain);
-        let word = self.role(words, typed, place);
+        let front = self.front(alloc, words)?;
+        let place = self.place(&front, typed);
+        let word = self.role(typed, place);
         let arguments = self.arguments(alloc, place)?;
-        let joined = self.joined(alloc, words, opens, typed)?;
+        let joined = self.joined(alloc, is_open(&front), typed)?;
         Ok(Completion {
-            spellings: self.spellings_for(alloc, can_come, typed)?,
+            spellings: self.spellings_for(alloc, can_come(self, &front), typed)?,
             values: values_for(alloc, &word, self.positionals(), &arguments, &joined, typed)?,
             word,
             arguments,

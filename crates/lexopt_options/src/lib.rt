@@ -216,7 +216,7 @@
 pub mod answer;
 pub mod complete;
 mod declare;
-mod indexed;
+mod front;
 pub mod leading;
 mod listed;
 pub mod mistake;

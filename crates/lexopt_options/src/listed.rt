@@ -1,14 +1,12 @@
 //! Which values an option accepts. The file of this name in `lexopt_declaration` prints a list.
-ghost use Rattle.std.specs.Prelude.{◌≡◌, false, is_none, map, not, position};
+ghost use Rattle.std.specs.Prelude.{◌≡◌, false, not, position};
 ghost use Rattle.std.specs.Cmp.Lexicographic.{pointwise};
 ghost use Rattle.std.specs.Prelude.{◌==◌};
-ghost use Rattle.std.specs.List.{list_all, list_any};
+ghost use Rattle.std.specs.List.{list_any};
 ghost use Rattle.lexopt_options_spec.specs.Declaration as spec;
-ghost use Rattle.lexopt_options_spec.specs.Legal.{refused_value};
-ghost use Rattle.lexopt_declaration.specs.Models.{option_view, words_view};
-ghost use Rattle.lexopt_options.specs.Reading.{IsInvalidValue, indexed_view};
+ghost use Rattle.lexopt_declaration.specs.Models.{words_view};
+ghost use Rattle.lexopt_options.specs.Reading.{IsInvalidValue};
 
-use crate::indexed::Indexed;
 use crate::mistake::Mistake;
 use lexopt_declaration::declaration::{Declared, Words};
 use lexopt_words::os_string::OsString;
@@ -59,30 +57,4 @@ pub fn invalid_value<'a, F, V, M, S>(
         },
         Words::Files | Words::Directories | Words::Text => unreachable!(),
     }
-}
-
-// Whether the option at this index accepts the values that it has.
-fn is_accepted<F, V, M, S>(options: &[Declared<'_, F, V, M, S>], parsed: &Indexed) -> bool
-    ensures { result
-        ≡ is_none (refused_value (map option_view options.now) (indexed_view parsed.now)) }
-{
-    match parsed {
-        Indexed::Option(index, Some(value)) => match options.get(*index) {
-            Some(option) => accepts(option.words, value),
-            None => true,
-        },
-        Indexed::Several(index, values) => match options.get(*index) {
-            Some(option) => refused_place(option.words, values).is_none(),
-            None => true,
-        },
-        Indexed::Option(_, None) | Indexed::Positional(_) => true,
-    }
-}
-
-/// Whether each option accepts the values that it has.
-pub fn are_accepted<F, V, M, S>(options: &[Declared<'_, F, V, M, S>], parsed: &[Indexed]) -> bool
-    ensures { result ≡ list_all (λ own. is_none (refused_value (map option_view options.now)
-        (indexed_view own))) parsed.now }
-{
-    parsed.iter().all(|own| is_accepted(options, own))
 }

@@ -20,7 +20,6 @@ ghost use Rattle.lexopt_options_spec.specs.Stops.{ReadsUpTo, StopsAt};
 ghost use Rattle.lexopt_declaration.specs.Models.{option_view};
 ghost use Rattle.lexopt_items.specs.Items.{ValuesEndBy, kind_view};
 ghost use Rattle.lexopt_items.specs.declared.kinds.Kind.{Kind};
-ghost use Rattle.lexopt_items.specs.declared.values.Values.{Values};
 ghost use Rattle.lexopt_declaration.specs.declared.declaration.Declared.{Declared};
 ghost use Rattle.lexopt_declaration.specs.Lookups.{names_at};
 ghost use Rattle.lexopt_declaration.specs.declared.declaration.Positional.{Positional};
@@ -31,12 +30,9 @@ ghost use Rattle.lexopt_options.specs.Kinds as kinds;
 ghost use Rattle.lexopt_options.specs.Taken.{has_list};
 ghost use Rattle.lexopt_options.specs.Mistakes.{AreNames, IsMistake};
 ghost use Rattle.lexopt_options.specs.Lines.{IsLineRead, before_mistake};
-ghost use Rattle.lexopt_options.specs.Fronts.{IsPart};
-ghost use Rattle.lexopt_options.specs.Reading.{AllSeen, AreAll, AreSeen, ComesNext, IsAtMostOne, UndeclaredNext};
-ghost use Rattle.lexopt_options.specs.Reading.{IsFirstUnseen, IsOne, IsRead};
-ghost use Rattle.lexopt_options.specs.Reading.{IsReadByKey, StopsAtOption, indexed_view, noted};
+ghost use Rattle.lexopt_options.specs.Reading.{AllSeen, AreSeen, ComesNext, UndeclaredNext};
+ghost use Rattle.lexopt_options.specs.Reading.{IsFirstUnseen, IsReadByKey, StopsAtOption, noted};
 
-use crate::indexed::Indexed;
 use crate::listed::{accepts, invalid_value, refused_place};
 use crate::mistake::{Mistake, OptionName, short_hints};
 use crate::options::Options;
@@ -51,8 +47,7 @@ use lexopt_declaration::declaration::{Declared, Names};
 use lexopt_declaration::lookup::{help_names_of, index_of_short, option_placeholder};
 use lexopt_declaration::nearest::hinted_names;
 use lexopt_declaration::positionals::argument_placeholder;
-use lexopt_items::kinds::Kind;
-use lexopt_items::values::{Values, read_values};
+use lexopt_items::values::read_several;
 use lexopt_words::os_string::OsString;
 use std::alloc::{AllocError, Global};
 
@@ -69,23 +64,6 @@ pub enum Outcome<'a> {
     Undeclared(Option<char>),
     // Another mistake, where the reading stops.
     Mistake(Mistake<'a>),
-}
-
-// How many values the option at this index has.
-fn kind_at<F, V, M, S>(options: &[Declared<'_, F, V, M, S>], index: usize) -> Kind
-    ensures { kind_view result ≡ kinds.kind_at (map option_view options.now) index }
-{
-    match options.get(index) {
-        Some(option) => match option.kind {
-            declared::Kind::Flag(_) | declared::Kind::Help | declared::Kind::Version(_) => {
-                Kind::Flag
-            }
-            declared::Kind::Value(_, _) => Kind::One,
-            declared::Kind::Maybe(_, _) => Kind::Optional,
-            declared::Kind::Values(_, _) => Kind::Several,
-        },
-        None => Kind::Flag,
-    }
 }
 
 // The mistake that the option at this index, which was just read, has no value.
@@ -116,63 +94,6 @@ fn missing_value<'a, F, V, P, M, S>(
     }
 }
 
-// Reads the values of the option at this index, which was just read. `Err` is the mistake that it
-// has none.
-fn read_option<'a, F, V, P, M, S>(
-    alloc: Global,
-    parser: &mut Parser,
-    options: &Options<'a, F, V, P, M, S>,
-    index: usize,
-) -> Result<Result<Indexed, Mistake<'a>>, AllocError>
-    requires { (u : UnreadLine) × (name : table.Name) × Next u (option_reply name) parser.old }
-    ensures { IfOk result (λ read. (count : ℕ) (u : UnreadLine) (name : table.Name)
-        → Next u (option_reply name) parser.old
-        → index_of (declaration_of options.now).options name ≡ Some index
-        → IsRead (declaration_of options.now) count u read parser.new) }
-{
-    let kind = kind_at(options.options(), index);
-    match kind {
-        Kind::Flag => Ok(Ok(Indexed::Option(index, None))),
-        Kind::One | Kind::Optional | Kind::Several => match read_values(alloc, parser, kind) {
-            Ok(values) => Ok(Ok(Indexed::of_values(index, values))),
-            Err(refused) => Ok(Err(missing_value(options, index, refused)?)),
-        },
-    }
-}
-
-// The one value. It is there by the premise.
-fn one_of(values: Values) -> OsString
-    requires { IsOne values }
-    ensures { values ≡ Values.AtMostOne (Some result) }
-{
-    match values {
-        Values::AtMostOne(Some(word)) => word,
-        Values::AtMostOne(None) | Values::All(_) => unreachable!(),
-    }
-}
-
-// The value, if there is one. There are not several, by the premise.
-fn at_most_one_of(values: Values) -> Option<OsString>
-    requires { IsAtMostOne values }
-    ensures { values ≡ Values.AtMostOne result }
-{
-    match values {
-        Values::AtMostOne(word) => word,
-        Values::All(_) => unreachable!(),
-    }
-}
-
-// All values. They are there by the premise.
-fn all_of(values: Values) -> Vec<OsString>
-    requires { AreAll values }
-    ensures { values ≡ Values.All result }
-{
-    match values {
-        Values::All(words) => words,
-        Values::AtMostOne(_) => unreachable!(),
-    }
-}
-
 // Reads the values of the option at this index, which was just read, and returns it by its key.
 // `Err` is the mistake that it has no value, or one that it does not accept.
 pub fn read_by_key<'a, F: Copy, V: Copy, P: Copy, M: Copy, S: Copy>(
@@ -195,9 +116,8 @@ pub fn read_by_key<'a, F: Copy, V: Copy, P: Copy, M: Copy, S: Copy>(
         declared::Kind::Flag(key) => Ok(Ok(ByKey::Parsed(Parsed::Flag(key)))),
         declared::Kind::Help => Ok(Ok(ByKey::Asked(Asked::Help))),
         declared::Kind::Version(text) => Ok(Ok(ByKey::Asked(Asked::Version(text)))),
-        declared::Kind::Value(key, _) => match read_values(alloc, parser, Kind::One) {
-            Ok(values) => {
-                let value = one_of(values);
+        declared::Kind::Value(key, _) => match parser.take() {
+            Ok(value) => {
                 if accepts(option.words, &value) {
                     Ok(Ok(ByKey::Parsed(Parsed::Value(key, value))))
                 } else {
@@ -206,27 +126,21 @@ pub fn read_by_key<'a, F: Copy, V: Copy, P: Copy, M: Copy, S: Copy>(
             }
             Err(refused) => Ok(Err(missing_value(options, index, refused)?)),
         },
-        declared::Kind::Maybe(key, _) => match read_values(alloc, parser, Kind::Optional) {
-            Ok(values) => match at_most_one_of(values) {
-                Some(value) => {
-                    if accepts(option.words, &value) {
-                        Ok(Ok(ByKey::Parsed(Parsed::Maybe(key, Some(value)))))
-                    } else {
-                        Ok(Err(invalid_value(option, value)))
-                    }
-                }
-                None => Ok(Ok(ByKey::Parsed(Parsed::Maybe(key, None)))),
-            },
-            Err(refused) => Ok(Err(missing_value(options, index, refused)?)),
-        },
-        declared::Kind::Values(key, _) => match read_values(alloc, parser, Kind::Several) {
-            Ok(values) => {
-                let mut values = all_of(values);
-                match refused_place(option.words, &values) {
-                    Some(place) => Ok(Err(invalid_value(option, values.swap_remove(place)))),
-                    None => Ok(Ok(ByKey::Parsed(Parsed::Values(key, values)))),
+        declared::Kind::Maybe(key, _) => match parser.optional_value() {
+            Some(value) => {
+                if accepts(option.words, &value) {
+                    Ok(Ok(ByKey::Parsed(Parsed::Maybe(key, Some(value)))))
+                } else {
+                    Ok(Err(invalid_value(option, value)))
                 }
             }
+            None => Ok(Ok(ByKey::Parsed(Parsed::Maybe(key, None)))),
+        },
+        declared::Kind::Values(key, _) => match read_several(alloc, parser) {
+            Ok(mut values) => match refused_place(option.words, &values) {
+                Some(place) => Ok(Err(invalid_value(option, values.swap_remove(place)))),
+                None => Ok(Ok(ByKey::Parsed(Parsed::Values(key, values)))),
+            },
             Err(refused) => Ok(Err(missing_value(options, index, refused)?)),
         },
     }
@@ -290,7 +204,7 @@ pub fn unknown_option<'a, F, V, P, M, S>(
 }
 
 // Whether `count` positionals are as many as there may be.
-fn is_full(limit: Option<usize>, count: usize) -> bool
+pub fn is_full(limit: Option<usize>, count: usize) -> bool
     ensures { IsTrue result ↔ (limit ≡ Some count) }
 {
     match limit {
@@ -338,49 +252,8 @@ pub fn read_next<'a, F, V, P, M, S>(
     }
 }
 
-// Adds what was read to a list. It is a function of its own for its contract.
-fn add(parsed: &mut Vec<Indexed>, item: Indexed) -> Result<(), AllocError>
-    ensures { OnOk result (map indexed_view parsed.new.items
-        ≡ map indexed_view parsed.old.items ++ indexed_view item ∷ []) }
-{
-    Ok(parsed.push(item)?)
-}
-
 // The most things that a list has room for before it grows.
 pub const FIRST_ROOM: usize = 16;
-
-// Reads a line by indices into a list that has room for `room` things from the start: what the line
-// means, even if something is missing; `None` if no line begins so. `read_keys` reads it by keys.
-fn read_indexed<'a, F, V, P, M, S>(
-    alloc: Global,
-    parser: &mut Parser,
-    options: &Options<'a, F, V, P, M, S>,
-    room: usize,
-) -> Result<Option<Vec<Indexed>>, AllocError>
-    requires { IsLine parser.old }
-    ensures { (words : List (List ℕ))
-        → parser.old ≡ start (declaration_of options.now).short_equals words
-        → IfOk result (λ found. IsPart (declaration_of options.now) words found) }
-{
-    let limit = options.most();
-    let mut parsed = Vec::with_capacity(alloc, room)?;
-    let mut count = 0usize;
-    loop {
-        match read_next(parser, options, limit, count)? {
-            Outcome::Option(index) => match read_option(alloc, parser, options, index)? {
-                Ok(option) => add(&mut parsed, option)?,
-                Err(_) => return Ok(None),
-            },
-            Outcome::Positional(word) => {
-                add(&mut parsed, Indexed::Positional(word))?;
-                count += 1;
-            }
-            Outcome::End => return Ok(Some(parsed)),
-            Outcome::Undeclared(_) => return Ok(None),
-            Outcome::Mistake(_) => return Ok(None),
-        }
-    }
-}
 
 // ---- the end of a line
 
@@ -662,26 +535,6 @@ fn read_keys<'a, F: Copy, V: Copy, P: Copy, M: Copy, S: Copy>(
             }
             Outcome::Mistake(mistake) => return Ok(stop(options, parsed, mistake)),
         }
-    }
-}
-
-impl<F, V, P, M, S> Options<'_, F, V, P, M, S> {
-    ghost use Rattle.std.specs.Prelude.{IfOk};
-    ghost use Rattle.lexopt_options.specs.Declarations.{declaration_of};
-    ghost use Rattle.lexopt_options.specs.Fronts.{IsPart};
-
-    // What words mean, by indices, even if something is missing; `None` if no line begins with
-    // them.
-    pub(crate) fn read_part(
-        &self,
-        alloc: Global,
-        words: Vec<OsString>,
-    ) -> Result<Option<Vec<Indexed>>, AllocError>
-        ensures { IfOk result (λ found. IsPart (declaration_of self.now) words.items found) }
-    {
-        let room = words.len().min(FIRST_ROOM);
-        let mut parser = self.parser_of(words);
-        read_indexed(alloc, &mut parser, self, room)
     }
 }
 

@@ -1,5 +1,5 @@
 //! Which words the positionals of a line accept, and which positionals a word can belong to.
-ghost use Rattle.std.specs.Prelude.{◌≡◌, ◌≤◌, ◌↔◌, ◌+◌, ◌-◌, ℕ, IfOk, IsTrue, List, Some, false, filter, length};
+ghost use Rattle.std.specs.Prelude.{◌≡◌, ◌≤◌, ◌↔◌, ◌+◌, ◌-◌, ℕ, IfOk, IsTrue, List, Some, false, length};
 ghost use Rattle.std.specs.Prelude.{is_none, map, slice_get, true};
 ghost use Rattle.std.specs.List.{list_any};
 ghost use Rattle.std.specs.Option.{MatchOption};
@@ -16,9 +16,7 @@ ghost use Rattle.lexopt_options.specs.Keys.{parsed_words};
 ghost use Rattle.lexopt_options.specs.Mistakes.{IsMistake};
 ghost use Rattle.lexopt_options.specs.Taken as taken;
 ghost use Rattle.lexopt_options.specs.Taken.{IsInvalid, IsRefusal, IsRefusalAt};
-ghost use Rattle.lexopt_options.specs.Taken.{indexed_words};
 
-use crate::indexed::Indexed;
 use crate::listed::{accepts, is_listed};
 use crate::mistake::Mistake;
 use crate::options::Options;
@@ -138,20 +136,6 @@ pub fn invalid_argument<'a, F, V, P, M, S>(
 
 // ---- where more words can come
 
-// Whether this is a positional.
-fn is_positional(own: &Indexed) -> bool
-    ensures { result ≡ taken.is_positional own.now }
-{
-    matches!(own, Indexed::Positional(_))
-}
-
-/// How many positionals are among these.
-pub fn word_count(parsed: &[Indexed]) -> usize
-    ensures { result ≡ length (filter (λ own. taken.is_positional own) parsed.now) }
-{
-    parsed.iter().filter(|own| is_positional(own)).count()
-}
-
 // Whether the positional at this index accepts a word.
 fn takes_at<P>(positionals: &[Positional<'_, P>], index: usize, word: &OsString) -> bool
     ensures { result ≡ takes_at (map positional_view positionals.now) index word.now }
@@ -164,19 +148,15 @@ fn takes_at<P>(positionals: &[Positional<'_, P>], index: usize, word: &OsString)
 
 // Whether each of these words belongs to a positional that accepts it, where there are `spare` more
 // words than are required.
-fn are_taken<P>(positionals: &[Positional<'_, P>], parsed: &[Indexed], spare: usize) -> bool
+fn are_taken<P>(positionals: &[Positional<'_, P>], words: &[OsString], spare: usize) -> bool
     ensures { let ps = map positional_view positionals.now in result
-        ≡ is_none (refused_word ps (owners 0 (greedy ps spare)) (indexed_words parsed.now)) }
+        ≡ is_none (refused_word ps (owners 0 (greedy ps spare)) words.now) }
 {
-    let mut index = 0usize;
-    for own in parsed {
-        if let Indexed::Positional(word) = own {
-            if let Some(place) = place_of(positionals, spare, index) {
-                if !takes_at(positionals, place, word) {
-                    return false;
-                }
+    for (index, word) in words.iter().enumerate() {
+        if let Some(place) = place_of(positionals, spare, index) {
+            if !takes_at(positionals, place, word) {
+                return false;
             }
-            index += 1;
         }
     }
     true
@@ -197,12 +177,12 @@ fn most_spare<P>(positionals: &[Positional<'_, P>], count: usize) -> usize
 
 /// Whether each of these words can belong to a positional that accepts it, with some more words
 /// after them.
-pub fn can_be_taken<P>(positionals: &[Positional<'_, P>], parsed: &[Indexed]) -> bool
-    ensures { IsTrue result ↔ CanBeTaken (map positional_view positionals.now) (indexed_words parsed.now) }
+pub fn can_be_taken<P>(positionals: &[Positional<'_, P>], words: &[OsString]) -> bool
+    ensures { IsTrue result ↔ CanBeTaken (map positional_view positionals.now) words.now }
 {
-    let count = word_count(parsed);
+    let count = words.len();
     for spare in spare_of(positionals, count)..=most_spare(positionals, count) {
-        if are_taken(positionals, parsed, spare) {
+        if are_taken(positionals, words, spare) {
             return true;
         }
     }

@@ -3,7 +3,7 @@ use Rattle.std.proofs.Common.{◌≡◌, ◌≢◌, ◌<◌, ℕ, suc, true, fal
 use Rattle.std.proofs.lemmas.List.{take_all}
 use Rattle.lexopt_spec.specs.UnreadLine.{dash, no_tail, UnreadLine, pending, IsPlainFront, IsNormalIn}
 use Rattle.lexopt_spec.specs.Steps as steps
-use Rattle.lexopt_spec.specs.Steps.{Reply, Next, Value, NextStep, ValueStep, OptionalStep, ReadsShort, ReadsPositional, no_word_left, word_left, ReadsWord, no_word, reads_separator, reads_long, reads_cluster, reads_positional, joined_value, equals_value, next_in_cluster, after_separator, next_word, pending_value, takes_word, nothing_to_take, optional_pending, optional_none, IsOutOfMemory}
+use Rattle.lexopt_spec.specs.Steps.{Reply, NextStep, ValueStep, OptionalStep, ReadsShort, ReadsPositional, no_word_left, word_left, ReadsWord, no_word, reads_separator, reads_long, reads_cluster, reads_positional, joined_value, equals_value, next_in_cluster, after_separator, next_word, pending_value, takes_word, nothing_to_take, optional_pending, optional_none}
 use Rattle.lexopt_spec.specs.Views.{plain_front, available, available_with, without, ValuesStep, some_values}
 use Rattle.lexopt_spec.proofs.PlainFronts.{front_only, left_after_front}
 use Rattle.lexopt_line_spec.specs.Table.{Item, Table}

@@ -7,7 +7,7 @@ use Rattle.lexopt_spec.specs.Steps as steps
 use Rattle.lexopt_spec.specs.Steps.{Reply, Next}
 use Rattle.lexopt_spec.specs.Runs.{next}
 use Rattle.lexopt_line_spec.specs.Table as spec
-use Rattle.lexopt_line_spec.specs.Table.{Item, Name, Table, kind}
+use Rattle.lexopt_line_spec.specs.Table.{Item, Name, kind}
 use Rattle.lexopt_line_spec.specs.Readings.{IsReading, item_after, items_of_replies, option_reply, start}
 use Rattle.lexopt_line_spec.specs.Speller.{IsOf}
 use Rattle.lexopt_line_spec.proofs.Existence.{only_one}

@@ -3,7 +3,7 @@ use Rattle.std.proofs.Common.{◌≡◌, ℕ, Bool, true, false, List, [], ◌�
 use Rattle.std.proofs.lemmas.List.{append_cancel_right}
 use Rattle.lexopt_spec.specs.UnreadLine.{dash, no_tail, UnreadLine}
 use Rattle.lexopt_spec.specs.Steps as steps
-use Rattle.lexopt_spec.specs.Steps.{Reply, Next, NextStep, ReadsPositional, no_word_left, word_left, ReadsWord, no_word, reads_separator, reads_long, reads_cluster, reads_positional, joined_value, equals_value, next_in_cluster, after_separator, next_word}
+use Rattle.lexopt_spec.specs.Steps.{Next, NextStep, no_word_left, word_left, no_word, reads_separator, reads_long, reads_cluster, reads_positional, joined_value, equals_value, next_in_cluster, after_separator, next_word}
 use Rattle.lexopt_line_spec.specs.Table as spec
 use Rattle.lexopt_line_spec.specs.Table.{Item, Table}
 use Rattle.lexopt_line_spec.specs.Readings.{IsReading, ReadsItems, start}
@@ -25,7 +25,7 @@ append_nil [] = refl
 append_nil (x ∷ l) = ap (λ m. x ∷ m) (append_nil l)
 
 -- if no word is left, the line ends
-ends_here : (u : UnreadLine) (ended : Bool) → u.ended ≡ ended → u.tail ≡ no_tail → u.words ≡ [] → NextStep u steps.end u
+pub ends_here : (u : UnreadLine) (ended : Bool) → u.ended ≡ ended → u.tail ≡ no_tail → u.words ≡ [] → NextStep u steps.end u
 ends_here u true is none empty = after_separator none is (no_word_left empty refl refl)
 ends_here u false is none empty = next_word none is (no_word empty refl refl)
 
@@ -72,12 +72,12 @@ word_read u w word (next_word none not (reads_positional x ws some plain r_is af
 }
 
 -- words whose reading reaches the end spell what was read
-reading_spells : (d : Declaration) → is_sound d.options ≡ true → (words : List (List ℕ)) (items : List Item) (l : List Parsed) → IsReading (table d.options) (start d.short_equals words) steps.end items
+pub reading_spells : (d : Declaration) → is_sound d.options ≡ true → (words : List (List ℕ)) (items : List Item) (l : List Parsed) → IsReading (table d.options) (start d.short_equals words) steps.end items
     → map (parsed_item d.options) items ≡ map (λ s. Some s) l → Spells (table d.options) d.short_equals words items
 reading_spells d sound words items l reading parsed =
     shown_spells (table d.options) d.short_equals words items (said_shows (table d.options) d.short_equals words items reading) (whole_names d.options sound items l parsed)
 
-ends_reading : (t : Table) (u v w : UnreadLine) (items : List Item) → ReadsItems t u items v → NextStep v steps.end w → IsReading t u steps.end items
+pub ends_reading : (t : Table) (u v w : UnreadLine) (items : List Item) → ReadsItems t u items v → NextStep v steps.end w → IsReading t u steps.end items
 ends_reading t u v w items reads step =
     subst (IsReading t u steps.end) (append_nil items) (says_items t u v items reads steps.end [] (reads_last t v w steps.end tt (inl step)))
 

@@ -6,7 +6,7 @@ use Rattle.lexopt_spec.specs.Steps as steps
 use Rattle.lexopt_spec.specs.Steps.{Reply, Next}
 use Rattle.lexopt_spec.specs.Runs.{next}
 use Rattle.lexopt_line_spec.specs.Table as spec
-use Rattle.lexopt_line_spec.specs.Table.{Item, Name, Table, kind}
+use Rattle.lexopt_line_spec.specs.Table.{Item, Name, kind}
 use Rattle.lexopt_line_spec.specs.Readings.{item_after, items_of_replies, option_reply, start}
 use Rattle.lexopt_line_spec.specs.Speller.{IsOf}
 use Rattle.lexopt_line_spec.proofs.ItemsRead.{says_items}
@@ -16,7 +16,7 @@ use Rattle.lexopt_line_spec.proofs.RunAccounts.{step_line}
 use Rattle.lexopt_options_spec.specs.Declaration.{Declaration, Declared, is_sound, table}
 use Rattle.lexopt_options_spec.specs.Leading.{IsSplit, MeansLeading, EndsOptions, ends, positional, IsOfOption, StopsOptions, at_option, lacks_option, LeadingStopsAt}
 use Rattle.lexopt_options_spec.specs.Legal as legal
-use Rattle.lexopt_options_spec.specs.Legal.{Parsed, are_accepted, is_option, occurs, positional_count, refused_value, parsed_item}
+use Rattle.lexopt_options_spec.specs.Legal.{Parsed, are_accepted, is_option, occurs, positional_count, parsed_item}
 use Rattle.lexopt_options_spec.specs.Stops as stops
 use Rattle.lexopt_options_spec.specs.Stops.{Mistake, ReadsUpTo, Stops, not_declared, value_of_flag, no_value, not_accepted, one_too_many, too_few, not_taken, not_complete}
 use Rattle.lexopt_options_spec.proofs.Fronts.{item_of, not_refused, undeclared}

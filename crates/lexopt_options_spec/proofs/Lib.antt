@@ -6,7 +6,7 @@ pub mod Sound
 pub mod Declarable
 pub mod Fronts
 pub mod Cuts
-pub mod LongerLines
+pub mod Growing
 pub mod ReadItems
 pub mod OneLeading
 pub mod LeadingStops
@@ -16,7 +16,6 @@ pub mod Nearest
 pub mod OpenLines
 pub mod LastWords
 pub mod Occurs
-pub mod OpenWords
 pub mod Offered
 pub mod Tables
 pub mod Taken
@@ -26,3 +25,5 @@ pub mod Wrapping
 pub mod OneHelp
 pub mod Shares
 pub mod Roles
+pub mod States
+pub mod Reached

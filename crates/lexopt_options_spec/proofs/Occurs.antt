@@ -9,7 +9,7 @@ use Rattle.lexopt_spec.specs.UnreadLine.{dash, BeginsWith, IsPlain, IsNormalIn}
 use Rattle.lexopt_line_spec.specs.Table as spec
 use Rattle.lexopt_line_spec.specs.Table.{Name, short, long, Item, Kind, flag, one, optional, several, kind, Table}
 use Rattle.lexopt_line_spec.specs.Spelling as lines
-use Rattle.lexopt_line_spec.specs.Spelling.{exact, nothing, Completes, no_value, no_optional, next_word, several_words, Group, cluster, last_option, nothing_more, name_alone, Line, no_words, group, separator}
+use Rattle.lexopt_line_spec.specs.Spelling.{exact, nothing, Completes, no_value, no_optional, next_word, several_words, Group, cluster, last_option, nothing_more, name_alone, Line, group, separator}
 use Rattle.lexopt_line_spec.specs.Readings.{start}
 use Rattle.lexopt_line_spec.proofs.Existence.{only_one}
 use Rattle.lexopt_line_spec.proofs.Names.{spelled_shows}
@@ -434,22 +434,3 @@ occurs_open d words s possible = go (parts exact (table d.options) d.short_equal
         absurd (no_positional possible.index possible.parsed possible.later s possible.rest possible.is
         (same_later possible.before possible.parsed possible.later (map positional (s ∷ possible.rest))
         (later_positionals d words before rest (s ∷ possible.rest) front possible.before _ possible.words_say are items_are opens possible.line_means.front)))
-
--- where a separator adds nothing
-pub same_open : (d : Declaration) (words : List (List ℕ)) (l m : List Parsed) → MeansFront d words l → MeansFront d (words ++ dashes ∷ []) m → length l ≡ length m → IsOpen d words l
-same_open d words l m means with_separator same = go (parts exact (table d.options) d.short_equals words means.items means.spelled)
-  where
-    go : Parts exact (table d.options) d.short_equals words means.items → IsOpen d words l
-    go (open_to_the_end opens) = record {
-      front = means;
-      with_separator = record {
-        items = means.items ++ [];
-        spelled = continues exact (table d.options) d.short_equals words (dashes ∷ []) means.items [] (dashes_calm []) opens (separator []);
-        parsed = ap (map (parsed_item d.options)) (sym (append_nil means.items)) ∙ means.parsed;
-        within = means.within;
-      };
-    }
-    go (up_to_separator before rest front are items_are opens) =
-        let e = later_positionals d words before rest (dashes ∷ []) front l m means are items_are opens with_separator in
-        let f = length-append l (positional dashes ∷ []) in
-        absurd (let g : length m ≡ length (l ++ positional dashes ∷ []) = ap length e in omega (arith, f, g, same))

@@ -1,8 +1,8 @@
 -- Words have one list of leading options, and one rest.
-use Rattle.std.proofs.Common.{◌≡◌, ◌≢◌, ℕ, false, List, [], ◌∷◌, ◌++◌, map, Some, None, refl, sym, ap, subst, ◌∙◌, inl, inr, append_assoc, arith, true≢false}
-use Rattle.lexopt_spec.specs.UnreadLine.{dash, BeginsWith, IsPlain, TailFits, UnreadLine}
+use Rattle.std.proofs.Common.{◌≡◌, ◌≢◌, ℕ, false, List, [], ◌∷◌, ◌++◌, map, Some, None, refl, sym, ap, subst, ◌∙◌, inl, append_assoc, arith, true≢false}
+use Rattle.lexopt_spec.specs.UnreadLine.{dash, IsPlain, TailFits, UnreadLine}
 use Rattle.lexopt_spec.specs.Steps as steps
-use Rattle.lexopt_spec.specs.Steps.{Reply, Next, NextStep, ReadsPositional, no_word_left, word_left, ReadsWord, no_word, reads_separator, reads_long, reads_cluster, reads_positional, joined_value, equals_value, next_in_cluster, after_separator, next_word}
+use Rattle.lexopt_spec.specs.Steps.{Reply, NextStep, no_word_left, word_left, no_word, reads_separator, reads_long, reads_cluster, reads_positional, joined_value, equals_value, next_in_cluster, after_separator, next_word}
 use Rattle.lexopt_line_spec.specs.Table as spec
 use Rattle.lexopt_line_spec.specs.Table.{Item, Table}
 use Rattle.lexopt_line_spec.specs.Readings.{IsReading, ReadsFirst, ReadsItems, first_positional, first_flag, first_one, first_optional, first_several, start}
@@ -16,9 +16,11 @@ use Rattle.lexopt_options_spec.specs.Declaration.{Declaration, Declared, table}
 use Rattle.lexopt_options_spec.specs.Leading.{IsSplit}
 use Rattle.lexopt_options_spec.specs.Legal.{Parsed, positional, option, several, positional_count, parsed_item}
 use Rattle.lexopt_options_spec.proofs.Cuts.{enough, items_cut}
+use Rattle.lexopt_options_spec.proofs.LastWords.{same_last}
 use Rattle.lexopt_options_spec.proofs.Lists.{first_same, same_somes}
+use Rattle.lexopt_options_spec.proofs.Occurs.{dashes_calm}
 use Rattle.lexopt_options_spec.proofs.LeadingOptions.{append_nil, word_read}
-use Rattle.lexopt_options_spec.proofs.LongerLines.{items_longer, longer, step_longer}
+use Rattle.lexopt_options_spec.proofs.Growing.{items_longer, longer, step_more}
 use Rattle.lexopt_options_spec.proofs.ReadItems.{all_read}
 
 -- ---- lists of items
@@ -99,12 +101,6 @@ word_first t u w item word is (first_one name value v x k step takes) = absurd (
 word_first t u w item word is (first_optional name value v x k step takes) = absurd (let e : spec.option name value ≡ spec.positional word = is in cc)
 word_first t u w item word is (first_several name n values v x k step few takes) = absurd (let e : spec.many name values ≡ spec.positional word = is in cc)
 
--- `--` is not a plain word before the separator
-separator_plain : (word : List ℕ) → word ≡ dash ∷ dash ∷ [] → IsPlain false word → ⊥
-separator_plain word is (inl ended) = true≢false (sym ended)
-separator_plain word is (inr (inl alone)) = let e : dash ∷ dash ∷ [] ≡ dash ∷ [] = sym is ∙ alone in cc
-separator_plain word is (inr (inr other)) = other (subst (BeginsWith dash) (sym is) refl)
-
 -- a positional that is read before the separator is a plain word
 word_open : (u w : UnreadLine) (word : List ℕ) → w.ended ≡ false → NextStep u (steps.positional word) w → IsPlain false word
 word_open u w word is_open (joined_value value o joins spelled r_is after) = absurd (let e : steps.positional word ≡ steps.unexpected o value = r_is in cc)
@@ -121,18 +117,6 @@ word_open u w word is_open (next_word none not (reads_positional x ws some plain
   where
     same : (x word : List ℕ) → steps.positional word ≡ steps.positional x → x ≡ word
     same x word is = cc
-
--- the last word of a line
-last_word : (before front : List (List ℕ)) (x y : List ℕ) → before ++ x ∷ [] ≡ front ++ y ∷ [] → x ≡ y
-last_word [] [] x y is = cc
-last_word [] (f ∷ []) x y is = absurd (let e : x ∷ [] ≡ f ∷ y ∷ [] = is in cc)
-last_word [] (f ∷ g ∷ front) x y is = absurd (let e : x ∷ [] ≡ f ∷ g ∷ (front ++ y ∷ []) = is in cc)
-last_word (b ∷ []) [] x y is = absurd (let e : b ∷ x ∷ [] ≡ y ∷ [] = is in cc)
-last_word (b ∷ c ∷ before) [] x y is = absurd (let e : b ∷ c ∷ (before ++ x ∷ []) ≡ y ∷ [] = is in cc)
-last_word (b ∷ before) (f ∷ front) x y is = last_word before front x y (rest b f (before ++ x ∷ []) (front ++ y ∷ []) is)
-  where
-    rest : (b f : List ℕ) (xs ys : List (List ℕ)) → b ∷ xs ≡ f ∷ ys → xs ≡ ys
-    rest b f xs ys is = cc
 
 -- where the line ends, at most the separator is left
 end_words : (z v : UnreadLine) → NextStep z steps.end v → (P : Type 0) → (z.words ≡ [] → P) → (z.words ≡ (dash ∷ dash ∷ []) ∷ [] → z.ended ≡ false → P) → P
@@ -175,13 +159,15 @@ leading_read d words l rest means word more is =
     let step = word_first t parts.0 all.there (spec.positional word) word refl parts.2 in
     let cut = items_cut t (start e short) all.there (means.items ++ spec.positional word ∷ []) [] all.there.words refl all.reads in
     let none : all.there.words ≡ [] = end_words all.there reading.after all.ends (all.there.words ≡ []) (λ empty. empty)
-    (λ one is_open. absurd (separator_plain word (sym (last_word cut.before means.front (dash ∷ dash ∷ []) word (ap (λ l. cut.before ++ l) (sym one) ∙ sym cut.words_are))) (word_open parts.0 all.there word is_open step))) in
+    (λ one is_open.
+    let same = (same_last cut.before means.front (dash ∷ dash ∷ []) word (ap (λ l. cut.before ++ l) (sym one) ∙ sym cut.words_are)).1 in
+    absurd (dashes_calm [] (subst (IsPlain false) (sym same) (word_open parts.0 all.there word is_open step)))) in
     let whole : short ++ more ≡ words = append_assoc means.front (word ∷ []) more ∙ ap (λ l. means.front ++ l) (sym is) ∙ sym means.words_are in
     record {
       there = longer more parts.0;
       reads = subst (λ ws. ReadsItems t (start e ws) means.items (longer more parts.0)) whole (items_longer t more (start e short) parts.0 means.items (some_word parts.0 all.there word step) parts.1);
       after = longer more all.there;
-      step = step_longer more parts.0 all.there (steps.positional word) (λ same. cc) step;
+      step = step_more parts.0 all.there (steps.positional word) more (λ same. cc) step;
       left = ap (λ l. l ++ more) none;
     }
 

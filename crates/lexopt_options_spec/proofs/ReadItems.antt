@@ -5,7 +5,7 @@ use Rattle.lexopt_spec.specs.Steps as steps
 use Rattle.lexopt_spec.specs.Steps.{Reply, Next, NextStep, ValueStep, OptionalStep, pending_value, takes_word, nothing_to_take, optional_pending, optional_none}
 use Rattle.lexopt_spec.specs.Views.{ValuesStep, available, no_values, some_values}
 use Rattle.lexopt_spec.specs.Runs as calls
-use Rattle.lexopt_spec.specs.Runs.{Call, Run, Step, StepWithMemory}
+use Rattle.lexopt_spec.specs.Runs.{Call, Run, StepWithMemory}
 use Rattle.lexopt_line_spec.specs.Table.{Item, Kind, Name, Table, short, long, kind, flag, one, optional, several, option, many, positional}
 use Rattle.lexopt_line_spec.specs.Readings.{AskedAfter, last, more, IsReading, ReadsFirst, ReadsItems, first_positional, first_flag, first_one, first_optional, first_several, items_of_replies, item_after, option_reply, GoesOn, IsFull}
 use Rattle.lexopt_line_spec.proofs.OneReading.{with_memory}

@@ -1,5 +1,5 @@
 -- What the last word of a line is, if it is not an option: the same, whichever word it is.
-use Rattle.std.proofs.Common.{◌≡◌, ◌≢◌, ◌<◌, ◌≤◌, ◌+◌, ℕ, Bool, true, false, List, [], ◌∷◌, ◌++◌, map, length, drop, nat_eq, Option, Some, None, refl, sym, ap, subst, ◌∙◌, inl, inr, arith, append_assoc, length-append}
+use Rattle.std.proofs.Common.{◌≡◌, ◌≢◌, ◌<◌, ◌≤◌, ◌+◌, ℕ, Bool, false, List, [], ◌∷◌, ◌++◌, map, length, drop, nat_eq, Option, Some, None, refl, sym, ap, subst, ◌∙◌, inl, inr, arith, append_assoc, length-append}
 use Rattle.std.specs.List.{starts_with}
 use Rattle.std.specs.Option.{option_map}
 use Rattle.std.proofs.lemmas.Bool.{false≢true}
@@ -10,19 +10,51 @@ use Rattle.lexopt_spec.specs.UnreadLine.{dash, equals, BeginsWith, IsPlain}
 use Rattle.lexopt_line_spec.specs.Table as spec
 use Rattle.lexopt_line_spec.specs.Table.{Name, short, long, Item, Kind, flag, one, optional, several, kind, Table}
 use Rattle.lexopt_line_spec.specs.Spelling as spelling
-use Rattle.lexopt_line_spec.specs.Spelling.{Letters, After, nothing, attached, joined, exact, Completes, no_value, no_optional, attached_optional, joined_optional, joined_several, attached_several, several_words, attached_value, joined_value, next_word, IsAfterLast, nothing_more, a_value, marked_value, Cluster, flag_first, last_option, IsLong, name_alone, name_and_value, Group, cluster, Line, separator}
+use Rattle.lexopt_line_spec.specs.Spelling.{After, nothing, attached, joined, exact, Completes, no_value, no_optional, attached_optional, joined_optional, joined_several, attached_several, several_words, attached_value, joined_value, next_word, IsAfterLast, nothing_more, a_value, marked_value, Cluster, flag_first, last_option, IsLong, name_alone, name_and_value, cluster, Line, no_words}
 use Rattle.lexopt_options_spec.specs.Declaration.{Declaration, Declared, index_of, table}
 use Rattle.lexopt_options_spec.specs.Legal as legal
 use Rattle.lexopt_options_spec.specs.Legal.{Parsed, counts, parsed_item, positional_count, most, IsWithin, MeansFront}
-use Rattle.lexopt_options_spec.specs.Completion.{EndsWith, Extends, HasRole, IsOpen, Role, role_of}
+use Rattle.lexopt_options_spec.specs.Completion.{EndsWith, Extends, HasRole, Role, role_of}
 use Rattle.lexopt_options_spec.specs.Completion as completion
 use Rattle.lexopt_options_spec.specs.Leading.{MeansLeading}
 use Rattle.lexopt_options_spec.proofs.Fronts.{one_front}
-use Rattle.lexopt_options_spec.proofs.Lists.{first_same}
-use Rattle.lexopt_options_spec.proofs.LastWords.{Takes, due, alone, among, begun, Begins, taken, Ending, has_none, has_last, ending, no_last, same_last}
+use Rattle.lexopt_options_spec.proofs.Lists.{count_append, first_same, map_at, joined as joined_items}
+use Rattle.lexopt_options_spec.proofs.LastWords.{Takes, due, alone, among, begun, Begins, taken, Ending, has_none, has_last, ending, same_last}
 use Rattle.lexopt_options_spec.proofs.Occurs.{dashes_calm, longer, more_positionals}
-use Rattle.lexopt_options_spec.proofs.OpenLines.{OpenLine, Parts, open_to_the_end, up_to_separator, dashes, parts}
-use Rattle.lexopt_options_spec.proofs.OpenWords.{empty_never, dashes_never, parsed_last, some_is, after_separator, parsed_after, open_spells, exchange, open_adds}
+use Rattle.lexopt_options_spec.proofs.OpenLines.{OpenLine, Parts, open_to_the_end, up_to_separator, dashes, continues, parts}
+
+-- ---- one more item
+
+some_is : {X : Type 0} (x y : X) → Some x ≡ Some y → x ≡ y
+some_is x y is = cc
+
+-- another last item, read from other words
+exchange : (d : Declaration) (words : List (List ℕ)) (base : List Item) (y : Item) (before : List Parsed) (s new : Parsed) → map (parsed_item d.options) base ≡ map (λ s. Some s) before
+    → IsWithin (positional_count (before ++ s ∷ [])) (most d.positionals) → Line exact (table d.options) d.short_equals words (base ++ y ∷ []) → parsed_item d.options y ≡ Some new → counts new ≡ counts s
+    → MeansFront d words (before ++ new ∷ [])
+exchange d words base y before s new before_are within line is counted = record {
+  items = base ++ y ∷ [];
+  spelled = line;
+  parsed = joined_items (parsed_item d.options) base before y new before_are is;
+  within = subst (λ n. IsWithin n (most d.positionals)) (sym same) within;
+}
+  where
+    same : positional_count (before ++ new ∷ []) ≡ positional_count (before ++ s ∷ [])
+    same = let a = count_append before (new ∷ []) in let b = count_append before (s ∷ []) in omega (arith, a, b, counted)
+
+-- a line without a separator is a line
+open_spells : (t : Table) (short_equals : Bool) (words : List (List ℕ)) (items : List Item) → OpenLine exact t short_equals words items → Line exact t short_equals words items
+open_spells t short_equals words items opens =
+    subst (λ ws. Line exact t short_equals ws items) (append-nil words)
+    (subst (Line exact t short_equals (words ++ [])) (append-nil items) (continues exact t short_equals words [] items [] (λ b. b) opens no_words))
+
+-- a word after a separator
+after_separator : (words before rest r : List (List ℕ)) (p x : List ℕ) → words ++ p ∷ [] ≡ before ++ dashes ∷ rest → rest ≡ r ++ x ∷ [] → (words ≡ before ++ dashes ∷ r) × (p ≡ x)
+after_separator words before rest r p x are is =
+    same_last words (before ++ dashes ∷ r) p x (are ∙ ap (λ l. before ++ dashes ∷ l) is ∙ sym (append_assoc before (dashes ∷ r) (x ∷ [])))
+
+parsed_after : (front : List Item) (r : List (List ℕ)) (x : List ℕ) → front ++ map spec.positional (r ++ x ∷ []) ≡ (front ++ map spec.positional r) ++ spec.positional x ∷ []
+parsed_after front r x = ap (λ l. front ++ l) (map_at spec.positional r x) ∙ sym (append_assoc front (map spec.positional r) (spec.positional x ∷ []))
 
 -- ---- a value in the word of its option is shorter than the word
 
@@ -150,12 +182,10 @@ record Exchanged (d : Declaration) (before : List Parsed) (s : Parsed) (base : L
 
 exchanged : (d : Declaration) (words : List (List ℕ)) (before : List Parsed) (s : Parsed) (means : MeansFront d words (before ++ s ∷ [])) (base : List Item) (x : Item) → means.items ≡ base ++ x ∷ [] → Exchanged d before s base x
 exchanged d words before s means base x are =
-    let at = parsed_last (parsed_item d.options) base x (before ++ s ∷ []) (sym (ap (map (parsed_item d.options)) are) ∙ means.parsed) in
-    let same = same_last before at.front s at.last at.are in
-    record {
-      before_are = at.front_are ∙ ap (map (λ s. Some s)) (sym same.0);
-      is = at.last_is ∙ ap (λ z. Some z) (sym same.1);
-    }
+    let f = parsed_item d.options in
+    let all = sym (map_at f base x) ∙ sym (ap (map f) are) ∙ means.parsed ∙ map_at (λ s. Some s) before s in
+    let same = same_last (map f base) (map (λ s. Some s) before) (f x) (Some s) all in
+    record { before_are = same.0; is = same.1 }
 
 pub ends : (d : Declaration) (words : List (List ℕ)) (p : List ℕ) (before : List Parsed) (s : Parsed) → MeansFront d (words ++ p ∷ []) (before ++ s ∷ []) → Ends d words before s p
 ends d words p before s means = go (parts exact (table d.options) d.short_equals (words ++ p ∷ []) means.items means.spelled)
@@ -260,43 +290,10 @@ ends d words p before s means = go (parts exact (table d.options) d.short_equals
     go (open_to_the_end opens) = takes (taken exact t d.short_equals words (words ++ p ∷ []) p means.items refl opens)
     go (up_to_separator open_words rest front are items_are opens) = at open_words rest front are items_are opens (ending rest)
 
--- ---- the role of a place
-
--- with the empty word these words mean this
-pub role_of_plain : (d : Declaration) (words : List (List ℕ)) (typed : List ℕ) (before : List Parsed) (s : Parsed) → ¬ BeginsWith dash typed → MeansFront d (words ++ [] ∷ []) (before ++ s ∷ [])
-    → HasRole d words typed (Some (role_of before s))
-role_of_plain d words typed before s undashed means w longer = at (ends d words [] before s means)
-  where
-    at : Ends d words before s [] → (others : List Parsed) × (last : Parsed) × completion.Takes d words w others last × (role_of others last ≡ role_of before s)
-    at (any_word all) = let a = (all w).0 in (before, a.last, a.takes, a.role)
-    at (plain_word plain all) = let a = all w (longer.plain undashed) in (before, a.last, a.takes, a.role)
-    at (separated is front) = let e : [] ≡ dash ∷ dash ∷ [] = is in cc
-    at (option_begun items begins never) = absurd (empty_never exact (table d.options) d.short_equals items begins)
-
--- with the empty word these words mean nothing, or no words are there
-pub no_role_of_plain : (d : Declaration) (words : List (List ℕ)) (typed : List ℕ) → ¬ BeginsWith dash typed → ((before : List Parsed) (s : Parsed) → ¬ MeansFront d (words ++ [] ∷ []) (before ++ s ∷ []))
-    → HasRole d words typed None
-no_role_of_plain d words typed undashed none w longer before last is = at (ends d words w before last is.means)
-  where
-    at : Ends d words before last w → MeansFront d words (before ++ last ∷ [])
-    at (any_word all) = let a = (all []).0 in absurd (none before a.last a.takes.means)
-    at (plain_word plain all) = let a = all [] (inr (inr (λ begins. begins))) in absurd (none before a.last a.takes.means)
-    at (separated is_dashes front) = front
-    at (option_begun items begins never) = absurd (never is.whole)
-
--- with `--` these words mean this, and no option can come after them
-pub role_of_dashed : (d : Declaration) (words : List (List ℕ)) (typed : List ℕ) (before : List Parsed) (s : Parsed) → ((l : List Parsed) → ¬ IsOpen d words l)
-    → MeansFront d (words ++ dashes ∷ []) (before ++ s ∷ []) → HasRole d words typed (Some (role_of before s))
-role_of_dashed d words typed before s closed means w longer = at (ends d words dashes before s means)
-  where
-    at : Ends d words before s dashes → (others : List Parsed) × (last : Parsed) × completion.Takes d words w others last × (role_of others last ≡ role_of before s)
-    at (any_word all) = let a = (all w).0 in (before, a.last, a.takes, a.role)
-    at (plain_word plain all) = absurd (dashes_calm [] plain)
-    at (separated is front) = absurd (closed (before ++ s ∷ []) (record { front = front; with_separator = means }))
-    at (option_begun items begins never) = absurd (dashes_never exact (table d.options) d.short_equals items begins)
+-- ---- a place has one role
 
 -- a word that begins with a dash, and is longer, is not plain
-dashed_not_plain : (typed w : List ℕ) → BeginsWith dash typed → Extends typed w → IsPlain false w → ⊥
+pub dashed_not_plain : (typed w : List ℕ) → BeginsWith dash typed → Extends typed w → IsPlain false w → ⊥
 dashed_not_plain [] w begins longer plain = begins
 dashed_not_plain (b ∷ typed) w begins longer plain = at (drop (length (b ∷ typed)) w) ((starts_is Decides-eqb w (b ∷ typed) (starts_with nat_eq w (b ∷ typed)) refl).0 longer.begins) plain
   where
@@ -313,37 +310,8 @@ dashed_not_plain (b ∷ typed) w begins longer plain = at (drop (length (b ∷ t
         none (x ∷ l) m short_so = absurd (omega (arith, short_so))
     at rest is (inr (inr other)) = other (subst (BeginsWith dash) (sym is) begins)
 
--- an option can come after these words
-pub no_role_where_open : (d : Declaration) (words : List (List ℕ)) (typed : List ℕ) (l : List Parsed) → BeginsWith dash typed → IsOpen d words l → HasRole d words typed None
-no_role_where_open d words typed l dashed opens w longer before last is = at (ends d words w before last is.means)
-  where
-    at : Ends d words before last w → MeansFront d words (before ++ last ∷ [])
-    at (any_word all) =
-        let a = (all dashes).0 in
-        let b = all [] in
-        let same = one_front d (words ++ dashes ∷ []) (before ++ a.last ∷ []) l a.takes.means opens.with_separator in
-        let as_long : length (before ++ b.0.last ∷ []) ≡ length l =
-        (let e = ap length same in let f = length-append before (a.last ∷ []) in let g = length-append before (b.0.last ∷ []) in omega (arith, e, f, g)) in
-        absurd (open_adds d words l (before ++ b.0.last ∷ []) opens b.0.takes.means (record { front = before; last = b.0.last; are = refl; one = b.1 }) as_long)
-    at (plain_word plain all) = absurd (dashed_not_plain typed w dashed longer plain)
-    at (separated is_dashes front) = front
-    at (option_begun items begins never) = absurd (never is.whole)
-
--- with `--` these words mean nothing, or no words are there
-pub no_role_of_dashed : (d : Declaration) (words : List (List ℕ)) (typed : List ℕ) → BeginsWith dash typed → ((before : List Parsed) (s : Parsed) → ¬ MeansFront d (words ++ dashes ∷ []) (before ++ s ∷ []))
-    → HasRole d words typed None
-no_role_of_dashed d words typed dashed none w longer before last is = at (ends d words w before last is.means)
-  where
-    at : Ends d words before last w → MeansFront d words (before ++ last ∷ [])
-    at (any_word all) = let a = (all dashes).0 in absurd (none before a.last a.takes.means)
-    at (plain_word plain all) = absurd (dashed_not_plain typed w dashed longer plain)
-    at (separated is_dashes front) = front
-    at (option_begun items begins never) = absurd (never is.whole)
-
--- ---- a place has one role
-
 -- what was typed, and one more byte
-pub extends : (typed : List ℕ) (b : ℕ) → b ≢ dash → Extends typed (typed ++ b ∷ [])
+extends : (typed : List ℕ) (b : ℕ) → b ≢ dash → Extends typed (typed ++ b ∷ [])
 extends typed b other = record {
   begins = (starts_is Decides-eqb (typed ++ b ∷ []) typed (starts_with nat_eq (typed ++ b ∷ []) typed) refl).1 (b ∷ []) refl;
   longer = longer typed b [];
@@ -383,29 +351,6 @@ one_role d words typed (Some r) (Some s) is other =
     let b = other w w_longer in
     let same = same_last a.0 b.0 a.1 b.1 (one_front d (words ++ w ∷ []) (a.0 ++ a.1 ∷ []) (b.0 ++ b.1 ∷ []) a.2.means b.2.means) in
     ap (λ role. Some role) (sym a.3 ∙ ap (λ l. role_of l a.1) same.0 ∙ ap (role_of b.0) same.1 ∙ b.3)
-
--- ---- the empty word in place of another
-
--- if words mean something with the empty word, they take it
-pub takes_empty : (d : Declaration) (words : List (List ℕ)) (before : List Parsed) (s : Parsed) → MeansFront d (words ++ [] ∷ []) (before ++ s ∷ []) → (last : Parsed) × completion.Takes d words [] before last
-takes_empty d words before s means = at (ends d words [] before s means)
-  where
-    at : Ends d words before s [] → (last : Parsed) × completion.Takes d words [] before last
-    at (any_word all) = let a = (all []).0 in (a.last, a.takes)
-    at (plain_word plain all) = let a = all [] plain in (a.last, a.takes)
-    at (separated is front) = let e : [] ≡ dash ∷ dash ∷ [] = is in cc
-    at (option_begun items begins never) = absurd (empty_never exact (table d.options) d.short_equals items begins)
-
--- if words take a word, and mean nothing without it, they mean something with the empty word
-pub means_with_empty : (d : Declaration) (words : List (List ℕ)) (w : List ℕ) (before : List Parsed) (last : Parsed) → ((l : List Parsed) → ¬ MeansFront d words l) → completion.Takes d words w before last
-    → (s : Parsed) × MeansFront d (words ++ [] ∷ []) (before ++ s ∷ [])
-means_with_empty d words w before last none is = at (ends d words w before last is.means)
-  where
-    at : Ends d words before last w → (s : Parsed) × MeansFront d (words ++ [] ∷ []) (before ++ s ∷ [])
-    at (any_word all) = let a = (all []).0 in (a.last, a.takes.means)
-    at (plain_word plain all) = let a = all [] (inr (inr (λ begins. begins))) in (a.last, a.takes.means)
-    at (separated same front) = absurd (none (before ++ last ∷ []) front)
-    at (option_begun items begins never) = absurd (never is.whole)
 
 -- ---- a positional in place of another
 

@@ -8,7 +8,7 @@ use Rattle.std.proofs.lemmas.List.Quantifiers.{position-Some}
 use Rattle.lexopt_spec.specs.Pieces.{replacement, lossy_characters}
 use Rattle.lexopt_spec.specs.UnreadLine.{dash, equals}
 use Rattle.lexopt_line_spec.specs.Table as spec
-use Rattle.lexopt_line_spec.specs.Table.{Name, short, long, Kind, Item}
+use Rattle.lexopt_line_spec.specs.Table.{Name, short, long, Item}
 use Rattle.lexopt_line_spec.specs.Spelling.{IsWholeName, HaveWholeNames}
 use Rattle.lexopt_options_spec.specs.Declaration.{Declared, Reason, has, has_name, is_empty, is_short, is_long, index_of, short_fault, long_fault, or_else, fault, faults, is_sound}
 use Rattle.std.specs.Option.{option_map}

@@ -205,9 +205,6 @@ AllZip-more Is [] (y ∷ ys) x t all is = absurd all
 AllZip-more Is (z ∷ zs) [] x t all is = absurd all
 AllZip-more Is (z ∷ zs) (y ∷ ys) x t all is = (all.0, AllZip-more Is zs ys x t all.1 is)
 
-pub none_listed : {X : Type 0} (Is : X → List ℕ → Type 0) (put : List ℕ → List ℕ) (before : List ℕ) → Listed Is put before [] before
-none_listed Is put before = record { texts = []; each = tt; text_is = sym (append-nil before) }
-
 pub one_listed : {X : Type 0} (Is : X → List ℕ → Type 0) (put : List ℕ → List ℕ) (before : List ℕ) (xs : List X) (text : List ℕ) (x : X) (t : List ℕ) → Listed Is put before xs text → Is x t
     → Listed Is put before (xs ++ x ∷ []) (text ++ put t)
 one_listed Is put before xs text x t l is = record {

@@ -7,5 +7,6 @@ pub mod Asking
 pub mod Leading
 pub mod Nearest
 pub mod Completion
+pub mod States
 pub mod Help
 pub mod Examples

@@ -238,11 +238,10 @@ fn count_right_after(
     let possible_spellings = possible_spellings(alloc, plan, before)?;
     let (next, count) = next_after(alloc, plan, before)?;
     let (owners, own_words) = owners_after(alloc, plan, count)?;
-    let words = words_of(alloc, before)?;
     let mut right = 0usize;
     for typed in FRONTS {
         let word = OsString::from_bytes(alloc, typed.as_bytes())?;
-        let completion = options.complete(alloc, &words, &word)?;
+        let completion = options.complete(alloc, words_of(alloc, before)?, &word)?;
         let arguments: &[usize] = if can_be_positional(next, typed) {
             &owners
         } else {

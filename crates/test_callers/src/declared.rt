@@ -194,27 +194,27 @@ pub fn read_leading(
 /// What can complete a typed word after these words of a line of the tool.
 pub fn complete(
     alloc: Global,
-    words: &[OsString],
+    words: Vec<OsString>,
     typed: &OsString,
 ) -> Result<Completion<'static, Flag, Value, Maybe, Values>, AllocError>
     ensures sound { IfOk result (λ c. (s : List ℕ)
         → Contains (words_of (map both_of c.spellings.items)) s
-        → Completes tool words.now typed.now s) }
+        → Completes tool words.items typed.now s) }
     ensures complete { IfOk result (λ c. (s : List ℕ)
-        → Completes tool words.now typed.now s
+        → Completes tool words.items typed.now s
         → Contains (words_of (map both_of c.spellings.items)) s) }
     ensures in_order { IfOk result (λ c.
         AreInOrder typed.now (map both_of c.spellings.items)) }
     ensures word { IfOk result (λ c. (role : Option completion.Role)
-        × HasRole tool words.now typed.now role × IsSameRole role c.word) }
+        × HasRole tool words.items typed.now role × IsSameRole role c.word) }
     ensures joined { IfOk result (λ c. (with_value : Option completion.Joined)
-        × IsJoined tool words.now typed.now with_value × IsSameJoined with_value c.joined) }
+        × IsJoined tool words.items typed.now with_value × IsSameJoined with_value c.joined) }
     ensures arguments { IfOk result (λ c. (role : Option completion.Role)
-        × HasRole tool words.now typed.now role
+        × HasRole tool words.items typed.now role
         × AreOwnersIn tool.positionals role c.arguments.items) }
     ensures values { IfOk result (λ c. (role : Option completion.Role) × (owners : List ℕ)
-        × (with_value : Option completion.Joined) × HasRole tool words.now typed.now role
-        × AreOwnersIn tool.positionals role owners × IsJoined tool words.now typed.now with_value
+        × (with_value : Option completion.Joined) × HasRole tool words.items typed.now role
+        × AreOwnersIn tool.positionals role owners × IsJoined tool words.items typed.now with_value
         × (map string_bytes c.values.items
         ≡ offered_values tool typed.now role owners with_value)) }
 {

@@ -24,7 +24,7 @@ pub fn read_line<'a, F: Copy, V: Copy, P: Copy, M: Copy, S: Copy>(
 pub fn complete<'a, F, V, P, M, S>(
     alloc: Global,
     options: &Options<'a, F, V, P, M, S>,
-    words: &[OsString],
+    words: Vec<OsString>,
     typed: &OsString,
 ) -> Result<Completion<'a, F, V, M, S>, AllocError>
     ensures word { IfOk result (λ c.

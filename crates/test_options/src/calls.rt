@@ -129,17 +129,17 @@ fn rows(rt: HostRuntime) {
 // Whether one spelling completes `--verb` after a positional.
 fn is_completed(alloc: Global) -> Result<bool, AllocError> {
     let options = archive_of_files();
-    let words = words_of(alloc, b"a")?;
     let typed = OsString::from_text(alloc, "--verb")?;
-    let found = options.complete(alloc, &words, &typed)?;
+    let found = options.complete(alloc, words_of(alloc, b"a")?, &typed)?;
+    let text = options.completion_text(alloc, words_of(alloc, b"a")?, &typed)?;
     Ok(
         found.spellings.len() == 1
             && found
                 .spellings
                 .iter()
                 .all(|own| own.text.as_str() == "--verbose")
-            && options.has_positional(alloc, &words)?
-            && options.completion_text(alloc, &words, &typed)?.as_str() == "--verbose\ttell more\n",
+            && options.has_positional(alloc, words_of(alloc, b"a")?)?
+            && text.as_str() == "--verbose\ttell more\n",
     )
 }
 

@@ -1,6 +1,6 @@
 use Rattle.std.proofs.Common.{◌≡◌, ◌∷◌, [], List, codes, ℕ}
 use Rattle.lexopt_options_spec.proofs.OneLeading.{one_leading}
-use Rattle.lexopt_laws.proofs.WorkedLeading.{flag_then_separator, flag_then_word, values_alone, word_alone}
+use Rattle.lexopt_laws.proofs.WorkedLeading.{flag_then_separator, flag_then_word, values_alone}
 use Rattle.lexopt_laws.proofs.leading_examples.words_are_not_split_so.Goals as goal
 
 none_some : (w : List ℕ) (ws : List (List ℕ)) → [] ≡ w ∷ ws → ⊥

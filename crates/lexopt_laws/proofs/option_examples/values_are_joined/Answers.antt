@@ -1,9 +1,6 @@
-use Rattle.std.proofs.Common.{◌≡◌, [], ◌∷◌, List, Some, None, true, codes, refl, ap, sym, ◌∙◌}
-use Rattle.lexopt_options_spec.specs.Completion.{value_of}
+use Rattle.std.proofs.Common.{[], ◌∷◌, Some, None, codes, refl}
 use Rattle.lexopt_line_spec.proofs.Computing.{computing}
 use Rattle.lexopt_options_spec.specs.Legal.{option, several}
-use Rattle.lexopt_options_spec.proofs.Fronts.{one_front}
-use Rattle.lexopt_options_spec.proofs.LastWords.{same_last}
 use Rattle.lexopt_laws.proofs.WorkedOpen.{after_a_flag, at_the_start, at_the_start_otherwise}
 use Rattle.lexopt_laws.proofs.WorkedRoles as worked
 use Rattle.lexopt_laws.proofs.option_examples.values_are_joined.Goals as goal

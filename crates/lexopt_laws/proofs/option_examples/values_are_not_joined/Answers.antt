@@ -1,4 +1,4 @@
-use Rattle.std.proofs.Common.{◌≡◌, [], ◌∷◌, Some, codes, refl, subst, sym}
+use Rattle.std.proofs.Common.{[], Some, codes, refl, subst}
 use Rattle.lexopt_line_spec.proofs.Worked.{differ}
 use Rattle.lexopt_line_spec.proofs.Computing.{computing}
 use Rattle.lexopt_options_spec.specs.Legal.{option}

@@ -1,17 +1,11 @@
-use Rattle.std.proofs.Common.{subst, ◌∷◌, ◌++◌, []}
-use Rattle.lexopt_options_spec.proofs.OpenLines.{dashes}
-use Rattle.lexopt_options.specs.Fronts.{IsPart}
-use Rattle.lexopt_options.proofs.Completing.{opens_full, opens_never, opens_so}
+use Rattle.std.proofs.Common.{subst, sym}
+use Rattle.lexopt_options.specs.Completions.{Opens}
+use Rattle.lexopt_options.specs.States.{IsFrontOf}
+use Rattle.lexopt_options.proofs.Fronts.{front_opens, nowhere_opens}
 use Rattle.lexopt_options.proofs.complete.is_open.Goals as goal
 
-pub returns-in-Some-plain : goal.returns-in-Some-plain
-returns-in-Some-plain c = λ o words dashed plain.
-    opens_so o words c.in-Some.dashed c.in-Some-plain.plain c.deref.result.now c.deref-in-Some-plain.result.now c.take_any_word.result c.deref.ensures.value c.deref-in-Some-plain.ensures.value
-    (subst (IsPart o (words ++ dashes ∷ [])) c.in-Some.is dashed) (subst (IsPart o (words ++ [] ∷ [])) c.in-Some-plain.is plain) c.take_any_word.ensures
-
-pub returns-in-None-plain : goal.returns-in-None-plain
-returns-in-None-plain c = λ o words dashed plain.
-    opens_full o words c.in-Some.dashed (subst (IsPart o (words ++ dashes ∷ [])) c.in-Some.is dashed) (subst (IsPart o (words ++ [] ∷ [])) c.in-None-plain.is plain)
+pub returns-in-Some : goal.returns-in-Some
+returns-in-Some c = λ d words is. subst (Opens d words) (sym c.opens.ensures) (front_opens d words c.in-Some.front (subst (IsFrontOf d words) c.in-Some.is is))
 
 pub returns-in-None : goal.returns-in-None
-returns-in-None c = λ o words dashed plain. opens_never o words (subst (IsPart o (words ++ dashes ∷ [])) c.in-None.is dashed)
+returns-in-None c = λ d words is. nowhere_opens d words (subst (IsFrontOf d words) c.in-None.is is)

@@ -1,11 +1,10 @@
-use Rattle.std.proofs.Common.{◌≤◌, drop, map}
+use Rattle.std.proofs.Common.{drop, map}
 use Rattle.lexopt_declaration.specs.Models.{positional_view}
 use Rattle.lexopt_options_spec.specs.Places.{owners}
 use Rattle.lexopt_options_spec.specs.Places.{greedy}
-use Rattle.lexopt_options.specs.Taken.{indexed_words}
 use Rattle.lexopt_options.proofs.TakenWords.{IsAt}
 use Rattle.lexopt_options.proofs.taken.are_taken.Given as goal
 
-abbrev pub invariant-loop-own : goal.invariant-loop-own
-invariant-loop-own g l = let ps = map positional_view l.positionals in
-    (l.index ≤ l.own-index) × IsAt ps (owners 0 (greedy ps l.spare)) (indexed_words l.parsed) (indexed_words (drop l.own-index l.parsed)) l.index
+abbrev pub invariant-loop-index : goal.invariant-loop-index
+invariant-loop-index g l = let ps = map positional_view l.positionals in
+    IsAt ps (owners 0 (greedy ps l.spare)) l.words (drop l.index l.words) l.index

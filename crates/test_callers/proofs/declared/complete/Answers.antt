@@ -10,34 +10,34 @@ use Rattle.test_callers.proofs.declared.complete.Goals as goal
 
 pub returns-clause-sound : goal.returns-clause-sound
 returns-clause-sound c =
-    IfOk-weaker c.complete.result _ _ (λ done is. (subst (λ (d : Declaration). AreOffered d c.args.words.now c.args.typed.now (map spelling_view done.spellings.items)) c.new.ensures.declaration is.spellings).sound)
+    IfOk-weaker c.complete.result _ _ (λ done is. (subst (λ (d : Declaration). AreOffered d c.args.words.items c.args.typed.now (map spelling_view done.spellings.items)) c.new.ensures.declaration is.spellings).sound)
     c.complete.ensures
 
 pub returns-clause-complete : goal.returns-clause-complete
 returns-clause-complete c =
-    IfOk-weaker c.complete.result _ _ (λ done is. (subst (λ (d : Declaration). AreOffered d c.args.words.now c.args.typed.now (map spelling_view done.spellings.items)) c.new.ensures.declaration is.spellings).complete)
+    IfOk-weaker c.complete.result _ _ (λ done is. (subst (λ (d : Declaration). AreOffered d c.args.words.items c.args.typed.now (map spelling_view done.spellings.items)) c.new.ensures.declaration is.spellings).complete)
     c.complete.ensures
 
 pub returns-clause-in_order : goal.returns-clause-in_order
 returns-clause-in_order c =
-    IfOk-weaker c.complete.result _ _ (λ done is. in_order c.args.words.now c.args.typed.now _ (subst (λ (d : Declaration). AreOffered d c.args.words.now c.args.typed.now (map spelling_view done.spellings.items)) c.new.ensures.declaration is.spellings))
+    IfOk-weaker c.complete.result _ _ (λ done is. in_order c.args.words.items c.args.typed.now _ (subst (λ (d : Declaration). AreOffered d c.args.words.items c.args.typed.now (map spelling_view done.spellings.items)) c.new.ensures.declaration is.spellings))
     c.complete.ensures
 
 pub returns-clause-word : goal.returns-clause-word
 returns-clause-word c =
-    IfOk-weaker c.complete.result _ _ (λ done is. (is.role, subst (λ (d : Declaration). HasRole d c.args.words.now c.args.typed.now is.role) c.new.ensures.declaration is.has_role, same_role (options_of c.new.result) is.role done.word is.word))
+    IfOk-weaker c.complete.result _ _ (λ done is. (is.role, subst (λ (d : Declaration). HasRole d c.args.words.items c.args.typed.now is.role) c.new.ensures.declaration is.has_role, same_role (options_of c.new.result) is.role done.word is.word))
     c.complete.ensures
 
 pub returns-clause-joined : goal.returns-clause-joined
 returns-clause-joined c =
-    IfOk-weaker c.complete.result _ _ (λ done is. (is.with_value, subst (λ (d : Declaration). IsJoined d c.args.words.now c.args.typed.now is.with_value) c.new.ensures.declaration is.is_joined, same_joined (options_of c.new.result) is.with_value done.joined is.joined))
+    IfOk-weaker c.complete.result _ _ (λ done is. (is.with_value, subst (λ (d : Declaration). IsJoined d c.args.words.items c.args.typed.now is.with_value) c.new.ensures.declaration is.is_joined, same_joined (options_of c.new.result) is.with_value done.joined is.joined))
     c.complete.ensures
 
 pub returns-clause-arguments : goal.returns-clause-arguments
 returns-clause-arguments c =
     IfOk-weaker c.complete.result _ _ (λ done is. (
       is.role,
-      subst (λ (d : Declaration). HasRole d c.args.words.now c.args.typed.now is.role) c.new.ensures.declaration is.has_role,
+      subst (λ (d : Declaration). HasRole d c.args.words.items c.args.typed.now is.role) c.new.ensures.declaration is.has_role,
       subst (λ (d : Declaration). AreOwnersIn d.positionals is.role done.arguments.items) c.new.ensures.declaration is.arguments,
     )) c.complete.ensures
 
@@ -47,8 +47,8 @@ returns-clause-values c =
       is.role,
       done.arguments.items,
       is.with_value,
-      subst (λ (d : Declaration). HasRole d c.args.words.now c.args.typed.now is.role) c.new.ensures.declaration is.has_role,
+      subst (λ (d : Declaration). HasRole d c.args.words.items c.args.typed.now is.role) c.new.ensures.declaration is.has_role,
       subst (λ (d : Declaration). AreOwnersIn d.positionals is.role done.arguments.items) c.new.ensures.declaration is.arguments,
-      subst (λ (d : Declaration). IsJoined d c.args.words.now c.args.typed.now is.with_value) c.new.ensures.declaration is.is_joined,
+      subst (λ (d : Declaration). IsJoined d c.args.words.items c.args.typed.now is.with_value) c.new.ensures.declaration is.is_joined,
       subst (λ (d : Declaration). map string_bytes done.values.items ≡ offered_values d c.args.typed.now is.role done.arguments.items is.with_value) c.new.ensures.declaration is.values,
     )) c.complete.ensures

@@ -10,16 +10,16 @@ use Rattle.lexopt_options.proofs.options.Options.joined.Goals as goal
 pub option_at-requires : goal.option_at-requires
 option_at-requires g c =
     let d = declaration_of c.args.self.now in
-    let is = rw c.in-Some.is at c.in_ok-index.ensures c.args.words.now c.requires in
+    let is = rw c.in-Some.is at c.in_ok-index.ensures c.requires.0 c.requires.1 in
     subst (λ n. c.in-Some.index < n) (length-map (options_of c.args.self.now) option_view ∙ sym (ap (λ l. length l) c.options.ensures.same))
-    (joined_declared d c.args.words.now c.args.typed.now c.in-Some.index (string_bytes c.in-Some.before) is)
+    (joined_declared d c.requires.0 c.args.typed.now c.in-Some.index (string_bytes c.in-Some.before) is)
 
 pub returns-in-Some : goal.returns-in-Some
-returns-in-Some g c = (
+returns-in-Some g c = λ words opens. (
   Some (joined_view (c.in-Some.index, c.in-Some.before)),
-  rw c.in-Some.is at c.in_ok-index.ensures c.args.words.now c.requires,
+  rw c.in-Some.is at c.in_ok-index.ensures words opens,
   (subst (λ (os : List (Declared _ _ _ _)). slice_get os c.in-Some.index ≡ Some c.option_at.result.now) c.options.ensures.same c.option_at.ensures, refl),
 )
 
 pub returns-in-None : goal.returns-in-None
-returns-in-None g c = (None, rw c.in-None.is at c.in_ok-index.ensures c.args.words.now c.requires, tt)
+returns-in-None g c = λ words opens. (None, rw c.in-None.is at c.in_ok-index.ensures words opens, tt)

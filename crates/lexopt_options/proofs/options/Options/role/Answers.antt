@@ -12,9 +12,9 @@ use Rattle.lexopt_options.proofs.options.Options.role.Goals as goal
 pub role_of-requires : goal.role_of-requires
 role_of-requires g c =
     let d = declaration_of c.args.self.now in
-    let has = subst (λ (p : Option Place). HasRole d c.args.words.now c.args.typed.now (option_map place_view p)) c.in-Some.is c.requires in
+    let has = subst (λ (p : Option Place). HasRole d c.requires.0 c.args.typed.now (option_map place_view p)) c.in-Some.is c.requires.1 in
     subst (λ n. IsDeclared n (place_view c.in-Some.place)) (length-map (options_of c.args.self.now) option_view ∙ sym (ap (λ l. length l) c.options.ensures.same))
-    (role_declared d c.args.words.now c.args.typed.now (place_view c.in-Some.place) has)
+    (role_declared d c.requires.0 c.args.typed.now (place_view c.in-Some.place) has)
 
 pub returns-in-Some : goal.returns-in-Some
 returns-in-Some g c =

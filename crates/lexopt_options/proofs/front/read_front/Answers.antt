@@ -1,0 +1,90 @@
+use Rattle.std.proofs.Common.{◌≡◌, ◌∙◌, ◌++◌, ◌∷◌, [], List, ℕ, None, Some, arith, ap, length, refl, subst, sym}
+use Rattle.lexopt_line_spec.specs.Bound.{bound}
+use Rattle.lexopt_line_spec.specs.Table as table
+use Rattle.lexopt_options_spec.specs.Legal as legal
+use Rattle.lexopt_options_spec.specs.States.{state_at_end}
+use Rattle.lexopt_items.proofs.ReadsItems.{positional_read}
+use Rattle.lexopt_options_spec.specs.Declaration.{table}
+use Rattle.lexopt_options.specs.Declarations.{declaration_of, options_of}
+use Rattle.lexopt_options.specs.Reading.{StopsNext}
+use Rattle.lexopt_options.specs.declared.front.Front.{Front}
+use Rattle.lexopt_options.proofs.Fronts.{front_at_end, front_lacking, has_nothing, has_option, has_positional, index_within, nowhere_lacking, nowhere_stopped, nowhere_undeclared, option_there, same_reached}
+use Rattle.lexopt_options.proofs.front.read_front.Goals as goal
+
+pub loop-last-init : goal.loop-last-init
+loop-last-init g c = has_nothing (declaration_of c.args.options.now) c.args.parser.now c.new-words.result.items c.requires c.new-words.ensures.items
+
+pub offset_bounds-declared-index : goal.offset_bounds-declared-index
+offset_bounds-declared-index g c =
+    let next = rw c.in-Option.is at c.in_ok-index.ensures in
+    let within = index_within (options_of c.args.options.now) next.0 c.in-Option.index next.2 in
+    let same = ap (λ l. length l) c.options-declared.ensures.same in omega (arith, within, same)
+
+pub bounds-declared-index : goal.bounds-declared-index
+bounds-declared-index g c =
+    let next = rw c.in-Option.is at c.in_ok-index.ensures in
+    let within = index_within (options_of c.args.options.now) next.0 c.in-Option.index next.2 in
+    let same = ap (λ l. length l) c.options-declared.ensures.same in omega (arith, within, same)
+
+pub loop-last-smaller-in-Values : goal.loop-last-smaller-in-Values
+loop-last-smaller-in-Values g c =
+    let o = c.args.options.now in
+    let next = rw c.in-Option.is at c.in_ok-index.ensures in
+    let at = option_there (options_of o) c.options-declared.result.now c.index-declared-index.result next.0 c.in-Option.index c.options-declared.ensures.same next.2 c.index-declared-index.is in
+    let given = rw c.in-Values.is at c.in_ok-accepted-in-Option.ensures (declaration_of o) at in
+    (has_option (declaration_of o) c.args.parser.now c.loop-last.parser c.read_next.new.parser c.read_given.new.parser c.loop-last.words.items c.loop-last.all_accepted c.in-Values.accepted c.loop-last.last c.loop-last.several c.in-Values.first c.in-Values.goes_on next.0 c.in-Option.index o.sound
+    c.loop-last.invariant next.1 next.2 given).1
+
+pub loop-last-preserved-in-Values : goal.loop-last-preserved-in-Values
+loop-last-preserved-in-Values g c =
+    let o = c.args.options.now in
+    let next = rw c.in-Option.is at c.in_ok-index.ensures in
+    let at = option_there (options_of o) c.options-declared.result.now c.index-declared-index.result next.0 c.in-Option.index c.options-declared.ensures.same next.2 c.index-declared-index.is in
+    let given = rw c.in-Values.is at c.in_ok-accepted-in-Option.ensures (declaration_of o) at in
+    same_reached (declaration_of o) c.args.parser.now c.read_given.new.parser c.loop-last.words.items _ _ _ _ _ _ c.are_both-all_accepted.ensures c.with_index-last.ensures c.index_if-several.ensures
+    (has_option (declaration_of o) c.args.parser.now c.loop-last.parser c.read_next.new.parser c.read_given.new.parser c.loop-last.words.items c.loop-last.all_accepted c.in-Values.accepted c.loop-last.last c.loop-last.several c.in-Values.first c.in-Values.goes_on next.0 c.in-Option.index o.sound
+    c.loop-last.invariant next.1 next.2 given).0
+
+pub returns-in-Lacks : goal.returns-in-Lacks
+returns-in-Lacks g c = λ words is.
+    let o = c.args.options.now in
+    let next = rw c.in-Option.is at c.in_ok-index.ensures in
+    let at = option_there (options_of o) c.options-declared.result.now c.index-declared-index.result next.0 c.in-Option.index c.options-declared.ensures.same next.2 c.index-declared-index.is in
+    let given = rw c.in-Lacks.is at c.in_ok-accepted-in-Option.ensures (declaration_of o) at in
+    front_lacking (declaration_of o) c.args.parser.now c.loop-last.parser c.read_next.new.parser c.read_given.new.parser words (record { words = c.loop-last.words; accepted = c.loop-last.all_accepted; last = None; state = c.in-Lacks.state }) c.loop-last.last c.loop-last.several next.0 c.in-Option.index o.sound is
+    c.loop-last.invariant refl next.1 next.2 c.in-Lacks.state refl given
+
+pub returns-in-Nothing : goal.returns-in-Nothing
+returns-in-Nothing g c = λ words is.
+    let o = c.args.options.now in
+    let next = rw c.in-Option.is at c.in_ok-index.ensures in
+    let at = option_there (options_of o) c.options-declared.result.now c.index-declared-index.result next.0 c.in-Option.index c.options-declared.ensures.same next.2 c.index-declared-index.is in
+    let given = rw c.in-Nothing.is at c.in_ok-accepted-in-Option.ensures (declaration_of o) at in
+    nowhere_lacking (declaration_of o) c.args.parser.now c.loop-last.parser c.read_next.new.parser c.read_given.new.parser words c.loop-last.words.items c.loop-last.all_accepted c.loop-last.last c.loop-last.several next.0 c.in-Option.index o.sound is c.loop-last.invariant next.1 next.2 given
+
+pub loop-last-smaller : goal.loop-last-smaller
+loop-last-smaller g c =
+    let next = rw c.in-Positional.is at c.in_ok-index.ensures in
+    (positional_read (table (declaration_of c.args.options.now).options) c.loop-last.parser c.read_next.new.parser c.in-Positional.word next.0).1
+
+pub loop-last-preserved : goal.loop-last-preserved
+loop-last-preserved g c =
+    let next = rw c.in-Positional.is at c.in_ok-index.ensures in
+    has_positional (declaration_of c.args.options.now) c.args.parser.now c.loop-last.parser c.read_next.new.parser c.loop-last.words.items c.push.new.self.items c.in-Positional.word c.loop-last.all_accepted c.loop-last.last c.loop-last.several c.most-limit.result c.loop-last.invariant next.0
+    c.most-limit.ensures (λ full. next.1 (full ∙ ap (λ n. Some n) (sym (c.len.ensures ∙ c.loop-last.words.ok.0)))) c.in_ok-push-in-Positional.ensures.items
+
+pub returns-in-End : goal.returns-in-End
+returns-in-End g c = λ words is.
+    let ends = rw c.in-End.is at c.in_ok-index.ensures in
+    front_at_end (declaration_of c.args.options.now) c.args.parser.now c.loop-last.parser c.read_next.new.parser words (record { words = c.loop-last.words; accepted = c.loop-last.all_accepted; last = c.loop-last.last; state = c.state_at_end.result }) c.loop-last.several c.args.options.now.sound is
+    c.loop-last.invariant ends (c.state_at_end.ensures ∙ ap (state_at_end c.loop-last.several) c.is_past_separator.ensures)
+
+pub returns-in-Undeclared : goal.returns-in-Undeclared
+returns-in-Undeclared g c = λ words is.
+    nowhere_undeclared (declaration_of c.args.options.now) c.args.parser.now c.loop-last.parser c.read_next.new.parser words c.loop-last.words.items c.loop-last.all_accepted c.loop-last.last c.loop-last.several c.in-Undeclared.field-0 is c.loop-last.invariant (rw c.in-Undeclared.is at c.in_ok-index.ensures)
+
+pub returns-in-Mistake : goal.returns-in-Mistake
+returns-in-Mistake g c = λ words is.
+    let stops = rw c.in-Mistake.is at c.in_ok-index.ensures in
+    nowhere_stopped (declaration_of c.args.options.now) c.args.parser.now c.loop-last.parser words c.loop-last.words.items c.loop-last.all_accepted c.loop-last.last c.loop-last.several c.most-limit.result is c.most-limit.ensures c.loop-last.invariant
+    (subst (λ (n : ℕ). StopsNext c.most-limit.result n c.loop-last.parser) (c.len.ensures ∙ c.loop-last.words.ok.0) stops.next)

@@ -1,0 +1,10 @@
+use Rattle.lexopt_line_spec.specs.Bound.{bound}
+use Rattle.lexopt_options.specs.Declarations.{declaration_of}
+use Rattle.lexopt_options.proofs.Fronts.{HasReached}
+use Rattle.lexopt_options.proofs.front.read_front.Given as goal
+
+abbrev pub invariant-loop-last : goal.invariant-loop-last
+invariant-loop-last g l = HasReached (declaration_of l.options) l.initial.parser l.parser l.words.items l.all_accepted l.last l.several
+
+abbrev pub decreases-loop-last : goal.decreases-loop-last
+decreases-loop-last g l = bound l.parser

@@ -1,0 +1,275 @@
+//! What words mean as the beginning of a line, and what the next word is. `read.rt` reads a whole
+//! line by keys.
+ghost use Rattle.std.specs.Prelude.{◌≡◌, ◌↔◌, ◌&&◌, ℕ, [], IfOk, IsTrue, List, None, Some, slice_get};
+ghost use Rattle.lexopt_spec.specs.UnreadLine.{IsLine, UnreadLine, pending};
+ghost use Rattle.lexopt_spec.specs.Steps.{Next};
+ghost use Rattle.lexopt_line_spec.specs.Readings.{option_reply, start};
+ghost use Rattle.lexopt_line_spec.specs.Table as table;
+ghost use Rattle.lexopt_options_spec.specs.Declaration.{Declaration, index_of};
+ghost use Rattle.lexopt_options_spec.specs.States as spec;
+ghost use Rattle.lexopt_declaration.specs.Models.{option_view};
+ghost use Rattle.lexopt_options.specs.Declarations.{declaration_of};
+ghost use Rattle.lexopt_options.specs.States.{IsFrontOf, IsGiven, Lacks, first_of, index_if};
+ghost use Rattle.lexopt_options.specs.States.{state_view, with_index};
+
+use crate::listed::{accepts, refused_place};
+use crate::options::Options;
+use crate::read::{Outcome, read_next};
+use lexopt_base::parser::Parser;
+use lexopt_base::refusal::Refusal;
+use lexopt_declaration::declaration::{Declared, Kind};
+use lexopt_items::values::read_several;
+use lexopt_words::os_string::OsString;
+use std::alloc::{AllocError, Global};
+
+// What the next word of a line is.
+#[derive(Clone, Copy)]
+pub enum State {
+    // An option, the separator or a positional.
+    Anything,
+    // The value of the option at this index, whatever it looks like.
+    Due(usize),
+    // The first of several values of the option at this index: a plain word.
+    First(usize),
+    // One more of several values of the option at this index if it is plain; otherwise an option or
+    // the separator.
+    Further(usize),
+    // A positional, whatever it looks like.
+    Ended,
+}
+
+// What words mean as the beginning of a line.
+#[derive(Drop)]
+pub struct Front {
+    // The positionals.
+    pub words: Vec<OsString>,
+    // Whether each option accepts its values.
+    pub accepted: bool,
+    // The index of the option that is read last, and its first value, if it has one.
+    pub last: Option<(usize, OsString)>,
+    // What the next word is.
+    pub state: State,
+}
+
+// What is read of an option after its name.
+#[derive(Drop)]
+enum Given {
+    // Its values: whether it accepts them, the first of them, and whether a plain word at the end of
+    // the line would be one more.
+    Values {
+        accepted: bool,
+        first: Option<OsString>,
+        goes_on: bool,
+    },
+    // It lacks a value where the words end. This is what the next word is.
+    Lacks(State),
+    // It lacks a value, and words are left.
+    Nothing,
+}
+
+// Whether no word is left, nor the rest of a word.
+fn is_at_end(parser: &mut Parser) -> bool
+    ensures same { parser.new ≡ parser.old }
+    ensures at_end { pending parser.old ≡ None → (IsTrue result ↔ (parser.old.words ≡ [])) }
+{
+    match parser.try_raw_args() {
+        Some(left) => left.as_slice().is_empty(),
+        None => false,
+    }
+}
+
+// What is read of an option that lacks a value, unless memory ran out.
+fn lacking(refused: Refusal, given: Given) -> Result<Given, AllocError>
+    ensures { IfOk result (λ lacks. (lacks ≡ given) × Lacks refused) }
+{
+    match refused {
+        Refusal::OutOfMemory => Err(AllocError),
+        Refusal::MissingValue(_) => Ok(given),
+        Refusal::UnexpectedValue { .. } => Ok(given),
+    }
+}
+
+// The first of these values.
+fn first_of(mut values: Vec<OsString>) -> Option<OsString>
+    ensures { result ≡ first_of values.items }
+{
+    if values.is_empty() {
+        None
+    } else {
+        Some(values.swap_remove(0))
+    }
+}
+
+// Reads the values of this option, which is at this index, and whose name was just read.
+fn read_given<F, V, M, S>(
+    alloc: Global,
+    parser: &mut Parser,
+    option: &Declared<'_, F, V, M, S>,
+    index: usize,
+) -> Result<Given, AllocError>
+    ensures { IfOk result (λ given. (d : Declaration)
+        → slice_get d.options index ≡ Some (option_view option.now)
+        → IsGiven d index parser.old given parser.new) }
+{
+    match option.kind {
+        Kind::Flag(_) | Kind::Help | Kind::Version(_) => Ok(Given::Values {
+            accepted: true,
+            first: None,
+            goes_on: false,
+        }),
+        Kind::Value(_, _) => match parser.take() {
+            Ok(value) => Ok(Given::Values {
+                accepted: accepts(option.words, &value),
+                first: Some(value),
+                goes_on: false,
+            }),
+            Err(refused) => lacking(refused, Given::Lacks(State::Due(index))),
+        },
+        Kind::Maybe(_, _) => match parser.optional_value() {
+            Some(value) => Ok(Given::Values {
+                accepted: accepts(option.words, &value),
+                first: Some(value),
+                goes_on: false,
+            }),
+            None => Ok(Given::Values {
+                accepted: true,
+                first: None,
+                goes_on: false,
+            }),
+        },
+        Kind::Values(_, _) => {
+            let is_joined = parser.has_joined_value();
+            let is_last = is_at_end(parser);
+            match read_several(alloc, parser) {
+                Ok(values) => Ok(Given::Values {
+                    accepted: refused_place(option.words, &values).is_none(),
+                    first: first_of(values),
+                    goes_on: !is_joined,
+                }),
+                Err(refused) => {
+                    if is_last {
+                        lacking(refused, Given::Lacks(State::First(index)))
+                    } else {
+                        lacking(refused, Given::Nothing)
+                    }
+                }
+            }
+        }
+    }
+}
+
+// The state at the end of a line: whether the separator was read, and the option of several values
+// of which a plain word is one more, if there is one.
+fn state_at_end(several: Option<usize>, is_past_separator: bool) -> State
+    ensures { state_view result ≡ spec.state_at_end several is_past_separator }
+{
+    if is_past_separator {
+        return State::Ended;
+    }
+    match several {
+        Some(index) => State::Further(index),
+        None => State::Anything,
+    }
+}
+
+// Whether both hold. It is a function of its own, as the next two are, so that the loop has one way on.
+fn are_both(one: bool, other: bool) -> bool
+    ensures { result ≡ (one && other) }
+{
+    one && other
+}
+
+// This index with the value, if there is one.
+fn with_index(index: usize, value: Option<OsString>) -> Option<(usize, OsString)>
+    ensures { result ≡ with_index index value }
+{
+    match value {
+        Some(value) => Some((index, value)),
+        None => None,
+    }
+}
+
+// This index, if that holds.
+fn index_if(holds: bool, index: usize) -> Option<usize>
+    ensures { result ≡ index_if holds index }
+{
+    if holds { Some(index) } else { None }
+}
+
+// Reads words as the beginning of a line: what they mean, and what the next word is; `None` if no
+// line begins with them, whatever the next word is.
+fn read_front<F, V, P, M, S>(
+    alloc: Global,
+    parser: &mut Parser,
+    options: &Options<'_, F, V, P, M, S>,
+) -> Result<Option<Front>, AllocError>
+    requires { IsLine parser.old }
+    ensures { (words : List (List ℕ))
+        → parser.old ≡ start (declaration_of options.now).short_equals words
+        → IfOk result (λ found. IsFrontOf (declaration_of options.now) words found) }
+{
+    let limit = options.most();
+    let declared = options.options();
+    let mut words = Vec::new(alloc);
+    let mut all_accepted = true;
+    let mut last = None;
+    let mut several = None;
+    loop {
+        match read_next(parser, options, limit, words.len())? {
+            Outcome::Option(index) => match read_given(alloc, parser, &declared[index], index)? {
+                Given::Values {
+                    accepted,
+                    first,
+                    goes_on,
+                } => {
+                    all_accepted = are_both(all_accepted, accepted);
+                    last = with_index(index, first);
+                    several = index_if(goes_on, index);
+                }
+                Given::Lacks(state) => {
+                    return Ok(Some(Front {
+                        words,
+                        accepted: all_accepted,
+                        last: None,
+                        state,
+                    }));
+                }
+                Given::Nothing => return Ok(None),
+            },
+            Outcome::Positional(word) => {
+                words.push(word)?;
+                last = None;
+                several = None;
+            }
+            Outcome::End => {
+                return Ok(Some(Front {
+                    words,
+                    accepted: all_accepted,
+                    last,
+                    state: state_at_end(several, parser.is_past_separator()),
+                }));
+            }
+            Outcome::Undeclared(_) => return Ok(None),
+            Outcome::Mistake(_) => return Ok(None),
+        }
+    }
+}
+
+impl<F, V, P, M, S> Options<'_, F, V, P, M, S> {
+    ghost use Rattle.std.specs.Prelude.{IfOk};
+    ghost use Rattle.lexopt_options.specs.Declarations.{declaration_of};
+    ghost use Rattle.lexopt_options.specs.States.{IsFrontOf};
+
+    // What words mean as the beginning of a line, and what the next word is; `None` if no line
+    // begins with them, whatever the next word is.
+    pub(crate) fn front(
+        &self,
+        alloc: Global,
+        words: Vec<OsString>,
+    ) -> Result<Option<Front>, AllocError>
+        ensures { IfOk result (λ found. IsFrontOf (declaration_of self.now) words.items found) }
+    {
+        let mut parser = self.parser_of(words);
+        read_front(alloc, &mut parser, self)
+    }
+}

@@ -1,0 +1,326 @@
+-- A line is read in the same way if more words come at its end.
+use Rattle.std.proofs.Common.{◌≡◌, ◌≢◌, ◌<◌, ℕ, Bool, true, false, not, List, [], ◌∷◌, ◌++◌, length, take, drop, Option, Some, None, refl, sym, ap, subst, ◌∙◌, inl, append_assoc, true≢false}
+use Rattle.std.proofs.lemmas.List.{append-nil}
+use Rattle.std.proofs.lemmas.List.Elements.{All-nil, All-cons, All-append}
+use Rattle.lexopt_spec.specs.UnreadLine as unread
+use Rattle.lexopt_spec.specs.UnreadLine.{equals, no_tail, UnreadLine, IsLine, spelling, pending, IsPlain, IsNormalIn, IsPlainFront}
+use Rattle.lexopt_spec.specs.Steps as steps
+use Rattle.lexopt_spec.specs.Steps.{Reply, Next, Value, NextStep, ValueStep, OptionalStep, ReadsShort, ReadsPositional, no_word_left, word_left, ReadsWord, no_word, reads_separator, reads_long, reads_cluster, reads_positional, joined_value, equals_value, next_in_cluster, after_separator, next_word, pending_value, takes_word, nothing_to_take, optional_pending, optional_none}
+use Rattle.lexopt_spec.specs.Views.{plain_front, available, available_with, without, ValuesStep, no_values, some_values}
+use Rattle.lexopt_spec.specs.Runs as calls
+use Rattle.lexopt_spec.specs.Runs.{Step}
+use Rattle.lexopt_spec.proofs.PlainFronts.{front-more, front-none}
+use Rattle.lexopt_line_spec.specs.Table as spec
+use Rattle.lexopt_line_spec.specs.Table.{Item, Name, short, long, flag, one, optional, several, kind, Table, many}
+use Rattle.lexopt_line_spec.specs.Readings.{ReadsFirst, ReadsItems, first_positional, first_flag, first_one, first_optional, first_several, option_reply}
+use Rattle.lexopt_line_spec.proofs.FullValues.{FullStep, joined_one, attached_first, words_alone, nothing_given, full_step}
+use Rattle.lexopt_line_spec.proofs.ItemsRead.{option_given}
+use Rattle.lexopt_line_spec.proofs.Lines.{next_line}
+use Rattle.lexopt_line_spec.proofs.OptionalLaw.{none_tail}
+use Rattle.lexopt_line_spec.proofs.ReplyKinds.{next_open}
+use Rattle.lexopt_options_spec.proofs.Cuts.{AllGiven, joined_given, attached_given, words_given, came_is, enough, items_cut}
+
+-- the line with more words at its end
+abbrev pub longer : List (List ℕ) → UnreadLine → UnreadLine
+longer tail u = record u { words = u.words ++ tail }
+
+-- at the end of a line these words are no further values
+abbrev pub Calm : UnreadLine → List (List ℕ) → Type 0
+Calm u tail = u.words ≡ [] → u.tail ≡ no_tail → ¬ IsNormalIn false tail
+
+-- an option of several values is read, and at the end of the line one more plain word is one more
+-- value of it
+pub record Opened (t : Table) (u : UnreadLine) (item : Item) (w : UnreadLine) : Type 0 where
+  pub name : Name
+  pub values : List (List ℕ)
+  pub is : item ≡ many name values
+  pub before_separator : w.ended ≡ false
+  pub more : w.words ≡ [] → (p : List ℕ) → IsPlain false p → ReadsFirst t (longer (p ∷ []) u) (many name (values ++ p ∷ [])) w
+
+-- this item is read first; `opens` tells whether one more plain word at the end of the line is one
+-- more value of it
+pub record Grows (t : Table) (u : UnreadLine) (item : Item) (opens : Bool) (w : UnreadLine) : Type 0 where
+  pub reads : ReadsFirst t u item w
+  pub calm : (tail : List (List ℕ)) → Calm w tail → ReadsFirst t (longer tail u) item (longer tail w)
+  pub closed : opens ≡ false → (tail : List (List ℕ)) → ReadsFirst t (longer tail u) item (longer tail w)
+  pub opened : opens ≡ true → Opened t u item w
+
+-- ---- steps
+
+short_more : (tail : List (List ℕ)) (bytes : List ℕ) (u v : UnreadLine) (r : Reply) → ReadsShort bytes u r v → ReadsShort bytes (longer tail u) r (longer tail v)
+short_more tail bytes u v r reads = record { some = reads.some; reply_is = reads.reply_is; after_is = ap (longer tail) reads.after_is }
+
+positional_more : (tail : List (List ℕ)) (u v : UnreadLine) (r : Reply) → r ≢ steps.end → ReadsPositional u r v → ReadsPositional (longer tail u) r (longer tail v)
+positional_more tail u v r more (no_word_left none r_is after) = absurd (more r_is)
+positional_more tail u v r more (word_left w ws some r_is after) = word_left w (ws ++ tail) (ap (λ l. l ++ tail) some) r_is (ap (longer tail) after)
+
+word_more : (tail : List (List ℕ)) (u v : UnreadLine) (r : Reply) → r ≢ steps.end → ReadsWord u r v → ReadsWord (longer tail u) r (longer tail v)
+word_more tail u v r more (no_word none r_is after) = absurd (more r_is)
+word_more tail u v r more (reads_separator ws some reads) =
+    reads_separator (ws ++ tail) (ap (λ l. l ++ tail) some) (positional_more tail (record u { words = ws; ended = true }) v r more reads)
+word_more tail u v r more (reads_long text name left ws some other is_long r_is after) = reads_long text name left (ws ++ tail) (ap (λ l. l ++ tail) some) other is_long r_is (ap (longer tail) after)
+word_more tail u v r more (reads_cluster bytes ws some other reads) = reads_cluster bytes (ws ++ tail) (ap (λ l. l ++ tail) some) other (short_more tail bytes (record u { words = ws }) v r reads)
+word_more tail u v r more (reads_positional w ws some plain r_is after) = reads_positional w (ws ++ tail) (ap (λ l. l ++ tail) some) plain r_is (ap (longer tail) after)
+
+pub step_more : (u v : UnreadLine) (r : Reply) (tail : List (List ℕ)) → r ≢ steps.end → NextStep u r v → NextStep (longer tail u) r (longer tail v)
+step_more u v r tail more (joined_value value o joins spelled r_is after) = joined_value value o joins spelled r_is (ap (longer tail) after)
+step_more u v r tail more (equals_value value o joins on spelled r_is after) = equals_value value o joins on spelled r_is (ap (longer tail) after)
+step_more u v r tail more (next_in_cluster bytes continues not reads) = next_in_cluster bytes continues not (short_more tail bytes u v r reads)
+step_more u v r tail more (after_separator none ended reads) = after_separator none ended (positional_more tail u v r more reads)
+step_more u v r tail more (next_word none not reads) = next_word none not (word_more tail u v r more reads)
+
+pub next_more : (u v : UnreadLine) (r : Reply) (tail : List (List ℕ)) → r ≢ steps.end → r ≢ steps.no_memory → Next u r v → Next (longer tail u) r (longer tail v)
+next_more u v r tail other found step = inl (step_more u v r tail other (enough NextStep u r v step found))
+
+not_at_end : (name : Name) → option_reply name ≢ steps.end
+not_at_end (short c) = λ is. cc
+not_at_end (long name) = λ is. cc
+
+pub option_more : (u v : UnreadLine) (name : Name) (tail : List (List ℕ)) → Next u (option_reply name) v → Next (longer tail u) (option_reply name) (longer tail v)
+option_more u v name tail step = inl (step_more u v (option_reply name) tail (not_at_end name) (option_given u v name step))
+
+value_more : (u v : UnreadLine) (word : List ℕ) (tail : List (List ℕ)) → Value u (steps.taken word) v → Value (longer tail u) (steps.taken word) (longer tail v)
+value_more u v word tail step = inl (more (enough ValueStep u (steps.taken word) v step (λ none. cc)))
+  where
+    more : ValueStep u (steps.taken word) v → ValueStep (longer tail u) (steps.taken word) (longer tail v)
+    more (pending_value value by_equals has r_is after) = pending_value value by_equals has r_is (ap (longer tail) after)
+    more (takes_word w ws none some r_is after) = takes_word w (ws ++ tail) none (ap (λ l. l ++ tail) some) r_is (ap (longer tail) after)
+    more (nothing_to_take none empty r_is after) = absurd (let e : steps.taken word ≡ steps.missing _ = r_is in cc)
+
+optional_more : (u v : UnreadLine) (word : Option (List ℕ)) (tail : List (List ℕ)) → Step calls.optional u (steps.maybe word) v → Step calls.optional (longer tail u) (steps.maybe word) (longer tail v)
+optional_more u v word tail step = inl (more (enough OptionalStep u (steps.maybe word) v step (λ none. cc)))
+  where
+    more : OptionalStep u (steps.maybe word) v → OptionalStep (longer tail u) (steps.maybe word) (longer tail v)
+    more (optional_pending value by_equals has r_is after) = optional_pending value by_equals has r_is (ap (longer tail) after)
+    more (optional_none none r_is after) = optional_none none r_is (ap (longer tail) after)
+
+-- ---- at the end of a line nothing is read
+
+pub only_end : (u v : UnreadLine) (r : Reply) → u.words ≡ [] → u.tail ≡ no_tail → NextStep u r v → r ≡ steps.end
+only_end u v r none alone (joined_value value o joins spelled r_is after) = absurd (let e : no_tail ≡ unread.joined value = sym alone ∙ joins in cc)
+only_end u v r none alone (equals_value value o joins on spelled r_is after) = absurd (let e : no_tail ≡ unread.rest (equals ∷ value) = sym alone ∙ joins in cc)
+only_end u v r none alone (next_in_cluster bytes continues other reads) = absurd (let e : no_tail ≡ unread.rest bytes = sym alone ∙ continues in cc)
+only_end u v r none alone (after_separator t ended (no_word_left empty r_is after)) = r_is
+only_end u v r none alone (after_separator t ended (word_left w ws some r_is after)) = absurd (let e : [] ≡ w ∷ ws = sym none ∙ some in cc)
+only_end u v r none alone (next_word t before (no_word empty r_is after)) = r_is
+only_end u v r none alone (next_word t before (reads_separator ws some reads)) = absurd (let e : [] ≡ _ ∷ ws = sym none ∙ some in cc)
+only_end u v r none alone (next_word t before (reads_long text name tail ws some other is_long r_is after)) = absurd (let e : [] ≡ _ ∷ ws = sym none ∙ some in cc)
+only_end u v r none alone (next_word t before (reads_cluster bytes ws some other reads)) = absurd (let e : [] ≡ _ ∷ ws = sym none ∙ some in cc)
+only_end u v r none alone (next_word t before (reads_positional w ws some plain r_is after)) = absurd (let e : [] ≡ w ∷ ws = sym none ∙ some in cc)
+
+pub no_option : (u v : UnreadLine) (name : Name) → u.words ≡ [] → u.tail ≡ no_tail → Next u (option_reply name) v → ⊥
+no_option u v name none alone step = not_at_end name (only_end u v (option_reply name) none alone (option_given u v name step))
+
+pub reads_something : (t : Table) (u w : UnreadLine) (item : Item) → u.words ≡ [] → u.tail ≡ no_tail → ReadsFirst t u item w → ⊥
+reads_something t u w item none alone (first_positional word v step) =
+    let e : steps.positional word ≡ steps.end = only_end u v (steps.positional word) none alone (enough NextStep u (steps.positional word) v step (λ is. cc)) in cc
+reads_something t u w item none alone (first_flag name v k step) = no_option u v name none alone step
+reads_something t u w item none alone (first_one name word v x k step takes) = no_option u v name none alone step
+reads_something t u w item none alone (first_optional name word v x k step takes) = no_option u v name none alone step
+reads_something t u w item none alone (first_several name n words v x k step few takes) = no_option u v name none alone step
+
+-- ---- items after which any words can come
+
+grows_closed : (t : Table) (u w : UnreadLine) (item : Item) → ReadsFirst t u item w → ((tail : List (List ℕ)) → ReadsFirst t (longer tail u) item (longer tail w)) → Grows t u item false w
+grows_closed t u w item reads more = record {
+  reads = reads;
+  calm = λ tail calm. more tail;
+  closed = λ is tail. more tail;
+  opened = λ is. absurd (true≢false (sym is));
+}
+
+pub grows_positional : (t : Table) (u v : UnreadLine) (word : List ℕ) → Next u (steps.positional word) v → Grows t u (spec.positional word) false v
+grows_positional t u v word step =
+    grows_closed t u v (spec.positional word) (first_positional word v step)
+    (λ tail. first_positional word (longer tail v) (next_more u v (steps.positional word) tail (λ is. cc) (λ is. cc) step))
+
+pub grows_flag : (t : Table) (u v : UnreadLine) (name : Name) → kind t name ≡ flag → Next u (option_reply name) v → Grows t u (spec.option name None) false v
+grows_flag t u v name k step =
+    grows_closed t u v (spec.option name None) (first_flag name v k step)
+    (λ tail. first_flag name (longer tail v) k (option_more u v name tail step))
+
+pub grows_one : (t : Table) (u v w : UnreadLine) (name : Name) (word : List ℕ) → kind t name ≡ one → Next u (option_reply name) v → Value v (steps.taken word) w
+    → Grows t u (spec.option name (Some word)) false w
+grows_one t u v w name word k step takes =
+    grows_closed t u w (spec.option name (Some word)) (first_one name word v w k step takes)
+    (λ tail. first_one name word (longer tail v) (longer tail w) k (option_more u v name tail step) (value_more v w word tail takes))
+
+pub grows_optional : (t : Table) (u v w : UnreadLine) (name : Name) (word : Option (List ℕ)) → kind t name ≡ optional → Next u (option_reply name) v → Step calls.optional v (steps.maybe word) w
+    → Grows t u (spec.option name word) false w
+grows_optional t u v w name word k step takes =
+    grows_closed t u w (spec.option name word) (first_optional name word v w k step takes)
+    (λ tail. first_optional name word (longer tail v) (longer tail w) k (option_more u v name tail step) (optional_more v w word tail takes))
+
+-- ---- several values
+
+pub option_before_separator : (u v : UnreadLine) (name : Name) → IsLine u → Next u (option_reply name) v → v.ended ≡ false
+option_before_separator u v (short c) line step = next_open u v (steps.short c) line (option_given u v (short c) step) tt
+option_before_separator u v (long text) line step = next_open u v (steps.long text) line (option_given u v (long text) step) tt
+
+full_ended : (v w : UnreadLine) (r : Reply) → FullStep v r w → w.ended ≡ v.ended
+full_ended v w r (joined_one value has r_is after) = ap (λ (x : UnreadLine). x.ended) after
+full_ended v w r (attached_first value front left has plain r_is after) = ap (λ (x : UnreadLine). x.ended) after
+full_ended v w r (words_alone front left has plain some r_is after) = ap (λ (x : UnreadLine). x.ended) after
+full_ended v w r (nothing_given has none r_is after) = ap (λ (x : UnreadLine). x.ended) after
+
+full_no_tail : (v w : UnreadLine) (r : Reply) → IsLine v → FullStep v r w → w.tail ≡ no_tail
+full_no_tail v w r line (joined_one value has r_is after) = ap (λ (x : UnreadLine). x.tail) after
+full_no_tail v w r line (attached_first value front left has plain r_is after) = ap (λ (x : UnreadLine). x.tail) after
+full_no_tail v w r line (words_alone front left has plain some r_is after) = ap (λ (x : UnreadLine). x.tail) after ∙ none_tail v.short_equals v.tail v.last v.ended line has
+full_no_tail v w r line (nothing_given has none r_is after) = ap (λ (x : UnreadLine). x.tail) after ∙ none_tail v.short_equals v.tail v.last v.ended line has
+
+pub not_normal_more : (ended : Bool) (left tail : List (List ℕ)) → (left ≡ [] → ¬ IsNormalIn ended tail) → ¬ IsNormalIn ended left → ¬ IsNormalIn ended (left ++ tail)
+not_normal_more ended [] tail calm none = calm refl
+not_normal_more ended (w ∷ left) tail calm none = none
+
+-- the front of plain words is still the longest
+front_more : (ended : Bool) (words front left tail : List (List ℕ)) → (left ≡ [] → ¬ IsNormalIn ended tail) → IsPlainFront ended words front left → IsPlainFront ended (words ++ tail) front (left ++ tail)
+front_more ended words front left tail calm is = record {
+  words_are = ap (λ l. l ++ tail) is.words_are ∙ append_assoc front left tail;
+  plain = is.plain;
+  longest = not_normal_more ended left tail calm is.longest;
+}
+
+-- if no word is left, one more plain word is one more of the front
+front_adds : (ended : Bool) (words front left : List (List ℕ)) (p : List ℕ) → left ≡ [] → IsPlain ended p → IsPlainFront ended words front left → IsPlainFront ended (words ++ p ∷ []) (front ++ p ∷ []) []
+front_adds ended words front left p none plain is = record {
+  words_are = ap (λ l. l ++ p ∷ []) (is.words_are ∙ ap (λ l. front ++ l) none ∙ append-nil front) ∙ sym (append-nil (front ++ p ∷ []));
+  plain = All-append (IsPlain ended) front (p ∷ []) is.plain (All-cons (IsPlain ended) p [] plain (All-nil (IsPlain ended)));
+  longest = λ h. h;
+}
+
+-- there is a pending value, and it is joined to its option by `=`
+abbrev is_joined : Option (List ℕ × Bool) → Bool
+is_joined None = false
+is_joined (Some found) = found.1
+
+joined_more : (v w : UnreadLine) (came tail : List (List ℕ)) (value : List ℕ) → pending v ≡ Some (value, true) → FullStep v (steps.items came) w → AllGiven (longer tail v) came (longer tail w)
+joined_more v w came tail value is (joined_one one_value has r_is after) =
+    subst (λ l. AllGiven (longer tail v) l (longer tail w)) (came_is came (one_value ∷ []) r_is) (joined_given (longer tail v) (longer tail w) one_value has (ap (longer tail) after))
+joined_more v w came tail value is (attached_first other front left has plain r_is after) = absurd (true≢false (ap is_joined (sym is ∙ has)))
+joined_more v w came tail value is (words_alone front left has plain some r_is after) = absurd (let e : Some (value, true) ≡ None = sym is ∙ has in cc)
+joined_more v w came tail value is (nothing_given has none r_is after) = absurd (let e : Some (value, true) ≡ None = sym is ∙ has in cc)
+
+values_more : (v w : UnreadLine) (came tail : List (List ℕ)) → (w.words ≡ [] → ¬ IsNormalIn v.ended tail) → FullStep v (steps.items came) w → AllGiven (longer tail v) came (longer tail w)
+values_more v w came tail calm (joined_one value has r_is after) = joined_more v w came tail value has (joined_one value has r_is after)
+values_more v w came tail calm (attached_first value front left has plain r_is after) =
+    let left_is : w.words ≡ left = ap (λ (x : UnreadLine). x.words) after in
+    subst (λ l. AllGiven (longer tail v) l (longer tail w)) (came_is came (value ∷ front) r_is)
+    (attached_given (longer tail v) (longer tail w) value front (left ++ tail) has
+    (front_more v.ended v.words front left tail (λ none. calm (left_is ∙ none)) plain) (ap (longer tail) after))
+values_more v w came tail calm (words_alone front left has plain some r_is after) =
+    let left_is : w.words ≡ left = ap (λ (x : UnreadLine). x.words) after in
+    subst (λ l. AllGiven (longer tail v) l (longer tail w)) (came_is came front r_is)
+    (words_given (longer tail v) (longer tail w) front (left ++ tail) has
+    (front_more v.ended v.words front left tail (λ none. calm (left_is ∙ none)) plain) some (ap (longer tail) after))
+values_more v w came tail calm (nothing_given has none r_is after) = absurd (let e : steps.items came ≡ steps.missing _ = r_is in cc)
+
+-- at the end of the line, one more plain word is one more value
+one_value_more : (v w : UnreadLine) (came : List (List ℕ)) (p : List ℕ) → v.ended ≡ false → ((value : List ℕ) → pending v ≡ Some (value, true) → ⊥) → w.words ≡ [] → IsPlain false p → FullStep v (steps.items came) w
+    → AllGiven (longer (p ∷ []) v) (came ++ p ∷ []) w
+one_value_more v w came p before apart none normal (joined_one value has r_is after) = absurd (apart value has)
+one_value_more v w came p before apart none normal (attached_first value front left has plain r_is after) =
+    let empty : left ≡ [] = sym (ap (λ (x : UnreadLine). x.words) after) ∙ none in
+    subst (λ (l : List (List ℕ)). AllGiven (longer (p ∷ []) v) (l ++ p ∷ []) w) (came_is came (value ∷ front) r_is)
+    (attached_given (longer (p ∷ []) v) w value (front ++ p ∷ []) [] has
+    (front_adds v.ended v.words front left p empty (subst (λ e. IsPlain e p) (sym before) normal) plain)
+    (after ∙ ap (λ (l : List (List ℕ)). record v { tail = no_tail; words = l }) empty))
+one_value_more v w came p before apart none normal (words_alone front left has plain some r_is after) =
+    let empty : left ≡ [] = sym (ap (λ (x : UnreadLine). x.words) after) ∙ none in
+    subst (λ (l : List (List ℕ)). AllGiven (longer (p ∷ []) v) (l ++ p ∷ []) w) (came_is came front r_is)
+    (words_given (longer (p ∷ []) v) w (front ++ p ∷ []) [] has
+    (front_adds v.ended v.words front left p empty (subst (λ e. IsPlain e p) (sym before) normal) plain) (not_empty front)
+    (after ∙ ap (λ (l : List (List ℕ)). record v { words = l }) empty))
+  where
+    not_empty : (front : List (List ℕ)) → front ++ p ∷ [] ≢ []
+    not_empty [] is = let e : p ∷ [] ≡ [] = is in cc
+    not_empty (x ∷ front) is = let e : x ∷ (front ++ p ∷ []) ≡ [] = is in cc
+one_value_more v w came p before apart none normal (nothing_given has nothing r_is after) = absurd (let e : steps.items came ≡ steps.missing _ = r_is in cc)
+
+several_read : (t : Table) (u v w : UnreadLine) (name : Name) (values : List (List ℕ)) → kind t name ≡ several → Next u (option_reply name) v → AllGiven v values w → ReadsFirst t u (many name values) w
+several_read t u v w name values k step all = first_several name all.asked values v w k step all.few (inl all.step)
+
+pub grows_several : (t : Table) (u v w : UnreadLine) (name : Name) (n : ℕ) (values : List (List ℕ)) (joined : Bool) → IsLine u → kind t name ≡ several → Next u (option_reply name) v
+    → length values < n → Step (calls.values n) v (steps.items values) w → ((value : List ℕ) → pending v ≡ Some (value, true) → joined ≡ true)
+    → (joined ≡ true → (value : List ℕ) × (pending v ≡ Some (value, true))) → Grows t u (many name values) (not joined) w
+grows_several t u v w name n values joined line k step few takes if_pending if_joined =
+    let before = option_before_separator u v name line step in
+    let full = full_step n v w (steps.items values) few (enough (ValuesStep n) v (steps.items values) w takes (λ none. cc)) in
+    let nothing_left = full_no_tail v w (steps.items values) (next_line u v (option_reply name) line (option_given u v name step)) full in
+    record {
+      reads = first_several name n values v w k step few takes;
+      calm = λ tail calm. several_read t (longer tail u) (longer tail v) (longer tail w) name values k (option_more u v name tail step)
+          (values_more v w values tail (λ none. subst (λ e. ¬ IsNormalIn e tail) (sym before) (calm none nothing_left)) full);
+      closed = λ is tail.
+          let value = if_joined (is_true joined is) in
+          several_read t (longer tail u) (longer tail v) (longer tail w) name values k (option_more u v name tail step) (joined_more v w values tail value.0 value.1 full);
+      opened = λ is. record {
+        name = name;
+        values = values;
+        is = refl;
+        before_separator = full_ended v w (steps.items values) full ∙ before;
+        more = λ none p plain. several_read t (longer (p ∷ []) u) (longer (p ∷ []) v) w name (values ++ p ∷ []) k (option_more u v name (p ∷ []) step)
+            (one_value_more v w values p before (λ value has. true≢false (sym is ∙ ap not (if_pending value has))) none plain full);
+      };
+    }
+  where
+    is_true : (b : Bool) → not b ≡ false → b ≡ true
+    is_true true is = refl
+    is_true false is = absurd (true≢false is)
+
+-- ---- words are left
+
+first_longer : (t : Table) (tail : List (List ℕ)) (u w : UnreadLine) (item : Item) → w.words ≢ [] → ReadsFirst t u item w → ReadsFirst t (longer tail u) item (longer tail w)
+first_longer t tail u w item some (first_positional word v step) = (grows_positional t u w word step).closed refl tail
+first_longer t tail u w item some (first_flag name v k step) = (grows_flag t u w name k step).closed refl tail
+first_longer t tail u w item some (first_one name word v x k step takes) = (grows_one t u v w name word k step takes).closed refl tail
+first_longer t tail u w item some (first_optional name word v x k step takes) = (grows_optional t u v w name word k step takes).closed refl tail
+first_longer t tail u w item some (first_several name n words v x k step few takes) =
+    let full = full_step n v w (steps.items words) few (enough (ValuesStep n) v (steps.items words) w takes (λ none. cc)) in
+    several_read t (longer tail u) (longer tail v) (longer tail w) name words k (option_more u v name tail step) (values_more v w words tail (λ none. absurd (some none)) full)
+
+-- words that are left were there before
+left_before : (t : Table) (u w : UnreadLine) (items : List Item) → ReadsItems t u items w → w.words ≢ [] → u.words ≢ []
+left_before t u w items reads some none = let cut = items_cut t u w items [] w.words refl reads in some (empty_end cut.before w.words (sym cut.words_are ∙ none))
+  where
+    empty_end : (before left : List (List ℕ)) → before ++ left ≡ [] → left ≡ []
+    empty_end [] left is = is
+    empty_end (w ∷ before) left is = absurd (let e : w ∷ (before ++ left) ≡ [] = is in cc)
+
+pub items_longer : (t : Table) (tail : List (List ℕ)) (u w : UnreadLine) (items : List Item) → w.words ≢ [] → ReadsItems t u items w → ReadsItems t (longer tail u) items (longer tail w)
+items_longer t tail u w [] some reads = ap (longer tail) reads
+items_longer t tail u w (item ∷ items) some (v, first, others) =
+    (longer tail v, first_longer t tail u v item (left_before t v w items others some) first, items_longer t tail v w items some others)
+
+-- ---- values that lack
+
+pub value_lacks_more : (v w : UnreadLine) (o : Option (List ℕ)) → ValueStep v (steps.missing o) w → (v.words ≡ []) × (pending v ≡ None)
+value_lacks_more v w o (pending_value value by_equals has r_is after) = absurd (let e : steps.missing o ≡ steps.taken value = r_is in cc)
+value_lacks_more v w o (takes_word x ws none some r_is after) = absurd (let e : steps.missing o ≡ steps.taken x = r_is in cc)
+value_lacks_more v w o (nothing_to_take none empty r_is after) = (empty, none)
+
+pub takes_next : (v : UnreadLine) (word : List ℕ) → pending v ≡ None → v.words ≡ [] → Value (longer (word ∷ []) v) (steps.taken word) v
+takes_next v word has none = inl (takes_word word [] has (ap (λ l. l ++ word ∷ []) none) refl (ap (λ (l : List (List ℕ)). record v { words = l }) none))
+
+pub first_taken : (v : UnreadLine) (word : List ℕ) → pending v ≡ None → v.words ≡ [] → v.ended ≡ false → IsPlain false word → Step (calls.values 2) (longer (word ∷ []) v) (steps.items (word ∷ [])) v
+first_taken v word has none before plain =
+    inl (some_values (λ empty. let e : word ∷ [] ≡ [] = sym one_word ∙ empty in cc) (ap (λ (l : List (List ℕ)). steps.items (take 2 l)) (sym one_word))
+    (ap (λ (l : List (List ℕ)). record v { words = l }) none
+    ∙ ap (λ (l : List (List ℕ)). record v { words = drop 1 (l ++ word ∷ []) }) (sym none)
+    ∙ ap (λ p. without p 1 (longer (word ∷ []) v)) (sym has)
+    ∙ ap (λ (l : List (List ℕ)). without (pending v) (length (take 2 l)) (longer (word ∷ []) v)) (sym one_word)))
+  where
+    one_word : available (longer (word ∷ []) v) ≡ word ∷ []
+    one_word = rw (has, none) (front-more v.ended word [] (subst (λ e. IsPlain e word) (sym before) plain))
+
+pub values_lack : (n : ℕ) (v w : UnreadLine) (o : Option (List ℕ)) → ValuesStep n v (steps.missing o) w → (pending v ≡ None) × (¬ IsNormalIn v.ended v.words)
+values_lack n v w o step = lacks (full_step n v w (steps.missing o) tt step)
+  where
+    lacks : FullStep v (steps.missing o) w → (pending v ≡ None) × (¬ IsNormalIn v.ended v.words)
+    lacks (joined_one value has r_is after) = absurd (let e : steps.missing o ≡ steps.items (value ∷ []) = r_is in cc)
+    lacks (attached_first value front left has plain r_is after) = absurd (let e : steps.missing o ≡ steps.items (value ∷ front) = r_is in cc)
+    lacks (words_alone front left has plain some r_is after) = absurd (let e : steps.missing o ≡ steps.items front = r_is in cc)
+    lacks (nothing_given has none r_is after) = (has, none)
+
+pub lack_more : (v : UnreadLine) (n : ℕ) (tail : List (List ℕ)) → pending v ≡ None → ¬ IsNormalIn v.ended (v.words ++ tail) → ValuesStep n (longer tail v) (steps.missing (spelling v.last)) (longer tail v)
+lack_more v n tail has none = no_values (ap (λ p. available_with p (plain_front v.ended (v.words ++ tail))) has ∙ front-none v.ended (v.words ++ tail) none) refl refl

@@ -1,0 +1,345 @@
+-- Words that are read up to a place, and what the next word is there.
+use Rattle.std.proofs.Common.{◌≡◌, ◌≢◌, ℕ, true, false, List, [], ◌∷◌, ◌++◌, map, Option, Some, None, refl, sym, ap, subst, ◌∙◌, arith, inl}
+use Rattle.std.specs.Option.{option_map}
+use Rattle.std.proofs.lemmas.Bool.{false≢true}
+use Rattle.std.proofs.lemmas.List.{append-nil}
+use Rattle.lexopt_spec.specs.UnreadLine.{no_tail, UnreadLine, IsLine, IsPlain, IsNormalIn, pending, spelling}
+use Rattle.lexopt_spec.specs.Steps as steps
+use Rattle.lexopt_spec.specs.Steps.{Reply, Next, NextStep, no_word_left, word_left, no_word, reads_separator, reads_long, reads_cluster, reads_positional, joined_value, equals_value, next_in_cluster, after_separator, next_word, nothing_to_take}
+use Rattle.lexopt_spec.specs.Views.{ValuesStep}
+use Rattle.lexopt_spec.specs.Runs as calls
+use Rattle.lexopt_spec.specs.Runs.{Step}
+use Rattle.lexopt_line_spec.specs.Table as spec
+use Rattle.lexopt_line_spec.specs.Table.{Item, Name, Table, kind}
+use Rattle.lexopt_line_spec.specs.Readings.{ReadsFirst, ReadsItems, first_positional, first_one, first_several, option_reply, start, IsDue}
+use Rattle.lexopt_line_spec.proofs.ItemsRead.{one_more_item}
+use Rattle.lexopt_line_spec.proofs.LastOption.{missing_names}
+use Rattle.lexopt_line_spec.proofs.OptionalLaw.{none_tail}
+use Rattle.lexopt_line_spec.proofs.RunAccounts.{step_line}
+use Rattle.lexopt_options_spec.specs.Declaration.{Declaration, index_of, is_sound, table}
+use Rattle.lexopt_options_spec.specs.Legal as legal
+use Rattle.lexopt_options_spec.specs.Legal.{Parsed, MeansFront, IsWithin, most, parsed_item, positional_count}
+use Rattle.lexopt_options_spec.specs.States as states
+use Rattle.lexopt_options_spec.specs.States.{Leaves, LeadsNowhere, Says, leaves_anything, leaves_due, leaves_first, leaves_further, leaves_ended, state_at_end}
+use Rattle.lexopt_options_spec.specs.Stops.{Mistake, ReadsUpTo, Stops, missing_value, no_value, not_declared, one_too_many, unexpected_argument, unexpected_value, unknown_option, value_of_flag}
+use Rattle.lexopt_options_spec.proofs.Cuts.{enough}
+use Rattle.lexopt_options_spec.proofs.Fronts.{no_front}
+use Rattle.lexopt_options_spec.proofs.Growing.{longer, Calm, Grows, first_taken, lack_more, no_option, not_normal_more, only_end, option_before_separator, option_more, reads_something, step_more, takes_next}
+use Rattle.lexopt_options_spec.proofs.LeadingOptions.{ends_here, ends_reading, reading_spells}
+use Rattle.lexopt_options_spec.proofs.Lists.{joined}
+use Rattle.lexopt_options_spec.proofs.Occurs.{dashes_calm}
+use Rattle.lexopt_options_spec.proofs.OpenLines.{dashes}
+
+-- the line s is read up to the line u, and this is read
+pub record ReadsAs (d : Declaration) (s : UnreadLine) (l : List Parsed) (u : UnreadLine) : Type 0 where
+  pub items : List Item
+  pub reads : ReadsItems (table d.options) s items u
+  pub parsed : map (parsed_item d.options) items ≡ map (λ s. Some s) l
+
+-- an option of several values was read last, and one more plain word at the end of the line is one
+-- more value of it
+pub record Further (d : Declaration) (s : UnreadLine) (l : List Parsed) (i : ℕ) (u : UnreadLine) : Type 0 where
+  pub before : List Parsed
+  pub values : List (List ℕ)
+  pub is : l ≡ before ++ legal.several i values ∷ []
+  pub before_separator : u.ended ≡ false
+  pub more : u.words ≡ [] → (p : List ℕ) → IsPlain false p → ReadsAs d (longer (p ∷ []) s) (before ++ legal.several i (values ++ p ∷ []) ∷ []) u
+
+-- The line s is read up to the line u, and this is read, whatever words come at its end; but if the
+-- option of several values at the index `going` was read last, plain words are more of them.
+pub record Reached (d : Declaration) (s : UnreadLine) (l : List Parsed) (going : Option ℕ) (u : UnreadLine) : Type 0 where
+  pub upto : ReadsUpTo d s l u
+  pub calm : (tail : List (List ℕ)) → Calm u tail → ReadsAs d (longer tail s) l (longer tail u)
+  pub closed : going ≡ None → (tail : List (List ℕ)) → ReadsAs d (longer tail s) l (longer tail u)
+  pub opened : (i : ℕ) → going ≡ Some i → Further d s l i u
+
+one_more : {d : Declaration} {s u w : UnreadLine} {l : List Parsed} {x : Item} {own : Parsed} → ReadsAs d s l u → ReadsFirst (table d.options) u x w → parsed_item d.options x ≡ Some own → ReadsAs d s (l ++ own ∷ []) w
+one_more {d} {s} {u} {w} {l} {x} {own} reads next is = record {
+  items = reads.items ++ x ∷ [];
+  reads = one_more_item (table d.options) s u w reads.items x reads.reads next;
+  parsed = joined (parsed_item d.options) reads.items l x own reads.parsed is;
+}
+
+-- where something is read, a line that ends there is not at its end
+calm_before : (t : Table) (u w : UnreadLine) (x : Item) → ReadsFirst t u x w → (tail : List (List ℕ)) → Calm u tail
+calm_before t u w x next tail none no_left = absurd (reads_something t u w x none no_left next)
+
+-- ---- one more item
+
+pub nothing_reached : (d : Declaration) (s : UnreadLine) → IsLine s → Reached d s [] None s
+nothing_reached d s line = record {
+  upto = record { items = []; read = refl; line = line; parsed = refl; within = zero_within (most d.positionals) };
+  calm = λ tail calm. record { items = []; reads = refl; parsed = refl };
+  closed = λ none tail. record { items = []; reads = refl; parsed = refl };
+  opened = λ i is. cc;
+}
+  where
+    zero_within : (limit : Option ℕ) → IsWithin 0 limit
+    zero_within None = tt
+    zero_within (Some n) = omega arith
+
+up_to : {d : Declaration} {s u w : UnreadLine} {l : List Parsed} {x : Item} {own : Parsed} → ReadsUpTo d s l u → ReadsFirst (table d.options) u x w → parsed_item d.options x ≡ Some own → IsLine w
+    → IsWithin (positional_count (l ++ own ∷ [])) (most d.positionals) → ReadsUpTo d s (l ++ own ∷ []) w
+up_to {d} {s} {u} {w} {l} {x} {own} read next is line within = record {
+  items = read.items ++ x ∷ [];
+  read = one_more_item (table d.options) s u w read.items x read.read next;
+  line = line;
+  parsed = joined (parsed_item d.options) read.items l x own read.parsed is;
+  within = within;
+}
+
+pub closed_reached : (d : Declaration) (s u w : UnreadLine) (l : List Parsed) (o : Option ℕ) (x : Item) (own : Parsed) → Reached d s l o u → Grows (table d.options) u x false w → parsed_item d.options x ≡ Some own
+    → IsLine w → IsWithin (positional_count (l ++ own ∷ [])) (most d.positionals) → Reached d s (l ++ own ∷ []) None w
+closed_reached d s u w l o x own at grows is line within = record {
+  upto = up_to at.upto grows.reads is line within;
+  calm = λ tail calm. one_more (before tail) (grows.calm tail calm) is;
+  closed = λ none tail. one_more (before tail) (grows.closed refl tail) is;
+  opened = λ i same. cc;
+}
+  where
+    before : (tail : List (List ℕ)) → ReadsAs d (longer tail s) l (longer tail u)
+    before tail = at.calm tail (calm_before (table d.options) u w x grows.reads tail)
+
+pub open_reached : (d : Declaration) (s u w : UnreadLine) (l : List Parsed) (o : Option ℕ) (name : Name) (index : ℕ) (values : List (List ℕ)) → Reached d s l o u → Grows (table d.options) u (spec.many name values) true w
+    → index_of d.options name ≡ Some index → IsLine w → IsWithin (positional_count (l ++ legal.several index values ∷ [])) (most d.positionals) → Reached d s (l ++ legal.several index values ∷ []) (Some index) w
+open_reached d s u w l o name index values at grows found line within = record {
+  upto = up_to at.upto grows.reads (item_is values) line within;
+  calm = λ tail calm. one_more (before tail) (grows.calm tail calm) (item_is values);
+  closed = λ same tail. cc;
+  opened = λ i same. subst (λ j. Further d s (l ++ legal.several index values ∷ []) j w) (index_is i same) further;
+}
+  where
+    before : (tail : List (List ℕ)) → ReadsAs d (longer tail s) l (longer tail u)
+    before tail = at.calm tail (calm_before (table d.options) u w (spec.many name values) grows.reads tail)
+
+    index_is : (i : ℕ) → Some index ≡ Some i → index ≡ i
+    index_is i same = cc
+
+    item_is : (values : List (List ℕ)) → parsed_item d.options (spec.many name values) ≡ Some (legal.several index values)
+    item_is values = ap (option_map (λ i. legal.several i values)) found
+
+    further : Further d s (l ++ legal.several index values ∷ []) index w
+    further =
+        let there = grows.opened refl in
+        record {
+          before = l;
+          values = values;
+          is = refl;
+          before_separator = there.before_separator;
+          more = λ none p plain.
+              one_more (before (p ∷ []))
+              (subst (λ x. ReadsFirst (table d.options) (longer (p ∷ []) u) x w) (same_item there.name there.values p there.is) (there.more none p plain))
+              (item_is (values ++ p ∷ []));
+        }
+      where
+        same_item : (other : Name) (vs : List (List ℕ)) (p : List ℕ) → spec.many name values ≡ spec.many other vs → spec.many other (vs ++ p ∷ []) ≡ spec.many name (values ++ p ∷ [])
+        same_item other vs p is =
+            let a : name ≡ other = cc in
+            let b : values ≡ vs = cc in
+            ap (λ n. spec.many n (vs ++ p ∷ [])) (sym a) ∙ ap (λ ws. spec.many name (ws ++ p ∷ [])) (sym b)
+
+-- ---- the end of the words
+
+says : {d : Declaration} {words : List (List ℕ)} {l : List Parsed} {u v : UnreadLine} → is_sound d.options ≡ true → ReadsAs d (start d.short_equals words) l u → NextStep u steps.end v → Says d words l
+says {d} {words} {l} {u} {v} sound reads ends = record {
+  items = reads.items;
+  spelled = reading_spells d sound words reads.items l (ends_reading (table d.options) (start d.short_equals words) u v reads.items reads.reads ends) reads.parsed;
+  parsed = reads.parsed;
+}
+
+with_positional : {d : Declaration} {words : List (List ℕ)} {l : List Parsed} {u v : UnreadLine} (p : List ℕ) → is_sound d.options ≡ true → ReadsAs d (start d.short_equals words) l u → NextStep u (steps.positional p) v → v.tail ≡ no_tail → v.words ≡ []
+    → Says d words (l ++ legal.positional p ∷ [])
+with_positional {d} {words} {l} {u} {v} p sound reads next none empty = says sound (one_more reads (first_positional p v (inl next)) refl) (ends_here v v.ended refl none empty)
+
+up_to_as : {d : Declaration} {s u : UnreadLine} {l : List Parsed} → ReadsUpTo d s l u → ReadsAs d s l u
+up_to_as read = record { items = read.items; reads = read.read; parsed = read.parsed }
+
+appended : (words tail : List (List ℕ)) → words ≡ [] → words ++ tail ≡ tail
+appended words tail is = ap (λ l. l ++ tail) is
+
+-- the words are read up to their end
+pub end_leaves : (d : Declaration) (words : List (List ℕ)) (l : List Parsed) (o : Option ℕ) (u v : UnreadLine) → is_sound d.options ≡ true → Reached d (start d.short_equals words) l o u → Next u steps.end v → Leaves d words l (state_at_end o v.ended)
+end_leaves d words l o u v sound at next = by (enough NextStep u steps.end v next (λ no. cc))
+  where
+    own : NextStep u steps.end v → Says d words l
+    own step = says sound (up_to_as at.upto) step
+
+    -- past the separator
+    past : v.ended ≡ true → NextStep u steps.end v → ((p : List ℕ) → Says d (words ++ p ∷ []) (l ++ legal.positional p ∷ [])) → Leaves d words l (state_at_end o v.ended)
+    past ended step more = subst (λ b. Leaves d words l (state_at_end o b)) (sym ended) (leaves_ended (own step) more)
+
+    -- before it
+    before : v ≡ u → u.ended ≡ false → u.tail ≡ no_tail → u.words ≡ [] → NextStep u steps.end v → (going : Option ℕ) → o ≡ going → Leaves d words l (state_at_end going false)
+    before same not_ended none empty step None is = leaves_anything
+        (record { says = own step; with_separator = separated (at.closed is (dashes ∷ [])) })
+        (λ p plain.
+        with_positional p sound (at.closed is (p ∷ []))
+        (next_word none not_ended (reads_positional p [] (appended u.words (p ∷ []) empty) plain refl refl)) none refl)
+      where
+        separated : ReadsAs d (start d.short_equals (words ++ dashes ∷ [])) l (longer (dashes ∷ []) u) → Says d (words ++ dashes ∷ []) l
+        separated reads = says sound reads (next_word none not_ended (reads_separator [] (appended u.words (dashes ∷ []) empty) (no_word_left refl refl refl)))
+    before same not_ended none empty step (Some i) is =
+        let there = at.opened i is in
+        leaves_further i there.before there.values there.is
+        (record {
+          says = own step;
+          with_separator = says sound (at.calm (dashes ∷ []) (λ no_words no_left. dashes_calm []))
+              (next_word none not_ended (reads_separator [] (appended u.words (dashes ∷ []) empty) (no_word_left refl refl refl)));
+        })
+        (λ p plain. says sound (there.more empty p plain) (ends_here u u.ended refl none empty))
+
+    never_open : u.ended ≡ true → (going : Option ℕ) → o ≡ going → going ≡ None
+    never_open ended None is = refl
+    never_open ended (Some i) is = absurd (false≢true (sym (at.opened i is).before_separator ∙ ended))
+
+    by : NextStep u steps.end v → Leaves d words l (state_at_end o v.ended)
+    by (joined_value value option joins spelled r_is after) = absurd (let e : steps.end ≡ steps.unexpected option value = r_is in cc)
+    by (equals_value value option joins on spelled r_is after) = absurd (let e : steps.end ≡ steps.unexpected option value = r_is in cc)
+    by (next_in_cluster bytes continues not reads) = absurd (let e : steps.end ≡ steps.short _ = reads.reply_is in cc)
+    by (after_separator none ended (word_left w ws some r_is after)) = absurd (let e : steps.end ≡ steps.positional w = r_is in cc)
+    by (after_separator none ended (no_word_left empty r_is after)) =
+        past (ap (λ (x : UnreadLine). x.ended) after ∙ ended) (after_separator none ended (no_word_left empty r_is after))
+        (λ p.
+        with_positional p sound (at.closed (never_open ended o refl) (p ∷ [])) (after_separator none ended (word_left p [] (appended u.words (p ∷ []) empty) refl refl)) none refl)
+    by (next_word none not_ended (no_word empty r_is after)) =
+        subst (λ b. Leaves d words l (state_at_end o b)) (sym (ap (λ (x : UnreadLine). x.ended) after ∙ not_ended))
+        (before after not_ended none empty (next_word none not_ended (no_word empty r_is after)) o refl)
+    by (next_word none not_ended (reads_separator ws some (no_word_left empty r_is after))) =
+        past (ap (λ (x : UnreadLine). x.ended) after) (next_word none not_ended (reads_separator ws some (no_word_left empty r_is after)))
+        (λ p.
+        with_positional p sound (at.calm (p ∷ []) (λ no_words no_left. absurd (let e : [] ≡ dashes ∷ ws = sym no_words ∙ some in cc)))
+        (next_word none not_ended
+        (reads_separator (ws ++ p ∷ []) (ap (λ l. l ++ p ∷ []) some) (word_left p [] (appended ws (p ∷ []) empty) refl refl))) none refl)
+    by (next_word none not_ended (reads_separator ws some (word_left w more some_more r_is after))) = absurd (let e : steps.end ≡ steps.positional w = r_is in cc)
+    by (next_word none not_ended (reads_long text name tail ws some other long r_is after)) = absurd (let e : steps.end ≡ steps.long _ = r_is in cc)
+    by (next_word none not_ended (reads_cluster bytes ws some other reads)) = absurd (let e : steps.end ≡ steps.short _ = reads.reply_is in cc)
+    by (next_word none not_ended (reads_positional w ws some plain r_is after)) = absurd (let e : steps.end ≡ steps.positional w = r_is in cc)
+
+-- ---- a value that an option lacks
+
+-- the reading of the words stops at this mistake, and so does that of the words with one more
+record StopsSo (d : Declaration) (s : UnreadLine) (l : List Parsed) (u : UnreadLine) (why : Mistake) : Type 0 where
+  line : IsLine u
+  within : IsWithin (positional_count l) (most d.positionals)
+  reads : ReadsAs d s l u
+  stops : Stops d l u why
+
+-- it is a mistake before the end of a line, and not a value that is not accepted
+abbrev StopsEarly : Mistake → Type 0
+StopsEarly (unknown_option name left) = Unit {0}
+StopsEarly (unexpected_value option value) = Unit {0}
+StopsEarly (missing_value index option) = Unit {0}
+StopsEarly (unexpected_argument word) = Unit {0}
+StopsEarly why = ⊥
+
+means_nothing : (d : Declaration) (words : List (List ℕ)) (l : List Parsed) (u : UnreadLine) (why : Mistake) → StopsEarly why → StopsSo d (start d.short_equals words) l u why → (m : List Parsed) → MeansFront d words m → ⊥
+means_nothing d words l u why early so m means =
+    no_front d words l why (record {
+      there = u;
+      read = record { items = so.reads.items; read = so.reads.reads; line = so.line; parsed = so.reads.parsed; within = so.within };
+      stops = so.stops;
+    })
+    (λ count is. subst StopsEarly is early) (λ index is. subst StopsEarly is early) (λ index value is. subst StopsEarly is early) (λ index word is. subst StopsEarly is early) m means
+
+here : {d : Declaration} {s u : UnreadLine} {l : List Parsed} {o : Option ℕ} {why : Mistake} → Reached d s l o u → Stops d l u why → StopsSo d s l u why
+here at stops = record { line = at.upto.line; within = at.upto.within; reads = up_to_as at.upto; stops = stops }
+
+later : {d : Declaration} {s u : UnreadLine} {l : List Parsed} {o : Option ℕ} {why : Mistake} (tail : List (List ℕ)) → Reached d s l o u → Calm u tail → Stops d l (longer tail u) why → StopsSo d (longer tail s) l (longer tail u) why
+later tail at calm stops = record { line = at.upto.line; within = at.upto.within; reads = at.calm tail calm; stops = stops }
+
+-- nothing that begins with these words is a line, since the reading stops here whatever comes after
+pub leads_nowhere : (d : Declaration) (words : List (List ℕ)) (l : List Parsed) (o : Option ℕ) (u : UnreadLine) (why : Mistake) → StopsEarly why → Reached d (start d.short_equals words) l o u
+    → ((tail : List (List ℕ)) → Calm u tail) → Stops d l u why → ((tail : List (List ℕ)) → Stops d l (longer tail u) why) → LeadsNowhere d words
+leads_nowhere d words l o u why early at calm stops more = record {
+  here = λ m means. means_nothing d words l u why early (here at stops) m means;
+  with_more = λ w m means. means_nothing d (words ++ w ∷ []) l (longer (w ∷ []) u) why early (later (w ∷ []) at (calm (w ∷ [])) (more (w ∷ []))) m means;
+}
+
+calm_at_option : (u v : UnreadLine) (name : Name) → Next u (option_reply name) v → (tail : List (List ℕ)) → Calm u tail
+calm_at_option u v name next tail none no_left = absurd (no_option u v name none no_left next)
+
+calm_at : (u v : UnreadLine) (r : Reply) → r ≢ steps.end → NextStep u r v → (tail : List (List ℕ)) → Calm u tail
+calm_at u v r other step tail none no_left = absurd (other (only_end u v r none no_left step))
+
+pub undeclared_nowhere : (d : Declaration) (words : List (List ℕ)) (l : List Parsed) (o : Option ℕ) (u v : UnreadLine) (name : Name) → Reached d (start d.short_equals words) l o u → Next u (option_reply name) v
+    → index_of d.options name ≡ None → LeadsNowhere d words
+undeclared_nowhere d words l o u v name at next none =
+    leads_nowhere d words l o u (unknown_option name v.tail) tt at (calm_at_option u v name next) (not_declared name v next none) (λ tail. not_declared name (longer tail v) (option_more u v name tail next) none)
+
+-- the option lacks its value
+lacks : (d : Declaration) (l : List Parsed) (u v w : UnreadLine) (name : Name) (index : ℕ) (call : calls.Call) → IsDue (kind (table d.options) name) call → Next u (option_reply name) v → index_of d.options name ≡ Some index
+    → Step call v (steps.missing (spelling v.last)) w → (named : List ℕ) × Stops d l u (missing_value index named)
+lacks d l u v w name index call due next found takes =
+    let named = missing_names (kind (table d.options) name) call u v w name (spelling v.last) next due takes in
+    (named.0, no_value name index named.0 call v w next found due (subst (λ o. Step call v (steps.missing o) w) named.1 takes))
+
+no_tail_left : (v : UnreadLine) → IsLine v → pending v ≡ None → v.tail ≡ no_tail
+no_tail_left v line none = none_tail v.short_equals v.tail v.last v.ended line none
+
+pub value_due : (d : Declaration) (words : List (List ℕ)) (l : List Parsed) (o : Option ℕ) (u v : UnreadLine) (name : Name) (index : ℕ) → is_sound d.options ≡ true → Reached d (start d.short_equals words) l o u
+    → Next u (option_reply name) v → index_of d.options name ≡ Some index → kind (table d.options) name ≡ spec.one → pending v ≡ None → v.words ≡ [] → Leaves d words l (states.due index)
+value_due d words l o u v name index sound at next found k none empty = leaves_due index
+    (λ m means.
+    let due : IsDue (kind (table d.options) name) calls.value = subst (λ (x : spec.Kind). IsDue x calls.value) (sym k) refl in
+    let stops = lacks d l u v v name index calls.value due next found (inl (nothing_to_take none empty refl refl)) in
+    means_nothing d words l u (missing_value index stops.0) tt (here at stops.1) m means)
+    (λ p.
+    says sound
+    (one_more (at.calm (p ∷ []) (calm_at_option u v name next (p ∷ [])))
+    (first_one name p (longer (p ∷ []) v) v k (option_more u v name (p ∷ []) next) (takes_next v p none empty)) (ap (option_map (λ i. legal.option i (Some p))) found))
+    (ends_here v v.ended refl (no_tail_left v (step_line calls.next u (option_reply name) v at.upto.line next) none) empty))
+
+several_due : (d : Declaration) (name : Name) (n : ℕ) → kind (table d.options) name ≡ spec.several → IsDue (kind (table d.options) name) (calls.values n)
+several_due d name n k = subst (λ (x : spec.Kind). IsDue x (calls.values n)) (sym k) (n, refl)
+
+pub first_due : (d : Declaration) (words : List (List ℕ)) (l : List Parsed) (o : Option ℕ) (u v : UnreadLine) (name : Name) (index : ℕ) → is_sound d.options ≡ true → Reached d (start d.short_equals words) l o u
+    → Next u (option_reply name) v → index_of d.options name ≡ Some index → kind (table d.options) name ≡ spec.several → pending v ≡ None → v.words ≡ [] → Leaves d words l (states.first index)
+first_due d words l o u v name index sound at next found k none empty = leaves_first index
+    (λ m means.
+    let lacking = lack_more v 1 [] none (subst (λ ws. ¬ IsNormalIn v.ended ws) (sym (appended v.words [] empty)) (λ normal. normal)) in
+    let same : longer [] v ≡ v = ap (λ ws. record v { words = ws }) (appended v.words [] empty ∙ sym empty) in
+    let stops = lacks d l u v v name index (calls.values 1) (several_due d name 1 k) next found (inl (subst (λ x. ValuesStep 1 x (steps.missing (spelling v.last)) x) same lacking)) in
+    means_nothing d words l u (missing_value index stops.0) tt (here at stops.1) m means)
+    (λ p plain.
+    says sound
+    (one_more (at.calm (p ∷ []) (calm_at_option u v name next (p ∷ [])))
+    (first_several name 2 (p ∷ []) (longer (p ∷ []) v) v k (option_more u v name (p ∷ []) next) (omega arith) (first_taken v p none empty before plain))
+    (ap (option_map (λ i. legal.several i (p ∷ []))) found))
+    (ends_here v v.ended refl (no_tail_left v (step_line calls.next u (option_reply name) v at.upto.line next) none) empty))
+    (λ p m other means.
+    let normal : ¬ IsNormalIn v.ended (v.words ++ p ∷ []) = subst (λ ws. ¬ IsNormalIn v.ended ws) (sym (appended v.words (p ∷ []) empty)) (subst (λ b. ¬ IsPlain b p) (sym before) other) in
+    let stops = lacks d l (longer (p ∷ []) u) (longer (p ∷ []) v) (longer (p ∷ []) v) name index (calls.values 1) (several_due d name 1 k) (option_more u v name (p ∷ []) next) found (inl (lack_more v 1 (p ∷ []) none normal)) in
+    means_nothing d (words ++ p ∷ []) l (longer (p ∷ []) u) (missing_value index stops.0) tt (later (p ∷ []) at (calm_at_option u v name next (p ∷ [])) stops.1) m means)
+  where
+    before : v.ended ≡ false
+    before = option_before_separator u v name at.upto.line next
+
+pub values_nowhere : (d : Declaration) (words : List (List ℕ)) (l : List Parsed) (o : Option ℕ) (u v : UnreadLine) (name : Name) (index : ℕ) → Reached d (start d.short_equals words) l o u
+    → Next u (option_reply name) v → index_of d.options name ≡ Some index → kind (table d.options) name ≡ spec.several → pending v ≡ None → ¬ IsNormalIn v.ended v.words → v.words ≢ [] → LeadsNowhere d words
+values_nowhere d words l o u v name index at next found k none normal some = record {
+  here = λ m means.
+      let lacking = lack_more v 1 [] none (subst (λ ws. ¬ IsNormalIn v.ended ws) (sym (append-nil v.words)) normal) in
+      let same : longer [] v ≡ v = ap (λ ws. record v { words = ws }) (append-nil v.words) in
+      let stops = lacks d l u v v name index (calls.values 1) (several_due d name 1 k) next found (inl (subst (λ x. ValuesStep 1 x (steps.missing (spelling v.last)) x) same lacking)) in
+      means_nothing d words l u (missing_value index stops.0) tt (here at stops.1) m means;
+  with_more = λ p m means.
+      let stops = lacks d l (longer (p ∷ []) u) (longer (p ∷ []) v) (longer (p ∷ []) v) name index (calls.values 1) (several_due d name 1 k) (option_more u v name (p ∷ []) next) found
+      (inl (lack_more v 1 (p ∷ []) none (not_normal_more v.ended v.words (p ∷ []) (λ empty. absurd (some empty)) normal))) in
+      means_nothing d (words ++ p ∷ []) l (longer (p ∷ []) u) (missing_value index stops.0) tt (later (p ∷ []) at (calm_at_option u v name next (p ∷ [])) stops.1) m means;
+}
+
+-- ---- a mistake before the end
+
+pub unexpected_nowhere : (d : Declaration) (words : List (List ℕ)) (l : List Parsed) (o : Option ℕ) (u v : UnreadLine) (option value : List ℕ) → Reached d (start d.short_equals words) l o u
+    → Next u (steps.unexpected option value) v → LeadsNowhere d words
+unexpected_nowhere d words l o u v option value at next =
+    let step = enough NextStep u (steps.unexpected option value) v next (λ none. cc) in
+    leads_nowhere d words l o u (unexpected_value option value) tt at (calm_at u v (steps.unexpected option value) (λ is. cc) step) (value_of_flag option value v next)
+    (λ tail. value_of_flag option value (longer tail v) (inl (step_more u v (steps.unexpected option value) tail (λ is. cc) step)))
+
+pub surplus_nowhere : (d : Declaration) (words : List (List ℕ)) (l : List Parsed) (o : Option ℕ) (u v : UnreadLine) (word : List ℕ) → Reached d (start d.short_equals words) l o u → Next u (steps.positional word) v
+    → most d.positionals ≡ Some (positional_count l) → LeadsNowhere d words
+surplus_nowhere d words l o u v word at next full =
+    let step = enough NextStep u (steps.positional word) v next (λ none. cc) in
+    leads_nowhere d words l o u (unexpected_argument word) tt at (calm_at u v (steps.positional word) (λ is. cc) step) (one_too_many word v next full)
+    (λ tail. one_too_many word (longer tail v) (inl (step_more u v (steps.positional word) tail (λ is. cc) step)) full)

@@ -1,0 +1,264 @@
+-- What a word is, by the state that the words before it leave.
+use Rattle.std.proofs.Common.{if◌then◌else◌, ◌≡◌, ◌≢◌, ◌<◌, ◌≤◌, ◌+◌, ◌==◌, ◌⊎◌, ◌↔◌, ℕ, Bool, true, false, List, [], ◌∷◌, ◌++◌, map, length, Option, Some, None, refl, sym, ap, subst, ◌∙◌, inl, inr, arith, length-append, true≢false}
+use Rattle.std.specs.Bool.{IsTrue}
+use Rattle.std.proofs.lemmas.Bool.{eq-eqb, eqb-true, false≢true}
+use Rattle.std.proofs.lemmas.Bool.Decides.{eqb_tells}
+use Rattle.lexopt_spec.specs.UnreadLine.{dash, BeginsWith, IsPlain, is_plain}
+use Rattle.lexopt_spec.proofs.PlainFronts.{plain_holds}
+use Rattle.lexopt_line_spec.specs.Readings.{start}
+use Rattle.lexopt_line_spec.proofs.Existence.{only_one}
+use Rattle.lexopt_line_spec.proofs.Names.{spelled_shows}
+use Rattle.lexopt_line_spec.proofs.SpellerRows.{off_plain}
+use Rattle.lexopt_options_spec.specs.Declaration.{Declaration, Positional, table}
+use Rattle.lexopt_options_spec.specs.Legal as legal
+use Rattle.lexopt_options_spec.specs.Legal.{Parsed, parsed_item, positional_count, most, IsWithin, MeansFront}
+use Rattle.lexopt_options_spec.specs.Completion.{EndsWith, Extends, HasRole, IsOpen, argument, value, Takes, role_of}
+use Rattle.lexopt_options_spec.specs.States.{State, Says, SaysOpenly, Leaves, leaves_anything, leaves_due, leaves_first, leaves_further, leaves_ended, LeadsNowhere, opens, is_full, room, role_in}
+use Rattle.lexopt_options_spec.proofs.Fronts.{one_front}
+use Rattle.lexopt_options_spec.proofs.LastWords.{same_last}
+use Rattle.lexopt_options_spec.proofs.Lists.{count_append, same_somes}
+use Rattle.lexopt_options_spec.proofs.OpenLines.{dashes}
+use Rattle.lexopt_options_spec.proofs.Roles.{Ends, any_word, plain_word, separated, option_begun, ends, dashed_not_plain}
+
+-- ---- what words say
+
+pub says_front : (d : Declaration) (words : List (List ℕ)) (l : List Parsed) → Says d words l → IsWithin (positional_count l) (most d.positionals) → MeansFront d words l
+says_front d words l says within = record { items = says.items; spelled = says.spelled; parsed = says.parsed; within = within }
+
+pub front_says : (d : Declaration) (words : List (List ℕ)) (l : List Parsed) → MeansFront d words l → Says d words l
+front_says d words l means = record { items = means.items; spelled = means.spelled; parsed = means.parsed }
+
+-- words say one list
+pub says_once : (d : Declaration) (words : List (List ℕ)) (l m : List Parsed) → Says d words l → Says d words m → l ≡ m
+says_once d words l m says other =
+    let same = only_one (table d.options) (start d.short_equals words) says.items other.items tt
+    (spelled_shows (table d.options) d.short_equals words says.items says.spelled) (spelled_shows (table d.options) d.short_equals words other.items other.spelled) in
+    same_somes l m (sym says.parsed ∙ ap (map (parsed_item d.options)) same ∙ other.parsed)
+
+-- one more thing that is no positional
+with_other : (d : Declaration) (words : List (List ℕ)) (l : List Parsed) (s : Parsed) → legal.counts s ≡ 0 → IsWithin (positional_count l) (most d.positionals) → Says d words (l ++ s ∷ []) → MeansFront d words (l ++ s ∷ [])
+with_other d words l s none within says = says_front d words (l ++ s ∷ []) says (subst (λ n. IsWithin n (most d.positionals)) same within)
+  where
+    same : positional_count l ≡ positional_count (l ++ s ∷ [])
+    same = let a = count_append l (s ∷ []) in omega (arith, a, none)
+
+-- ---- where an option can come
+
+says_open : (d : Declaration) (words : List (List ℕ)) (l : List Parsed) → SaysOpenly d words l → IsWithin (positional_count l) (most d.positionals) → IsOpen d words l
+says_open d words l says within = record {
+  front = says_front d words l says.says within;
+  with_separator = says_front d (words ++ dashes ∷ []) l says.with_separator within;
+}
+
+pub open_there : (d : Declaration) (words : List (List ℕ)) (l : List Parsed) (s : State) → Leaves d words l s → IsWithin (positional_count l) (most d.positionals) → opens s ≡ true → IsOpen d words l
+open_there d words l s (leaves_anything says plain) within is = says_open d words l says within
+open_there d words l s (leaves_due i none all) within is = absurd (false≢true is)
+open_there d words l s (leaves_first i none plain never) within is = absurd (false≢true is)
+open_there d words l s (leaves_further i before values are says plain) within is = says_open d words l says within
+open_there d words l s (leaves_ended says all) within is = absurd (false≢true is)
+
+pub never_open : (d : Declaration) (words : List (List ℕ)) (l : List Parsed) (s : State) → Leaves d words l s → opens s ≡ false → (m : List Parsed) → IsOpen d words m → ⊥
+never_open d words l s (leaves_anything says plain) is m is_open = true≢false is
+never_open d words l s (leaves_due i none all) is m is_open = none m is_open.front
+never_open d words l s (leaves_first i none plain never) is m is_open = none m is_open.front
+never_open d words l s (leaves_further i before values are says plain) is m is_open = true≢false is
+never_open d words l s (leaves_ended says all) is m is_open =
+    let a = says_once d words l m says (front_says d words m is_open.front) in
+    let b = says_once d (words ++ dashes ∷ []) (l ++ legal.positional dashes ∷ []) m (all dashes) (front_says d (words ++ dashes ∷ []) m is_open.with_separator) in
+    let e = ap length (a ∙ sym b) in
+    let f = length-append l (legal.positional dashes ∷ []) in
+    omega (arith, e, f)
+
+-- ---- what a word is
+
+count_more : (l : List Parsed) (w : List ℕ) → positional_count (l ++ legal.positional w ∷ []) ≡ positional_count l + 1
+count_more l w = let a = count_append l (legal.positional w ∷ []) in omega (arith, a)
+
+over : (limit : Option ℕ) (n k : ℕ) → is_full limit n ≡ true → k ≡ n + 1 → IsWithin k limit → ⊥
+over None n k full more within = false≢true full
+over (Some m) n k full more within = let e : m ≡ n = eqb-true m n full in omega (arith, e, more, within)
+
+below : (limit : Option ℕ) (n k : ℕ) → is_full limit n ≡ false → k ≡ n + 1 → IsWithin n limit → IsWithin k limit
+below None n k full more within = tt
+below (Some m) n k full more within = at (eqb_tells m n)
+  where
+    at : (((m == n) ≡ true) × (m ≡ n)) ⊎ (((m == n) ≡ false) × (m ≢ n)) → k ≤ m
+    at (inl same) = absurd (true≢false (sym same.0 ∙ full))
+    at (inr other) = let e = other.1 in omega (arith, e, more, within)
+
+pub no_room : (ps : List Positional) (count : ℕ) → most ps ≡ Some count → room ps count ≡ None
+no_room ps count is = ap (λ b. if b then None else Some (argument count)) (ap (λ limit. is_full limit count) is ∙ eq-eqb count count refl)
+
+pub some_room : (ps : List Positional) (count : ℕ) → most ps ≢ Some count → room ps count ≡ Some (argument count)
+some_room ps count other = at (most ps) refl
+  where
+    limited : (n : ℕ) → most ps ≡ Some n → (((n == count) ≡ true) × (n ≡ count)) ⊎ (((n == count) ≡ false) × (n ≢ count)) → room ps count ≡ Some (argument count)
+    limited n is (inl same) = absurd (other (is ∙ ap (λ k. Some k) same.1))
+    limited n is (inr below_it) = ap (λ b. if b then None else Some (argument count)) (ap (λ limit. is_full limit count) is ∙ below_it.0)
+
+    at : (limit : Option ℕ) → most ps ≡ limit → room ps count ≡ Some (argument count)
+    at None is = ap (λ b. if b then None else Some (argument count)) (ap (λ limit. is_full limit count) is)
+    at (Some n) is = limited n is (eqb_tells n count)
+
+-- each of the words is a positional
+room_there : (d : Declaration) (words : List (List ℕ)) (typed : List ℕ) (l : List Parsed) → IsWithin (positional_count l) (most d.positionals)
+    → ((w : List ℕ) → Extends typed w → Says d (words ++ w ∷ []) (l ++ legal.positional w ∷ [])) → HasRole d words typed (room d.positionals (positional_count l))
+room_there d words typed l within says = at (is_full (most d.positionals) (positional_count l)) refl
+  where
+    none : is_full (most d.positionals) (positional_count l) ≡ true → HasRole d words typed None
+    none full w longer before last takes =
+        let same = says_once d (words ++ w ∷ []) (before ++ last ∷ []) (l ++ legal.positional w ∷ []) (front_says d (words ++ w ∷ []) (before ++ last ∷ []) takes.means) (says w longer) in
+        absurd (over (most d.positionals) (positional_count l) (positional_count (before ++ last ∷ [])) full (ap positional_count same ∙ count_more l w) takes.means.within)
+
+    one : is_full (most d.positionals) (positional_count l) ≡ false → HasRole d words typed (Some (argument (positional_count l)))
+    one free w longer = (
+      l,
+      legal.positional w,
+      record {
+        means = says_front d (words ++ w ∷ []) (l ++ legal.positional w ∷ []) (says w longer)
+            (below (most d.positionals) (positional_count l) (positional_count (l ++ legal.positional w ∷ [])) free (count_more l w) within);
+        whole = refl;
+      },
+      refl,
+    )
+
+    at : (b : Bool) → is_full (most d.positionals) (positional_count l) ≡ b → HasRole d words typed (if b then None else Some (argument (positional_count l)))
+    at true full = none full
+    at false free = one free
+
+-- these words, with a word after them, mean nothing
+no_role : (d : Declaration) (words : List (List ℕ)) (typed : List ℕ) → ((w : List ℕ) → Extends typed w → (m : List Parsed) → ¬ MeansFront d (words ++ w ∷ []) m) → HasRole d words typed None
+no_role d words typed none w longer before last takes = absurd (none w longer (before ++ last ∷ []) takes.means)
+
+-- each of the words is a value
+value_there : (d : Declaration) (words : List (List ℕ)) (typed : List ℕ) (l : List Parsed) (i : ℕ) (s : List ℕ → Parsed) → IsWithin (positional_count l) (most d.positionals)
+    → ((w : List ℕ) → legal.counts (s w) ≡ 0) → ((w : List ℕ) → EndsWith w (s w)) → ((w : List ℕ) → role_of l (s w) ≡ value i)
+    → ((w : List ℕ) → Extends typed w → Says d (words ++ w ∷ []) (l ++ s w ∷ [])) → HasRole d words typed (Some (value i))
+value_there d words typed l i s within none whole role says w longer = (
+  l,
+  s w,
+  record {
+    means = with_other d (words ++ w ∷ []) l (s w) (none w) within (says w longer);
+    whole = whole w;
+  },
+  role w,
+)
+
+-- An option can come after these words. With an empty word they do not say the same but for what is
+-- said last, unless that is then an option of several values.
+no_role_where_open : (d : Declaration) (words : List (List ℕ)) (typed : List ℕ) (l : List Parsed) → BeginsWith dash typed → SaysOpenly d words l
+    → ((before : List Parsed) (x y : Parsed) → l ≡ before ++ x ∷ [] → Says d (words ++ [] ∷ []) (before ++ y ∷ []) → ((i : ℕ) (values : List (List ℕ)) → y ≢ legal.several i values) → ⊥) → HasRole d words typed None
+no_role_where_open d words typed l dashed says none w longer before last takes = at (ends d words w before last takes.means)
+  where
+    at : Ends d words before last w → MeansFront d words (before ++ last ∷ [])
+    at (any_word all) =
+        let a = (all dashes).0 in
+        let b = all [] in
+        absurd
+        (none before a.last b.0.last
+        (says_once d (words ++ dashes ∷ []) l (before ++ a.last ∷ []) says.with_separator (front_says d (words ++ dashes ∷ []) (before ++ a.last ∷ []) a.takes.means))
+        (front_says d (words ++ [] ∷ []) (before ++ b.0.last ∷ []) b.0.takes.means) b.1)
+    at (plain_word plain all) = absurd (dashed_not_plain typed w dashed longer plain)
+    at (separated is_dashes front) = front
+    at (option_begun items begins never) = absurd (never takes.whole)
+
+pub role_there : (d : Declaration) (words : List (List ℕ)) (typed : List ℕ) (l : List Parsed) (s : State) (dashed : Bool) → (IsTrue dashed ↔ BeginsWith dash typed) → Leaves d words l s
+    → IsWithin (positional_count l) (most d.positionals) → HasRole d words typed (role_in d.positionals (positional_count l) dashed s)
+role_there d words typed l s dashed tells (leaves_due i none all) within = value_there d words typed l i (λ w. legal.option i (Some w)) within (λ w. refl) (λ w. refl) (λ w. refl) (λ w longer. all w)
+role_there d words typed l s dashed tells (leaves_ended says all) within = room_there d words typed l within (λ w longer. all w)
+role_there d words typed l s true tells (leaves_anything says plain) within = no_role_where_open d words typed l (tells.0 refl) says none
+  where
+    none : (before : List Parsed) (x y : Parsed) → l ≡ before ++ x ∷ [] → Says d (words ++ [] ∷ []) (before ++ y ∷ []) → ((i : ℕ) (values : List (List ℕ)) → y ≢ legal.several i values) → ⊥
+    none before x y is other one =
+        let a = ap length is in
+        let b = length-append before (x ∷ []) in
+        let c = ap length (says_once d (words ++ [] ∷ []) (before ++ y ∷ []) (l ++ legal.positional [] ∷ []) other (plain [] (inr (inr (λ begins. begins))))) in
+        let e = length-append before (y ∷ []) in
+        let f = length-append l (legal.positional [] ∷ []) in
+        omega (arith, a, b, c, e, f)
+role_there d words typed l s true tells (leaves_first i none plain never) within =
+    no_role d words typed (λ w longer m. never w m (dashed_not_plain typed w (tells.0 refl) longer))
+role_there d words typed l s true tells (leaves_further i before values are says plain) within =
+    no_role_where_open d words typed l (tells.0 refl) says
+    (λ front x y is other one.
+    one i (values ++ [] ∷ [])
+    (same_last front before y (legal.several i (values ++ [] ∷ [])) (says_once d (words ++ [] ∷ []) (front ++ y ∷ []) (before ++ legal.several i (values ++ [] ∷ []) ∷ []) other (plain [] (inr (inr (λ begins. begins)))))).1)
+role_there d words typed l s false tells (leaves_anything says plain) within = room_there d words typed l within (λ w longer. plain w (longer.plain (λ begins. false≢true (tells.1 begins))))
+role_there d words typed l s false tells (leaves_first i none plain never) within =
+    value_there d words typed l i (λ w. legal.several i (w ∷ [])) within (λ w. refl) (λ w. ([], refl)) (λ w. refl) (λ w longer. plain w (longer.plain (λ begins. false≢true (tells.1 begins))))
+role_there d words typed l s false tells (leaves_further i before values are says plain) within =
+    value_there d words typed before i (λ w. legal.several i (values ++ w ∷ [])) (subst (λ n. IsWithin n (most d.positionals)) same within) (λ w. refl) (λ w. (values, refl)) (λ w. refl)
+    (λ w longer. plain w (longer.plain (λ begins. false≢true (tells.1 begins))))
+  where
+    same : positional_count l ≡ positional_count before
+    same = let a = count_append before (legal.several i values ∷ []) in let b = ap positional_count are in omega (arith, a, b)
+
+-- ---- where no line leads
+
+pub no_role_nowhere : (d : Declaration) (words : List (List ℕ)) (typed : List ℕ) → LeadsNowhere d words → HasRole d words typed None
+no_role_nowhere d words typed nowhere = no_role d words typed (λ w longer m. nowhere.with_more w m)
+
+pub nowhere_open : (d : Declaration) (words : List (List ℕ)) → LeadsNowhere d words → (m : List Parsed) → IsOpen d words m → ⊥
+nowhere_open d words nowhere m is_open = nowhere.here m is_open.front
+
+-- ---- positionals among words
+
+plain_or_not : (w : List ℕ) → IsPlain false w ⊎ ¬ IsPlain false w
+plain_or_not w = at (is_plain false w) refl
+  where
+    at : (b : Bool) → is_plain false w ≡ b → IsPlain false w ⊎ ¬ IsPlain false w
+    at true is = inl (plain_holds false w is)
+    at false is = inr (off_plain w is)
+
+-- the words mean l
+counted_word : (d : Declaration) (words : List (List ℕ)) (l : List Parsed) → MeansFront d words l
+    → (0 < positional_count l)
+    ↔ ((l : List Parsed) × (0 < positional_count l) × (MeansFront d words l ⊎ (((m : List Parsed) → ¬ MeansFront d words m) × (w : List ℕ) × (last : Parsed) × Takes d words w l last)))
+counted_word d words l means = (λ some. (l, some, inl means), λ has. back has.0 has.1 has.2)
+  where
+    back : (m : List Parsed) → 0 < positional_count m → MeansFront d words m ⊎ (((n : List Parsed) → ¬ MeansFront d words n) × (w : List ℕ) × (last : Parsed) × Takes d words w m last) → 0 < positional_count l
+    back m some (inl front) = subst (λ n. 0 < positional_count n) (one_front d words m l front means) some
+    back m some (inr due_later) = absurd (due_later.0 l means)
+
+-- the words mean nothing, and with a word after them they mean l and then the option of that word
+counted_value : (d : Declaration) (words : List (List ℕ)) (l : List Parsed) (s : List ℕ → Parsed) → ((m : List Parsed) → ¬ MeansFront d words m)
+    → ((w : List ℕ) (m : List Parsed) → MeansFront d (words ++ w ∷ []) m → Says d (words ++ w ∷ []) (l ++ s w ∷ [])) → Takes d words [] l (s [])
+    → (0 < positional_count l)
+    ↔ ((l : List Parsed) × (0 < positional_count l) × (MeansFront d words l ⊎ (((m : List Parsed) → ¬ MeansFront d words m) × (w : List ℕ) × (last : Parsed) × Takes d words w l last)))
+counted_value d words l s none says takes = (λ some. (l, some, inr (none, [], s [], takes)), λ has. back has.0 has.1 has.2)
+  where
+    back : (m : List Parsed) → 0 < positional_count m → MeansFront d words m ⊎ (((n : List Parsed) → ¬ MeansFront d words n) × (w : List ℕ) × (last : Parsed) × Takes d words w m last) → 0 < positional_count l
+    back m some (inl front) = absurd (none m front)
+    back m some (inr (never, w, last, taken)) =
+        let same = says_once d (words ++ w ∷ []) (m ++ last ∷ []) (l ++ s w ∷ []) (front_says d (words ++ w ∷ []) (m ++ last ∷ []) taken.means) (says w (m ++ last ∷ []) taken.means) in
+        subst (λ n. 0 < positional_count n) (same_last m l last (s w) same).0 some
+
+pub some_word : (d : Declaration) (words : List (List ℕ)) (l : List Parsed) (s : State) → Leaves d words l s → IsWithin (positional_count l) (most d.positionals)
+    → (0 < positional_count l)
+    ↔ ((l : List Parsed) × (0 < positional_count l) × (MeansFront d words l ⊎ (((m : List Parsed) → ¬ MeansFront d words m) × (w : List ℕ) × (last : Parsed) × Takes d words w l last)))
+some_word d words l s (leaves_anything says plain) within = counted_word d words l (says_front d words l says.says within)
+some_word d words l s (leaves_due i none all) within = counted_value d words l (λ w. legal.option i (Some w)) none (λ w m front. all w) (record {
+  means = with_other d (words ++ [] ∷ []) l (legal.option i (Some [])) refl within (all []);
+  whole = refl;
+})
+some_word d words l s (leaves_first i none plain never) within = counted_value d words l (λ w. legal.several i (w ∷ [])) none says (record {
+  means = with_other d (words ++ [] ∷ []) l (legal.several i ([] ∷ [])) refl within (plain [] (inr (inr (λ begins. begins))));
+  whole = ([], refl);
+})
+  where
+    says : (w : List ℕ) (m : List Parsed) → MeansFront d (words ++ w ∷ []) m → Says d (words ++ w ∷ []) (l ++ legal.several i (w ∷ []) ∷ [])
+    says w m front = at (plain_or_not w)
+      where
+        at : IsPlain false w ⊎ ¬ IsPlain false w → Says d (words ++ w ∷ []) (l ++ legal.several i (w ∷ []) ∷ [])
+        at (inl is) = plain w is
+        at (inr other) = absurd (never w m other front)
+some_word d words l s (leaves_further i before values are says plain) within = counted_word d words l (says_front d words l says.says within)
+some_word d words l s (leaves_ended says all) within = counted_word d words l (says_front d words l says within)
+
+pub no_word_nowhere : (d : Declaration) (words : List (List ℕ)) → LeadsNowhere d words
+    → ((l : List Parsed) × (0 < positional_count l) × (MeansFront d words l ⊎ (((m : List Parsed) → ¬ MeansFront d words m) × (w : List ℕ) × (last : Parsed) × Takes d words w l last))) → ⊥
+no_word_nowhere d words nowhere has = at has.0 has.2
+  where
+    at : (l : List Parsed) → MeansFront d words l ⊎ (((m : List Parsed) → ¬ MeansFront d words m) × (w : List ℕ) × (last : Parsed) × Takes d words w l last) → ⊥
+    at l (inl front) = nowhere.here l front
+    at l (inr (never, w, last, taken)) = nowhere.with_more w (l ++ last ∷ []) taken.means
