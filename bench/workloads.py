@@ -24,6 +24,9 @@ BOUNDS = {
 # By work: the bound of the geometric mean of its rows.
 MEANS = {"parsed": 1.0}
 
+# The bound of the cost of completing a word, over that of reading the words before it.
+COMPLETED = 1.2
+
 A_LINE = [
     b"-v",
     b"-n",

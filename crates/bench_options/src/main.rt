@@ -6,6 +6,7 @@
 //!
 //! - `copy` copies the words;
 //! - `parsed` copies the words, and reads the copies by ten declared options;
+//! - `completed` copies the words, and asks what can come after the copies where `f` is typed;
 //! - `declare` declares these options, and copies nothing.
 //!
 //! Then it prints counts and a hash of what was read.
@@ -16,7 +17,7 @@ mod seen;
 
 use anyhow::{Context, Result, bail};
 use declared::{DECLARATION, Flag, Maybe, Value, Values, Word};
-use lexopt_options::{Declaration, Line, Options, OsString};
+use lexopt_options::{Declaration, Line, Options, OsString, Role};
 use seen::Seen;
 use std::alloc::{AllocError, Global};
 use std::env;
@@ -27,6 +28,7 @@ use std::io::Read;
 enum Work {
     Copy,
     Parsed,
+    Completed,
     Declare,
 }
 
@@ -35,6 +37,7 @@ impl Work {
         match name {
             "copy" => Some(Work::Copy),
             "parsed" => Some(Work::Parsed),
+            "completed" => Some(Work::Completed),
             "declare" => Some(Work::Declare),
             _ => None,
         }
@@ -81,6 +84,17 @@ fn read_line(
     }
 }
 
+// Asks what can come after these words where `f` is typed. Returns whether a positional can.
+fn complete(
+    alloc: Global,
+    words: Vec<OsString>,
+    options: &Options<'_, Flag, Value, Word, Maybe, Values>,
+) -> Result<bool, AllocError> {
+    let typed = OsString::from_text(alloc, "f")?;
+    let completion = options.complete(alloc, words, &typed)?;
+    Ok(matches!(completion.word, Some(Role::Argument)))
+}
+
 // Does the work once.
 fn do_once(
     alloc: Global,
@@ -96,6 +110,7 @@ fn do_once(
             Ok(true)
         }
         Work::Parsed => Ok(read_line(alloc, copies(alloc, words)?, options, seen)),
+        Work::Completed => complete(alloc, copies(alloc, words)?, options),
         Work::Declare => Ok(declare(declaration, seen).is_some()),
     }
 }
@@ -127,9 +142,9 @@ fn main(rt: HostRuntime) -> Result<()> {
     let alloc = rt.alloc();
     let mut args = env::args(&rt)?;
     let (Some(_program), Some(work), Some(times)) = (args.next(), args.next(), args.next()) else {
-        bail!("usage: bench_options copy|parsed|declare TIMES");
+        bail!("usage: bench_options copy|parsed|completed|declare TIMES");
     };
-    let work = Work::of_name(&work).context("the work is copy, parsed or declare")?;
+    let work = Work::of_name(&work).context("the work is copy, parsed, completed or declare")?;
     let times = times.parse::<u64>().context("how many times")?;
 
     let mut input = Vec::new(alloc);

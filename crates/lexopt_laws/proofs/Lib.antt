@@ -13,6 +13,7 @@ pub mod OneItem
 pub mod AnyWords
 pub mod Missing
 pub mod OneStop
+pub mod StateLaws
 pub mod AskedOnce
 pub mod Occurs
 pub mod Refused

@@ -37,6 +37,8 @@ ghost use Rattle.lexopt_options_spec.specs.Legal.{refused_value};
 ghost use Rattle.lexopt_options_spec.specs.Legal.{occurs, option};
 ghost use Rattle.lexopt_options_spec.specs.Legal.{positional, positional_count, parsed_item, several};
 ghost use Rattle.lexopt_options_spec.specs.Places.{ArePlaces, AreShares, CanTake, owners};
+ghost use Rattle.lexopt_options_spec.specs.States.{LeadsNowhere, Leaves, anything, due};
+ghost use Rattle.lexopt_options_spec.specs.States.{ended, first, further};
 ghost use Rattle.lexopt_options_spec.specs.Stops.{IsFirstMissing, Mistake, StopsAt};
 ghost use Rattle.lexopt_options_spec.specs.Stops.{invalid_argument, invalid_value};
 ghost use Rattle.lexopt_options_spec.specs.Stops.{missing_argument, missing_option};
@@ -1034,6 +1036,24 @@ fn values_are_not_joined()
     ensures after_the_separator { IsJoined (sample (files ∷ []) true) (codes "--" ∷ [])
         (codes "--output=fi") (joined_after 1 (codes "--output=")) → ⊥ }
     ensures no_value { IsJoined (sample [] true) [] (codes "-b") (joined_after 2 (codes "-b")) → ⊥ }
+{}
+
+// What the next word is after words, and words that no line begins with.
+fn words_leave_states()
+    ensures after_a_flag { Leaves (sample (files ∷ []) true) (codes "-v" ∷ [])
+        (option 0 None ∷ []) anything }
+    ensures after_a_positional { Leaves (sample (files ∷ []) true) (codes "a" ∷ [])
+        (positional (codes "a") ∷ []) anything }
+    ensures no_more_positionals { Leaves (sample [] true) (codes "-v" ∷ []) (option 0 None ∷ [])
+        anything }
+    ensures after_an_optional_value { Leaves (sample (files ∷ []) true) (codes "-b" ∷ [])
+        (option 2 None ∷ []) anything }
+    ensures value_due { Leaves (sample [] true) (codes "-o" ∷ []) [] (due 1) }
+    ensures first_value_due { Leaves (sample [] true) (codes "-x" ∷ []) [] (first 3) }
+    ensures one_more_value { Leaves (sample [] true) (codes "-x" ∷ codes "a" ∷ [])
+        (several 3 (codes "a" ∷ []) ∷ []) (further 3) }
+    ensures after_the_separator { Leaves (sample (files ∷ []) true) (codes "--" ∷ []) [] ended }
+    ensures after_a_mistake { LeadsNowhere (sample (files ∷ []) true) (codes "-z" ∷ []) }
 {}
 
 // What a word is that is not an option, where no dash was typed first.

@@ -16,6 +16,7 @@ ghost use Rattle.lexopt_options_spec.specs.Legal.{positional_count, positional_w
 ghost use Rattle.lexopt_options_spec.specs.Legal.{refused_value};
 ghost use Rattle.lexopt_options_spec.specs.Places.{ArePlaces, AreShares, IsNotTaken, least};
 ghost use Rattle.lexopt_options_spec.specs.Places.{refused_word, takes_at};
+ghost use Rattle.lexopt_options_spec.specs.States.{LeadsNowhere, Leaves, State};
 ghost use Rattle.lexopt_options_spec.specs.Stops.{Mistake, StopsAt, invalid_argument};
 ghost use Rattle.lexopt_laws.specs.ListedValues.{IsFirstOutside, IsFirstRefused, values_of};
 
@@ -40,6 +41,23 @@ pub fn each_line_means_something_or_stops()
 pub fn each_place_has_one_role()
     ensures { (d : Declaration) (words : List (List ℕ)) (typed : List ℕ) (r s : Option Role)
         → HasRole d words typed r → HasRole d words typed s → r ≡ s }
+{}
+
+/// By a declaration, words leave at most one state, and there is at most one list that is read
+/// before it. This holds for lists with at most as many positionals as the declaration allows.
+pub fn words_leave_one_state()
+    ensures { (d : Declaration) (words : List (List ℕ)) (l m : List Parsed) (s t : State)
+        → Leaves d words l s → IsWithin (positional_count l) (most d.positionals)
+        → Leaves d words m t → IsWithin (positional_count m) (most d.positionals)
+        → (l ≡ m) × (s ≡ t) }
+{}
+
+/// Words that leave a state do not lead nowhere: they can be read, or can be with one more word.
+/// This holds if what was read has at most as many positionals as the declaration allows.
+pub fn states_lead_somewhere()
+    ensures { (d : Declaration) (words : List (List ℕ)) (l : List Parsed) (s : State)
+        → Leaves d words l s → IsWithin (positional_count l) (most d.positionals)
+        → LeadsNowhere d words → ⊥ }
 {}
 
 /// A line asks for at most one thing, such as the help. If the line means a list, it can only ask

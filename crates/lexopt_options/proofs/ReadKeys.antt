@@ -133,11 +133,6 @@ keys_count options (s ∷ l) (x ∷ xs) are = one x are.0 (keys_count options l 
     one (variant.Values key values) is others = others ∙ sym (ap (λ (y : legal.Parsed). counts y + positional_count l) is.2 ∙ omega arith)
     one (variant.Positional key word) is others = ap suc others ∙ sym (ap (λ (y : legal.Parsed). counts y + positional_count l) is ∙ omega arith)
 
--- if a positional is read, one is declared
-pub some_positional : {P : Type 0} (ps : List (Positional P)) (n : ℕ) → IsWithin (n + 1) (most (map positional_view ps)) → 1 ≤ length ps
-some_positional [] n within = absurd (omega (arith, within))
-some_positional (p ∷ ps) n within = omega arith
-
 -- ---- one more
 
 pub one_unrefused : (options : List spec.Declared) (s : legal.Parsed) → refused_value options s ≡ None → are_accepted options (s ∷ []) ≡ true

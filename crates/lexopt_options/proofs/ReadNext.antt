@@ -264,9 +264,6 @@ pub by_room : (d : Declaration) (limit : Option ℕ) (count : ℕ) (u v : Unread
     → ReadsParsed d count u (legal.positional word) v
 by_room d limit count u v word is next = positional_parsed d count u v word (λ full. next.1 (is ∙ full)) next.0
 
-pub at_any : (d : Declaration) (count : ℕ) (u : UnreadLine) (mistake : Mistake) → StopsAtOption d u mistake → StopsBy d count u mistake
-at_any d count u mistake stops = record { why = stops.why; told = stops.told; early = stops.early; stops = λ l counted. stops.stops l }
-
 -- if one more positional is allowed, one is declared
 pub has_room : (ps : List Positional) (limit : Option ℕ) (count : ℕ) → limit ≡ most ps → IsWithin count (most ps) → limit ≢ Some count → 1 ≤ length ps
 has_room [] limit count is within room = absurd (room (is ∙ ap (λ n. Some n) (omega (arith, within))))

@@ -29,9 +29,6 @@ required_within [] i is = absurd (false≢true is)
 required_within (o ∷ os) zero is = omega arith
 required_within (o ∷ os) (suc i) is = let rest = required_within os i is in omega (arith, rest)
 
-pub names_here : {F V M S : Type 0} (options : List (Declared F V M S)) (i : ℕ) (x : Declared F V M S) → i < length options → x ≡ get_or options i x → names_at options (Some i) ≡ Some x.names
-names_here options i x within is = ap (option_map (λ p. p.names)) (slice_get-get_or options i x within) ∙ ap (λ p. Some p.names) (sym is)
-
 -- the names of the option at an index
 are_names : {F V M S : Type 0} (options : List (Declared F V M S)) (i : ℕ) (names : Names) → is_required (map option_view options) i ≡ true → names_at options (Some i) ≡ Some names → AreNames (map option_view options) i names
 are_names [] i names needed is = absurd (false≢true needed)

@@ -289,14 +289,6 @@ takes_past [] i w past = refl
 takes_past (p ∷ ps) zero w past = absurd (omega (arith, past))
 takes_past (p ∷ ps) (suc i) w past = takes_past ps i w (omega (arith, past))
 
--- the mistake of a positional is that of the positional at its index
-pub refusal_here : {P : Type 0} (ps : List (Positional P)) (i : ℕ) (x : Positional P) (w : List ℕ) (found : Option Mistake) → i < length ps → x ≡ get_or ps i x → taken.IsRefusal x w found → taken.IsRefusalAt ps i w found
-refusal_here ps i x w None within is so = takes_here ps i x w within is ∙ so
-refusal_here ps i x w (Some m) within is so = (
-  takes_here ps i x w within is ∙ so.0,
-  λ d are. so.1 d i (ap (λ l. slice_get l i) are ∙ view_here ps i x within is),
-)
-
 -- ---- the positionals that a word can belong to
 
 ascending_end : (l : List ℕ) (n : ℕ) → IsAscending l → ((i : ℕ) → Contains l i → i < n) → IsAscending (l ++ n ∷ [])
