@@ -41,11 +41,11 @@ named_so o words found true read of is = λ name plain. comes found read (is.0 r
   where
     comes : (found : Leading _ _ _ _ _) → IsLeadingRead o (words ++ [] ∷ []) found → LeavesEmptyWord found → (name : List ℕ) → IsPlain false name → ComesFirst (declaration_of o) words name
     comes (leading.Parsed parsed rest) read only name plain =
-        (read.0, other_name (declaration_of o) words read.0 [] name empty_plain plain (subst (λ r. MeansLeading (declaration_of o) (words ++ [] ∷ []) read.0 r) only read.1), read.2)
+        (read.0, other_name (declaration_of o) o.sound words read.0 [] name empty_plain plain (subst (λ r. MeansLeading (declaration_of o) (words ++ [] ∷ []) read.0 r) only read.1), read.2)
     comes (leading.Asked asked) read only name plain = absurd only
     comes (leading.Refused refused) read only name plain = absurd only
 named_so o words found false read of is = λ name plain there.
-    let means = other_name (declaration_of o) words there.0 name [] plain empty_plain there.1 in
+    let means = other_name (declaration_of o) o.sound words there.0 name [] plain empty_plain there.1 in
     false≢true (is.1 (left found there.0 there.2 (of there.0 ([] ∷ []) means)))
   where
     left : (found : Leading _ _ _ _ _) (l : List legal.Parsed) → first_asked (declaration_of o).options l ≡ None → IsLeadingOf o l ([] ∷ []) found → LeavesEmptyWord found

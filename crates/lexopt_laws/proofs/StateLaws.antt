@@ -5,7 +5,7 @@ use Rattle.lexopt_spec.specs.UnreadLine.{IsPlain}
 use Rattle.lexopt_options_spec.specs.Declaration.{Declaration}
 use Rattle.lexopt_options_spec.specs.Legal.{Parsed, option, several, positional, counts, positional_count, most, IsWithin, MeansFront}
 use Rattle.lexopt_options_spec.specs.States.{State, anything, due, first, further, ended, Says, Leaves, leaves_anything, leaves_due, leaves_first, leaves_further, leaves_ended, LeadsNowhere, opens}
-use Rattle.lexopt_options_spec.proofs.LastWords.{same_last}
+use Rattle.lexopt_options_spec.proofs.Lists.{same_last}
 use Rattle.lexopt_options_spec.proofs.Lists.{count_append}
 use Rattle.lexopt_options_spec.proofs.States.{never_open, open_there, says_front, says_once}
 

@@ -20,7 +20,7 @@ use Rattle.lexopt_options_spec.specs.Stops as stop
 use Rattle.lexopt_options_spec.specs.Completion.{HasRole, IsOpen, IsOption, JoinsValue, value_of}
 use Rattle.lexopt_options_spec.specs.States.{State, anything, due, first, further, ended, Says, Leaves, leaves_anything, leaves_due, leaves_first, leaves_further, leaves_ended, LeadsNowhere, role_in}
 use Rattle.lexopt_options_spec.proofs.States.{never_open, role_there}
-use Rattle.lexopt_options_spec.proofs.LastWords.{same_last as one_last}
+use Rattle.lexopt_options_spec.proofs.Lists.{same_last as one_last}
 use Rattle.std.specs.Str.{IsUtf8}
 use Rattle.lexopt_options_spec.proofs.Fronts.{comes_to, no_front, one_front}
 use Rattle.lexopt_laws.specs.Sample.{sample, files}

@@ -43,8 +43,8 @@ pub fn each_place_has_one_role()
         → HasRole d words typed r → HasRole d words typed s → r ≡ s }
 {}
 
-/// By a declaration, words leave at most one state, and there is at most one list that is read
-/// before it. This holds for lists with at most as many positionals as the declaration allows.
+/// By a declaration, words leave at most one state, with at most one list that was read. This holds
+/// for lists with at most as many positionals as the declaration allows.
 pub fn words_leave_one_state()
     ensures { (d : Declaration) (words : List (List ℕ)) (l m : List Parsed) (s t : State)
         → Leaves d words l s → IsWithin (positional_count l) (most d.positionals)
@@ -52,8 +52,8 @@ pub fn words_leave_one_state()
         → (l ≡ m) × (s ≡ t) }
 {}
 
-/// Words that leave a state do not lead nowhere: they can be read, or can be with one more word.
-/// This holds if what was read has at most as many positionals as the declaration allows.
+/// No words both leave a state and lead nowhere. This holds if what was read has at most as many
+/// positionals as the declaration allows.
 pub fn states_lead_somewhere()
     ensures { (d : Declaration) (words : List (List ℕ)) (l : List Parsed) (s : State)
         → Leaves d words l s → IsWithin (positional_count l) (most d.positionals)

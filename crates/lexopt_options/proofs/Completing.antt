@@ -21,7 +21,6 @@ use Rattle.lexopt_spec.specs.UnreadLine.{BeginsWith, dash}
 use Rattle.lexopt_options_spec.specs.Completion as spec
 use Rattle.lexopt_options_spec.specs.Completion.{AreText, Completes, HasRole, IsJoined, IsOpen, IsOption, JoinsValue, explained, explained_by, joined_at, list_of, listed_by, names_of, offered_values, spelling, spellings, values_at}
 use Rattle.lexopt_options_spec.proofs.Fronts.{one_front}
-use Rattle.lexopt_options_spec.proofs.LastWords.{Ending, ending, has_last, has_none, no_last, same_last}
 use Rattle.lexopt_options_spec.proofs.OpenLines.{dashes}
 use Rattle.lexopt_options_spec.proofs.Roles.{extends}
 use Rattle.lexopt_options_spec.proofs.Occurs.{AreNamed, occurs_accepted, occurs_open, occurs_taken}

@@ -42,7 +42,7 @@ use Rattle.lexopt_options_spec.specs.States.{LeadsNowhere, Leaves, Says, leaves_
 use Rattle.lexopt_options_spec.proofs.Fronts.{one_front}
 use Rattle.lexopt_options_spec.proofs.Cuts.{enough}
 use Rattle.lexopt_options_spec.proofs.Growing.{Grows, grows_flag, grows_one, grows_optional, grows_positional, grows_several, value_lacks_more, values_lack}
-use Rattle.lexopt_options_spec.proofs.LastWords.{same_last, no_last}
+use Rattle.lexopt_options_spec.proofs.Lists.{same_last, no_last}
 use Rattle.lexopt_options_spec.proofs.Lists.{count_append}
 use Rattle.lexopt_options_spec.proofs.Reached.{Reached, closed_reached, end_leaves, first_due, nothing_reached, open_reached, surplus_nowhere, undeclared_nowhere, unexpected_nowhere, value_due, values_nowhere}
 use Rattle.lexopt_options_spec.proofs.States.{front_says, says_front, never_open, no_role_nowhere, no_word_nowhere, nowhere_open, open_there, role_there, says_once, some_word}
@@ -50,10 +50,10 @@ use Rattle.lexopt_options_spec.proofs.Taken.{words_append, words_count}
 use Rattle.lexopt_options.specs.Completions.{CanCome, HasPositional, Opens}
 use Rattle.lexopt_options.specs.Kinds.{kind_at}
 use Rattle.lexopt_options.specs.Reading.{ReadsParsed, StopsNext, UndeclaredNext, parsed_with}
-use Rattle.lexopt_options.specs.States.{IsFront, IsFrontOf, IsGiven, IsLast, Lacks, can_go_on, first_of, index_if, state_view, with_index}
+use Rattle.lexopt_options.specs.States.{IsFront, IsFrontOf, IsAfterName, IsLast, can_go_on, first_of, index_if, state_view, with_index}
 use Rattle.lexopt_options.specs.declared.front.Front.{Front}
-use Rattle.lexopt_options.specs.declared.front.Given.{Given}
-use Rattle.lexopt_options.specs.declared.front.Given.TheVariants as given
+use Rattle.lexopt_options.specs.declared.front.AfterName.{AfterName}
+use Rattle.lexopt_options.specs.declared.front.AfterName.TheVariants as after
 use Rattle.lexopt_options.specs.declared.front.State.{State}
 use Rattle.lexopt_options.specs.declared.front.State.TheVariants as state
 use Rattle.lexopt_options.proofs.Accepted.{first_refused, first_there, none_cond, viewed}
@@ -163,12 +163,12 @@ maybe_so v w r x is step = inl (subst (λ (y : Option (List ℕ)). OptionalStep 
 pub value_ends : (v w : UnreadLine) (r : Result (List ℕ) Refusal) (refused : Refusal) → r ≡ Err refused → Value v (take_reply r) w → ValuesEndBy One v refused
 value_ends v w r refused is step = inr (calls.value, w, refl, taken_so v w r (Err refused) is step)
 
-pub lacks_value : (v w : UnreadLine) (refused : Refusal) → Value v (refusal_reply refused) w → Lacks refused → (pending v ≡ None) × (v.words ≡ [])
+pub lacks_value : (v w : UnreadLine) (refused : Refusal) → Value v (refusal_reply refused) w → refused ≢ OutOfMemory → (pending v ≡ None) × (v.words ≡ [])
 lacks_value v w (MissingValue o) step lacks = let both = value_lacks_more v w (option_map string_bytes o) (enough ValueStep v (steps.missing (option_map string_bytes o)) w step (λ is. cc)) in (both.1, both.0)
 lacks_value v w (UnexpectedValue o x) step lacks = absurd (value_reply v w (steps.unexpected (string_bytes o) x) (enough ValueStep v (steps.unexpected (string_bytes o) x) w step (λ is. cc)))
 lacks_value v w OutOfMemory step lacks = absurd (lacks refl)
 
-pub lacks_values : (v : UnreadLine) (refused : Refusal) → ValuesEndBy Several v refused → Lacks refused → (pending v ≡ None) × (¬ IsNormalIn v.ended v.words)
+pub lacks_values : (v : UnreadLine) (refused : Refusal) → ValuesEndBy Several v refused → refused ≢ OutOfMemory → (pending v ≡ None) × (¬ IsNormalIn v.ended v.words)
 lacks_values v refused (inl is) lacks = absurd (lacks is)
 lacks_values v (UnexpectedValue o x) (inr ends) lacks = absurd (unexpected_never Several v o x (λ is. cc) (inr ends))
 lacks_values v OutOfMemory (inr ends) lacks = absurd (lacks refl)
@@ -176,9 +176,9 @@ lacks_values v (MissingValue o) (inr ends) lacks =
     values_lack ends.2.0 v ends.1 (option_map string_bytes o)
     (enough (ValuesStep ends.2.0) v (steps.missing (option_map string_bytes o)) ends.1 (subst (λ call. Step call v (steps.missing (option_map string_bytes o)) ends.1) ends.2.1 ends.3) (λ is. cc))
 
-pub given_lacks : {E : Type 0} (r : Result Given E) (x : Given) (refused : Refusal) (P : Given → Type 0) → IfOk r (λ y. (y ≡ x) × Lacks refused) → (Lacks refused → P x) → IfOk r P
-given_lacks (Ok y) x refused P is holds = subst P (sym is.0) (holds is.1)
-given_lacks (Err e) x refused P is holds = tt
+pub value_lacks : {E : Type 0} (r : Result AfterName E) (x : AfterName) (refused : Refusal) (P : AfterName → Type 0) → IfOk r (λ y. (y ≡ x) × refused ≢ OutOfMemory) → (refused ≢ OutOfMemory → P x) → IfOk r P
+value_lacks (Ok y) x refused P is holds = subst P (sym is.0) (holds is.1)
+value_lacks (Err e) x refused P is holds = tt
 
 -- ---- an option with its values
 
@@ -232,7 +232,7 @@ fits One v w values reads = tt
 fits Optional v w values reads = tt
 
 pub has_option : (d : Declaration) (s u v w : UnreadLine) (words : List (List ℕ)) (accepted own : Bool) (last : Option (ℕ × List ℕ)) (going : Option ℕ) (value : Option (List ℕ)) (goes_on : Bool) (name : Name) (index : ℕ) → is_sound d.options ≡ true
-    → HasReached d s u words accepted last going → Next u (option_reply name) v → index_of d.options name ≡ Some index → IsGiven d index v (given.Values own value goes_on) w
+    → HasReached d s u words accepted last going → Next u (option_reply name) v → index_of d.options name ≡ Some index → IsAfterName d index v (after.Values own value goes_on) w
     → HasReached d s w words (accepted && own) (with_index index value) (index_if goes_on index) × (bound w < bound u)
 has_option d s u v w words accepted own last going value goes_on name index sound has next found (k, values, k_is, reads, own_is, value_is, goes_is) = (
   record {
@@ -328,7 +328,7 @@ lacking d words front l state state_is no_last leaves none within words_are acce
 
 -- where an option lacks a value at the end of the words
 pub front_lacking : (d : Declaration) (s u v w : UnreadLine) (words : List (List ℕ)) (front : Front) (last : Option (ℕ × List ℕ)) (going : Option ℕ) (name : Name) (index : ℕ) → is_sound d.options ≡ true → s ≡ start d.short_equals words
-    → HasReached d s u front.words.items front.accepted last going → front.last ≡ None → Next u (option_reply name) v → index_of d.options name ≡ Some index → (state_is : State) → front.state ≡ state_is → IsGiven d index v (given.Lacks state_is) w → IsFront d words front
+    → HasReached d s u front.words.items front.accepted last going → front.last ≡ None → Next u (option_reply name) v → index_of d.options name ≡ Some index → (state_is : State) → front.state ≡ state_is → IsAfterName d index v (after.Lacks state_is) w → IsFront d words front
 front_lacking d s u v w words front last going name index sound is before no_last next found (state.Due i) state_is (same, k, none, empty) =
     let has = starts is before in
     let leaves = subst (λ (j : ℕ). Leaves d words has.l (spec.due j)) (sym same) (value_due d words has.l going u v name index sound has.at next found (sym (kind_of_index d.options name index sound found) ∙ k) none empty) in
@@ -350,7 +350,7 @@ front_lacking d s u v w words front last going name index sound is before no_las
 -- ---- a mistake
 
 pub nowhere_lacking : (d : Declaration) (s u v w : UnreadLine) (words own : List (List ℕ)) (accepted : Bool) (last : Option (ℕ × List ℕ)) (going : Option ℕ) (name : Name) (index : ℕ) → is_sound d.options ≡ true → s ≡ start d.short_equals words
-    → HasReached d s u own accepted last going → Next u (option_reply name) v → index_of d.options name ≡ Some index → IsGiven d index v given.Nothing w → LeadsNowhere d words
+    → HasReached d s u own accepted last going → Next u (option_reply name) v → index_of d.options name ≡ Some index → IsAfterName d index v after.Missing w → LeadsNowhere d words
 nowhere_lacking d s u v w words own accepted last going name index sound is before next found (k, none, some, normal) =
     let has = starts is before in
     values_nowhere d words has.l going u v name index has.at next found (sym (kind_of_index d.options name index sound found) ∙ k) none normal some

@@ -43,7 +43,7 @@ use Rattle.lexopt_items.specs.declared.values.Values.TheVariants.{AtMostOne, All
 use Rattle.lexopt_items.proofs.ReadsItems.{option_read, positional_read}
 use Rattle.lexopt_options.specs.declared.mistake.Mistake.{Mistake}
 use Rattle.lexopt_options.specs.Mistakes.{IsMistake}
-use Rattle.lexopt_options.specs.Reading.{ReadsParsed, StopsAtOption, StopsBy, StopsWithin, UndeclaredNext, parsed_with}
+use Rattle.lexopt_options.specs.Reading.{ReadsParsed, StopsAtOption, UndeclaredNext, parsed_with}
 
 pub option_item : (d : Declaration) (name : Name) (index : ℕ) (values : Values) → index_of d.options name ≡ Some index → parsed_item d.options (item_with name values) ≡ Some (parsed_with index values)
 option_item d name index (AtMostOne value) found = ap (option_map (λ i. legal.option i value)) found
@@ -183,7 +183,7 @@ undeclared_stops d u v None next = (spec.long next.0, λ l. not_declared (spec.l
 stops_there : (d : Declaration) (u v : UnreadLine) (short : Option ℕ) (mistake : Mistake) (next : UndeclaredNext d u short v) → IsMistake d mistake (unknown_option (undeclared_stops d u v short next).0 v.tail) → StopsAtOption d u mistake
 stops_there d u v short mistake next told =
     let stops = undeclared_stops d u v short next in
-    record { why = unknown_option stops.0 v.tail; told = told; early = tt; of_option = tt; stops = stops.1 }
+    record { why = unknown_option stops.0 v.tail; told = told; of_option = tt; stops = stops.1 }
 
 pub stops_at_short : {E : Type 0} (d : Declaration) (v : UnreadLine) (c : ℕ) (r : Result Mistake E) → ((u : UnreadLine) → Next u (steps.short c) v → IfOk r (λ m. IsMistake d m (unknown_option (spec.short c) v.tail)))
     → IfOk r (λ m. (u : UnreadLine) → UndeclaredNext d u (Some c) v → StopsAtOption d u m)
@@ -254,10 +254,6 @@ count_small [] = omega arith
 count_small (legal.option i v ∷ l) = let rest = count_small l in omega arith
 count_small (legal.several i v ∷ l) = let rest = count_small l in omega arith
 count_small (legal.positional w ∷ l) = let rest = count_small l in omega arith
-
--- what stops the reading, by the limit of positionals
-pub by_limit : (d : Declaration) (limit : Option ℕ) (count : ℕ) (u : UnreadLine) (mistake : Mistake) → limit ≡ most d.positionals → StopsWithin d limit count u mistake → StopsBy d count u mistake
-by_limit d limit count u mistake is stops = record { why = stops.why; told = stops.told; early = stops.early; stops = λ l counted. stops.stops l is counted }
 
 -- one more positional, by the limit
 pub by_room : (d : Declaration) (limit : Option ℕ) (count : ℕ) (u v : UnreadLine) (word : List ℕ) → limit ≡ most d.positionals → Next u (steps.positional word) v × (limit ≢ Some count)

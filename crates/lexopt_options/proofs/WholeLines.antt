@@ -30,7 +30,7 @@ use Rattle.lexopt_options.specs.Keys.{AreParsedAs, asked_view}
 use Rattle.lexopt_options.proofs.Keys.{asked_here}
 use Rattle.lexopt_options.specs.Lines.{IsLineOf, IsLineRead, before_mistake}
 use Rattle.lexopt_options.specs.Mistakes.{AreNames, IsMistake}
-use Rattle.lexopt_options.specs.Reading.{AllSeen, AreSeen, IsEarly, IsFirstUnseen}
+use Rattle.lexopt_options.specs.Reading.{AllSeen, AreSeen, IsFirstUnseen}
 
 append_nil : (l : List Item) → l ++ [] ≡ l
 append_nil [] = refl

@@ -13,7 +13,7 @@ use Rattle.lexopt_options_spec.specs.Completion.{IsOption}
 use Rattle.lexopt_options_spec.specs.Leading.{IsOfOption}
 use Rattle.lexopt_options_spec.specs.Legal as spec
 use Rattle.lexopt_options_spec.specs.Legal.{IsWithin, counts, is_required, most, occurs}
-use Rattle.lexopt_options_spec.specs.Legal.{positional_count, positional_words, refused_value, parsed_item}
+use Rattle.lexopt_options_spec.specs.Legal.{positional_count, refused_value, parsed_item}
 use Rattle.lexopt_options_spec.specs.Stops as stops
 use Rattle.lexopt_options_spec.specs.Stops.{Stops}
 use Rattle.lexopt_items.specs.declared.values.Values.{Values}
@@ -42,31 +42,15 @@ pub record ReadsParsed (d : Declaration) (count : ℕ) (u : UnreadLine) (s : spe
   pub line : IsLine u → IsLine v
   pub within : IsWithin count (most d.positionals) → IsWithin (count + counts s) (most d.positionals)
 
--- it is a mistake before the end of the line, and not a value that is not accepted
-abbrev pub IsEarly : stops.Mistake → Type 0
-IsEarly (stops.invalid_value index value) = ⊥
-IsEarly (stops.invalid_argument index word) = ⊥
-IsEarly (stops.missing_argument count) = ⊥
-IsEarly (stops.missing_option index) = ⊥
-IsEarly mistake = Unit {0}
-
 -- whatever was read before, the reading stops at an option with this mistake
 pub record StopsAtOption (d : Declaration) (u : UnreadLine) (mistake : Mistake) : Type 0 where
   pub why : stops.Mistake
   pub told : IsMistake d mistake why
-  pub early : IsEarly why
   pub of_option : IsOfOption why
   pub stops : (l : List spec.Parsed) → Stops d l u why
 
--- after `count` positionals the reading stops with this mistake
-pub record StopsBy (d : Declaration) (count : ℕ) (u : UnreadLine) (mistake : Mistake)
-    : Type 0 where
-  pub why : stops.Mistake
-  pub told : IsMistake d mistake why
-  pub early : IsEarly why
-  pub stops : (l : List spec.Parsed) → count ≡ positional_count l → Stops d l u why
-
--- the same, where the mistake may also be a value that the next option does not accept
+-- after `count` positionals the reading stops at an option with this mistake, which may also be
+-- that it does not accept a value
 pub record StopsByKey (d : Declaration) (count : ℕ) (u : UnreadLine) (mistake : Mistake)
     : Type 0 where
   pub why : stops.Mistake
@@ -86,7 +70,6 @@ pub record StopsWithin (d : Declaration) (limit : Option ℕ) (count : ℕ) (u :
     (mistake : Mistake) : Type 0 where
   pub why : stops.Mistake
   pub told : IsMistake d mistake why
-  pub early : IsEarly why
   pub stops : (l : List spec.Parsed) → limit ≡ most d.positionals → count ≡ positional_count l
       → Stops d l u why
   pub of_option : limit ≡ None → IsOfOption why × ((l : List spec.Parsed) → Stops d l u why)

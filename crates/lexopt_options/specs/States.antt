@@ -4,9 +4,6 @@ use Rattle.std.specs.Prelude.{is_none, not}
 use Rattle.lexopt_spec.specs.UnreadLine.{IsNormalIn, UnreadLine, pending}
 use Rattle.lexopt_line_spec.specs.Table as table
 use Rattle.lexopt_base.specs.Pending.{is_joined}
-use Rattle.lexopt_base.specs.declared.refusal.Refusal.{Refusal}
-use Rattle.lexopt_base.specs.declared.refusal.Refusal.TheVariants.{MissingValue, OutOfMemory}
-use Rattle.lexopt_base.specs.declared.refusal.Refusal.TheVariants.{UnexpectedValue}
 use Rattle.lexopt_items.specs.Items.{ReadsValues, kind_view}
 use Rattle.lexopt_items.specs.declared.kinds.Kind.{Kind}
 use Rattle.lexopt_items.specs.declared.kinds.Kind.TheVariants.{Several}
@@ -18,8 +15,8 @@ use Rattle.lexopt_options_spec.specs.Legal.{positional_count, positional_words, 
 use Rattle.lexopt_options_spec.specs.States as spec
 use Rattle.lexopt_options_spec.specs.States.{LeadsNowhere, Leaves}
 use Rattle.lexopt_options.specs.declared.front.Front.{Front}
-use Rattle.lexopt_options.specs.declared.front.Given.{Given}
-use Rattle.lexopt_options.specs.declared.front.Given.TheVariants as given
+use Rattle.lexopt_options.specs.declared.front.AfterName.{AfterName}
+use Rattle.lexopt_options.specs.declared.front.AfterName.TheVariants as after
 use Rattle.lexopt_options.specs.declared.front.State.{State}
 use Rattle.lexopt_options.specs.declared.front.State.TheVariants as state
 use Rattle.lexopt_options.specs.Kinds.{kind_at}
@@ -44,28 +41,24 @@ abbrev pub index_if : Bool → ℕ → Option ℕ
 index_if true index = Some index
 index_if false index = None
 
--- the refusal is not that memory ran out
-abbrev pub Lacks : Refusal → Type 0
-Lacks refused = refused ≢ OutOfMemory
-
--- one more plain word at the end of the line would be one more value of an option of this kind, of
--- which this is the pending value
+-- a plain word right after the values of an option of this kind would be one more, where this is
+-- the pending value before they are read
 abbrev pub can_go_on : Kind → Option (List ℕ × Bool) → Bool
 can_go_on Several found = not (is_joined found)
 can_go_on kind found = false
 
 -- these are the values of the option at this index, at this line, or why it has none
-abbrev pub IsGiven : Declaration → ℕ → UnreadLine → Given → UnreadLine → Type 0
-IsGiven d i v (given.Values accepted first goes_on) w = (kind : Kind) × (values : Values)
+abbrev pub IsAfterName : Declaration → ℕ → UnreadLine → AfterName → UnreadLine → Type 0
+IsAfterName d i v (after.Values accepted first goes_on) w = (kind : Kind) × (values : Values)
     × (kind_view kind ≡ kind_at d.options i) × ReadsValues kind v values w
     × (is_none (refused_value d.options (parsed_with i values)) ≡ accepted)
     × (value_of (parsed_with i values) ≡ first) × (can_go_on kind (pending v) ≡ goes_on)
-IsGiven d i v (given.Lacks (state.Due j)) w = (j ≡ i) × (kind_at d.options i ≡ table.one)
+IsAfterName d i v (after.Lacks (state.Due j)) w = (j ≡ i) × (kind_at d.options i ≡ table.one)
     × (pending v ≡ None) × (v.words ≡ [])
-IsGiven d i v (given.Lacks (state.First j)) w = (j ≡ i) × (kind_at d.options i ≡ table.several)
+IsAfterName d i v (after.Lacks (state.First j)) w = (j ≡ i) × (kind_at d.options i ≡ table.several)
     × (pending v ≡ None) × (v.words ≡ [])
-IsGiven d i v (given.Lacks other) w = ⊥
-IsGiven d i v given.Nothing w = (kind_at d.options i ≡ table.several) × (pending v ≡ None)
+IsAfterName d i v (after.Lacks other) w = ⊥
+IsAfterName d i v after.Missing w = (kind_at d.options i ≡ table.several) × (pending v ≡ None)
     × (v.words ≢ []) × ¬ IsNormalIn v.ended v.words
 
 -- the index of the option that the words mean last, and its first value; `None` if what they mean
@@ -86,7 +79,7 @@ pub record IsFront (d : Declaration) (words : List (List ℕ)) (front : Front) :
   pub accepted_is : are_accepted d.options l ≡ front.accepted
   pub last_is : IsLast d words front.last
 
--- the same; `None` if no line begins with these words, whatever word comes next
+-- the same; `None` if they mean nothing, and nothing with any one word after them
 abbrev pub IsFrontOf : Declaration → List (List ℕ) → Option Front → Type 0
 IsFrontOf d words None = LeadsNowhere d words
 IsFrontOf d words (Some front) = IsFront d words front

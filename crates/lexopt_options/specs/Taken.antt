@@ -1,5 +1,5 @@
 -- Which words positionals accept, as contracts see it.
-use Rattle.std.specs.Prelude.{◌≡◌, ℕ, Bool, true, false, List, [], ◌∷◌, Option, Some, map, slice_get}
+use Rattle.std.specs.Prelude.{◌≡◌, ℕ, Bool, true, false, List, Option, Some, map, slice_get}
 use Rattle.std.specs.Option.{MatchOption}
 use Rattle.lexopt_options_spec.specs.Declaration.{Declaration, accepts}
 use Rattle.lexopt_options_spec.specs.Places.{takes_at}

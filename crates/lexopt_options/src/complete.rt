@@ -464,9 +464,9 @@ impl<'a, F, V, P, M, S> Options<'a, F, V, P, M, S> {
 
     /// Returns what can come where `typed` is typed after `words`, for the completion of shells.
     ///
-    /// The words are without the name of the program. This call consumes them, and reads them once.
-    /// It is not known how many words will follow, so a word may be able to belong to several
-    /// positionals, such as the second word of `SOURCE... DEST` to either.
+    /// The words are without the name of the program. This call consumes them. It is not known how
+    /// many words will follow, so a word may be able to belong to several positionals, such as the
+    /// second word of `SOURCE... DEST` to either.
     ///
     /// # Errors
     ///

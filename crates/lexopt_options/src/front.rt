@@ -1,15 +1,13 @@
 //! What words mean as the beginning of a line, and what the next word is. `read.rt` reads a whole
 //! line by keys.
-ghost use Rattle.std.specs.Prelude.{◌≡◌, ◌↔◌, ◌&&◌, ℕ, [], IfOk, IsTrue, List, None, Some, slice_get};
-ghost use Rattle.lexopt_spec.specs.UnreadLine.{IsLine, UnreadLine, pending};
-ghost use Rattle.lexopt_spec.specs.Steps.{Next};
-ghost use Rattle.lexopt_line_spec.specs.Readings.{option_reply, start};
-ghost use Rattle.lexopt_line_spec.specs.Table as table;
-ghost use Rattle.lexopt_options_spec.specs.Declaration.{Declaration, index_of};
+ghost use Rattle.std.specs.Prelude.{◌≡◌, ◌≢◌, ◌↔◌, ◌&&◌, ℕ, [], IfOk, IsTrue, List, None, Some, slice_get};
+ghost use Rattle.lexopt_spec.specs.UnreadLine.{IsLine, pending};
+ghost use Rattle.lexopt_line_spec.specs.Readings.{start};
+ghost use Rattle.lexopt_options_spec.specs.Declaration.{Declaration};
 ghost use Rattle.lexopt_options_spec.specs.States as spec;
 ghost use Rattle.lexopt_declaration.specs.Models.{option_view};
 ghost use Rattle.lexopt_options.specs.Declarations.{declaration_of};
-ghost use Rattle.lexopt_options.specs.States.{IsFrontOf, IsGiven, Lacks, first_of, index_if};
+ghost use Rattle.lexopt_options.specs.States.{IsAfterName, IsFrontOf, first_of, index_if};
 ghost use Rattle.lexopt_options.specs.States.{state_view, with_index};
 
 use crate::listed::{accepts, refused_place};
@@ -45,7 +43,7 @@ pub struct Front {
     pub words: Vec<OsString>,
     // Whether each option accepts its values.
     pub accepted: bool,
-    // The index of the option that is read last, and its first value, if it has one.
+    // If what is read last is an option that has a value: its index, and its first value.
     pub last: Option<(usize, OsString)>,
     // What the next word is.
     pub state: State,
@@ -53,9 +51,9 @@ pub struct Front {
 
 // What is read of an option after its name.
 #[derive(Drop)]
-enum Given {
-    // Its values: whether it accepts them, the first of them, and whether a plain word at the end of
-    // the line would be one more.
+enum AfterName {
+    // Its values: whether it accepts them, the first of them, and whether a plain word right after
+    // them would be one more.
     Values {
         accepted: bool,
         first: Option<OsString>,
@@ -64,10 +62,10 @@ enum Given {
     // It lacks a value where the words end. This is what the next word is.
     Lacks(State),
     // It lacks a value, and words are left.
-    Nothing,
+    Missing,
 }
 
-// Whether no word is left, nor the rest of a word.
+// Whether no word is left, if no value is pending.
 fn is_at_end(parser: &mut Parser) -> bool
     ensures same { parser.new ≡ parser.old }
     ensures at_end { pending parser.old ≡ None → (IsTrue result ↔ (parser.old.words ≡ [])) }
@@ -79,13 +77,13 @@ fn is_at_end(parser: &mut Parser) -> bool
 }
 
 // What is read of an option that lacks a value, unless memory ran out.
-fn lacking(refused: Refusal, given: Given) -> Result<Given, AllocError>
-    ensures { IfOk result (λ lacks. (lacks ≡ given) × Lacks refused) }
+fn lacking(refused: Refusal, found: AfterName) -> Result<AfterName, AllocError>
+    ensures { IfOk result (λ lacks. (lacks ≡ found) × (refused ≢ Refusal.OutOfMemory)) }
 {
     match refused {
         Refusal::OutOfMemory => Err(AllocError),
-        Refusal::MissingValue(_) => Ok(given),
-        Refusal::UnexpectedValue { .. } => Ok(given),
+        Refusal::MissingValue(_) => Ok(found),
+        Refusal::UnexpectedValue { .. } => Ok(found),
     }
 }
 
@@ -101,37 +99,37 @@ fn first_of(mut values: Vec<OsString>) -> Option<OsString>
 }
 
 // Reads the values of this option, which is at this index, and whose name was just read.
-fn read_given<F, V, M, S>(
+fn read_after_name<F, V, M, S>(
     alloc: Global,
     parser: &mut Parser,
     option: &Declared<'_, F, V, M, S>,
     index: usize,
-) -> Result<Given, AllocError>
-    ensures { IfOk result (λ given. (d : Declaration)
+) -> Result<AfterName, AllocError>
+    ensures { IfOk result (λ found. (d : Declaration)
         → slice_get d.options index ≡ Some (option_view option.now)
-        → IsGiven d index parser.old given parser.new) }
+        → IsAfterName d index parser.old found parser.new) }
 {
     match option.kind {
-        Kind::Flag(_) | Kind::Help | Kind::Version(_) => Ok(Given::Values {
+        Kind::Flag(_) | Kind::Help | Kind::Version(_) => Ok(AfterName::Values {
             accepted: true,
             first: None,
             goes_on: false,
         }),
         Kind::Value(_, _) => match parser.take() {
-            Ok(value) => Ok(Given::Values {
+            Ok(value) => Ok(AfterName::Values {
                 accepted: accepts(option.words, &value),
                 first: Some(value),
                 goes_on: false,
             }),
-            Err(refused) => lacking(refused, Given::Lacks(State::Due(index))),
+            Err(refused) => lacking(refused, AfterName::Lacks(State::Due(index))),
         },
         Kind::Maybe(_, _) => match parser.optional_value() {
-            Some(value) => Ok(Given::Values {
+            Some(value) => Ok(AfterName::Values {
                 accepted: accepts(option.words, &value),
                 first: Some(value),
                 goes_on: false,
             }),
-            None => Ok(Given::Values {
+            None => Ok(AfterName::Values {
                 accepted: true,
                 first: None,
                 goes_on: false,
@@ -141,16 +139,16 @@ fn read_given<F, V, M, S>(
             let is_joined = parser.has_joined_value();
             let is_last = is_at_end(parser);
             match read_several(alloc, parser) {
-                Ok(values) => Ok(Given::Values {
+                Ok(values) => Ok(AfterName::Values {
                     accepted: refused_place(option.words, &values).is_none(),
                     first: first_of(values),
                     goes_on: !is_joined,
                 }),
                 Err(refused) => {
                     if is_last {
-                        lacking(refused, Given::Lacks(State::First(index)))
+                        lacking(refused, AfterName::Lacks(State::First(index)))
                     } else {
-                        lacking(refused, Given::Nothing)
+                        lacking(refused, AfterName::Missing)
                     }
                 }
             }
@@ -158,21 +156,22 @@ fn read_given<F, V, M, S>(
     }
 }
 
-// The state at the end of a line: whether the separator was read, and the option of several values
-// of which a plain word is one more, if there is one.
-fn state_at_end(several: Option<usize>, is_past_separator: bool) -> State
-    ensures { state_view result ≡ spec.state_at_end several is_past_separator }
+// The state where the words end, by whether the separator was read, and by the option of several
+// values of which a plain word would be one more, if there is one.
+fn state_at_end(going_on: Option<usize>, is_past_separator: bool) -> State
+    ensures { state_view result ≡ spec.state_at_end going_on is_past_separator }
 {
     if is_past_separator {
         return State::Ended;
     }
-    match several {
+    match going_on {
         Some(index) => State::Further(index),
         None => State::Anything,
     }
 }
 
-// Whether both hold. It is a function of its own, as the next two are, so that the loop has one way on.
+// Whether both hold. This function and the next two are apart from the loop, so that its proof has
+// fewer cases.
 fn are_both(one: bool, other: bool) -> bool
     ensures { result ≡ (one && other) }
 {
@@ -196,8 +195,8 @@ fn index_if(holds: bool, index: usize) -> Option<usize>
     if holds { Some(index) } else { None }
 }
 
-// Reads words as the beginning of a line: what they mean, and what the next word is; `None` if no
-// line begins with them, whatever the next word is.
+// Reads words as the beginning of a line: what they mean, and what the next word is; `None` if they
+// mean nothing, and nothing with any one word after them.
 fn read_front<F, V, P, M, S>(
     alloc: Global,
     parser: &mut Parser,
@@ -213,20 +212,25 @@ fn read_front<F, V, P, M, S>(
     let mut words = Vec::new(alloc);
     let mut all_accepted = true;
     let mut last = None;
-    let mut several = None;
+    let mut going_on = None;
     loop {
         match read_next(parser, options, limit, words.len())? {
-            Outcome::Option(index) => match read_given(alloc, parser, &declared[index], index)? {
-                Given::Values {
+            Outcome::Option(index) => match read_after_name(
+                alloc,
+                parser,
+                &declared[index],
+                index,
+            )? {
+                AfterName::Values {
                     accepted,
                     first,
                     goes_on,
                 } => {
                     all_accepted = are_both(all_accepted, accepted);
                     last = with_index(index, first);
-                    several = index_if(goes_on, index);
+                    going_on = index_if(goes_on, index);
                 }
-                Given::Lacks(state) => {
+                AfterName::Lacks(state) => {
                     return Ok(Some(Front {
                         words,
                         accepted: all_accepted,
@@ -234,19 +238,19 @@ fn read_front<F, V, P, M, S>(
                         state,
                     }));
                 }
-                Given::Nothing => return Ok(None),
+                AfterName::Missing => return Ok(None),
             },
             Outcome::Positional(word) => {
                 words.push(word)?;
                 last = None;
-                several = None;
+                going_on = None;
             }
             Outcome::End => {
                 return Ok(Some(Front {
                     words,
                     accepted: all_accepted,
                     last,
-                    state: state_at_end(several, parser.is_past_separator()),
+                    state: state_at_end(going_on, parser.is_past_separator()),
                 }));
             }
             Outcome::Undeclared(_) => return Ok(None),
@@ -260,8 +264,8 @@ impl<F, V, P, M, S> Options<'_, F, V, P, M, S> {
     ghost use Rattle.lexopt_options.specs.Declarations.{declaration_of};
     ghost use Rattle.lexopt_options.specs.States.{IsFrontOf};
 
-    // What words mean as the beginning of a line, and what the next word is; `None` if no line
-    // begins with them, whatever the next word is.
+    // What words mean as the beginning of a line, and what the next word is; `None` if they mean
+    // nothing, and nothing with any one word after them.
     pub(crate) fn front(
         &self,
         alloc: Global,

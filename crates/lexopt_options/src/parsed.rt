@@ -1,4 +1,4 @@
-//! What is read from a line, by the keys of a declaration. `indexed.rt` has the same by indices.
+//! What is read from a line, by the keys of a declaration.
 use lexopt_words::os_string::OsString;
 use std::convert::Infallible;
 

@@ -1,6 +1,6 @@
 //! Which words the positionals of a line accept, and which positionals a word can belong to.
 ghost use Rattle.std.specs.Prelude.{◌≡◌, ◌≤◌, ◌↔◌, ◌+◌, ◌-◌, ℕ, IfOk, IsTrue, List, Some, false, length};
-ghost use Rattle.std.specs.Prelude.{is_none, map, slice_get, true};
+ghost use Rattle.std.specs.Prelude.{is_none, map, true};
 ghost use Rattle.std.specs.List.{list_any};
 ghost use Rattle.std.specs.Option.{MatchOption};
 ghost use Rattle.lexopt_options_spec.specs.Completion.{AreOwners, CanOwn};
@@ -23,7 +23,7 @@ use crate::options::Options;
 use crate::parsed::Parsed;
 use crate::places::{count_of, place_of, spare_of};
 use lexopt_declaration::declaration::{Positional, Words};
-use lexopt_declaration::positionals::{least_of, most_of};
+use lexopt_declaration::positionals::most_of;
 use lexopt_words::os_string::OsString;
 use std::alloc::{AllocError, Global};
 

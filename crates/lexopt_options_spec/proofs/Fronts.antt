@@ -1,26 +1,28 @@
 -- What words mean, and where their reading stops.
-use Rattle.std.proofs.Common.{◌≡◌, ◌≤◌, ℕ, ◌+◌, suc, true, List, [], ◌∷◌, ◌++◌, map, Option, Some, None, is_none, refl, sym, ap, subst, ◌∙◌, arith}
+use Rattle.std.proofs.Common.{◌≡◌, ◌≤◌, ℕ, ◌+◌, suc, Bool, true, List, [], ◌∷◌, ◌++◌, map, Option, Some, None, is_none, refl, sym, ap, subst, ◌∙◌, arith}
 use Rattle.std.specs.Option.{option_map}
 use Rattle.std.proofs.lemmas.Bool.{and_parts, false≢true}
-use Rattle.lexopt_spec.specs.UnreadLine.{UnreadLine}
+use Rattle.lexopt_spec.specs.UnreadLine.{IsLine, UnreadLine}
 use Rattle.lexopt_spec.specs.Steps as steps
 use Rattle.lexopt_spec.specs.Steps.{Reply, Next}
 use Rattle.lexopt_spec.specs.Runs.{next}
 use Rattle.lexopt_line_spec.specs.Table as spec
-use Rattle.lexopt_line_spec.specs.Table.{Item, Name, kind}
-use Rattle.lexopt_line_spec.specs.Readings.{IsReading, item_after, items_of_replies, option_reply, start}
+use Rattle.lexopt_line_spec.specs.Table.{Item, Name, Table, kind}
+use Rattle.lexopt_line_spec.specs.Readings.{IsReading, ReadsItems, item_after, items_of_replies, option_reply, start}
 use Rattle.lexopt_line_spec.specs.Speller.{IsOf}
+use Rattle.lexopt_line_spec.specs.Spelling.{Spells}
 use Rattle.lexopt_line_spec.proofs.Existence.{only_one}
 use Rattle.lexopt_line_spec.proofs.Names.{shown_spells, spelled_shows}
 use Rattle.lexopt_line_spec.proofs.OneReading.{option_reading, some_reading}
 use Rattle.lexopt_line_spec.proofs.ItemsRead.{says_items}
 use Rattle.lexopt_line_spec.proofs.ReadingSteps.{says_positional, reads_last, reads_refused}
 use Rattle.lexopt_line_spec.proofs.RunAccounts.{step_line}
-use Rattle.lexopt_line_spec.proofs.WholeLines.{said_shows, shown_said}
+use Rattle.lexopt_line_spec.proofs.WholeLines.{said_shows, shown_read, shown_said}
 use Rattle.lexopt_options_spec.specs.Declaration.{Declaration, Declared, index_of, is_sound, table}
 use Rattle.lexopt_options_spec.specs.Legal.{Parsed, parsed_item, positional, positional_count, positional_words, occurs, most, IsWithin, MeansFront, Means, are_accepted, refused_value}
 use Rattle.lexopt_options_spec.specs.Places.{AreTaken, least}
 use Rattle.lexopt_options_spec.specs.Stops.{Mistake, ReadsUpTo, Stops, not_declared, value_of_flag, no_value, not_accepted, one_too_many, too_few, not_taken, not_complete, StopsAt, invalid_argument, invalid_value, missing_argument, missing_option}
+use Rattle.lexopt_options_spec.proofs.ReadItems.{ReadsAll, all_read}
 use Rattle.lexopt_options_spec.proofs.Sound.{whole_names}
 use Rattle.lexopt_options_spec.proofs.Taken.{not_both}
 use Rattle.lexopt_options_spec.proofs.Lists.{Later, split, first_none, first_is, same_somes, count_append}
@@ -69,24 +71,19 @@ pub record ComesTo (d : Declaration) (words : List (List ℕ)) (before : List Pa
 pub comes_to : {d : Declaration} {words : List (List ℕ)} {before : List Parsed} {mistake : Mistake} → StopsAt d words before mistake → ComesTo d words before mistake
 comes_to at = record { there = at.there; read = at.read; stops = at.stops }
 
--- every reading of the unread line is the end of a reading of the whole, so it gives what the words
--- spell
-record Ends (d : Declaration) (before : List Item) (spelled : List Item) (final : Reply) (m : List Item) : Type 0 where
-  final_is : final ≡ steps.end
-  items_are : spelled ≡ before ++ m
+-- the words spell m, and l is read up to the line u: every reading of u is the end of a reading of
+-- the whole, so it gives the rest of m
+later : (d : Declaration) (words : List (List ℕ)) (l m : List Parsed) (items all : List Item) (u : UnreadLine) → ReadsItems (table d.options) (start d.short_equals words) items u
+    → map (parsed_item d.options) items ≡ map (λ s. Some s) l → Spells (table d.options) d.short_equals words all → map (parsed_item d.options) all ≡ map (λ s. Some s) m
+    → (final : Reply) (xs : List Item) → IsReading (table d.options) u final xs → (final ≡ steps.end) × Later (parsed_item d.options) xs l m
+later d words l m items all u reads parsed spelled are final xs reading =
+    let t = table d.options in
+    let same = shown_said t d.short_equals words all (items ++ xs) final (spelled_shows t d.short_equals words all spelled) (says_items t (start d.short_equals words) u items reads final xs reading) in
+    (same.0, split (parsed_item d.options) items xs l m parsed (sym (ap (map (parsed_item d.options)) same.1) ∙ are))
 
-ends : (d : Declaration) (words : List (List ℕ)) (before : List Parsed) (mistake : Mistake) (there : ComesTo d words before mistake) (l : List Parsed) (means : MeansFront d words l)
-    → (final : Reply) (m : List Item) → IsReading (table d.options) there.there final m → Ends d there.read.items means.items final m
-ends d words before mistake there l means final m reading =
-    let whole = says_items (table d.options) (start d.short_equals words) there.there there.read.items there.read.read final m reading in
-    let parsed = shown_said (table d.options) d.short_equals words means.items (there.read.items ++ m) final
-    (spelled_shows (table d.options) d.short_equals words means.items means.spelled) whole in
-    record { final_is = parsed.0; items_are = parsed.1 }
-
-later : (d : Declaration) (words : List (List ℕ)) (before : List Parsed) (mistake : Mistake) (there : ComesTo d words before mistake) (l : List Parsed) (means : MeansFront d words l)
-    → (m : List Item) → means.items ≡ there.read.items ++ m → Later (parsed_item d.options) m before l
-later d words before mistake there l means m is =
-    split (parsed_item d.options) there.read.items m before l there.read.parsed (sym (ap (map (parsed_item d.options)) is) ∙ means.parsed)
+ends : (d : Declaration) (words : List (List ℕ)) (before : List Parsed) (mistake : Mistake) (there : ComesTo d words before mistake) (l : List Parsed) → MeansFront d words l
+    → (final : Reply) (m : List Item) → IsReading (table d.options) there.there final m → (final ≡ steps.end) × Later (parsed_item d.options) m before l
+ends d words before mistake there l means = later d words before l there.read.items means.items there.there there.read.read there.read.parsed means.spelled means.parsed
 
 above : (n k : ℕ) (limit : Option ℕ) → limit ≡ Some n → IsWithin (n + suc k) limit → ⊥
 above n k None is within = let e : None ≡ Some n = is in cc
@@ -99,20 +96,20 @@ stops_front d words before mistake other there is not neither nor never (not_dec
     let t = table d.options in
     let r = option_reading t there.there v name (step_line next there.there (option_reply name) v there.read.line step) step in
     let e = ends d words before mistake there l means r.0 (item_after name r.1 ∷ items_of_replies r.1) r.2 in
-    let rest = later d words before mistake there l means (item_after name r.1 ∷ items_of_replies r.1) e.items_are in
+    let rest = e.1 in
     first_none (parsed_item d.options) (item_after name r.1) (items_of_replies r.1) rest.later (undeclared d.options name (item_after name r.1) (item_of name r.1) none) rest.are
 stops_front d words before mistake other there is not neither nor never (value_of_flag option value v step) l means =
     let e = ends d words before mistake there l means (steps.unexpected option value) _ (reads_last (table d.options) there.there v (steps.unexpected option value) tt step) in
-    let f : steps.unexpected option value ≡ steps.end = e.final_is in cc
+    let f : steps.unexpected option value ≡ steps.end = e.0 in cc
 stops_front d words before mistake other there is not neither nor never (no_value name index option call v w step found due takes) l means =
     let e = ends d words before mistake there l means (steps.missing (Some option)) _
     (reads_refused (table d.options) there.there v w name (kind (table d.options) name) call (steps.missing (Some option)) refl due tt step takes) in
-    let f : steps.missing (Some option) ≡ steps.end = e.final_is in cc
+    let f : steps.missing (Some option) ≡ steps.end = e.0 in cc
 stops_front d words before mistake other there is not neither nor never (one_too_many word v step limit) l means =
     let t = table d.options in
     let r = some_reading t v (step_line next there.there (steps.positional word) v there.read.line step) in
     let e = ends d words before mistake there l means r.0 _ (says_positional t there.there v word step r.0 r.1 r.2) in
-    let rest = later d words before mistake there l means (spec.positional word ∷ r.1) e.items_are in
+    let rest = e.1 in
     let first = first_is (parsed_item d.options) (spec.positional word) (positional word) r.1 rest.later refl rest.are in
     let count : positional_count l ≡ positional_count before + suc (positional_count first.0) =
     ap positional_count rest.all_are ∙ count_append before rest.later ∙ ap (λ m. positional_count before + positional_count m) first.1 ∙ ap (λ n. positional_count before + n) (omega arith) in
@@ -134,7 +131,7 @@ front_is : (d : Declaration) (words : List (List ℕ)) (before : List Parsed) (m
     → (l : List Parsed) → MeansFront d words l → l ≡ before
 front_is d words before mistake there v step l means =
     let e = ends d words before mistake there l means steps.end [] (reads_last (table d.options) there.there v steps.end tt step) in
-    let rest = later d words before mistake there l means [] e.items_are in
+    let rest = e.1 in
     rest.all_are ∙ ap (λ m. before ++ m) (sym (same_somes [] rest.later rest.are)) ∙ append_nil before
   where
     append_nil : (l : List Parsed) → l ++ [] ≡ l
@@ -164,7 +161,7 @@ stops_whole d words before mistake other there is (not_accepted s index value v 
     let t = table d.options in
     let r = some_reading t v read.line in
     let e = ends d words before mistake there l means.front r.0 (read.items ++ r.1) (says_items t there.there v read.items read.read r.0 r.1 r.2) in
-    let rest = later d words before mistake there l means.front (read.items ++ r.1) e.items_are in
+    let rest = e.1 in
     let more = split (parsed_item d.options) read.items r.1 (s ∷ []) rest.later read.parsed rest.are in
     let accepted : are_accepted d.options (before ++ s ∷ more.later) ≡ true = subst (λ m. are_accepted d.options m ≡ true) (rest.all_are ∙ ap (λ m. before ++ m) more.all_are) means.accepted in
     not_refused d.options before s more.later value accepted refused
@@ -183,13 +180,30 @@ nothing_parsed d words before mistake at l means = let there = comes_to at in st
 
 -- ---- what a front of a line means
 
+-- what words spell is read up to their end
+pub spelled_read : (t : Table) (short_equals : Bool) (words : List (List ℕ)) (items : List Item) → Spells t short_equals words items → (after : UnreadLine) × ReadsAll t (start short_equals words) items after
+spelled_read t short_equals words items spelled =
+    let reading = shown_read t short_equals words items (spelled_shows t short_equals words items spelled) in
+    (reading.after, all_read t (start short_equals words) items reading)
+
+-- the words spell m, and l is read up to the line u: the rest is read from there
+pub record Rest (d : Declaration) (l m : List Parsed) (u : UnreadLine) : Type 0 where
+  pub items : List Item
+  pub rest : Later (parsed_item d.options) items l m
+  pub after : UnreadLine
+  pub all : ReadsAll (table d.options) u items after
+
+pub rest_of : (d : Declaration) (words : List (List ℕ)) (l m : List Parsed) (items all : List Item) (u : UnreadLine) → IsLine u → ReadsItems (table d.options) (start d.short_equals words) items u
+    → map (parsed_item d.options) items ≡ map (λ s. Some s) l → Spells (table d.options) d.short_equals words all → map (parsed_item d.options) all ≡ map (λ s. Some s) m → Rest d l m u
+rest_of d words l m items all u line reads parsed spelled are =
+    let t = table d.options in
+    let r = some_reading t u line in
+    let so = later d words l m items all u reads parsed spelled are r.0 r.1 r.2 in
+    let reading = subst (λ f. IsReading t u f r.1) so.0 r.2 in
+    record { items = r.1; rest = so.1; after = reading.after; all = all_read t u r.1 reading }
+
 -- what words mean begins with what was read
 pub front_later : (d : Declaration) (words : List (List ℕ)) (before : List Parsed) (there : UnreadLine) → ReadsUpTo d (start d.short_equals words) before there → (l : List Parsed) → MeansFront d words l
     → (later : List Parsed) × (l ≡ before ++ later)
 front_later d words before there read l means =
-    let r = some_reading (table d.options) there read.line in
-    let parsed = shown_said (table d.options) d.short_equals words means.items (read.items ++ r.1) r.0
-    (spelled_shows (table d.options) d.short_equals words means.items means.spelled)
-    (says_items (table d.options) (start d.short_equals words) there read.items read.read r.0 r.1 r.2) in
-    let rest = split (parsed_item d.options) read.items r.1 before l read.parsed (sym (ap (map (parsed_item d.options)) parsed.1) ∙ means.parsed) in
-    (rest.later, rest.all_are)
+    let rest = (rest_of d words before l read.items means.items there read.line read.read read.parsed means.spelled means.parsed).rest in (rest.later, rest.all_are)

@@ -3,7 +3,7 @@ use Rattle.std.proofs.Common.{◌≡◌, ◌≢◌, ◌<◌, ℕ, Bool, true, fa
 use Rattle.std.proofs.lemmas.List.{append-nil}
 use Rattle.std.proofs.lemmas.List.Elements.{All-nil, All-cons, All-append}
 use Rattle.lexopt_spec.specs.UnreadLine as unread
-use Rattle.lexopt_spec.specs.UnreadLine.{equals, no_tail, UnreadLine, IsLine, spelling, pending, IsPlain, IsNormalIn, IsPlainFront}
+use Rattle.lexopt_spec.specs.UnreadLine.{dash, equals, no_tail, UnreadLine, IsLine, spelling, pending, IsPlain, IsNormalIn, IsPlainFront}
 use Rattle.lexopt_spec.specs.Steps as steps
 use Rattle.lexopt_spec.specs.Steps.{Reply, Next, Value, NextStep, ValueStep, OptionalStep, ReadsShort, ReadsPositional, no_word_left, word_left, ReadsWord, no_word, reads_separator, reads_long, reads_cluster, reads_positional, joined_value, equals_value, next_in_cluster, after_separator, next_word, pending_value, takes_word, nothing_to_take, optional_pending, optional_none}
 use Rattle.lexopt_spec.specs.Views.{plain_front, available, available_with, without, ValuesStep, no_values, some_values}
@@ -18,7 +18,8 @@ use Rattle.lexopt_line_spec.proofs.ItemsRead.{option_given}
 use Rattle.lexopt_line_spec.proofs.Lines.{next_line}
 use Rattle.lexopt_line_spec.proofs.OptionalLaw.{none_tail}
 use Rattle.lexopt_line_spec.proofs.ReplyKinds.{next_open}
-use Rattle.lexopt_options_spec.proofs.Cuts.{AllGiven, joined_given, attached_given, words_given, came_is, enough, items_cut}
+use Rattle.lexopt_line_spec.proofs.RunAccounts.{step_line}
+use Rattle.lexopt_options_spec.proofs.Cuts.{AllGiven, joined_given, attached_given, words_given, came_is, enough}
 
 -- the line with more words at its end
 abbrev pub longer : List (List ℕ) → UnreadLine → UnreadLine
@@ -268,29 +269,93 @@ grows_several t u v w name n values joined line k step few takes if_pending if_j
     is_true true is = refl
     is_true false is = absurd (true≢false is)
 
--- ---- words are left
+-- ---- items, one by one
 
-first_longer : (t : Table) (tail : List (List ℕ)) (u w : UnreadLine) (item : Item) → w.words ≢ [] → ReadsFirst t u item w → ReadsFirst t (longer tail u) item (longer tail w)
-first_longer t tail u w item some (first_positional word v step) = (grows_positional t u w word step).closed refl tail
-first_longer t tail u w item some (first_flag name v k step) = (grows_flag t u w name k step).closed refl tail
-first_longer t tail u w item some (first_one name word v x k step takes) = (grows_one t u v w name word k step takes).closed refl tail
-first_longer t tail u w item some (first_optional name word v x k step takes) = (grows_optional t u v w name word k step takes).closed refl tail
-first_longer t tail u w item some (first_several name n words v x k step few takes) =
-    let full = full_step n v w (steps.items words) few (enough (ValuesStep n) v (steps.items words) w takes (λ none. cc)) in
-    several_read t (longer tail u) (longer tail v) (longer tail w) name words k (option_more u v name tail step) (values_more v w words tail (λ none. absurd (some none)) full)
-
--- words that are left were there before
-left_before : (t : Table) (u w : UnreadLine) (items : List Item) → ReadsItems t u items w → w.words ≢ [] → u.words ≢ []
-left_before t u w items reads some none = let cut = items_cut t u w items [] w.words refl reads in some (empty_end cut.before w.words (sym cut.words_are ∙ none))
+pub grows_first : (t : Table) (u w : UnreadLine) (x : Item) → IsLine u → ReadsFirst t u x w → (opens : Bool) × Grows t u x opens w × IsLine w
+grows_first t u w x line (first_positional word v step) = (false, grows_positional t u w word step, step_line calls.next u (steps.positional word) w line step)
+grows_first t u w x line (first_flag name v k step) = (false, grows_flag t u w name k step, step_line calls.next u (option_reply name) w line step)
+grows_first t u w x line (first_one name word v z k step takes) =
+    (false, grows_one t u v w name word k step takes, step_line calls.value v (steps.taken word) w (step_line calls.next u (option_reply name) v line step) takes)
+grows_first t u w x line (first_optional name word v z k step takes) =
+    (false, grows_optional t u v w name word k step takes, step_line calls.optional v (steps.maybe word) w (step_line calls.next u (option_reply name) v line step) takes)
+grows_first t u w x line (first_several name n values v z k step few takes) = (
+  not (is_joined (pending v)),
+  grows_several t u v w name n values (is_joined (pending v)) line k step few takes (λ value has. ap is_joined has) (joined_value_in (pending v)),
+  step_line (calls.values n) v (steps.items values) w (step_line calls.next u (option_reply name) v line step) takes,
+)
   where
-    empty_end : (before left : List (List ℕ)) → before ++ left ≡ [] → left ≡ []
-    empty_end [] left is = is
-    empty_end (w ∷ before) left is = absurd (let e : w ∷ (before ++ left) ≡ [] = is in cc)
+    joined_value_in : (found : Option (List ℕ × Bool)) → is_joined found ≡ true → (value : List ℕ) × (found ≡ Some (value, true))
+    joined_value_in None is = absurd (true≢false (sym is))
+    joined_value_in (Some (value, by_equals)) is = (value, ap (λ b. Some (value, b)) is)
 
-pub items_longer : (t : Table) (tail : List (List ℕ)) (u w : UnreadLine) (items : List Item) → w.words ≢ [] → ReadsItems t u items w → ReadsItems t (longer tail u) items (longer tail w)
-items_longer t tail u w [] some reads = ap (longer tail) reads
-items_longer t tail u w (item ∷ items) some (v, first, others) =
-    (longer tail v, first_longer t tail u v item (left_before t v w items others some) first, items_longer t tail v w items some others)
+-- where something is read, a line that ends there is not at its end
+pub calm_before : (t : Table) (u w : UnreadLine) (x : Item) → ReadsFirst t u x w → (tail : List (List ℕ)) → Calm u tail
+calm_before t u w x next tail none no_left = absurd (reads_something t u w x none no_left next)
+
+pub items_calm : (t : Table) (tail : List (List ℕ)) (u w : UnreadLine) (items : List Item) → IsLine u → Calm w tail → ReadsItems t u items w → ReadsItems t (longer tail u) items (longer tail w)
+items_calm t tail u w [] line calm reads = ap (longer tail) reads
+items_calm t tail u w (x ∷ items) line calm (v, first, others) =
+    let grows = grows_first t u v x line first in
+    (longer tail v, grows.1.calm tail (before items others), items_calm t tail v w items grows.2 calm others)
+  where
+    before : (items : List Item) → ReadsItems t v items w → Calm v tail
+    before [] is = subst (λ z. Calm z tail) is calm
+    before (y ∷ ys) (z, next, more) = calm_before t v z y next tail
+
+-- items are read in the same way whatever words come at the end, or one more plain word there is
+-- one more value of the last
+pub data Grown (t : Table) (u : UnreadLine) (items : List Item) (w : UnreadLine) : Type 0 where
+  closed_items : ((tail : List (List ℕ)) → ReadsItems t (longer tail u) items (longer tail w)) → Grown t u items w
+  opened_items : w.ended ≡ false
+      → (w.words ≡ [] → (p : List ℕ) → IsPlain false p → (front : List Item) × (name : Name) × (values : List (List ℕ)) × ReadsItems t (longer (p ∷ []) u) (front ++ many name values ∷ []) w) → Grown t u items w
+
+pub grown : (t : Table) (u w : UnreadLine) (items : List Item) → IsLine u → ReadsItems t u items w → Grown t u items w
+grown t u w [] line reads = closed_items (λ tail. ap (longer tail) reads)
+grown t u w (x ∷ []) line (v, first, is) =
+    let grows = grows_first t u v x line first in subst (Grown t u (x ∷ [])) (sym is) (only grows.0 grows.1)
+  where
+    only : (opens : Bool) → Grows t u x opens v → Grown t u (x ∷ []) v
+    only false grows = closed_items (λ tail. (longer tail v, grows.closed refl tail, refl))
+    only true grows =
+        let there = grows.opened refl in opened_items there.before_separator (λ none p plain. ([], there.name, there.values ++ p ∷ [], (v, there.more none p plain, refl)))
+grown t u w (x ∷ y ∷ items) line (v, first, others) = let grows = grows_first t u v x line first in more (λ tail. grows.1.calm tail (calm_before t v others.0 y others.1 tail)) (grown t v w (y ∷ items) grows.2 others)
+  where
+    more : ((tail : List (List ℕ)) → ReadsFirst t (longer tail u) x (longer tail v)) → Grown t v (y ∷ items) w → Grown t u (x ∷ y ∷ items) w
+    more again (closed_items all) = closed_items (λ tail. (longer tail v, again tail, all tail))
+    more again (opened_items before all) = opened_items before
+        (λ none p plain. let one_more = all none p plain in (x ∷ one_more.0, one_more.1, one_more.2, (longer (p ∷ []) v, again (p ∷ []), one_more.3)))
+
+-- ---- the end of a line
+
+-- the line u ends, and v is left: after the separator, before it, or with it
+pub data EndsSo (u v : UnreadLine) : Type 0 where
+  ended_before : u.tail ≡ no_tail → u.ended ≡ true → u.words ≡ [] → v ≡ u → EndsSo u v
+  open_there : u.tail ≡ no_tail → u.ended ≡ false → u.words ≡ [] → v ≡ u → EndsSo u v
+  separator_last : u.tail ≡ no_tail → u.ended ≡ false → u.words ≡ (dash ∷ dash ∷ []) ∷ [] → v ≡ record u { words = []; ended = true } → EndsSo u v
+
+pub ends_so : (u v : UnreadLine) → NextStep u steps.end v → EndsSo u v
+ends_so u v (joined_value value option joins spelled r_is after) = absurd (let e : steps.end ≡ steps.unexpected option value = r_is in cc)
+ends_so u v (equals_value value option joins on spelled r_is after) = absurd (let e : steps.end ≡ steps.unexpected option value = r_is in cc)
+ends_so u v (next_in_cluster bytes continues other reads) = absurd (let e : steps.end ≡ steps.short _ = reads.reply_is in cc)
+ends_so u v (after_separator none ended (no_word_left empty r_is after)) = ended_before none ended empty after
+ends_so u v (after_separator none ended (word_left w ws some r_is after)) = absurd (let e : steps.end ≡ steps.positional w = r_is in cc)
+ends_so u v (next_word none before (no_word empty r_is after)) = open_there none before empty after
+ends_so u v (next_word none before (reads_separator ws some (no_word_left empty r_is after))) =
+    separator_last none before (some ∙ ap (λ l. (dash ∷ dash ∷ []) ∷ l) empty) (after ∙ ap (λ (l : List (List ℕ)). record u { words = l; ended = true }) empty)
+ends_so u v (next_word none before (reads_separator ws some (word_left w more some_more r_is after))) = absurd (let e : steps.end ≡ steps.positional w = r_is in cc)
+ends_so u v (next_word none before (reads_long text name tail ws some other long_so r_is after)) = absurd (let e : steps.end ≡ steps.long _ = r_is in cc)
+ends_so u v (next_word none before (reads_cluster bytes ws some other reads)) = absurd (let e : steps.end ≡ steps.short _ = reads.reply_is in cc)
+ends_so u v (next_word none before (reads_positional w ws some plain r_is after)) = absurd (let e : steps.end ≡ steps.positional w = r_is in cc)
+
+-- one more word there is a positional, if it is plain or the separator was read
+pub adds_word : (u v : UnreadLine) (p : List ℕ) → EndsSo u v → (v.ended ≡ false → IsPlain false p) → NextStep (longer (p ∷ []) u) (steps.positional p) v
+adds_word u v p (ended_before none ended empty after) plain =
+    after_separator none ended (word_left p [] (ap (λ l. l ++ p ∷ []) empty) refl (after ∙ ap (λ (l : List (List ℕ)). record u { words = l }) empty))
+adds_word u v p (open_there none before empty after) plain =
+    next_word none before
+    (reads_positional p [] (ap (λ l. l ++ p ∷ []) empty) (plain (ap (λ (x : UnreadLine). x.ended) after ∙ before)) refl (after ∙ ap (λ (l : List (List ℕ)). record u { words = l }) empty))
+adds_word u v p (separator_last none before last_is after) plain =
+    next_word none before (reads_separator (p ∷ []) (ap (λ l. l ++ p ∷ []) last_is) (word_left p [] refl refl after))
 
 -- ---- values that lack
 

@@ -1,7 +1,7 @@
 -- What is read of the leading options of a line.
-use Rattle.std.proofs.Common.{◌≡◌, ℕ, Bool, true, false, List, [], ◌∷◌, ◌++◌, map, Some, refl, sym, ap, subst, ◌∙◌, inl, append_assoc}
+use Rattle.std.proofs.Common.{◌≡◌, ℕ, Bool, true, false, List, [], ◌∷◌, ◌++◌, map, Some, refl, sym, ap, subst, ◌∙◌, inl, append_assoc, true≢false}
 use Rattle.std.proofs.lemmas.List.{append_cancel_right}
-use Rattle.lexopt_spec.specs.UnreadLine.{dash, no_tail, UnreadLine}
+use Rattle.lexopt_spec.specs.UnreadLine.{dash, no_tail, IsPlain, UnreadLine}
 use Rattle.lexopt_spec.specs.Steps as steps
 use Rattle.lexopt_spec.specs.Steps.{Next, NextStep, no_word_left, word_left, no_word, reads_separator, reads_long, reads_cluster, reads_positional, joined_value, equals_value, next_in_cluster, after_separator, next_word}
 use Rattle.lexopt_line_spec.specs.Table as spec
@@ -29,13 +29,14 @@ pub ends_here : (u : UnreadLine) (ended : Bool) → u.ended ≡ ended → u.tail
 ends_here u true is none empty = after_separator none is (no_word_left empty refl refl)
 ends_here u false is none empty = next_word none is (no_word empty refl refl)
 
--- the next word is a positional, or the one after the separator is
+-- the next word is a positional, or the one after the separator is; before the separator it is plain
 pub record WordRead (u : UnreadLine) (word : List ℕ) (w : UnreadLine) : Type 0 where
   pub before : List (List ℕ)
   pub words_are : u.words ≡ before ++ word ∷ w.words
   pub after : UnreadLine
   pub ends : NextStep (with_words before u) steps.end after
   pub none : w.tail ≡ no_tail
+  pub plain : w.ended ≡ false → IsPlain false word
 
 word_is : (w word : List ℕ) → steps.positional word ≡ steps.positional w → w ≡ word
 word_is w word is = cc
@@ -51,6 +52,7 @@ word_read u w word (after_separator none ended (word_left x ws some r_is after))
   after = with_words [] u;
   ends = ends_here (with_words [] u) true ended none refl;
   none = ap (λ (v : UnreadLine). v.tail) after ∙ none;
+  plain = λ before. absurd (true≢false (sym ended ∙ sym (ap (λ (v : UnreadLine). v.ended) after) ∙ before));
 }
 word_read u w word (next_word none not (no_word empty r_is after)) = absurd (let e : steps.positional word ≡ steps.end = r_is in cc)
 word_read u w word (next_word none not (reads_separator ws some (no_word_left empty r_is after))) = absurd (let e : steps.positional word ≡ steps.end = r_is in cc)
@@ -60,6 +62,7 @@ word_read u w word (next_word none not (reads_separator ws some (word_left x xs 
   after = record u { words = []; ended = true };
   ends = next_word none not (reads_separator [] refl (no_word_left refl refl refl));
   none = ap (λ (v : UnreadLine). v.tail) after ∙ none;
+  plain = λ before. absurd (true≢false (sym (ap (λ (v : UnreadLine). v.ended) after) ∙ before));
 }
 word_read u w word (next_word none not (reads_long text name tail ws some other long r_is after)) = absurd (let e : steps.positional word ≡ steps.long _ = r_is in cc)
 word_read u w word (next_word none not (reads_cluster bytes ws some other reads)) = absurd (let e : steps.positional word ≡ steps.short _ = reads.reply_is in cc)
@@ -69,6 +72,7 @@ word_read u w word (next_word none not (reads_positional x ws some plain r_is af
   after = with_words [] u;
   ends = ends_here (with_words [] u) false not none refl;
   none = ap (λ (v : UnreadLine). v.tail) after ∙ none;
+  plain = λ before. subst (IsPlain false) (word_is x word r_is) plain;
 }
 
 -- words whose reading reaches the end spell what was read

@@ -14,7 +14,6 @@ pub mod LeadingOptions
 pub mod Distance
 pub mod Nearest
 pub mod OpenLines
-pub mod LastWords
 pub mod Occurs
 pub mod Offered
 pub mod Tables

@@ -66,10 +66,34 @@ first_is f x y xs (z ∷ l) some is =
     let p = first_same (f x) (Some z) (map f xs) (map (λ y. Some y) l) is in
     (l, ap (λ w. w ∷ l) (some_same z y (sym p.0 ∙ some)))
 
-pub map_at : {X Y : Type 0} (f : X → Y) (xs : List X) (x : X) → map f (xs ++ x ∷ []) ≡ map f xs ++ f x ∷ []
-map_at f [] x = refl
-map_at f (y ∷ xs) x = ap (λ l. f y ∷ l) (map_at f xs x)
-
 pub count_append : (l m : List Parsed) → positional_count (l ++ m) ≡ positional_count l + positional_count m
 count_append [] m = omega arith
 count_append (s ∷ l) m = let rest = count_append l m in omega arith
+
+-- ---- lists with the same last element
+
+pub no_last : {X : Type 0} (l : List X) (x : X) → [] ≡ l ++ x ∷ [] → ⊥
+no_last [] x is = let e : [] ≡ x ∷ [] = is in cc
+no_last (y ∷ l) x is = let e : [] ≡ y ∷ (l ++ x ∷ []) = is in cc
+
+pub same_last : {X : Type 0} (l m : List X) (x y : X) → l ++ x ∷ [] ≡ m ++ y ∷ [] → (l ≡ m) × (x ≡ y)
+same_last [] [] x y is = (refl, (first_same x y [] [] is).0)
+same_last {X} [] (b ∷ m) x y is = absurd (no_last m y (first_same x b [] (m ++ y ∷ []) is).1)
+same_last {X} (a ∷ l) [] x y is = absurd (no_last l x (sym (first_same a y (l ++ x ∷ []) [] is).1))
+same_last (a ∷ l) (b ∷ m) x y is =
+    let p = first_same a b (l ++ x ∷ []) (m ++ y ∷ []) is in
+    let q = same_last l m x y p.1 in
+    (ap (λ z. z ∷ l) p.0 ∙ ap (λ zs. b ∷ zs) q.0, q.1)
+
+-- a list is empty or has a last element
+pub data Ending {X : Type 0} (l : List X) : Type 0 where
+  has_none : l ≡ [] → Ending l
+  has_last : (front : List X) (x : X) → l ≡ front ++ x ∷ [] → Ending l
+
+pub ending : {X : Type 0} (l : List X) → Ending l
+ending [] = has_none refl
+ending (x ∷ l) = more (ending l)
+  where
+    more : Ending l → Ending (x ∷ l)
+    more (has_none is) = has_last [] x (ap (λ m. x ∷ m) is)
+    more (has_last front y is) = has_last (x ∷ front) y (ap (λ m. x ∷ m) is)

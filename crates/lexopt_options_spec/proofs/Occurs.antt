@@ -26,7 +26,7 @@ use Rattle.lexopt_options_spec.proofs.Sound.{IsGoodName, found, good}
 use Rattle.lexopt_options_spec.proofs.Tables.{kind_of_name, none_before, position_here}
 use Rattle.lexopt_options_spec.proofs.Taken.{AreFilled, can_be_taken, words_append, words_count, words_same}
 use Rattle.lexopt_options_spec.specs.Completion.{CanBeTaken}
-use Rattle.lexopt_options_spec.proofs.OpenLines.{OpenLine, Parts, open_to_the_end, up_to_separator, dashes, continues, parts}
+use Rattle.lexopt_options_spec.proofs.OpenLines.{OpenLine, Parts, open_to_the_end, past_separator, dashes, continues, parts}
 
 -- ---- words that are not values
 
@@ -303,37 +303,22 @@ both_parsed options (x ∷ xs) ys (s ∷ l) m is other =
 pub longer : {X : Type 0} (l : List X) (x : X) (m : List X) → l ++ x ∷ m ≢ l
 longer l x m is = let e = ap length is in let f = length-append l (x ∷ m) in absurd (omega (arith, e, f))
 
-positionals_append : (xs ys : List (List ℕ)) → map spec.positional (xs ++ ys) ≡ map spec.positional xs ++ map spec.positional ys
-positionals_append [] ys = refl
-positionals_append (x ∷ xs) ys = ap (λ l. spec.positional x ∷ l) (positionals_append xs ys)
-
--- after a separator each word is a positional
-pub more_positionals : (t : Table) (on : Bool) (words before rest more : List (List ℕ)) (items front : List Item) → words ≡ before ++ dashes ∷ rest → items ≡ front ++ map spec.positional rest
-    → OpenLine exact t on before front → Line exact t on (words ++ more) (items ++ map spec.positional more)
-more_positionals t on words before rest more items front are items_are opens =
-    subst (λ ws. Line exact t on ws (items ++ map spec.positional more)) (sym (ap (λ ws. ws ++ more) are ∙ append_assoc before (dashes ∷ rest) more))
-    (subst (Line exact t on (before ++ dashes ∷ (rest ++ more)))
-    (ap (λ is. front ++ is) (positionals_append rest more) ∙ sym (append_assoc front (map spec.positional rest) (map spec.positional more)) ∙ sym (ap (λ is. is ++ map spec.positional more) items_are))
-    (continues exact t on before (dashes ∷ (rest ++ more)) front (map spec.positional (rest ++ more)) (dashes_calm (rest ++ more)) opens (separator (rest ++ more))))
-
--- what the words mean then
-later_positionals : (d : Declaration) (words before rest more : List (List ℕ)) (front : List Item) (l all : List Parsed) (means : MeansFront d words l) → words ≡ before ++ dashes ∷ rest
-    → means.items ≡ front ++ map spec.positional rest → OpenLine exact (table d.options) d.short_equals before front → (whole : MeansFront d (words ++ more) all) → all ≡ l ++ map positional more
-later_positionals d words before rest more front l all means are items_are opens whole =
+-- what words mean if all words that come after them are positionals
+later_positionals : (d : Declaration) (words more : List (List ℕ)) (l all : List Parsed) (means : MeansFront d words l) → Line exact (table d.options) d.short_equals (words ++ more) (means.items ++ map spec.positional more)
+    → (whole : MeansFront d (words ++ more) all) → all ≡ l ++ map positional more
+later_positionals d words more l all means line whole =
     let t = table d.options in
-    let line = more_positionals t d.short_equals words before rest more means.items front are items_are opens in
     let same = only_one t (start d.short_equals (words ++ more)) whole.items (means.items ++ map spec.positional more) tt
     (spelled_shows t d.short_equals (words ++ more) whole.items whole.spelled) (spelled_shows t d.short_equals (words ++ more) (means.items ++ map spec.positional more) line) in
     let parsed = both_parsed d.options means.items (map spec.positional more) l (map positional more) means.parsed (words_said d.options more) in
     same_somes all (l ++ map positional more) (sym whole.parsed ∙ ap (map (parsed_item d.options)) same ∙ parsed)
 
-pub open_line : (d : Declaration) (words : List (List ℕ)) (l : List Parsed) → (is : IsOpen d words l) → OpenLine exact (table d.options) d.short_equals words is.front.items
+open_line : (d : Declaration) (words : List (List ℕ)) (l : List Parsed) → (is : IsOpen d words l) → OpenLine exact (table d.options) d.short_equals words is.front.items
 open_line d words l is = go (parts exact (table d.options) d.short_equals words is.front.items is.front.spelled)
   where
     go : Parts exact (table d.options) d.short_equals words is.front.items → OpenLine exact (table d.options) d.short_equals words is.front.items
     go (open_to_the_end opens) = opens
-    go (up_to_separator before rest front are items_are opens) =
-        absurd (longer l (positional dashes) [] (sym (later_positionals d words before rest (dashes ∷ []) front l l is.front are items_are opens is.with_separator)))
+    go (past_separator some later) = absurd (longer l (positional dashes) [] (sym (later_positionals d words (dashes ∷ []) l l is.front (later (dashes ∷ [])) is.with_separator)))
 
 pub can_occur : (d : Declaration) (words : List (List ℕ)) (l : List Parsed) (name : Name) (i : ℕ) → is_sound d.options ≡ true → AreText d.options → AreNamed d.options → IsOpen d words l
     → are_accepted d.options l ≡ true → AreFilled d.positionals (positional_words l) → index_of d.options name ≡ Some i → IsText name → CanOccur d words (spelling name)
@@ -430,7 +415,7 @@ occurs_open d words s possible = go (parts exact (table d.options) d.short_equal
         within = possible.words_say.within;
       };
     }
-    go (up_to_separator before rest front are items_are opens) =
+    go (past_separator some later) =
         absurd (no_positional possible.index possible.parsed possible.later s possible.rest possible.is
         (same_later possible.before possible.parsed possible.later (map positional (s ∷ possible.rest))
-        (later_positionals d words before rest (s ∷ possible.rest) front possible.before _ possible.words_say are items_are opens possible.line_means.front)))
+        (later_positionals d words (s ∷ possible.rest) possible.before _ possible.words_say (later (s ∷ possible.rest)) possible.line_means.front)))

@@ -1,5 +1,5 @@
 -- Words have one list of leading options, and one rest.
-use Rattle.std.proofs.Common.{◌≡◌, ◌≢◌, ℕ, false, List, [], ◌∷◌, ◌++◌, map, Some, None, refl, sym, ap, subst, ◌∙◌, inl, append_assoc, arith, true≢false}
+use Rattle.std.proofs.Common.{◌≡◌, ◌≢◌, ℕ, false, List, [], ◌∷◌, ◌++◌, map, Some, None, refl, sym, ap, subst, ◌∙◌, inl, append_assoc, arith}
 use Rattle.lexopt_spec.specs.UnreadLine.{dash, IsPlain, TailFits, UnreadLine}
 use Rattle.lexopt_spec.specs.Steps as steps
 use Rattle.lexopt_spec.specs.Steps.{Reply, NextStep, no_word_left, word_left, no_word, reads_separator, reads_long, reads_cluster, reads_positional, joined_value, equals_value, next_in_cluster, after_separator, next_word}
@@ -16,12 +16,11 @@ use Rattle.lexopt_options_spec.specs.Declaration.{Declaration, Declared, table}
 use Rattle.lexopt_options_spec.specs.Leading.{IsSplit}
 use Rattle.lexopt_options_spec.specs.Legal.{Parsed, positional, option, several, positional_count, parsed_item}
 use Rattle.lexopt_options_spec.proofs.Cuts.{enough, items_cut}
-use Rattle.lexopt_options_spec.proofs.LastWords.{same_last}
-use Rattle.lexopt_options_spec.proofs.Lists.{first_same, same_somes}
+use Rattle.lexopt_options_spec.proofs.Lists.{first_same, same_last, same_somes}
 use Rattle.lexopt_options_spec.proofs.Occurs.{dashes_calm}
 use Rattle.lexopt_options_spec.proofs.LeadingOptions.{append_nil, word_read}
-use Rattle.lexopt_options_spec.proofs.Growing.{items_longer, longer, step_more}
-use Rattle.lexopt_options_spec.proofs.ReadItems.{all_read}
+use Rattle.lexopt_options_spec.proofs.Growing.{EndsSo, ended_before, open_there, separator_last, ends_so, items_calm, longer, step_more}
+use Rattle.lexopt_options_spec.proofs.Fronts.{spelled_read}
 
 -- ---- lists of items
 
@@ -62,6 +61,9 @@ same_options (spec.many name values ∷ xs) (spec.many other more ∷ ys) a b ar
     let rest = same_options xs ys a b are too none nor parts.1 in
     (ap (λ x. x ∷ xs) parts.0 ∙ ap (λ l. spec.many other more ∷ l) rest.0, rest.1)
 
+rest_none : (s : Parsed) (l : List Parsed) → positional_count (s ∷ l) ≡ 0 → positional_count l ≡ 0
+rest_none s l is = omega (arith, is)
+
 pub options_alone : (options : List Declared) (items : List Item) (l : List Parsed) → map (parsed_item options) items ≡ map (λ s. Some s) l → positional_count l ≡ 0 → AreOptions items
 options_alone options [] l are none = tt
 options_alone options (spec.positional word ∷ items) [] are none = absurd (let e : Some (positional word) ∷ map (parsed_item options) items ≡ [] = are in cc)
@@ -73,15 +75,9 @@ options_alone options (spec.positional word ∷ items) (positional other ∷ l) 
 options_alone options (spec.option name value ∷ items) [] are none = absurd (let e : parsed_item options (spec.option name value) ∷ map (parsed_item options) items ≡ [] = are in cc)
 options_alone options (spec.option name value ∷ items) (s ∷ l) are none =
     options_alone options items l (first_same (parsed_item options (spec.option name value)) (Some s) (map (parsed_item options) items) (map (λ x. Some x) l) are).1 (rest_none s l none)
-  where
-    rest_none : (s : Parsed) (l : List Parsed) → positional_count (s ∷ l) ≡ 0 → positional_count l ≡ 0
-    rest_none s l is = omega (arith, is)
 options_alone options (spec.many name values ∷ items) [] are none = absurd (let e : parsed_item options (spec.many name values) ∷ map (parsed_item options) items ≡ [] = are in cc)
 options_alone options (spec.many name values ∷ items) (s ∷ l) are none =
     options_alone options items l (first_same (parsed_item options (spec.many name values)) (Some s) (map (parsed_item options) items) (map (λ x. Some x) l) are).1 (rest_none s l none)
-  where
-    rest_none : (s : Parsed) (l : List Parsed) → positional_count (s ∷ l) ≡ 0 → positional_count l ≡ 0
-    rest_none s l is = omega (arith, is)
 
 -- ---- the reading of a front
 
@@ -100,37 +96,6 @@ word_first t u w item word is (first_flag name v k step) = absurd (let e : spec.
 word_first t u w item word is (first_one name value v x k step takes) = absurd (let e : spec.option name (Some value) ≡ spec.positional word = is in cc)
 word_first t u w item word is (first_optional name value v x k step takes) = absurd (let e : spec.option name value ≡ spec.positional word = is in cc)
 word_first t u w item word is (first_several name n values v x k step few takes) = absurd (let e : spec.many name values ≡ spec.positional word = is in cc)
-
--- a positional that is read before the separator is a plain word
-word_open : (u w : UnreadLine) (word : List ℕ) → w.ended ≡ false → NextStep u (steps.positional word) w → IsPlain false word
-word_open u w word is_open (joined_value value o joins spelled r_is after) = absurd (let e : steps.positional word ≡ steps.unexpected o value = r_is in cc)
-word_open u w word is_open (equals_value value o joins on spelled r_is after) = absurd (let e : steps.positional word ≡ steps.unexpected o value = r_is in cc)
-word_open u w word is_open (next_in_cluster bytes continues not reads) = absurd (let e : steps.positional word ≡ steps.short _ = reads.reply_is in cc)
-word_open u w word is_open (after_separator none ended (no_word_left empty r_is after)) = absurd (let e : steps.positional word ≡ steps.end = r_is in cc)
-word_open u w word is_open (after_separator none ended (word_left x ws some r_is after)) = absurd (true≢false (sym ended ∙ sym (ap (λ (v : UnreadLine). v.ended) after) ∙ is_open))
-word_open u w word is_open (next_word none not (no_word empty r_is after)) = absurd (let e : steps.positional word ≡ steps.end = r_is in cc)
-word_open u w word is_open (next_word none not (reads_separator ws some (no_word_left empty r_is after))) = absurd (let e : steps.positional word ≡ steps.end = r_is in cc)
-word_open u w word is_open (next_word none not (reads_separator ws some (word_left x xs more r_is after))) = absurd (true≢false (sym (ap (λ (v : UnreadLine). v.ended) after) ∙ is_open))
-word_open u w word is_open (next_word none not (reads_long text name tail ws some other is_long r_is after)) = absurd (let e : steps.positional word ≡ steps.long _ = r_is in cc)
-word_open u w word is_open (next_word none not (reads_cluster bytes ws some other reads)) = absurd (let e : steps.positional word ≡ steps.short _ = reads.reply_is in cc)
-word_open u w word is_open (next_word none not (reads_positional x ws some plain r_is after)) = subst (IsPlain false) (let e : steps.positional word ≡ steps.positional x = r_is in same x word e) plain
-  where
-    same : (x word : List ℕ) → steps.positional word ≡ steps.positional x → x ≡ word
-    same x word is = cc
-
--- where the line ends, at most the separator is left
-end_words : (z v : UnreadLine) → NextStep z steps.end v → (P : Type 0) → (z.words ≡ [] → P) → (z.words ≡ (dash ∷ dash ∷ []) ∷ [] → z.ended ≡ false → P) → P
-end_words z v (joined_value value o joins spelled r_is after) P none one = absurd (let e : steps.end ≡ steps.unexpected o value = r_is in cc)
-end_words z v (equals_value value o joins on spelled r_is after) P none one = absurd (let e : steps.end ≡ steps.unexpected o value = r_is in cc)
-end_words z v (next_in_cluster bytes continues not reads) P none one = absurd (let e : steps.end ≡ steps.short _ = reads.reply_is in cc)
-end_words z v (after_separator no_more ended (no_word_left empty r_is after)) P none one = none empty
-end_words z v (after_separator no_more ended (word_left x ws some r_is after)) P none one = absurd (let e : steps.end ≡ steps.positional x = r_is in cc)
-end_words z v (next_word no_more not (no_word empty r_is after)) P none one = none empty
-end_words z v (next_word no_more not (reads_separator ws some (no_word_left empty r_is after))) P none one = one (some ∙ ap (λ l. (dash ∷ dash ∷ []) ∷ l) empty) not
-end_words z v (next_word no_more not (reads_separator ws some (word_left x xs more r_is after))) P none one = absurd (let e : steps.end ≡ steps.positional x = r_is in cc)
-end_words z v (next_word no_more not (reads_long text name tail ws some other is_long r_is after)) P none one = absurd (let e : steps.end ≡ steps.long _ = r_is in cc)
-end_words z v (next_word no_more not (reads_cluster bytes ws some other reads)) P none one = absurd (let e : steps.end ≡ steps.short _ = reads.reply_is in cc)
-end_words z v (next_word no_more not (reads_positional x ws some plain r_is after)) P none one = absurd (let e : steps.end ≡ steps.positional x = r_is in cc)
 
 -- the leading options are read, and then the first word of the rest
 pub record LeadingRead (d : Declaration) (words : List (List ℕ)) (items : List Item) (word : List ℕ) (more : List (List ℕ)) : Type 0 where
@@ -153,23 +118,27 @@ leading_read d words l rest means word more is =
     let t = table d.options in
     let e = d.short_equals in
     let short = means.front ++ word ∷ [] in
-    let reading = shown_read t e short (means.items ++ spec.positional word ∷ []) (spelled_shows t e short (means.items ++ spec.positional word ∷ []) (means.begins word more is)) in
-    let all = all_read t (start e short) (means.items ++ spec.positional word ∷ []) reading in
+    let read = spelled_read t e short (means.items ++ spec.positional word ∷ []) (means.begins word more is) in
+    let all = read.1 in
     let parts = split_last t (start e short) all.there means.items (spec.positional word) all.reads in
     let step = word_first t parts.0 all.there (spec.positional word) word refl parts.2 in
     let cut = items_cut t (start e short) all.there (means.items ++ spec.positional word ∷ []) [] all.there.words refl all.reads in
-    let none : all.there.words ≡ [] = end_words all.there reading.after all.ends (all.there.words ≡ []) (λ empty. empty)
-    (λ one is_open.
-    let same = (same_last cut.before means.front (dash ∷ dash ∷ []) word (ap (λ l. cut.before ++ l) (sym one) ∙ sym cut.words_are)).1 in
-    absurd (dashes_calm [] (subst (IsPlain false) (sym same) (word_open parts.0 all.there word is_open step)))) in
+    let none = no_words parts.0 all.there read.0 cut.before cut.words_are step (ends_so all.there read.0 all.ends) in
     let whole : short ++ more ≡ words = append_assoc means.front (word ∷ []) more ∙ ap (λ l. means.front ++ l) (sym is) ∙ sym means.words_are in
     record {
       there = longer more parts.0;
-      reads = subst (λ ws. ReadsItems t (start e ws) means.items (longer more parts.0)) whole (items_longer t more (start e short) parts.0 means.items (some_word parts.0 all.there word step) parts.1);
+      reads = subst (λ ws. ReadsItems t (start e ws) means.items (longer more parts.0)) whole (items_calm t more (start e short) parts.0 means.items tt (λ empty. absurd (some_word parts.0 all.there word step empty)) parts.1);
       after = longer more all.there;
       step = step_more parts.0 all.there (steps.positional word) more (λ same. cc) step;
       left = ap (λ l. l ++ more) none;
     }
+  where
+    no_words : (u w v : UnreadLine) (before : List (List ℕ)) → means.front ++ word ∷ [] ≡ before ++ w.words → NextStep u (steps.positional word) w → EndsSo w v → w.words ≡ []
+    no_words u w v before are step (ended_before none ended empty after) = empty
+    no_words u w v before are step (open_there none not empty after) = empty
+    no_words u w v before are step (separator_last none not one after) =
+        let same = (same_last before means.front (dash ∷ dash ∷ []) word (ap (λ l. before ++ l) (sym one) ∙ sym are)).1 in
+        absurd (dashes_calm [] (subst (IsPlain false) (sym same) ((word_read u w word step).plain not)))
 
 -- a reading of the words: these items, and then the end or a positional
 pub data RestRead (d : Declaration) (words : List (List ℕ)) (items : List Item) : List (List ℕ) → Reply → List Item → Type 0 where

@@ -1,5 +1,5 @@
 -- Words that are read up to a place, and what the next word is there.
-use Rattle.std.proofs.Common.{◌≡◌, ◌≢◌, ℕ, true, false, List, [], ◌∷◌, ◌++◌, map, Option, Some, None, refl, sym, ap, subst, ◌∙◌, arith, inl}
+use Rattle.std.proofs.Common.{◌≡◌, ◌≢◌, ℕ, Bool, true, false, List, [], ◌∷◌, ◌++◌, map, Option, Some, None, refl, sym, ap, subst, ◌∙◌, arith, inl}
 use Rattle.std.specs.Option.{option_map}
 use Rattle.std.proofs.lemmas.Bool.{false≢true}
 use Rattle.std.proofs.lemmas.List.{append-nil}
@@ -24,7 +24,7 @@ use Rattle.lexopt_options_spec.specs.States.{Leaves, LeadsNowhere, Says, leaves_
 use Rattle.lexopt_options_spec.specs.Stops.{Mistake, ReadsUpTo, Stops, missing_value, no_value, not_declared, one_too_many, unexpected_argument, unexpected_value, unknown_option, value_of_flag}
 use Rattle.lexopt_options_spec.proofs.Cuts.{enough}
 use Rattle.lexopt_options_spec.proofs.Fronts.{no_front}
-use Rattle.lexopt_options_spec.proofs.Growing.{longer, Calm, Grows, first_taken, lack_more, no_option, not_normal_more, only_end, option_before_separator, option_more, reads_something, step_more, takes_next}
+use Rattle.lexopt_options_spec.proofs.Growing.{longer, Calm, Grows, EndsSo, ended_before, open_there, separator_last, ends_so, adds_word, calm_before, first_taken, lack_more, no_option, not_normal_more, only_end, option_before_separator, option_more, step_more, takes_next}
 use Rattle.lexopt_options_spec.proofs.LeadingOptions.{ends_here, ends_reading, reading_spells}
 use Rattle.lexopt_options_spec.proofs.Lists.{joined}
 use Rattle.lexopt_options_spec.proofs.Occurs.{dashes_calm}
@@ -59,10 +59,6 @@ one_more {d} {s} {u} {w} {l} {x} {own} reads next is = record {
   reads = one_more_item (table d.options) s u w reads.items x reads.reads next;
   parsed = joined (parsed_item d.options) reads.items l x own reads.parsed is;
 }
-
--- where something is read, a line that ends there is not at its end
-calm_before : (t : Table) (u w : UnreadLine) (x : Item) → ReadsFirst t u x w → (tail : List (List ℕ)) → Calm u tail
-calm_before t u w x next tail none no_left = absurd (reads_something t u w x none no_left next)
 
 -- ---- one more item
 
@@ -147,10 +143,6 @@ says {d} {words} {l} {u} {v} sound reads ends = record {
   parsed = reads.parsed;
 }
 
-with_positional : {d : Declaration} {words : List (List ℕ)} {l : List Parsed} {u v : UnreadLine} (p : List ℕ) → is_sound d.options ≡ true → ReadsAs d (start d.short_equals words) l u → NextStep u (steps.positional p) v → v.tail ≡ no_tail → v.words ≡ []
-    → Says d words (l ++ legal.positional p ∷ [])
-with_positional {d} {words} {l} {u} {v} p sound reads next none empty = says sound (one_more reads (first_positional p v (inl next)) refl) (ends_here v v.ended refl none empty)
-
 up_to_as : {d : Declaration} {s u : UnreadLine} {l : List Parsed} → ReadsUpTo d s l u → ReadsAs d s l u
 up_to_as read = record { items = read.items; reads = read.read; parsed = read.parsed }
 
@@ -159,32 +151,40 @@ appended words tail is = ap (λ l. l ++ tail) is
 
 -- the words are read up to their end
 pub end_leaves : (d : Declaration) (words : List (List ℕ)) (l : List Parsed) (o : Option ℕ) (u v : UnreadLine) → is_sound d.options ≡ true → Reached d (start d.short_equals words) l o u → Next u steps.end v → Leaves d words l (state_at_end o v.ended)
-end_leaves d words l o u v sound at next = by (enough NextStep u steps.end v next (λ no. cc))
+end_leaves d words l o u v sound at next = by (ends_so u v step)
   where
-    own : NextStep u steps.end v → Says d words l
-    own step = says sound (up_to_as at.upto) step
+    step : NextStep u steps.end v
+    step = enough NextStep u steps.end v next (λ no. cc)
+
+    own : Says d words l
+    own = says sound (up_to_as at.upto) step
+
+    -- one more word is a positional
+    adds : (p : List ℕ) → v.tail ≡ no_tail → v.words ≡ [] → EndsSo u v → (v.ended ≡ false → IsPlain false p) → ReadsAs d (longer (p ∷ []) (start d.short_equals words)) l (longer (p ∷ []) u) → Says d (words ++ p ∷ []) (l ++ legal.positional p ∷ [])
+    adds p none empty so plain reads = says sound (one_more reads (first_positional p v (inl (adds_word u v p so plain))) refl) (ends_here v v.ended refl none empty)
 
     -- past the separator
-    past : v.ended ≡ true → NextStep u steps.end v → ((p : List ℕ) → Says d (words ++ p ∷ []) (l ++ legal.positional p ∷ [])) → Leaves d words l (state_at_end o v.ended)
-    past ended step more = subst (λ b. Leaves d words l (state_at_end o b)) (sym ended) (leaves_ended (own step) more)
+    past : v ≡ record u { words = []; ended = true } → u.tail ≡ no_tail → EndsSo u v → ((p : List ℕ) → ReadsAs d (longer (p ∷ []) (start d.short_equals words)) l (longer (p ∷ []) u)) → Leaves d words l (state_at_end o v.ended)
+    past after none so reads =
+        let ended = ap (λ (x : UnreadLine). x.ended) after in
+        subst (λ b. Leaves d words l (state_at_end o b)) (sym ended)
+        (leaves_ended own (λ p. adds p (ap (λ (x : UnreadLine). x.tail) after ∙ none) (ap (λ (x : UnreadLine). x.words) after) so (λ is. absurd (false≢true (sym is ∙ ended))) (reads p)))
 
     -- before it
-    before : v ≡ u → u.ended ≡ false → u.tail ≡ no_tail → u.words ≡ [] → NextStep u steps.end v → (going : Option ℕ) → o ≡ going → Leaves d words l (state_at_end going false)
-    before same not_ended none empty step None is = leaves_anything
-        (record { says = own step; with_separator = separated (at.closed is (dashes ∷ [])) })
-        (λ p plain.
-        with_positional p sound (at.closed is (p ∷ []))
-        (next_word none not_ended (reads_positional p [] (appended u.words (p ∷ []) empty) plain refl refl)) none refl)
+    before : v ≡ u → u.ended ≡ false → u.tail ≡ no_tail → u.words ≡ [] → EndsSo u v → (going : Option ℕ) → o ≡ going → Leaves d words l (state_at_end going false)
+    before same not none empty so None is = leaves_anything
+        (record { says = own; with_separator = separated (at.closed is (dashes ∷ [])) })
+        (λ p plain. adds p (ap (λ (x : UnreadLine). x.tail) same ∙ none) (ap (λ (x : UnreadLine). x.words) same ∙ empty) so (λ same. plain) (at.closed is (p ∷ [])))
       where
         separated : ReadsAs d (start d.short_equals (words ++ dashes ∷ [])) l (longer (dashes ∷ []) u) → Says d (words ++ dashes ∷ []) l
-        separated reads = says sound reads (next_word none not_ended (reads_separator [] (appended u.words (dashes ∷ []) empty) (no_word_left refl refl refl)))
-    before same not_ended none empty step (Some i) is =
+        separated reads = says sound reads (next_word none not (reads_separator [] (appended u.words (dashes ∷ []) empty) (no_word_left refl refl refl)))
+    before same not none empty so (Some i) is =
         let there = at.opened i is in
         leaves_further i there.before there.values there.is
         (record {
-          says = own step;
+          says = own;
           with_separator = says sound (at.calm (dashes ∷ []) (λ no_words no_left. dashes_calm []))
-              (next_word none not_ended (reads_separator [] (appended u.words (dashes ∷ []) empty) (no_word_left refl refl refl)));
+              (next_word none not (reads_separator [] (appended u.words (dashes ∷ []) empty) (no_word_left refl refl refl)));
         })
         (λ p plain. says sound (there.more empty p plain) (ends_here u u.ended refl none empty))
 
@@ -192,28 +192,13 @@ end_leaves d words l o u v sound at next = by (enough NextStep u steps.end v nex
     never_open ended None is = refl
     never_open ended (Some i) is = absurd (false≢true (sym (at.opened i is).before_separator ∙ ended))
 
-    by : NextStep u steps.end v → Leaves d words l (state_at_end o v.ended)
-    by (joined_value value option joins spelled r_is after) = absurd (let e : steps.end ≡ steps.unexpected option value = r_is in cc)
-    by (equals_value value option joins on spelled r_is after) = absurd (let e : steps.end ≡ steps.unexpected option value = r_is in cc)
-    by (next_in_cluster bytes continues not reads) = absurd (let e : steps.end ≡ steps.short _ = reads.reply_is in cc)
-    by (after_separator none ended (word_left w ws some r_is after)) = absurd (let e : steps.end ≡ steps.positional w = r_is in cc)
-    by (after_separator none ended (no_word_left empty r_is after)) =
-        past (ap (λ (x : UnreadLine). x.ended) after ∙ ended) (after_separator none ended (no_word_left empty r_is after))
-        (λ p.
-        with_positional p sound (at.closed (never_open ended o refl) (p ∷ [])) (after_separator none ended (word_left p [] (appended u.words (p ∷ []) empty) refl refl)) none refl)
-    by (next_word none not_ended (no_word empty r_is after)) =
-        subst (λ b. Leaves d words l (state_at_end o b)) (sym (ap (λ (x : UnreadLine). x.ended) after ∙ not_ended))
-        (before after not_ended none empty (next_word none not_ended (no_word empty r_is after)) o refl)
-    by (next_word none not_ended (reads_separator ws some (no_word_left empty r_is after))) =
-        past (ap (λ (x : UnreadLine). x.ended) after) (next_word none not_ended (reads_separator ws some (no_word_left empty r_is after)))
-        (λ p.
-        with_positional p sound (at.calm (p ∷ []) (λ no_words no_left. absurd (let e : [] ≡ dashes ∷ ws = sym no_words ∙ some in cc)))
-        (next_word none not_ended
-        (reads_separator (ws ++ p ∷ []) (ap (λ l. l ++ p ∷ []) some) (word_left p [] (appended ws (p ∷ []) empty) refl refl))) none refl)
-    by (next_word none not_ended (reads_separator ws some (word_left w more some_more r_is after))) = absurd (let e : steps.end ≡ steps.positional w = r_is in cc)
-    by (next_word none not_ended (reads_long text name tail ws some other long r_is after)) = absurd (let e : steps.end ≡ steps.long _ = r_is in cc)
-    by (next_word none not_ended (reads_cluster bytes ws some other reads)) = absurd (let e : steps.end ≡ steps.short _ = reads.reply_is in cc)
-    by (next_word none not_ended (reads_positional w ws some plain r_is after)) = absurd (let e : steps.end ≡ steps.positional w = r_is in cc)
+    by : EndsSo u v → Leaves d words l (state_at_end o v.ended)
+    by (ended_before none ended empty after) =
+        past (after ∙ ap (λ (l : List (List ℕ)). record u { words = l }) empty ∙ ap (λ (b : Bool). record u { words = []; ended = b }) ended) none (ended_before none ended empty after) (λ p. at.closed (never_open ended o refl) (p ∷ []))
+    by (open_there none not empty after) =
+        subst (λ b. Leaves d words l (state_at_end o b)) (sym (ap (λ (x : UnreadLine). x.ended) after ∙ not)) (before after not none empty (open_there none not empty after) o refl)
+    by (separator_last none not one after) =
+        past after none (separator_last none not one after) (λ p. at.calm (p ∷ []) (λ no_words. absurd (let e : [] ≡ dashes ∷ [] = sym no_words ∙ one in cc)))
 
 -- ---- a value that an option lacks
 

@@ -1,24 +1,31 @@
 -- What a word is, by the state that the words before it leave.
-use Rattle.std.proofs.Common.{if◌then◌else◌, ◌≡◌, ◌≢◌, ◌<◌, ◌≤◌, ◌+◌, ◌==◌, ◌⊎◌, ◌↔◌, ℕ, Bool, true, false, List, [], ◌∷◌, ◌++◌, map, length, Option, Some, None, refl, sym, ap, subst, ◌∙◌, inl, inr, arith, length-append, true≢false}
+use Rattle.std.proofs.Common.{if◌then◌else◌, ◌≡◌, ◌≢◌, ◌<◌, ◌≤◌, ◌+◌, ◌==◌, ◌⊎◌, ◌↔◌, ℕ, Bool, true, false, List, [], ◌∷◌, ◌++◌, map, length, Option, Some, None, refl, sym, ap, subst, ◌∙◌, inl, inr, arith, append_assoc, length-append, true≢false}
 use Rattle.std.specs.Bool.{IsTrue}
-use Rattle.std.proofs.lemmas.Bool.{eq-eqb, eqb-true, false≢true}
+use Rattle.std.proofs.lemmas.Bool.{eqb-true, false≢true}
 use Rattle.std.proofs.lemmas.Bool.Decides.{eqb_tells}
-use Rattle.lexopt_spec.specs.UnreadLine.{dash, BeginsWith, IsPlain, is_plain}
+use Rattle.std.proofs.lemmas.List.{append-nil}
+use Rattle.lexopt_spec.specs.UnreadLine.{dash, no_tail, BeginsWith, IsPlain, TailFits, UnreadLine, is_plain}
+use Rattle.lexopt_spec.specs.Steps as steps
+use Rattle.lexopt_spec.specs.Steps.{NextStep}
 use Rattle.lexopt_spec.proofs.PlainFronts.{plain_holds}
 use Rattle.lexopt_line_spec.specs.Readings.{start}
+use Rattle.lexopt_line_spec.specs.Table.{Item, Table}
+use Rattle.lexopt_line_spec.proofs.Exact.{next_same}
 use Rattle.lexopt_line_spec.proofs.Existence.{only_one}
 use Rattle.lexopt_line_spec.proofs.Names.{spelled_shows}
 use Rattle.lexopt_line_spec.proofs.SpellerRows.{off_plain}
-use Rattle.lexopt_options_spec.specs.Declaration.{Declaration, Positional, table}
+use Rattle.lexopt_options_spec.specs.Declaration.{Declaration, table}
 use Rattle.lexopt_options_spec.specs.Legal as legal
 use Rattle.lexopt_options_spec.specs.Legal.{Parsed, parsed_item, positional_count, most, IsWithin, MeansFront}
 use Rattle.lexopt_options_spec.specs.Completion.{EndsWith, Extends, HasRole, IsOpen, argument, value, Takes, role_of}
 use Rattle.lexopt_options_spec.specs.States.{State, Says, SaysOpenly, Leaves, leaves_anything, leaves_due, leaves_first, leaves_further, leaves_ended, LeadsNowhere, opens, is_full, room, role_in}
-use Rattle.lexopt_options_spec.proofs.Fronts.{one_front}
-use Rattle.lexopt_options_spec.proofs.LastWords.{same_last}
-use Rattle.lexopt_options_spec.proofs.Lists.{count_append, same_somes}
+use Rattle.lexopt_options_spec.proofs.Fronts.{Rest, one_front, rest_of, spelled_read}
+use Rattle.lexopt_options_spec.proofs.Growing.{EndsSo, ended_before, open_there as line_open, separator_last, ends_so, adds_word, items_calm, longer}
+use Rattle.lexopt_options_spec.proofs.Lists.{Ending, has_none, has_last, ending, count_append, same_last, same_somes}
+use Rattle.lexopt_options_spec.proofs.Occurs.{dashes_calm, longer as no_longer}
 use Rattle.lexopt_options_spec.proofs.OpenLines.{dashes}
-use Rattle.lexopt_options_spec.proofs.Roles.{Ends, any_word, plain_word, separated, option_begun, ends, dashed_not_plain}
+use Rattle.lexopt_options_spec.proofs.ReadItems.{ReadsAll}
+use Rattle.lexopt_options_spec.proofs.Roles.{dashed_not_plain, not_whole, word_alone}
 
 -- ---- what words say
 
@@ -86,20 +93,6 @@ below (Some m) n k full more within = at (eqb_tells m n)
     at (inl same) = absurd (true≢false (sym same.0 ∙ full))
     at (inr other) = let e = other.1 in omega (arith, e, more, within)
 
-pub no_room : (ps : List Positional) (count : ℕ) → most ps ≡ Some count → room ps count ≡ None
-no_room ps count is = ap (λ b. if b then None else Some (argument count)) (ap (λ limit. is_full limit count) is ∙ eq-eqb count count refl)
-
-pub some_room : (ps : List Positional) (count : ℕ) → most ps ≢ Some count → room ps count ≡ Some (argument count)
-some_room ps count other = at (most ps) refl
-  where
-    limited : (n : ℕ) → most ps ≡ Some n → (((n == count) ≡ true) × (n ≡ count)) ⊎ (((n == count) ≡ false) × (n ≢ count)) → room ps count ≡ Some (argument count)
-    limited n is (inl same) = absurd (other (is ∙ ap (λ k. Some k) same.1))
-    limited n is (inr below_it) = ap (λ b. if b then None else Some (argument count)) (ap (λ limit. is_full limit count) is ∙ below_it.0)
-
-    at : (limit : Option ℕ) → most ps ≡ limit → room ps count ≡ Some (argument count)
-    at None is = ap (λ b. if b then None else Some (argument count)) (ap (λ limit. is_full limit count) is)
-    at (Some n) is = limited n is (eqb_tells n count)
-
 -- each of the words is a positional
 room_there : (d : Declaration) (words : List (List ℕ)) (typed : List ℕ) (l : List Parsed) → IsWithin (positional_count l) (most d.positionals)
     → ((w : List ℕ) → Extends typed w → Says d (words ++ w ∷ []) (l ++ legal.positional w ∷ [])) → HasRole d words typed (room d.positionals (positional_count l))
@@ -144,45 +137,75 @@ value_there d words typed l i s within none whole role says w longer = (
   role w,
 )
 
--- An option can come after these words. With an empty word they do not say the same but for what is
--- said last, unless that is then an option of several values.
-no_role_where_open : (d : Declaration) (words : List (List ℕ)) (typed : List ℕ) (l : List Parsed) → BeginsWith dash typed → SaysOpenly d words l
-    → ((before : List Parsed) (x y : Parsed) → l ≡ before ++ x ∷ [] → Says d (words ++ [] ∷ []) (before ++ y ∷ []) → ((i : ℕ) (values : List (List ℕ)) → y ≢ legal.several i values) → ⊥) → HasRole d words typed None
-no_role_where_open d words typed l dashed says none w longer before last takes = at (ends d words w before last takes.means)
+-- An option can come after these words: a word with a dash first that is longer than what was typed
+-- is the separator, or options, and what is read last is shorter than the word.
+no_role_where_open : (d : Declaration) (words : List (List ℕ)) (typed : List ℕ) (l : List Parsed) → BeginsWith dash typed → SaysOpenly d words l → HasRole d words typed None
+no_role_where_open d words typed l dashed says w longer_word before last takes = from (open_line (ends_so all.there read.0 all.ends))
   where
-    at : Ends d words before last w → MeansFront d words (before ++ last ∷ [])
-    at (any_word all) =
-        let a = (all dashes).0 in
-        let b = all [] in
-        absurd
-        (none before a.last b.0.last
-        (says_once d (words ++ dashes ∷ []) l (before ++ a.last ∷ []) says.with_separator (front_says d (words ++ dashes ∷ []) (before ++ a.last ∷ []) a.takes.means))
-        (front_says d (words ++ [] ∷ []) (before ++ b.0.last ∷ []) b.0.takes.means) b.1)
-    at (plain_word plain all) = absurd (dashed_not_plain typed w dashed longer plain)
-    at (separated is_dashes front) = front
-    at (option_begun items begins never) = absurd (never takes.whole)
+    t : Table
+    t = table d.options
+
+    items : List Item
+    items = says.says.items
+
+    read : (after : UnreadLine) × ReadsAll t (start d.short_equals words) items after
+    read = spelled_read t d.short_equals words items says.says.spelled
+
+    all : ReadsAll t (start d.short_equals words) items read.0
+    all = read.1
+
+    -- with one more word the same is read, and then the word
+    rest : (word : List ℕ) (m : List Parsed) → ¬ IsPlain false word → all.there.tail ≡ no_tail → Says d (words ++ word ∷ []) m → Rest d l m (longer (word ∷ []) all.there)
+    rest word m plain none more =
+        rest_of d (words ++ word ∷ []) l m items more.items (longer (word ∷ []) all.there) (subst (λ tail. TailFits tail all.there.last all.there.ended) (sym none) tt)
+        (items_calm t (word ∷ []) (start d.short_equals words) all.there items tt (λ empty no_more. plain) all.reads) says.says.parsed more.spelled more.parsed
+
+    -- the line does not end after the separator
+    shut : EndsSo all.there read.0 → read.0.ended ≡ true → all.there.tail ≡ no_tail → ⊥
+    shut so ended none = nothing_more more.rest.later more.items more.rest.all_are more.rest.are more.all
+      where
+        more : Rest d l l (longer (dashes ∷ []) all.there)
+        more = rest dashes l (dashes_calm []) none says.with_separator
+
+        nothing_more : (m : List Parsed) (xs : List Item) → l ≡ l ++ m → map (parsed_item d.options) xs ≡ map (λ s. Some s) m → ReadsAll t (longer (dashes ∷ []) all.there) xs more.after → ⊥
+        nothing_more [] [] same are ends =
+            let both = next_same (longer (dashes ∷ []) all.there) steps.end (steps.positional dashes) more.after read.0 (subst (λ u. NextStep u steps.end more.after) ends.reads ends.ends)
+            (adds_word all.there read.0 dashes so (λ not. absurd (false≢true (sym not ∙ ended)))) in
+            let e : steps.end ≡ steps.positional dashes = both.0 in cc
+        nothing_more [] (x ∷ xs) same are ends = let e : parsed_item d.options x ∷ map (parsed_item d.options) xs ≡ [] = are in cc
+        nothing_more (s ∷ m) xs same are ends = no_longer l s m (sym same)
+
+    open_line : EndsSo all.there read.0 → (all.there.tail ≡ no_tail) × (all.there.ended ≡ false) × (all.there.words ≡ [])
+    open_line (line_open none not empty after) = (none, not, empty)
+    open_line (ended_before none ended empty after) = absurd (shut (ended_before none ended empty after) (ap (λ (x : UnreadLine). x.ended) after ∙ ended) none)
+    open_line (separator_last none not last_is after) = absurd (shut (separator_last none not last_is after) (ap (λ (x : UnreadLine). x.ended) after) none)
+
+    from : (all.there.tail ≡ no_tail) × (all.there.ended ≡ false) × (all.there.words ≡ []) → MeansFront d words (before ++ last ∷ [])
+    from there = at (ending more.rest.later)
+      where
+        plain : ¬ IsPlain false w
+        plain = dashed_not_plain typed w dashed longer_word
+
+        more : Rest d l (before ++ last ∷ []) (longer (w ∷ []) all.there)
+        more = rest w (before ++ last ∷ []) plain there.0 (front_says d (words ++ w ∷ []) (before ++ last ∷ []) takes.means)
+
+        at : Ending more.rest.later → MeansFront d words (before ++ last ∷ [])
+        at (has_none none) =
+            says_front d words (before ++ last ∷ []) (subst (Says d words) (sym (more.rest.all_are ∙ ap (λ m. l ++ m) none ∙ append-nil l)) says.says) takes.means.within
+        at (has_last front s is) =
+            let same = (same_last before (l ++ front) last s (more.rest.all_are ∙ ap (λ m. l ++ m) is ∙ sym (append_assoc l front (s ∷ [])))).1 in
+            absurd
+            (not_whole d.options t w (longer (w ∷ []) all.there) more.all.there more.items front s
+            (word_alone w (longer (w ∷ []) all.there) (ap (λ ws. ws ++ w ∷ []) there.2) there.0 there.1 plain) more.all.reads (more.rest.are ∙ ap (map (λ s. Some s)) is) (subst (EndsWith w) same takes.whole))
 
 pub role_there : (d : Declaration) (words : List (List ℕ)) (typed : List ℕ) (l : List Parsed) (s : State) (dashed : Bool) → (IsTrue dashed ↔ BeginsWith dash typed) → Leaves d words l s
     → IsWithin (positional_count l) (most d.positionals) → HasRole d words typed (role_in d.positionals (positional_count l) dashed s)
 role_there d words typed l s dashed tells (leaves_due i none all) within = value_there d words typed l i (λ w. legal.option i (Some w)) within (λ w. refl) (λ w. refl) (λ w. refl) (λ w longer. all w)
 role_there d words typed l s dashed tells (leaves_ended says all) within = room_there d words typed l within (λ w longer. all w)
-role_there d words typed l s true tells (leaves_anything says plain) within = no_role_where_open d words typed l (tells.0 refl) says none
-  where
-    none : (before : List Parsed) (x y : Parsed) → l ≡ before ++ x ∷ [] → Says d (words ++ [] ∷ []) (before ++ y ∷ []) → ((i : ℕ) (values : List (List ℕ)) → y ≢ legal.several i values) → ⊥
-    none before x y is other one =
-        let a = ap length is in
-        let b = length-append before (x ∷ []) in
-        let c = ap length (says_once d (words ++ [] ∷ []) (before ++ y ∷ []) (l ++ legal.positional [] ∷ []) other (plain [] (inr (inr (λ begins. begins))))) in
-        let e = length-append before (y ∷ []) in
-        let f = length-append l (legal.positional [] ∷ []) in
-        omega (arith, a, b, c, e, f)
+role_there d words typed l s true tells (leaves_anything says plain) within = no_role_where_open d words typed l (tells.0 refl) says
 role_there d words typed l s true tells (leaves_first i none plain never) within =
     no_role d words typed (λ w longer m. never w m (dashed_not_plain typed w (tells.0 refl) longer))
-role_there d words typed l s true tells (leaves_further i before values are says plain) within =
-    no_role_where_open d words typed l (tells.0 refl) says
-    (λ front x y is other one.
-    one i (values ++ [] ∷ [])
-    (same_last front before y (legal.several i (values ++ [] ∷ [])) (says_once d (words ++ [] ∷ []) (front ++ y ∷ []) (before ++ legal.several i (values ++ [] ∷ []) ∷ []) other (plain [] (inr (inr (λ begins. begins)))))).1)
+role_there d words typed l s true tells (leaves_further i before values are says plain) within = no_role_where_open d words typed l (tells.0 refl) says
 role_there d words typed l s false tells (leaves_anything says plain) within = room_there d words typed l within (λ w longer. plain w (longer.plain (λ begins. false≢true (tells.1 begins))))
 role_there d words typed l s false tells (leaves_first i none plain never) within =
     value_there d words typed l i (λ w. legal.several i (w ∷ [])) within (λ w. refl) (λ w. ([], refl)) (λ w. refl) (λ w longer. plain w (longer.plain (λ begins. false≢true (tells.1 begins))))

@@ -115,8 +115,9 @@ pub record Extends (typed w : List ℕ) : Type 0 where
   pub plain : ¬ BeginsWith dash typed → IsPlain false w
 
 -- What each word is, after these words, that begins with what was typed, is longer, and is not an
--- option. `None` means that no such word is a value or a positional; but the separator comes after
--- what the words mean without it.
+-- option. `None` means that no such word is a value or a positional. If the words and such a word
+-- mean something that ends with it, they mean the same without it: then it is the separator, and the
+-- last value or positional is `--`.
 abbrev pub HasRole : Declaration → List (List ℕ) → List ℕ → Option Role → Type 0
 HasRole d words typed None = (w : List ℕ) → Extends typed w → (before : List Parsed) (last : Parsed)
     → Takes d words w before last → MeansFront d words (before ++ last ∷ [])

@@ -23,8 +23,8 @@ pub data State : Type 0 where
   -- a positional, whatever it looks like
   ended : State
 
--- the state at the end of a line: whether the separator was read, and the option of several values
--- of which a plain word is one more, if there is one
+-- the state where the words end, by whether the separator was read, and by the option of several
+-- values of which a plain word would be one more, if there is one
 abbrev pub state_at_end : Option ℕ → Bool → State
 state_at_end going true = ended
 state_at_end (Some i) false = further i
@@ -64,7 +64,7 @@ pub data Leaves (d : Declaration) (words : List (List ℕ)) (l : List Parsed) : 
       → ((w : List ℕ) → Says d (words ++ w ∷ []) (l ++ positional w ∷ []))
       → Leaves d words l ended
 
--- no line begins with these words, whatever word comes after them
+-- as the beginning of a line these words mean nothing, and nothing with any one word after them
 pub record LeadsNowhere (d : Declaration) (words : List (List ℕ)) : Type 0 where
   pub here : (m : List Parsed) → ¬ MeansFront d words m
   pub with_more : (w : List ℕ) (m : List Parsed) → ¬ MeansFront d (words ++ w ∷ []) m

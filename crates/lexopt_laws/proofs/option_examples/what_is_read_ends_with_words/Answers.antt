@@ -1,5 +1,5 @@
 use Rattle.std.proofs.Common.{◌≡◌, [], ◌∷◌, Some, None, codes, refl, arith}
-use Rattle.lexopt_options_spec.proofs.LastWords.{same_last}
+use Rattle.lexopt_options_spec.proofs.Lists.{same_last}
 use Rattle.lexopt_options_spec.proofs.Lists.{first_same}
 use Rattle.lexopt_laws.proofs.option_examples.what_is_read_ends_with_words.Goals as goal
 

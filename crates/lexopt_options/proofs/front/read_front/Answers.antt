@@ -32,7 +32,7 @@ loop-last-smaller-in-Values g c =
     let next = rw c.in-Option.is at c.in_ok-index.ensures in
     let at = option_there (options_of o) c.options-declared.result.now c.index-declared-index.result next.0 c.in-Option.index c.options-declared.ensures.same next.2 c.index-declared-index.is in
     let given = rw c.in-Values.is at c.in_ok-accepted-in-Option.ensures (declaration_of o) at in
-    (has_option (declaration_of o) c.args.parser.now c.loop-last.parser c.read_next.new.parser c.read_given.new.parser c.loop-last.words.items c.loop-last.all_accepted c.in-Values.accepted c.loop-last.last c.loop-last.several c.in-Values.first c.in-Values.goes_on next.0 c.in-Option.index o.sound
+    (has_option (declaration_of o) c.args.parser.now c.loop-last.parser c.read_next.new.parser c.read_after_name.new.parser c.loop-last.words.items c.loop-last.all_accepted c.in-Values.accepted c.loop-last.last c.loop-last.going_on c.in-Values.first c.in-Values.goes_on next.0 c.in-Option.index o.sound
     c.loop-last.invariant next.1 next.2 given).1
 
 pub loop-last-preserved-in-Values : goal.loop-last-preserved-in-Values
@@ -41,8 +41,8 @@ loop-last-preserved-in-Values g c =
     let next = rw c.in-Option.is at c.in_ok-index.ensures in
     let at = option_there (options_of o) c.options-declared.result.now c.index-declared-index.result next.0 c.in-Option.index c.options-declared.ensures.same next.2 c.index-declared-index.is in
     let given = rw c.in-Values.is at c.in_ok-accepted-in-Option.ensures (declaration_of o) at in
-    same_reached (declaration_of o) c.args.parser.now c.read_given.new.parser c.loop-last.words.items _ _ _ _ _ _ c.are_both-all_accepted.ensures c.with_index-last.ensures c.index_if-several.ensures
-    (has_option (declaration_of o) c.args.parser.now c.loop-last.parser c.read_next.new.parser c.read_given.new.parser c.loop-last.words.items c.loop-last.all_accepted c.in-Values.accepted c.loop-last.last c.loop-last.several c.in-Values.first c.in-Values.goes_on next.0 c.in-Option.index o.sound
+    same_reached (declaration_of o) c.args.parser.now c.read_after_name.new.parser c.loop-last.words.items _ _ _ _ _ _ c.are_both-all_accepted.ensures c.with_index-last.ensures c.index_if-going_on.ensures
+    (has_option (declaration_of o) c.args.parser.now c.loop-last.parser c.read_next.new.parser c.read_after_name.new.parser c.loop-last.words.items c.loop-last.all_accepted c.in-Values.accepted c.loop-last.last c.loop-last.going_on c.in-Values.first c.in-Values.goes_on next.0 c.in-Option.index o.sound
     c.loop-last.invariant next.1 next.2 given).0
 
 pub returns-in-Lacks : goal.returns-in-Lacks
@@ -51,16 +51,16 @@ returns-in-Lacks g c = λ words is.
     let next = rw c.in-Option.is at c.in_ok-index.ensures in
     let at = option_there (options_of o) c.options-declared.result.now c.index-declared-index.result next.0 c.in-Option.index c.options-declared.ensures.same next.2 c.index-declared-index.is in
     let given = rw c.in-Lacks.is at c.in_ok-accepted-in-Option.ensures (declaration_of o) at in
-    front_lacking (declaration_of o) c.args.parser.now c.loop-last.parser c.read_next.new.parser c.read_given.new.parser words (record { words = c.loop-last.words; accepted = c.loop-last.all_accepted; last = None; state = c.in-Lacks.state }) c.loop-last.last c.loop-last.several next.0 c.in-Option.index o.sound is
+    front_lacking (declaration_of o) c.args.parser.now c.loop-last.parser c.read_next.new.parser c.read_after_name.new.parser words (record { words = c.loop-last.words; accepted = c.loop-last.all_accepted; last = None; state = c.in-Lacks.state }) c.loop-last.last c.loop-last.going_on next.0 c.in-Option.index o.sound is
     c.loop-last.invariant refl next.1 next.2 c.in-Lacks.state refl given
 
-pub returns-in-Nothing : goal.returns-in-Nothing
-returns-in-Nothing g c = λ words is.
+pub returns-in-Missing : goal.returns-in-Missing
+returns-in-Missing g c = λ words is.
     let o = c.args.options.now in
     let next = rw c.in-Option.is at c.in_ok-index.ensures in
     let at = option_there (options_of o) c.options-declared.result.now c.index-declared-index.result next.0 c.in-Option.index c.options-declared.ensures.same next.2 c.index-declared-index.is in
-    let given = rw c.in-Nothing.is at c.in_ok-accepted-in-Option.ensures (declaration_of o) at in
-    nowhere_lacking (declaration_of o) c.args.parser.now c.loop-last.parser c.read_next.new.parser c.read_given.new.parser words c.loop-last.words.items c.loop-last.all_accepted c.loop-last.last c.loop-last.several next.0 c.in-Option.index o.sound is c.loop-last.invariant next.1 next.2 given
+    let given = rw c.in-Missing.is at c.in_ok-accepted-in-Option.ensures (declaration_of o) at in
+    nowhere_lacking (declaration_of o) c.args.parser.now c.loop-last.parser c.read_next.new.parser c.read_after_name.new.parser words c.loop-last.words.items c.loop-last.all_accepted c.loop-last.last c.loop-last.going_on next.0 c.in-Option.index o.sound is c.loop-last.invariant next.1 next.2 given
 
 pub loop-last-smaller : goal.loop-last-smaller
 loop-last-smaller g c =
@@ -70,21 +70,21 @@ loop-last-smaller g c =
 pub loop-last-preserved : goal.loop-last-preserved
 loop-last-preserved g c =
     let next = rw c.in-Positional.is at c.in_ok-index.ensures in
-    has_positional (declaration_of c.args.options.now) c.args.parser.now c.loop-last.parser c.read_next.new.parser c.loop-last.words.items c.push.new.self.items c.in-Positional.word c.loop-last.all_accepted c.loop-last.last c.loop-last.several c.most-limit.result c.loop-last.invariant next.0
+    has_positional (declaration_of c.args.options.now) c.args.parser.now c.loop-last.parser c.read_next.new.parser c.loop-last.words.items c.push.new.self.items c.in-Positional.word c.loop-last.all_accepted c.loop-last.last c.loop-last.going_on c.most-limit.result c.loop-last.invariant next.0
     c.most-limit.ensures (λ full. next.1 (full ∙ ap (λ n. Some n) (sym (c.len.ensures ∙ c.loop-last.words.ok.0)))) c.in_ok-push-in-Positional.ensures.items
 
 pub returns-in-End : goal.returns-in-End
 returns-in-End g c = λ words is.
     let ends = rw c.in-End.is at c.in_ok-index.ensures in
-    front_at_end (declaration_of c.args.options.now) c.args.parser.now c.loop-last.parser c.read_next.new.parser words (record { words = c.loop-last.words; accepted = c.loop-last.all_accepted; last = c.loop-last.last; state = c.state_at_end.result }) c.loop-last.several c.args.options.now.sound is
-    c.loop-last.invariant ends (c.state_at_end.ensures ∙ ap (state_at_end c.loop-last.several) c.is_past_separator.ensures)
+    front_at_end (declaration_of c.args.options.now) c.args.parser.now c.loop-last.parser c.read_next.new.parser words (record { words = c.loop-last.words; accepted = c.loop-last.all_accepted; last = c.loop-last.last; state = c.state_at_end.result }) c.loop-last.going_on c.args.options.now.sound is
+    c.loop-last.invariant ends (c.state_at_end.ensures ∙ ap (state_at_end c.loop-last.going_on) c.is_past_separator.ensures)
 
 pub returns-in-Undeclared : goal.returns-in-Undeclared
 returns-in-Undeclared g c = λ words is.
-    nowhere_undeclared (declaration_of c.args.options.now) c.args.parser.now c.loop-last.parser c.read_next.new.parser words c.loop-last.words.items c.loop-last.all_accepted c.loop-last.last c.loop-last.several c.in-Undeclared.field-0 is c.loop-last.invariant (rw c.in-Undeclared.is at c.in_ok-index.ensures)
+    nowhere_undeclared (declaration_of c.args.options.now) c.args.parser.now c.loop-last.parser c.read_next.new.parser words c.loop-last.words.items c.loop-last.all_accepted c.loop-last.last c.loop-last.going_on c.in-Undeclared.field-0 is c.loop-last.invariant (rw c.in-Undeclared.is at c.in_ok-index.ensures)
 
 pub returns-in-Mistake : goal.returns-in-Mistake
 returns-in-Mistake g c = λ words is.
     let stops = rw c.in-Mistake.is at c.in_ok-index.ensures in
-    nowhere_stopped (declaration_of c.args.options.now) c.args.parser.now c.loop-last.parser words c.loop-last.words.items c.loop-last.all_accepted c.loop-last.last c.loop-last.several c.most-limit.result is c.most-limit.ensures c.loop-last.invariant
+    nowhere_stopped (declaration_of c.args.options.now) c.args.parser.now c.loop-last.parser words c.loop-last.words.items c.loop-last.all_accepted c.loop-last.last c.loop-last.going_on c.most-limit.result is c.most-limit.ensures c.loop-last.invariant
     (subst (λ (n : ℕ). StopsNext c.most-limit.result n c.loop-last.parser) (c.len.ensures ∙ c.loop-last.words.ok.0) stops.next)

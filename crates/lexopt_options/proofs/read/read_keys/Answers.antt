@@ -10,7 +10,7 @@ use Rattle.lexopt_options.specs.Keys.{HasKey}
 use Rattle.lexopt_options.specs.Reading.{AreSeen}
 use Rattle.lexopt_options_spec.proofs.Listed.{accepted_append}
 use Rattle.lexopt_options.proofs.ReadKeys.{at_start, count_within, has_option, has_positional, one_unrefused}
-use Rattle.lexopt_options.proofs.ReadNext.{by_limit, by_room, has_room, one_more}
+use Rattle.lexopt_options.proofs.ReadNext.{by_room, has_room, one_more}
 use Rattle.lexopt_options.proofs.WholeLines.{line_stopped}
 use Rattle.lexopt_options.proofs.read.read_keys.Goals as goal
 
@@ -101,5 +101,5 @@ pub returns-in-Mistake : goal.returns-in-Mistake
 returns-in-Mistake g c = λ words is.
     let d = declaration_of c.args.options.now in
     let had = c.loop-seen.invariant in
-    let stops = by_limit d c.most-limit.result c.loop-seen.count c.loop-seen.parser c.in-Mistake.mistake c.most-limit.ensures (rw c.in-Mistake.is at c.in_ok-index.ensures) in
-    c.stop-in-Mistake.ensures words stops.why had.l stops.told (line_stopped d words had.l c.args.parser.now c.loop-seen.parser c.loop-seen.count stops.why is had.read had.counted stops.stops had.accepted) had.none had.are had.firsts
+    let stops = rw c.in-Mistake.is at c.in_ok-index.ensures in
+    c.stop-in-Mistake.ensures words stops.why had.l stops.told (line_stopped d words had.l c.args.parser.now c.loop-seen.parser c.loop-seen.count stops.why is had.read had.counted (λ l counted. stops.stops l c.most-limit.ensures counted) had.accepted) had.none had.are had.firsts

@@ -39,7 +39,6 @@ returns-then-is_full g c =
     record {
       why = stops.unexpected_argument c.in-Ok-Value.word;
       told = refl;
-      early = tt;
       stops = λ l most_is counted. stops.one_too_many c.in-Ok-Value.word c.advance.new.self (answered _ _ _ _ c.advance.ensures is) (sym most_is ∙ c.is_full.ensures.0 c.if-is_full.true ∙ ap Some counted);
       of_option = λ none. absurd (let e : None ≡ Some c.args.count = sym none ∙ c.is_full.ensures.0 c.if-is_full.true in cc);
       next = inr (c.in-Ok-Value.word, c.advance.new.self, answered _ _ _ _ c.advance.ensures is, c.is_full.ensures.0 c.if-is_full.true);
@@ -61,7 +60,6 @@ returns-in-UnexpectedValue g c =
     record {
       why = stops.unexpected_value (string_bytes c.in-UnexpectedValue.option) c.in-UnexpectedValue.value;
       told = refl;
-      early = tt;
       stops = λ l most_is counted. stops.value_of_flag (string_bytes c.in-UnexpectedValue.option) c.in-UnexpectedValue.value c.advance.new.self (answered _ _ _ _ c.advance.ensures is);
       next = inl (string_bytes c.in-UnexpectedValue.option, c.in-UnexpectedValue.value, c.advance.new.self, answered _ _ _ _ c.advance.ensures is);
       of_option = λ none. (tt, λ l. stops.value_of_flag (string_bytes c.in-UnexpectedValue.option) c.in-UnexpectedValue.value c.advance.new.self (answered _ _ _ _ c.advance.ensures is));

@@ -6,11 +6,11 @@ use Rattle.lexopt_declaration.specs.declared.declaration.Kind.TheVariants as kin
 use Rattle.lexopt_items.specs.Items.{ReadsValues, ValuesEndBy}
 use Rattle.lexopt_items.specs.declared.kinds.Kind.TheVariants as arity
 use Rattle.lexopt_items.specs.declared.values.Values.TheVariants as values
-use Rattle.lexopt_options.specs.declared.front.Given.TheVariants as given
+use Rattle.lexopt_options.specs.declared.front.AfterName.TheVariants as after
 use Rattle.lexopt_options.specs.declared.front.State.TheVariants as state
 use Rattle.lexopt_options.proofs.Accepted.{none_is}
-use Rattle.lexopt_options.proofs.Fronts.{accepts_here, all_accepted, first_is, flag_here, given_lacks, kind_here, lacks_value, lacks_values, maybe_so, taken_so}
-use Rattle.lexopt_options.proofs.front.read_given.Goals as goal
+use Rattle.lexopt_options.proofs.Fronts.{accepts_here, all_accepted, first_is, flag_here, value_lacks, kind_here, lacks_value, lacks_values, maybe_so, taken_so}
+use Rattle.lexopt_options.proofs.front.read_after_name.Goals as goal
 
 pub returns-in-Flag : goal.returns-in-Flag
 returns-in-Flag g c = λ d at. (
@@ -69,13 +69,13 @@ returns-in-Ok-read_several g c = λ d at. (
 
 pub returns-then-is_last : goal.returns-then-is_last
 returns-then-is_last g c =
-    given_lacks c.lacking-then-is_last.result (given.Lacks (state.First c.args.index)) c.in-Err-read_several.refused _ c.lacking-then-is_last.ensures (λ lacks d at.
+    value_lacks c.lacking-then-is_last.result (after.Lacks (state.First c.args.index)) c.in-Err-read_several.refused _ c.lacking-then-is_last.ensures (λ lacks d at.
     let both = lacks_values c.args.parser.now c.in-Err-read_several.refused (subst (λ u. ValuesEndBy arity.Several u c.in-Err-read_several.refused) c.is_at_end-is_last.ensures.same c.in-Err-read_several.ensures.err) lacks in
     (refl, sym (kind_here d.options c.args.index c.args.option.now (kind.Values c.in-Values.field-0 c.in-Values.field-1) at c.in-Values.is), both.0, (c.is_at_end-is_last.ensures.at_end both.0).0 c.if-is_last.true))
 
 pub returns-else-is_last : goal.returns-else-is_last
 returns-else-is_last g c =
-    given_lacks c.lacking-else-is_last.result given.Nothing c.in-Err-read_several.refused _ c.lacking-else-is_last.ensures (λ lacks d at.
+    value_lacks c.lacking-else-is_last.result after.Missing c.in-Err-read_several.refused _ c.lacking-else-is_last.ensures (λ lacks d at.
     let both = lacks_values c.args.parser.now c.in-Err-read_several.refused (subst (λ u. ValuesEndBy arity.Several u c.in-Err-read_several.refused) c.is_at_end-is_last.ensures.same c.in-Err-read_several.ensures.err) lacks in (
       sym (kind_here d.options c.args.index c.args.option.now (kind.Values c.in-Values.field-0 c.in-Values.field-1) at c.in-Values.is),
       both.0,
