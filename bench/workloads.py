@@ -24,8 +24,9 @@ BOUNDS = {
 # By work: the bound of the geometric mean of its rows.
 MEANS = {"parsed": 1.0}
 
-# The bound of the cost of completing a word, over that of reading the words before it.
-COMPLETED = 1.2
+# The bound of the cost of completing a word, over that of reading the words before it: after many
+# words, and after a line of a few, where the declared names are most of it.
+COMPLETED, COMPLETED_FEW = 1.2, 3.5
 
 A_LINE = [
     b"-v",
