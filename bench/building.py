@@ -26,11 +26,11 @@ def write(path, text):
         file.write(text)
 
 
-def copy_crates(folder, names):
-    """Copies these crates into a folder, without what was built of them."""
+def copy_crates(folder, names, without=()):
+    """Copies these crates into a folder, without what was built of them and without these folders."""
     for name in names:
         if not os.path.exists(f"{folder}/crates/{name}"):
-            left_out = shutil.ignore_patterns("out")
+            left_out = shutil.ignore_patterns("out", *without)
             shutil.copytree(f"{TOP}/crates/{name}", f"{folder}/crates/{name}", ignore=left_out)
 
 
