@@ -23,14 +23,13 @@ enum Task {
     Remote,
 }
 
-static GENERAL: Declaration<'static, Infallible, (), ()> = declare! {
+static GENERAL: Declaration<'static, Infallible, ()> = declare! {
     program: "example_commands",
     about: "Prints what it has read.",
     options: [
         value((), Names::Both('C', "directory"), "DIR", "where the files are").directories(),
         help(Names::Both('h', "help")),
     ],
-    positionals: [once((), "COMMAND").text(), any_number((), "ARGUMENT")],
 };
 
 static COMMANDS: &[Command<'static, Task>] = declare_commands![
@@ -40,10 +39,9 @@ static COMMANDS: &[Command<'static, Task>] = declare_commands![
     help("help"),
 ];
 
-static REMOTE: Declaration<'static, Infallible, Infallible, ()> = declare! {
+static REMOTE: Declaration<'static, Infallible> = declare! {
     program: "example_commands remote",
     options: [help(Names::Both('h', "help"))],
-    positionals: [once((), "COMMAND").text(), any_number((), "ARGUMENT")],
 };
 
 static REMOTE_COMMANDS: &[Command<'static, ()>] = declare_commands![command(

@@ -1,7 +1,8 @@
 -- The help of a program with commands.
-use Rattle.std.proofs.Common.{◌≡◌, ◌<◌, ◌+◌, ◌++◌, ◌∷◌, [], ℕ, List, length, take, get_or, ap, sym, subst, ◌∙◌, append_assoc}
+use Rattle.std.proofs.Common.{◌≡◌, ◌<◌, ◌+◌, ◌-◌, ◌++◌, ◌∷◌, [], ℕ, List, length, take, get_or, map, ap, sym, subst, ◌∙◌, append_assoc}
 use Rattle.std.proofs.lemmas.List.{take_more}
-use Rattle.lexopt_options_spec.specs.Help.{IsEntry, set_apart}
+use Rattle.lexopt_options_spec.specs.Declaration.{Declaration, Declared}
+use Rattle.lexopt_options_spec.specs.Help.{IsEntry, IsUsage, Wraps, demanded, option_mark, options_mark, positional_mark, set_apart, usage_column, usage_words, visible, voluntary}
 use Rattle.lexopt_options_spec.proofs.Wrapping.{Listed, one_listed}
 use Rattle.lexopt_commands.specs.declared.command.Command.{Command}
 
@@ -20,7 +21,29 @@ pub appended : (old part text new : List ℕ) → new ≡ old ++ set_apart part 
 appended old part text new e f = e ∙ ap (λ l. old ++ set_apart l) f
 
 -- the parts, one after another
-pub in_parts : (usage about positionals commands options epilogue two three four five six : List ℕ) → two ≡ usage ++ about → three ≡ two ++ positionals → four ≡ three ++ commands → five ≡ four ++ options → six ≡ five ++ epilogue
-    → six ≡ usage ++ about ++ positionals ++ commands ++ options ++ epilogue
-in_parts usage about positionals commands options epilogue two three four five six e f g h i =
-    i ∙ ap (λ l. l ++ epilogue) (h ∙ ap (λ l. l ++ options) (g ∙ ap (λ l. l ++ commands) (f ∙ ap (λ l. l ++ positionals) e))) ∙ simp append_assoc
+pub in_parts : (usage about commands options epilogue two three four five : List ℕ) → two ≡ usage ++ about → three ≡ two ++ commands → four ≡ three ++ options → five ≡ four ++ epilogue
+    → five ≡ usage ++ about ++ commands ++ options ++ epilogue
+in_parts usage about commands options epilogue two three four five e f g h =
+    h ∙ ap (λ l. l ++ epilogue) (g ∙ ap (λ l. l ++ options) (f ∙ ap (λ l. l ++ commands) e)) ∙ simp append_assoc
+
+-- ---- the usage line
+
+pub same_list : {X : Type 0} {x y v w : X} → x ≡ v → y ≡ w → x ∷ y ∷ [] ≡ v ∷ w ∷ []
+same_list e f = cc
+
+-- the usage line shows the name, the options and the positionals
+pub same_usage : (width : ℕ) (d e : Declaration) (text : List ℕ) → d.program ≡ e.program → d.options ≡ e.options → d.positionals ≡ e.positionals → IsUsage width d text → IsUsage width e text
+same_usage width d e text programs options positionals is = record {
+  lines = is.lines;
+  wrapped = subst (λ ws. Wraps (width - usage_column) ws is.lines) words is.wrapped;
+  written = is.written;
+}
+  where
+    marks : List Declared → List (List ℕ)
+    marks os = options_mark (voluntary (visible os)) ++ map option_mark (demanded (visible os))
+
+    words : usage_words d ≡ usage_words e
+    words =
+        ap (λ p. p ∷ marks d.options ++ map positional_mark d.positionals) programs
+        ∙ ap (λ os. e.program ∷ marks os ++ map positional_mark d.positionals) options
+        ∙ ap (λ ps. e.program ∷ marks e.options ++ map positional_mark ps) positionals

@@ -1,34 +1,34 @@
 -- The line of given general options and words.
 use Rattle.std.proofs.Common.{◌≡◌, ℕ, List, Option, Some, None, subst, sym, ◌∙◌, ◌∷◌, ap}
+use Rattle.std.specs.declared.convert.Infallible.{Infallible}
 use Rattle.lexopt_options_spec.specs.Asking.{first_asked}
 use Rattle.lexopt_options_spec.specs.Declaration as spec
 use Rattle.lexopt_options_spec.specs.Leading.{MeansLeading}
 use Rattle.lexopt_options_spec.specs.Legal as legal
 use Rattle.lexopt_options.specs.declared.leading.Leading.{Leading}
+use Rattle.lexopt_options.specs.declared.mistake.Mistake.{Mistake}
 use Rattle.lexopt_options.specs.declared.options.Options.{Options}
 use Rattle.lexopt_options.specs.declared.parsed.Parsed.{Parsed}
 use Rattle.lexopt_options.specs.Declarations.{declaration_of, options_of}
 use Rattle.lexopt_options.specs.Keys.{AreParsedAs, asked_view}
 use Rattle.lexopt_options.specs.LeadingLines.{IsLeadingOf}
 use Rattle.lexopt_commands.specs.declared.commands.Commands.{Commands}
-use Rattle.lexopt_commands.specs.declared.refused.CommandLine.{CommandLine}
-use Rattle.lexopt_commands.specs.declared.refused.CommandLine.TheVariants as line
+use Rattle.lexopt_commands.specs.declared.read.CommandLine.{CommandLine}
+use Rattle.lexopt_commands.specs.declared.read.CommandLine.TheVariants as line
 use Rattle.lexopt_commands.specs.declared.command.Command.{Command}
 use Rattle.lexopt_commands.specs.declared.command.Runs.TheVariants as runs
-use Rattle.lexopt_commands.specs.declared.mistake.Mistake.{Mistake}
-use Rattle.lexopt_commands.specs.declared.mistake.Mistake.TheVariants as mistake
 use Rattle.lexopt_commands.specs.Lines.{IsCommandLine, IsLineAfter, IsLineOf}
 use Rattle.lexopt_commands.specs.Meanings.{command, help, meaning, missing, named, unknown}
-use Rattle.lexopt_commands.specs.Mistakes.{IsMistake}
+use Rattle.lexopt_commands.specs.Mistakes.{IsMistake, unknown_command, missing_command}
 use Rattle.lexopt_commands.proofs.Found.{each_found}
 use Rattle.std.specs.Prelude.{slice_get}
 
 -- what is read, for each list of options and each rest that the words mean
-abbrev pub IsOfEach : {F V P M S : Type 0} → Options F V P M S → List (List ℕ) → Leading F V P M S → Type 0
+abbrev pub IsOfEach : {F V M S : Type 0} → Options F V Infallible M S → List (List ℕ) → Leading F V Infallible M S → Type 0
 IsOfEach o words found = (l : List legal.Parsed) (rest : List (List ℕ)) → MeansLeading (declaration_of o) words l rest → IsLeadingOf o l rest found
 
 -- the same, for the options and the result that calls return
-pub of_each : {F V P M S : Type 0} (o own : Options F V P M S) (words : List (List ℕ)) (found it : Leading F V P M S) → o ≡ own → found ≡ it → IsOfEach o words found → IsOfEach own words it
+pub of_each : {F V M S : Type 0} (o own : Options F V Infallible M S) (words : List (List ℕ)) (found it : Leading F V Infallible M S) → o ≡ own → found ≡ it → IsOfEach o words found → IsOfEach own words it
 of_each o own words found it same is of = subst (λ f. IsOfEach own words f) is (subst (λ x. IsOfEach x words found) same of)
 
 same_asked : (one : Option spec.Asked) (asked own : spec.Asked) → one ≡ Some own → one ≡ Some asked → own ≡ asked
@@ -37,14 +37,14 @@ same_asked one asked own is too = let e : Some own ≡ Some asked = sym is ∙ t
 pub none_asked : (one : Option spec.Asked) (asked : spec.Asked) → one ≡ None → one ≡ Some asked → ⊥
 none_asked one asked none is = let e : None ≡ Some asked = sym none ∙ is in cc
 
-pub of_parsed : {C F V P M S : Type 0} (c : Commands C F V P M S) (l : List legal.Parsed) (rest : List (List ℕ)) (others : List (List ℕ)) (parsed : List (Parsed F V P M S)) (it : CommandLine C F V P M S)
+pub of_parsed : {C F V M S : Type 0} (c : Commands C F V M S) (l : List legal.Parsed) (rest : List (List ℕ)) (others : List (List ℕ)) (parsed : List (Parsed F V Infallible M S)) (it : CommandLine C F V M S)
     → (first_asked (declaration_of c.options).options l ≡ None) → AreParsedAs (options_of c.options) l parsed → others ≡ rest → IsLineAfter c parsed others it → IsLineOf c l rest it
 of_parsed c l rest others parsed it none are same after = record {
   asks = λ asked is. absurd (none_asked (first_asked (declaration_of c.options).options l) asked none is);
   after = λ _. (parsed, are, subst (λ r. IsLineAfter c parsed r it) same after);
 }
 
-pub of_asked : {C F V P M S : Type 0} (c : Commands C F V P M S) (l : List legal.Parsed) (rest : List (List ℕ)) (asked : _) → first_asked (declaration_of c.options).options l ≡ Some (asked_view asked) → IsLineOf c l rest (line.Asked asked)
+pub of_asked : {C F V M S : Type 0} (c : Commands C F V M S) (l : List legal.Parsed) (rest : List (List ℕ)) (asked : _) → first_asked (declaration_of c.options).options l ≡ Some (asked_view asked) → IsLineOf c l rest (line.Asked asked)
 of_asked c l rest asked is = record {
   asks = λ other too. same_asked (first_asked (declaration_of c.options).options l) other (asked_view asked) is too;
   after = λ none. absurd (none_asked (first_asked (declaration_of c.options).options l) (asked_view asked) none is);
@@ -53,7 +53,7 @@ of_asked c l rest asked is = record {
 -- ---- the command with a name
 
 -- the result for words that mean this command
-is_command : {C F V P M S : Type 0} (c : Commands C F V P M S) (l : List legal.Parsed) (key : C) (words rest : List (List ℕ)) (parsed : List (Parsed F V P M S)) (it : CommandLine C F V P M S)
+is_command : {C F V M S : Type 0} (c : Commands C F V M S) (l : List legal.Parsed) (key : C) (words rest : List (List ℕ)) (parsed : List (Parsed F V Infallible M S)) (it : CommandLine C F V M S)
     → AreParsedAs (options_of c.options) l parsed → meaning c.commands.now words ≡ command key rest → IsLineAfter c parsed words it → IsCommandLine c l key rest it
 is_command c l key words rest parsed (line.Command own k ws) are means (same, other) =
     let e : command key rest ≡ command k ws.items = sym means ∙ other in
@@ -68,17 +68,16 @@ is_command c l key words rest parsed (line.Asked asked) are means (other, same) 
 is_command c l key words rest parsed (line.Refused refused) are means after = no_mistake refused.mistake after.told
   where
     no_mistake : (m : Mistake) → IsMistake c.commands.now words m → ⊥
-    no_mistake (mistake.General own) told = told
-    no_mistake (mistake.MissingCommand names) told = let e : command key rest ≡ missing = sym means ∙ told.0 in cc
-    no_mistake (mistake.UnknownCommand word hints) told = let e : command key rest ≡ unknown word = sym means ∙ told.0 in cc
+    no_mistake m (missing_command names is are) = let e : command key rest ≡ missing = sym means ∙ is in cc
+    no_mistake m (unknown_command word hints is are) = let e : command key rest ≡ unknown word = sym means ∙ is in cc
 
 -- the name of a command, with the words after it, means that command
-name_means : {C F V P M S : Type 0} (c : Commands C F V P M S) (i : ℕ) (own : Command C) (key : C) (rest : List (List ℕ)) → slice_get c.commands.now i ≡ Some own → own.runs ≡ runs.Command key
+name_means : {C F V M S : Type 0} (c : Commands C F V M S) (i : ℕ) (own : Command C) (key : C) (rest : List (List ℕ)) → slice_get c.commands.now i ≡ Some own → own.runs ≡ runs.Command key
     → meaning c.commands.now (own.name.now ∷ rest) ≡ command key rest
 name_means c i own key rest at is =
     ap (λ r. named c.commands.now r own.name.now rest) (each_found c.commands.now c.sound i own at ∙ ap (λ r. Some r) is)
 
-pub of_name : {C F V P M S : Type 0} (c : Commands C F V P M S) (i : ℕ) (own : Command C) (key : C) (l : List legal.Parsed) (rest : List (List ℕ)) (others : List (List ℕ)) (parsed : List (Parsed F V P M S)) (it : CommandLine C F V P M S)
+pub of_name : {C F V M S : Type 0} (c : Commands C F V M S) (i : ℕ) (own : Command C) (key : C) (l : List legal.Parsed) (rest : List (List ℕ)) (others : List (List ℕ)) (parsed : List (Parsed F V Infallible M S)) (it : CommandLine C F V M S)
     → slice_get c.commands.now i ≡ Some own → own.runs ≡ runs.Command key → AreParsedAs (options_of c.options) l parsed → others ≡ own.name.now ∷ rest → IsLineAfter c parsed others it → IsCommandLine c l key rest it
 of_name c i own key l rest others parsed it at is are same after =
     is_command c l key others rest parsed it are (ap (meaning c.commands.now) same ∙ name_means c i own key rest at is) after

@@ -12,22 +12,19 @@ use Rattle.lexopt_options.specs.Keys.{asked_view}
 use Rattle.lexopt_commands.specs.declared.answer.Step.{Step}
 use Rattle.lexopt_commands.specs.declared.answer.Step.TheVariants as step
 use Rattle.lexopt_commands.specs.declared.commands.Commands.{Commands}
-use Rattle.lexopt_commands.specs.declared.mistake.Mistake.{Mistake}
-use Rattle.lexopt_commands.specs.declared.mistake.Mistake.TheVariants as mistake
-use Rattle.lexopt_commands.specs.declared.refused.CommandLine.TheVariants as line
-use Rattle.lexopt_commands.specs.declared.refused.Refused.{Refused}
+use Rattle.lexopt_commands.specs.declared.read.CommandLine.TheVariants as line
 use Rattle.lexopt_commands.specs.Completions.{IsCompletionStep}
 use Rattle.lexopt_commands.specs.Help.{IsHelp}
 use Rattle.lexopt_commands.specs.Lines.{IsLineRead}
 
 -- the text is the help at this width, or the version and a line feed
-abbrev pub IsAskedText : {C F V P M S : Type 0} → Commands C F V P M S → Asked → ℕ → List ℕ → Type 0
+abbrev pub IsAskedText : {C F V M S : Type 0} → Commands C F V M S → Asked → ℕ → List ℕ → Type 0
 IsAskedText c for_help width text = IsHelp (declaration_of c.options) c.commands.now width text
 IsAskedText c (for_version version) width text = text ≡ version ++ line_feed ∷ []
 
 -- what to do about these words, with the help at this width: a command gets its words as a line
-abbrev pub IsStep : {C F V P M S : Type 0} → Commands C F V P M S → List (List ℕ) → ℕ
-    → Step C F V P M S → Type 0
+abbrev pub IsStep : {C F V M S : Type 0} → Commands C F V M S → List (List ℕ) → ℕ
+    → Step C F V M S → Type 0
 IsStep c words width (step.Command parsed key (request.Line own)) =
     IsLineRead c words (line.Command parsed key own)
 IsStep c words width (step.Command parsed key asked) = ⊥
@@ -36,24 +33,13 @@ IsStep c words width (step.Text text) = (asked : rust.Asked)
     × IsAskedText c (asked_view asked) width (string_bytes text)
 IsStep c words width (step.Refused refused) = IsLineRead c words (line.Refused refused)
 
--- the refusal of a request whose variable has a value that is not known
-abbrev pub IsUnknown : {C F V P M S : Type 0} → Commands C F V P M S → Refused F V P M S → Mistake
-    → Type 0
-IsUnknown c refused (mistake.General own) = IsUnknownRequest c.options (record {
-  program = refused.program;
-  help = refused.help;
-  before = refused.before;
-  mistake = own;
-})
-IsUnknown c refused other = ⊥
-
 -- what to do about this request, with the help at this width
-abbrev pub IsRequestStep : {C F V P M S : Type 0} → Commands C F V P M S → Request → ℕ
-    → Step C F V P M S → Type 0
+abbrev pub IsRequestStep : {C F V M S : Type 0} → Commands C F V M S → Request → ℕ
+    → Step C F V M S → Type 0
 IsRequestStep c (request.Line words) width found = IsStep c words.items width found
 IsRequestStep c (request.Completion words typed) width found =
     IsCompletionStep c words.items typed found
 IsRequestStep c (request.Script shell) width (step.Text text) =
     string_bytes text ≡ script_lines c.options shell
-IsRequestStep c request.Unknown width (step.Refused refused) = IsUnknown c refused refused.mistake
+IsRequestStep c request.Unknown width (step.Refused refused) = IsUnknownRequest c.options refused
 IsRequestStep c asked width found = ⊥

@@ -2,6 +2,7 @@
 -- `docs/behaviour.md`.
 use Rattle.std.specs.Prelude.{◌≡◌, ◌⊎◌, ◌++◌, ◌∷◌, ℕ, if◌then◌else◌, nat_eq, List, []}
 use Rattle.std.specs.Prelude.{Option, Some, None, codes, false, string_bytes}
+use Rattle.std.specs.declared.convert.Infallible.{Infallible}
 use Rattle.std.specs.List.{flat_map, starts_with}
 use Rattle.std.specs.Str.{chars}
 use Rattle.lexopt_spec.specs.UnreadLine.{IsPlain}
@@ -16,7 +17,6 @@ use Rattle.lexopt_options.specs.declared.request.Request.TheVariants as request
 use Rattle.lexopt_options.specs.declared.parsed.Parsed.{Parsed}
 use Rattle.lexopt_declaration.specs.Texts.{on_one_line}
 use Rattle.lexopt_options.specs.Answers.{IsCompletionText}
-use Rattle.lexopt_options.specs.Completions.{HasPositional}
 use Rattle.lexopt_options.specs.Declarations.{declaration_of, options_of}
 use Rattle.lexopt_options.specs.Keys.{AreParsedAs}
 use Rattle.lexopt_commands.specs.declared.answer.Step.{Step}
@@ -52,14 +52,14 @@ abbrev pub CannotBeNamed : Declaration → List (List ℕ) → Type 0
 CannotBeNamed d words = (name : List ℕ) → IsPlain false name → ¬ ComesFirst d words name
 
 -- the lines for the commands whose names begin with what was typed, if a name can come
-abbrev pub IsNamesText : {C F V P M S : Type 0} → Commands C F V P M S → List (List ℕ) → List ℕ
+abbrev pub IsNamesText : {C F V M S : Type 0} → Commands C F V M S → List (List ℕ) → List ℕ
     → List ℕ → Type 0
 IsNamesText c words typed text = (CanBeNamed (declaration_of c.options) words
     × (text ≡ flat_map (begun_line typed) c.commands.now))
     ⊎ (CannotBeNamed (declaration_of c.options) words × (text ≡ []))
 
 -- general options are legal, and the empty word is the only one after them
-abbrev pub LeavesEmptyWord : {F V P M S : Type 0} → Leading F V P M S → Type 0
+abbrev pub LeavesEmptyWord : {F V M S : Type 0} → Leading F V Infallible M S → Type 0
 LeavesEmptyWord (leading.Parsed parsed rest) = rest.items ≡ [] ∷ []
 LeavesEmptyWord found = ⊥
 
@@ -99,16 +99,16 @@ place commands (word ∷ rest) = place_of commands (runs_of commands word) rest
 
 -- ---- what can come
 
--- what can come where no command is among the words: the lines for names, and what can come by the
+-- what can come right after the general options: the lines for names, and what can come by the
 -- general declaration
-abbrev pub IsOptionsText : {C F V P M S : Type 0} → Commands C F V P M S → List (List ℕ) → List ℕ
+abbrev pub IsOptionsText : {C F V M S : Type 0} → Commands C F V M S → List (List ℕ) → List ℕ
     → List ℕ → Type 0
 IsOptionsText c words typed text = (names : List ℕ) × IsNamesText c words typed names
     × (own : List ℕ) × IsCompletionText c.options words typed own × (text ≡ names ++ own)
 
 -- what to do where this is typed at this place, after these general options
-abbrev pub IsPlaced : {C F V P M S : Type 0} → Commands C F V P M S → List (List ℕ) → List ℕ
-    → List (Parsed F V P M S) → Place C → Step C F V P M S → Type 0
+abbrev pub IsPlaced : {C F V M S : Type 0} → Commands C F V M S → List (List ℕ) → List ℕ
+    → List (Parsed F V Infallible M S) → Place C → Step C F V M S → Type 0
 IsPlaced c words typed parsed at_options (step.Text text) =
     IsOptionsText c words typed (string_bytes text)
 IsPlaced c words typed parsed (in_command key rest) (step.Command own found (request.Completion before last)) =
@@ -120,35 +120,34 @@ IsPlaced c words typed parsed place found = ⊥
 
 -- The words legally spell general options that ask for nothing, and then comes the rest, by which
 -- the place is found.
-pub record IsPlacedAfter {C F V P M S : Type 0} (c : Commands C F V P M S)
-    (words : List (List ℕ)) (typed : List ℕ) (found : Step C F V P M S) : Type 0 where
+pub record IsPlacedAfter {C F V M S : Type 0} (c : Commands C F V M S)
+    (words : List (List ℕ)) (typed : List ℕ) (found : Step C F V M S) : Type 0 where
   pub read : List legal.Parsed
   pub rest : List (List ℕ)
   pub means : MeansLeading (declaration_of c.options) words read rest
   pub nothing : first_asked (declaration_of c.options).options read ≡ None
-  pub parsed : List (Parsed F V P M S)
+  pub parsed : List (Parsed F V Infallible M S)
   pub are : AreParsedAs (options_of c.options) read parsed
   pub placed : IsPlaced c words typed parsed (place c.commands.now rest) found
 
 -- this text is printed
-abbrev pub IsText : {C F V P M S : Type 0} → Step C F V P M S → List ℕ → Type 0
+abbrev pub IsText : {C F V M S : Type 0} → Step C F V M S → List ℕ → Type 0
 IsText (step.Text found) text = string_bytes found ≡ text
 IsText found text = ⊥
 
--- The words are not legal general options that ask for nothing, with a rest. Nothing can come if a
--- positional is among them.
-pub record IsUnplaced {C F V P M S : Type 0} (c : Commands C F V P M S)
-    (words : List (List ℕ)) (typed : List ℕ) (found : Step C F V P M S) : Type 0 where
+-- The words are not legal general options that ask for nothing, with a rest. So no name can come,
+-- and the general declaration tells what can.
+pub record IsUnplaced {C F V M S : Type 0} (c : Commands C F V M S)
+    (words : List (List ℕ)) (typed : List ℕ) (found : Step C F V M S) : Type 0 where
   pub neither : (l : List legal.Parsed) (rest : List (List ℕ))
       → MeansLeading (declaration_of c.options) words l rest
       → first_asked (declaration_of c.options).options l ≡ None → ⊥
   pub text : List ℕ
   pub is_text : IsText found text
-  pub offered : (HasPositional (declaration_of c.options) words × (text ≡ []))
-      ⊎ ((¬ HasPositional (declaration_of c.options) words) × IsOptionsText c words typed text)
+  pub offered : IsCompletionText c.options words typed text
 
 -- what to do where this is typed after these words
-abbrev pub IsCompletionStep : {C F V P M S : Type 0} → Commands C F V P M S → List (List ℕ)
-    → List ℕ → Step C F V P M S → Type 0
+abbrev pub IsCompletionStep : {C F V M S : Type 0} → Commands C F V M S → List (List ℕ)
+    → List ℕ → Step C F V M S → Type 0
 IsCompletionStep c words typed found =
     IsPlacedAfter c words typed found ⊎ IsUnplaced c words typed found

@@ -1,31 +1,43 @@
 -- The help of a program with commands: that of its general options, with an entry for each command.
 -- The source is `docs/behaviour.md`.
-use Rattle.std.specs.Prelude.{◌≡◌, ℕ, List, ◌++◌}
+use Rattle.std.specs.Prelude.{◌≡◌, ℕ, List, [], ◌∷◌, ◌++◌, codes}
 use Rattle.std.specs.List.{AllZip, concat, flat_map}
-use Rattle.lexopt_options_spec.specs.Declaration.{Declaration}
-use Rattle.lexopt_options_spec.specs.Help.{IsEntry, IsParagraph, IsUsage, described, label}
+use Rattle.lexopt_options_spec.specs.Declaration.{Count, Declaration, Positional, any_number, files}
+use Rattle.lexopt_options_spec.specs.Declaration.{once}
+use Rattle.lexopt_options_spec.specs.Help.{IsEntry, IsParagraph, IsUsage, label}
 use Rattle.lexopt_options_spec.specs.Help.{set_apart, with_list, visible}
 use Rattle.lexopt_commands.specs.declared.command.Command.{Command}
 
--- the text is the help: the usage line; what the program does; an entry for each positional that
--- has one, for each command, and for each option that is not hidden; and the paragraphs of the
--- epilogue
+-- a positional that only the usage line shows
+abbrev pub usage_positional : List ℕ → Count → Positional
+usage_positional placeholder count = record {
+  placeholder = placeholder;
+  count = count;
+  help = [];
+  words = files;
+}
+
+-- the general options, with the name of a command and its arguments as positionals
+abbrev pub with_command : Declaration → Declaration
+with_command d = record d {
+  positionals = usage_positional (codes "COMMAND") once
+      ∷ usage_positional (codes "ARGUMENT") any_number ∷ [];
+}
+
+-- the text is the help: the usage line; what the program does; an entry for each command, and for
+-- each option that is not hidden; and the paragraphs of the epilogue
 pub record IsHelp {C : Type 0} (d : Declaration) (list : List (Command C)) (width : ℕ)
     (text : List ℕ) : Type 0 where
   pub usage : List ℕ
   pub about : List ℕ
-  pub positionals : List (List ℕ)
   pub commands : List (List ℕ)
   pub options : List (List ℕ)
   pub epilogue : List (List ℕ)
-  pub usage_first : IsUsage width d usage
+  pub usage_first : IsUsage width (with_command d) usage
   pub about_next : IsParagraph width d.about about
-  pub each_positional :
-      AllZip (λ p. IsEntry width p.placeholder (with_list p.help p.words)) (described d.positionals)
-      positionals
   pub each_command : AllZip (λ c. IsEntry width c.name.now c.help.now) list commands
   pub each_option :
       AllZip (λ o. IsEntry width (label o) (with_list o.help o.words)) (visible d.options) options
   pub each_paragraph : AllZip (IsParagraph width) d.epilogue epilogue
-  pub written : text ≡ usage ++ about ++ set_apart (concat positionals)
-      ++ set_apart (concat commands) ++ set_apart (concat options) ++ flat_map set_apart epilogue
+  pub written : text ≡ usage ++ about ++ set_apart (concat commands) ++ set_apart (concat options)
+      ++ flat_map set_apart epilogue

@@ -1,18 +1,12 @@
--- The messages about a line that is refused, and about a command that cannot be declared. The
--- source is `docs/formats.md`.
-use Rattle.std.specs.Prelude.{ℕ, List, [], ◌++◌, codes, map}
-use Rattle.lexopt_spec.specs.Text.{visible}
-use Rattle.lexopt_options_spec.specs.Help.{escaped_text, list_text}
-use Rattle.lexopt_declaration.specs.Texts.{hint_text}
-use Rattle.lexopt_options.specs.Messages as options
+-- The message about a command that cannot be declared. The source is `docs/formats.md`.
+use Rattle.std.specs.Prelude.{ℕ, List, ◌++◌, codes}
+use Rattle.lexopt_options_spec.specs.Help.{escaped_text}
 use Rattle.lexopt_commands.specs.declared.command.CommandError.{CommandError}
 use Rattle.lexopt_commands.specs.declared.command.Reason.{Reason}
 use Rattle.lexopt_commands.specs.declared.command.Reason.TheVariants.{EmptyName, DashName}
 use Rattle.lexopt_commands.specs.declared.command.Reason.TheVariants.{ReplacementInName}
 use Rattle.lexopt_commands.specs.declared.command.Reason.TheVariants.{BlankOrControlInName}
 use Rattle.lexopt_commands.specs.declared.command.Reason.TheVariants.{SameName}
-use Rattle.lexopt_commands.specs.declared.mistake.Mistake.{Mistake}
-use Rattle.lexopt_commands.specs.declared.mistake.Mistake.TheVariants as mistake
 
 -- why a command cannot be declared
 abbrev pub reason_text : Reason → List ℕ
@@ -26,11 +20,3 @@ reason_text SameName = codes "a command before it has its name"
 abbrev pub command_error_text : CommandError → List ℕ
 command_error_text error =
     codes "command '" ++ (escaped_text error.name.now ++ (codes "': " ++ reason_text error.reason))
-
--- what is wrong with a line
-abbrev pub message : Mistake → List ℕ
-message (mistake.General own) = options.message own
-message (mistake.MissingCommand names) =
-    codes "missing command: one of " ++ list_text (map (λ name. escaped_text name.now) names.items)
-message (mistake.UnknownCommand word hints) = codes "unknown command " ++ (visible word
-    ++ hint_text [] (map (λ hint. hint.now) hints.items))

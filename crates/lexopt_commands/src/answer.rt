@@ -5,29 +5,28 @@ ghost use Rattle.lexopt_options.specs.Keys.{asked_view};
 ghost use Rattle.lexopt_commands.specs.Answers.{IsAskedText};
 
 use crate::commands::Commands;
-use crate::read::general;
-use crate::refused::{CommandLine, Refused};
-use lexopt_options::{Asked, Parsed, Request, columns};
+use crate::read::CommandLine;
+use lexopt_options::{Asked, Parsed, Refused, Request, columns};
 use lexopt_words::os_string::OsString;
 use std::alloc::{AllocError, Global};
 use std::convert::Infallible;
 use std::env::Env;
 
-/// What a program with commands has to do about a line or a request. `C` is the type of the
-/// program's keys for commands; the other types of keys are those of the general declaration.
+/// What a program with commands has to do about a line or a request. The types of keys are those of
+/// [`Commands`].
 #[derive(Debug, Drop)]
-pub enum Step<'a, C, F, V = Infallible, P = Infallible, M = Infallible, S = Infallible> {
+pub enum Step<'a, C, F, V = Infallible, M = Infallible, S = Infallible> {
     /// Run this command: what the general options before its name mean, its key, and a request,
     /// which the command's own declaration answers by `Options::answer_request`, or by
     /// [`Commands::answer_request`] if the command has commands of its own.
-    Command(Vec<Parsed<F, V, P, M, S>>, C, Request),
+    Command(Vec<Parsed<F, V, Infallible, M, S>>, C, Request),
     /// Print this to standard output, and exit: the help, the version, or what a shell asked for.
     Text(String),
     /// Print this to standard error, and exit with the status [`USAGE_ERROR`](crate::USAGE_ERROR).
-    Refused(Refused<'a, F, V, P, M, S>),
+    Refused(Refused<'a, F, V, Infallible, M, S>),
 }
 
-impl<C, F, V, P, M, S> Commands<'_, C, F, V, P, M, S> {
+impl<C, F, V, M, S> Commands<'_, C, F, V, M, S> {
     ghost use Rattle.std.specs.Prelude.{IfOk, string_bytes};
     ghost use Rattle.lexopt_options.specs.Keys.{asked_view};
     ghost use Rattle.lexopt_commands.specs.Answers.{IsAskedText};
@@ -49,7 +48,7 @@ impl<C, F, V, P, M, S> Commands<'_, C, F, V, P, M, S> {
     }
 }
 
-impl<'a, C: Copy, F: Copy, V: Copy, P: Copy, M: Copy, S: Copy> Commands<'a, C, F, V, P, M, S> {
+impl<'a, C: Copy, F: Copy, V: Copy, M: Copy, S: Copy> Commands<'a, C, F, V, M, S> {
     ghost use Rattle.std.specs.Prelude.{ℕ, IfOk, List, Option};
     ghost use Rattle.lexopt_options.specs.Requests.{IsRequest};
     ghost use Rattle.lexopt_options.specs.declared.request.Request.{Request};
@@ -91,7 +90,7 @@ impl<'a, C: Copy, F: Copy, V: Copy, P: Copy, M: Copy, S: Copy> Commands<'a, C, F
         alloc: Global,
         words: Vec<OsString>,
         width: usize,
-    ) -> Result<Step<'a, C, F, V, P, M, S>, AllocError>
+    ) -> Result<Step<'a, C, F, V, M, S>, AllocError>
         ensures { IfOk result (λ step. IsStep self.now words.items width step) }
     {
         match self.read(alloc, words)? {
@@ -110,21 +109,21 @@ impl<'a, C: Copy, F: Copy, V: Copy, P: Copy, M: Copy, S: Copy> Commands<'a, C, F
     ///   command: ask the command what can come, by [`Step::Command`] with the words after its name
     ///   and what was typed. One name that asks for the help may come before the name of the
     ///   command.
-    /// - [`Request::Completion`] right after a name that asks for the help: print a line for each
-    ///   command whose name begins with what was typed.
-    /// - [`Request::Completion`] where no positional is among the words: print such a line for each
-    ///   command whose name can come there, and then what `Options::completion_text` returns by the
-    ///   general declaration. No name can come there while a required general option is missing.
-    /// - [`Request::Completion`] anywhere else: print nothing.
+    /// - [`Request::Completion`] right after such options: print a line for each command whose name
+    ///   begins with what was typed, if a name can come there, and then what
+    ///   `Options::completion_text` returns by the general declaration.
+    /// - [`Request::Completion`] right after such options and a name that asks for the help: print a
+    ///   line for each command whose name begins with what was typed.
+    /// - [`Request::Completion`] after such options and any other word, or after a name that asks
+    ///   for the help and any other word: print nothing.
+    /// - [`Request::Completion`] anywhere else, for example while a required general option is
+    ///   missing: print what `Options::completion_text` returns by the general declaration.
     /// - [`Request::Script`]: print what `Options::script` returns.
     /// - [`Request::Unknown`]: refuse it.
     ///
     /// The line for a command is `+`, the name, a tab, and its help text. This call consumes the
     /// request. Unless it is a [`Request::Line`], a shell reads what the program prints, so print
     /// nothing before the call for the command has returned.
-    ///
-    /// The first positional of the general declaration represents the name of the command. Declare
-    /// it with `.text()`, or shells offer the names of files there too.
     ///
     /// # Errors
     ///
@@ -138,10 +137,9 @@ impl<'a, C: Copy, F: Copy, V: Copy, P: Copy, M: Copy, S: Copy> Commands<'a, C, F
     /// use std::convert::Infallible;
     /// use std::io;
     ///
-    /// static REMOTE: Declaration<'static, Infallible, Infallible, ()> = declare! {
+    /// static REMOTE: Declaration<'static, Infallible> = declare! {
     ///     program: "git remote",
     ///     options: [help(Names::Both('h', "help"))],
-    ///     positionals: [once((), "COMMAND").text(), any_number((), "ARGUMENT")],
     /// };
     ///
     /// static REMOTE_COMMANDS: &[Command<'static, ()>] =
@@ -175,16 +173,14 @@ impl<'a, C: Copy, F: Copy, V: Copy, P: Copy, M: Copy, S: Copy> Commands<'a, C, F
         alloc: Global,
         request: Request,
         width: usize,
-    ) -> Result<Step<'a, C, F, V, P, M, S>, AllocError>
+    ) -> Result<Step<'a, C, F, V, M, S>, AllocError>
         ensures { IfOk result (λ step. IsRequestStep self.now request width step) }
     {
         match request {
             Request::Line(words) => self.answer(alloc, words, width),
             Request::Completion(words, typed) => self.completion_step(alloc, words, typed),
             Request::Script(shell) => Ok(Step::Text(self.options().script(alloc, shell)?)),
-            Request::Unknown => {
-                Ok(Step::Refused(general(self.options().unknown_request(alloc)?)))
-            }
+            Request::Unknown => Ok(Step::Refused(self.options().unknown_request(alloc)?)),
         }
     }
 
@@ -237,7 +233,7 @@ impl<'a, C: Copy, F: Copy, V: Copy, P: Copy, M: Copy, S: Copy> Commands<'a, C, F
     pub fn from_env<R: Env + AllocGlobal>(
         &self,
         rt: &R,
-    ) -> Result<Step<'a, C, F, V, P, M, S>, AllocError>
+    ) -> Result<Step<'a, C, F, V, M, S>, AllocError>
         ensures { IfOk result (λ step. (value : Option (List ℕ)) × (words : List (List ℕ))
             × (request : Request) × (width : ℕ) × IsRequest value words request
             × IsRequestStep self.now request width step) }

@@ -11,16 +11,20 @@ use std::convert::Infallible;
 ///
 /// [`Commands::new`] and [`Commands::try_new`] make it. It borrows the commands and is `Copy`. The
 /// names of the commands are distinct. None is empty or begins with `-`, and none has a blank, a
-/// control character of ASCII or U+FFFD in it. `C` is the type of the program's keys for commands;
-/// the other types of keys are those of the general declaration.
-pub struct Commands<'a, C, F, V = Infallible, P = Infallible, M = Infallible, S = Infallible> {
-    options: Options<'a, F, V, P, M, S>,
+/// control character of ASCII or U+FFFD in it.
+///
+/// `C` is the type of the program's keys for commands. The others are those of the general
+/// declaration: for flags, options of one value, options whose value may be left out, and options of
+/// several values. There is none for positionals, since the general declaration has none.
+pub struct Commands<'a, C, F, V = Infallible, M = Infallible, S = Infallible> {
+    options: Options<'a, F, V, Infallible, M, S>,
     commands: &'a [Command<'a, C>],
     ghost sound: { can_be_declared (names_of commands.now) ≡ true },
 }
 
-impl<'a, C, F, V, P, M, S> Commands<'a, C, F, V, P, M, S> {
+impl<'a, C, F, V, M, S> Commands<'a, C, F, V, M, S> {
     ghost use Rattle.std.specs.Prelude.{◌≡◌, [], ℕ, MatchResult, Some, slice_get, true};
+    ghost use Rattle.lexopt_options.specs.Declarations.{declaration_of};
     ghost use Rattle.lexopt_commands.specs.declared.command.Command.{Command};
     ghost use Rattle.lexopt_commands.specs.Meanings.{runs_of};
     ghost use Rattle.lexopt_commands.specs.Names.{can_be_declared, first_fault, names_of};
@@ -38,9 +42,9 @@ impl<'a, C, F, V, P, M, S> Commands<'a, C, F, V, P, M, S> {
     /// let commands = Commands::new(Options::new(&GENERAL), COMMANDS);
     /// ```
     pub fn new(
-        options: Options<'a, F, V, P, M, S>,
+        options: Options<'a, F, V, Infallible, M, S>,
         commands: &'a [Command<'a, C>],
-    ) -> Commands<'a, C, F, V, P, M, S>
+    ) -> Commands<'a, C, F, V, M, S>
         requires { can_be_declared (names_of commands.now) ≡ true }
         ensures options { result.options ≡ options.entry }
         ensures commands { result.commands.now ≡ commands.now }
@@ -67,9 +71,9 @@ impl<'a, C, F, V, P, M, S> Commands<'a, C, F, V, P, M, S> {
     /// }
     /// ```
     pub fn try_new(
-        options: Options<'a, F, V, P, M, S>,
+        options: Options<'a, F, V, Infallible, M, S>,
         commands: &'a [Command<'a, C>],
-    ) -> Result<Commands<'a, C, F, V, P, M, S>, CommandError<'a>>
+    ) -> Result<Commands<'a, C, F, V, M, S>, CommandError<'a>>
         ensures { MatchResult result
             (λ made. (made.options ≡ options.entry) × (made.commands.now ≡ commands.now))
             (λ error. first_fault [] (names_of commands.now)
@@ -81,9 +85,10 @@ impl<'a, C, F, V, P, M, S> Commands<'a, C, F, V, P, M, S> {
         }
     }
 
-    /// Returns the general options.
-    pub fn options(&self) -> Options<'a, F, V, P, M, S>
-        ensures { result ≡ self.now.options }
+    /// Returns the general options, which have no positionals.
+    pub fn options(&self) -> Options<'a, F, V, Infallible, M, S>
+        ensures same { result ≡ self.now.options }
+        ensures none { (declaration_of result).positionals ≡ [] }
     {
         self.options
     }
@@ -100,10 +105,10 @@ impl<'a, C, F, V, P, M, S> Commands<'a, C, F, V, P, M, S> {
     }
 }
 
-impl<C, F, V, P, M, S> Clone for Commands<'_, C, F, V, P, M, S> {
+impl<C, F, V, M, S> Clone for Commands<'_, C, F, V, M, S> {
     fn clone(&self) -> Result<Self, AllocError> {
         Ok(*self)
     }
 }
 
-impl<C, F, V, P, M, S> Copy for Commands<'_, C, F, V, P, M, S> {}
+impl<C, F, V, M, S> Copy for Commands<'_, C, F, V, M, S> {}

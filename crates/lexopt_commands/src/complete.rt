@@ -19,6 +19,7 @@ use lexopt_options::{Leading, Parsed, Request};
 use lexopt_words::os_string::OsString;
 use lexopt_words::words::copies;
 use std::alloc::{AllocError, Global};
+use std::convert::Infallible;
 
 // Where a word is typed, by the words after the general options.
 #[derive(Drop)]
@@ -73,7 +74,7 @@ fn is_empty_word(words: &[OsString]) -> bool
 }
 
 // Whether general options are legal, and the empty word is the only one after them.
-fn leaves_empty_word<F, V, P, M, S>(leading: &Leading<'_, F, V, P, M, S>) -> bool
+fn leaves_empty_word<F, V, M, S>(leading: &Leading<'_, F, V, Infallible, M, S>) -> bool
     ensures { IsTrue result ↔ LeavesEmptyWord leading.now }
 {
     match leading {
@@ -85,11 +86,11 @@ fn leaves_empty_word<F, V, P, M, S>(leading: &Leading<'_, F, V, P, M, S>) -> boo
 
 // What general options mean, and the words after them; `None` if they ask for something or have a
 // mistake.
-fn parsed_of<F: Drop, V: Drop, P: Drop, M: Drop, S: Drop>(
-    leading: Leading<'_, F, V, P, M, S>,
-) -> Option<(Vec<Parsed<F, V, P, M, S>>, Vec<OsString>)>
+fn parsed_of<F: Drop, V: Drop, M: Drop, S: Drop>(
+    leading: Leading<'_, F, V, Infallible, M, S>,
+) -> Option<(Vec<Parsed<F, V, Infallible, M, S>>, Vec<OsString>)>
     ensures { MatchOption result
-        ((parsed : Vec (rust.Parsed F V P M S) Global) (rest : Vec (List ℕ) Global)
+        ((parsed : Vec (rust.Parsed F V Infallible M S) Global) (rest : Vec (List ℕ) Global)
         → leading.entry ≡ leadings.Parsed parsed rest → ⊥)
         (λ found. leading.entry ≡ leadings.Parsed found.0 found.1) }
 {
@@ -144,11 +145,10 @@ fn begun_names<C>(
     Ok(text)
 }
 
-impl<'a, C: Copy, F: Copy, V: Copy, P: Copy, M: Copy, S: Copy> Commands<'a, C, F, V, P, M, S> {
+impl<'a, C: Copy, F: Copy, V: Copy, M: Copy, S: Copy> Commands<'a, C, F, V, M, S> {
     ghost use Rattle.std.specs.Prelude.{◌≡◌, ◌↔◌, ◌⊎◌, ◌++◌, ℕ, [], IfOk, IsTrue, List, OnOk};
     ghost use Rattle.std.specs.Prelude.{string_bytes};
     ghost use Rattle.std.specs.Bool.{MatchBool};
-    ghost use Rattle.lexopt_options.specs.Completions.{HasPositional};
     ghost use Rattle.lexopt_options.specs.Declarations.{declaration_of};
     ghost use Rattle.lexopt_commands.specs.Completions.{IsNamesText, CanBeNamed, CannotBeNamed};
     ghost use Rattle.lexopt_commands.specs.Completions.{IsCompletionStep, IsOptionsText, IsPlaced};
@@ -184,7 +184,7 @@ impl<'a, C: Copy, F: Copy, V: Copy, P: Copy, M: Copy, S: Copy> Commands<'a, C, F
         }
     }
 
-    // What can come where no command is among the words: names, and what can come by the general
+    // What can come right after the general options: names, and what can come by the general
     // declaration.
     fn options_text(
         &self,
@@ -201,37 +201,15 @@ impl<'a, C: Copy, F: Copy, V: Copy, P: Copy, M: Copy, S: Copy> Commands<'a, C, F
         Ok(text)
     }
 
-    // What can come after words that are not legal general options, nor such options and words
-    // after them.
-    fn unplaced_text(
-        &self,
-        alloc: Global,
-        words: Vec<OsString>,
-        typed: &OsString,
-    ) -> Result<String, AllocError>
-        ensures { IfOk result (λ text.
-            (HasPositional (declaration_of self.now.options) words.items
-            × (string_bytes text ≡ []))
-            ⊎ ((¬ HasPositional (declaration_of self.now.options) words.items)
-            × IsOptionsText self.now words.items typed.now (string_bytes text))) }
-    {
-        let copy = copies(alloc, &words)?;
-        if self.options().has_positional(alloc, copy)? {
-            Ok(String::new(alloc))
-        } else {
-            self.options_text(alloc, words, typed)
-        }
-    }
-
     // What to do where a word is typed after these general options and these words.
     fn placed_step(
         &self,
         alloc: Global,
         words: Vec<OsString>,
         typed: OsString,
-        parsed: Vec<Parsed<F, V, P, M, S>>,
+        parsed: Vec<Parsed<F, V, Infallible, M, S>>,
         rest: Vec<OsString>,
-    ) -> Result<Step<'a, C, F, V, P, M, S>, AllocError>
+    ) -> Result<Step<'a, C, F, V, M, S>, AllocError>
         ensures { IfOk result (λ step. IsPlaced self.now words.items typed parsed.items
             (place self.now.commands.now rest.items) step) }
     {
@@ -251,13 +229,16 @@ impl<'a, C: Copy, F: Copy, V: Copy, P: Copy, M: Copy, S: Copy> Commands<'a, C, F
         alloc: Global,
         words: Vec<OsString>,
         typed: OsString,
-    ) -> Result<Step<'a, C, F, V, P, M, S>, AllocError>
+    ) -> Result<Step<'a, C, F, V, M, S>, AllocError>
         ensures { IfOk result (λ step. IsCompletionStep self.now words.items typed step) }
     {
         let leading = self.options().read_leading(alloc, copies(alloc, &words)?)?;
         match parsed_of(leading) {
             Some((parsed, rest)) => self.placed_step(alloc, words, typed, parsed, rest),
-            None => Ok(Step::Text(self.unplaced_text(alloc, words, &typed)?)),
+            None => {
+                let text = self.options().completion_text(alloc, words, &typed)?;
+                Ok(Step::Text(text))
+            }
         }
     }
 }

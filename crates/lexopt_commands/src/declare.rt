@@ -26,13 +26,12 @@
 ///     Remote,
 /// }
 ///
-/// static GENERAL: Declaration<'static, Infallible, (), ()> = declare! {
+/// static GENERAL: Declaration<'static, Infallible, ()> = declare! {
 ///     program: "git",
 ///     options: [
 ///         value((), Names::Both('C', "directory"), "DIR", "where the files are").directories(),
 ///         help(Names::Both('h', "help")),
 ///     ],
-///     positionals: [once((), "COMMAND").text(), any_number((), "ARGUMENT")],
 /// };
 ///
 /// static COMMANDS: &[Command<'static, Task>] = declare_commands![

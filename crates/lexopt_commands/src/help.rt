@@ -2,17 +2,19 @@
 //! of declared options.
 ghost use Rattle.std.specs.Prelude.{◌≡◌, ◌++◌, ℕ, IfOk, List, string_bytes};
 ghost use Rattle.std.specs.List.{AllZip, concat};
-ghost use Rattle.lexopt_options_spec.specs.Help.{IsEntry};
+ghost use Rattle.lexopt_options_spec.specs.Help.{IsEntry, IsUsage};
+ghost use Rattle.lexopt_declaration.specs.Models.{count_view, positional_view};
 ghost use Rattle.lexopt_options.specs.Declarations.{declaration_of};
-ghost use Rattle.lexopt_commands.specs.Help.{IsHelp};
+ghost use Rattle.lexopt_commands.specs.Help.{IsHelp, usage_positional, with_command};
 
 use crate::command::Command;
 use crate::commands::Commands;
 use lexopt_declaration::help::{
-    option_entries, positional_entries, push_apart, push_described, push_epilogue, push_paragraph,
+    option_entries, push_apart, push_described, push_epilogue, push_paragraph, usage,
 };
-use lexopt_options::Options;
+use lexopt_options::{Count, Declaration, Options, Positional, Words};
 use std::alloc::{AllocError, Global};
+use std::convert::Infallible;
 
 // The entries of the commands.
 fn command_entries<C>(
@@ -31,20 +33,57 @@ fn command_entries<C>(
     Ok(text)
 }
 
-// The help, wrapped to `width` columns.
-fn help_of<C, F, V, P, M, S>(
+// A positional that only the usage line shows.
+fn usage_positional(placeholder: &str, count: Count) -> Positional<'_, ()>
+    ensures { positional_view result ≡ usage_positional placeholder.now (count_view count) }
+{
+    Positional {
+        key: (),
+        placeholder,
+        count,
+        help: "",
+        words: Words::Files,
+    }
+}
+
+// The usage line, wrapped to `width` columns: that of the general declaration with `COMMAND` and
+// `ARGUMENT` as its positionals. It shows none of the parts that are copied only to make a
+// declaration.
+fn usage_of<F, V, M, S>(
     alloc: Global,
-    options: &Options<'_, F, V, P, M, S>,
+    options: &Options<'_, F, V, Infallible, M, S>,
+    width: usize,
+) -> Result<String, AllocError>
+    ensures { IfOk result (λ text.
+        IsUsage width (with_command (declaration_of options.now)) (string_bytes text)) }
+{
+    let declaration: Declaration<'_, F, V, (), M, S> = Declaration {
+        program: options.program(),
+        about: options.about(),
+        options: options.options(),
+        positionals: &[
+            usage_positional("COMMAND", Count::Once),
+            usage_positional("ARGUMENT", Count::AnyNumber),
+        ],
+        epilogue: options.epilogue(),
+        short_equals: options.has_short_equals(),
+        guesses: &[],
+    };
+    usage(alloc, &declaration, width)
+}
+
+// The help, wrapped to `width` columns.
+fn help_of<C, F, V, M, S>(
+    alloc: Global,
+    options: &Options<'_, F, V, Infallible, M, S>,
     commands: &[Command<'_, C>],
     width: usize,
 ) -> Result<String, AllocError>
     ensures { IfOk result (λ text.
         IsHelp (declaration_of options.now) commands.now width (string_bytes text)) }
 {
-    let mut text = options.usage(alloc, width)?;
+    let mut text = usage_of(alloc, options, width)?;
     push_paragraph(&mut text, alloc, options.about(), width)?;
-    let positionals = positional_entries(alloc, options.positionals(), width)?;
-    push_apart(&mut text, positionals.as_str())?;
     let entries = command_entries(alloc, commands, width)?;
     push_apart(&mut text, entries.as_str())?;
     let declared = option_entries(alloc, options.options(), width)?;
@@ -53,20 +92,37 @@ fn help_of<C, F, V, P, M, S>(
     Ok(text)
 }
 
-impl<C, F, V, P, M, S> Commands<'_, C, F, V, P, M, S> {
+impl<C, F, V, M, S> Commands<'_, C, F, V, M, S> {
     ghost use Rattle.std.specs.Prelude.{IfOk, string_bytes};
+    ghost use Rattle.lexopt_options_spec.specs.Help.{IsUsage};
     ghost use Rattle.lexopt_options.specs.Declarations.{declaration_of};
-    ghost use Rattle.lexopt_commands.specs.Help.{IsHelp};
+    ghost use Rattle.lexopt_commands.specs.Help.{IsHelp, with_command};
+
+    /// Returns the usage line of the program, wrapped to `width` columns, with a line feed at its
+    /// end: that of the general options, and then `COMMAND` and `[ARGUMENT]...`.
+    ///
+    /// # Errors
+    ///
+    /// Returns `AllocError` if an allocation fails.
+    ///
+    /// # Examples
+    ///
+    /// ```rust
+    /// let usage = commands.usage(alloc, columns(rt))?;
+    /// ```
+    pub fn usage(&self, alloc: Global, width: usize) -> Result<String, AllocError>
+        ensures { IfOk result (λ text. IsUsage width
+            (with_command (declaration_of self.now.options)) (string_bytes text)) }
+    {
+        usage_of(alloc, &self.options(), width)
+    }
 
     /// Returns the help of the program, wrapped to `width` columns.
     ///
-    /// It is that of the general options (`Options::help` of `lexopt_options`), with an entry for
-    /// each command, whose label is the name. These entries are in the order of the declaration,
-    /// after those of the positionals and before those of the options, with an empty line before
-    /// the first.
-    ///
-    /// The positionals in the usage line are those of the general declaration, which are ignored
-    /// when a line is read. Declare `COMMAND` once and `ARGUMENT` any number of times.
+    /// It is that of the general options (`Options::help` of `lexopt_options`), with `COMMAND` and
+    /// `[ARGUMENT]...` at the end of the usage line, and with an entry for each command, whose
+    /// label is the name. These entries are in the order of the declaration, before those of the
+    /// options, with an empty line before the first.
     ///
     /// # Errors
     ///

@@ -34,14 +34,13 @@
 //!     List,
 //! }
 //!
-//! static GENERAL: Declaration<'static, GeneralFlag, Infallible, ()> = declare! {
+//! static GENERAL: Declaration<'static, GeneralFlag> = declare! {
 //!     program: "notes",
 //!     about: "Keeps notes.",
 //!     options: [
 //!         flag(GeneralFlag::Quiet, Names::Both('q', "quiet"), "tell less"),
 //!         help(Names::Both('h', "help")),
 //!     ],
-//!     positionals: [once((), "COMMAND").text(), any_number((), "ARGUMENT")],
 //! };
 //!
 //! static COMMANDS: &[Command<'static, Task>] = declare_commands![
@@ -156,9 +155,8 @@
 //!
 //! - The general declaration has the name under which the program is installed, and the options
 //!   that come before the name of a command. To accept such an option after the name too, declare
-//!   it for the command as well. Declare the positionals `COMMAND` and `ARGUMENT` as above: the
-//!   usage line and completion use them. When a line is read they are ignored, so their keys are
-//!   never returned, but a `match` by value still needs the arm `Parsed::Positional((), _) => {}`.
+//!   it for the command as well. The general declaration has no positionals. The usage line ends
+//!   with `COMMAND` and `[ARGUMENT]...`.
 //! - [`declare_commands!`](crate::declare_commands) has a line for each [`Command`]: `command` with
 //!   the key, the name and the help text, or `help` with the name that asks for the help.
 //! - The declaration of a command has the name that messages and the help show, such as
@@ -184,8 +182,8 @@
 //! - A command that has commands of its own, such as `remote add`, makes [`Commands`] of them in
 //!   its function, and passes the request to [`Commands::answer_request`].
 //! - [`Commands::answer`] reads words of the program's own, as a test does; [`Commands::read`]
-//!   returns the request for the help, and the [`Mistake`], as values; and [`Commands::help`]
-//!   returns the help.
+//!   returns the request for the help, and the mistake, as values; and [`Commands::help`] and
+//!   [`Commands::usage`] return the help and its first line.
 //!
 //! A shell completes the lines of `notes` after `source <(_NOTES_COMPLETE=bash_source notes)` in
 //! the start-up file of bash; `lexopt_options` has the lines for zsh and fish.
@@ -203,15 +201,12 @@ mod complete;
 mod declare;
 mod examples;
 pub mod help;
-pub mod mistake;
 pub mod read;
-pub mod refused;
 
 pub use answer::Step;
 pub use command::{Command, CommandError, Reason, Runs};
 pub use commands::Commands;
-pub use mistake::Mistake;
-pub use refused::{CommandLine, Refused};
+pub use read::CommandLine;
 
 // What else a program that declares commands needs.
 pub use lexopt_options::{BROKEN_PIPE, USAGE_ERROR, columns, finish};

@@ -1,21 +1,35 @@
 //! Reads a line up to the name of a command, and what that name and the words after it mean. The
 //! file of this name in `lexopt_options` reads whole lines.
-ghost use Rattle.std.specs.Prelude.{◌≡◌, ◌==◌, ◌∷◌, ◌++◌, [], IfOk, None, position};
+ghost use Rattle.std.specs.Prelude.{◌≡◌, ◌==◌, ◌∷◌, ◌++◌, [], IfOk, None, map, position};
 ghost use Rattle.std.specs.Option.{MatchOption};
 ghost use Rattle.std.specs.Cmp.Lexicographic.{pointwise};
-ghost use Rattle.lexopt_commands.specs.declared.mistake.Mistake.TheVariants.{General};
 ghost use Rattle.lexopt_commands.specs.Meanings.{help_of, help_word, helped, meaning, runs_at};
 ghost use Rattle.lexopt_commands.specs.Meanings.{runs_of};
+ghost use Rattle.lexopt_commands.specs.Mistakes.{IsHint};
+ghost use Rattle.lexopt_commands.specs.Names.{names_of};
 ghost use Rattle.lexopt_commands.specs.Views.{meaning_view};
 
 use crate::command::{Command, Runs, is_named};
 use crate::commands::Commands;
-use crate::mistake::{Mistake, hints_for, names_of};
-use crate::refused::{CommandLine, Refused};
 use lexopt_declaration::lookup::help_names_of;
-use lexopt_options::{Asked, Leading, Parsed};
+use lexopt_declaration::nearest::hinted_names;
+use lexopt_options::{Asked, Leading, Mistake, Parsed, Refused};
+use lexopt_words::codepoint::lossy_text;
 use lexopt_words::os_string::OsString;
 use std::alloc::{AllocError, Global};
+use std::convert::Infallible;
+
+/// The result of reading a line of a program with commands.
+#[derive(Debug, Drop)]
+pub enum CommandLine<'a, C, F, V = Infallible, M = Infallible, S = Infallible> {
+    /// The line has a command: what the general options before it mean, its key, and the words
+    /// after its name.
+    Command(Vec<Parsed<F, V, Infallible, M, S>>, C, Vec<OsString>),
+    /// The line asks for the help or the version before any mistake.
+    Asked(Asked<'a>),
+    /// The line has a mistake.
+    Refused(Refused<'a, F, V, Infallible, M, S>),
+}
 
 // The word that asks a command for its help.
 const HELP: &str = "--help";
@@ -127,32 +141,32 @@ fn meaning_of<C: Copy>(
     }
 }
 
-/// Converts the refusal of general options into that of a line with commands.
-pub(crate) fn general<'a, F, V, P, M, S>(
-    refused: lexopt_options::Refused<'a, F, V, P, M, S>,
-) -> Refused<'a, F, V, P, M, S>
-    ensures { result ≡ record {
-      program = refused.entry.program;
-      help = refused.entry.help;
-      before = refused.entry.before;
-      mistake = General refused.entry.mistake;
-    } }
+// The names of these commands.
+fn names_of<'a, C>(alloc: Global, commands: &[Command<'a, C>]) -> Result<Vec<&'a str>, AllocError>
+    ensures { IfOk result (λ names. map (λ name. name.now) names.items ≡ names_of commands.now) }
 {
-    let lexopt_options::Refused {
-        program,
-        help,
-        before,
-        mistake,
-    } = refused;
-    Refused {
-        program,
-        help,
-        before,
-        mistake: Mistake::General(mistake),
+    let mut names = Vec::new(alloc);
+    for command in commands {
+        names.push(command.name)?;
     }
+    Ok(names)
 }
 
-impl<'a, C, F, V, P, M, S> Commands<'a, C, F, V, P, M, S> {
+// The names of commands that may have been meant by this word.
+fn hints_for<'a, C>(
+    alloc: Global,
+    commands: &[Command<'a, C>],
+    word: &OsString,
+) -> Result<Vec<&'a str>, AllocError>
+    ensures { IfOk result (λ hints.
+        IsHint commands.now word.now (map (λ hint. hint.now) hints.items)) }
+{
+    let names = names_of(alloc, commands)?;
+    let typed = lossy_text(alloc, word.as_bytes())?;
+    hinted_names(alloc, &names, typed.as_str())
+}
+
+impl<'a, C, F, V, M, S> Commands<'a, C, F, V, M, S> {
     ghost use Rattle.std.specs.Prelude.{◌≡◌};
     ghost use Rattle.lexopt_declaration.specs.Lookups.{help_names};
     ghost use Rattle.lexopt_options.specs.Declarations.{declaration_of, options_of};
@@ -160,9 +174,9 @@ impl<'a, C, F, V, P, M, S> Commands<'a, C, F, V, P, M, S> {
     // Refuses a line for this mistake, after these general options.
     fn refuse(
         &self,
-        before: Vec<Parsed<F, V, P, M, S>>,
+        before: Vec<Parsed<F, V, Infallible, M, S>>,
         mistake: Mistake<'a>,
-    ) -> Refused<'a, F, V, P, M, S>
+    ) -> Refused<'a, F, V, Infallible, M, S>
         ensures program { result.program.now ≡ (declaration_of self.now.options).program }
         ensures help { result.help ≡ help_names (options_of self.now.options) }
         ensures before { result.before ≡ before }
@@ -178,7 +192,7 @@ impl<'a, C, F, V, P, M, S> Commands<'a, C, F, V, P, M, S> {
     }
 }
 
-impl<'a, C: Copy, F: Copy, V: Copy, P: Copy, M: Copy, S: Copy> Commands<'a, C, F, V, P, M, S> {
+impl<'a, C: Copy, F: Copy, V: Copy, M: Copy, S: Copy> Commands<'a, C, F, V, M, S> {
     ghost use Rattle.std.specs.Prelude.{◌≡◌, ◌∷◌, ℕ, IfOk, List, None, Some, slice_get};
     ghost use Rattle.lexopt_options_spec.specs.Asking.{first_asked};
     ghost use Rattle.lexopt_options_spec.specs.Leading.{MeansLeading};
@@ -192,9 +206,9 @@ impl<'a, C: Copy, F: Copy, V: Copy, P: Copy, M: Copy, S: Copy> Commands<'a, C, F
     fn end(
         &self,
         alloc: Global,
-        parsed: Vec<Parsed<F, V, P, M, S>>,
+        parsed: Vec<Parsed<F, V, Infallible, M, S>>,
         words: Vec<OsString>,
-    ) -> Result<CommandLine<'a, C, F, V, P, M, S>, AllocError>
+    ) -> Result<CommandLine<'a, C, F, V, M, S>, AllocError>
         ensures { IfOk result (λ line. IsLineAfter self.now parsed.items words.items line) }
     {
         match meaning_of(alloc, self.commands(), words)? {
@@ -250,7 +264,7 @@ impl<'a, C: Copy, F: Copy, V: Copy, P: Copy, M: Copy, S: Copy> Commands<'a, C, F
         &self,
         alloc: Global,
         words: Vec<OsString>,
-    ) -> Result<CommandLine<'a, C, F, V, P, M, S>, AllocError>
+    ) -> Result<CommandLine<'a, C, F, V, M, S>, AllocError>
         // The words are general options that ask for nothing, and words that mean this command. Or
         // the options ask for the help or the version before any mistake; or they ask for nothing,
         // and the words after them ask for the help. Or this is the first mistake: of the options,
@@ -274,7 +288,7 @@ impl<'a, C: Copy, F: Copy, V: Copy, P: Copy, M: Copy, S: Copy> Commands<'a, C, F
         match self.options().read_leading(alloc, words)? {
             Leading::Parsed(parsed, rest) => self.end(alloc, parsed, rest),
             Leading::Asked(asked) => Ok(CommandLine::Asked(asked)),
-            Leading::Refused(refused) => Ok(CommandLine::Refused(general(refused))),
+            Leading::Refused(refused) => Ok(CommandLine::Refused(refused)),
         }
     }
 }

@@ -6,5 +6,4 @@ pub mod Faults
 pub mod Rows
 pub mod Candidates
 pub mod Scripts
-pub mod Parts
 pub mod Combined

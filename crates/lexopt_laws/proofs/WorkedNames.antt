@@ -6,50 +6,43 @@ use Rattle.std.proofs.lemmas.Option.{slice_get-map}
 use Rattle.std.specs.List.{slice_get}
 use Rattle.std.specs.Option.{option_map}
 use Rattle.std.specs.Str.{chars}
-use Rattle.lexopt_options_spec.specs.Declaration.{Declared}
 use Rattle.lexopt_options_spec.specs.Nearest.{IsDistance, IsNear, IsNearAt, IsNearest}
 use Rattle.lexopt_options_spec.proofs.Distance.{one_distance}
 use Rattle.lexopt_options_spec.proofs.Nearest.{one_nearest}
 use Rattle.lexopt_laws.proofs.WorkedDistances.{distance, distance_of}
 
 -- the distance of the name, if it is near
-abbrev pub near_name : List ℕ → Option (List ℕ) → Option ℕ
-near_name typed None = None
-near_name typed (Some name) = cond (leb (3 * distance typed (chars name)) (length typed)) (Some (distance typed (chars name))) None
+abbrev pub near_name : List ℕ → List ℕ → Option ℕ
+near_name typed name = cond (leb (3 * distance typed (chars name)) (length typed)) (Some (distance typed (chars name))) None
 
-near_is : (o : Declared) (typed : List ℕ) (n : ℕ) → IsNear o typed n → near_name typed o.long_name ≡ Some n
-near_is o typed n near =
-    let same : n ≡ distance typed (chars near.name) = one_distance typed (chars near.name) n (distance typed (chars near.name)) near.distance (distance_of typed (chars near.name)) in
-    let third : 3 * distance typed (chars near.name) ≤ length typed = subst (λ m. 3 * m ≤ length typed) same near.third in
-    ap (near_name typed) near.has ∙ ap (λ b. cond b (Some (distance typed (chars near.name))) None) (le-leb (3 * distance typed (chars near.name)) (length typed) third) ∙ ap (λ m. Some m) (sym same)
+near_is : (name typed : List ℕ) (n : ℕ) → IsNear name typed n → near_name typed name ≡ Some n
+near_is name typed n near =
+    let same : n ≡ distance typed (chars name) = one_distance typed (chars name) n (distance typed (chars name)) near.distance (distance_of typed (chars name)) in
+    let third : 3 * distance typed (chars name) ≤ length typed = subst (λ m. 3 * m ≤ length typed) same near.third in
+    ap (λ b. cond b (Some (distance typed (chars name))) None) (le-leb (3 * distance typed (chars name)) (length typed) third) ∙ ap (λ m. Some m) (sym same)
 
-is_near : (o : Declared) (typed : List ℕ) (n : ℕ) (name : Option (List ℕ)) → o.long_name ≡ name → near_name typed name ≡ Some n → IsNear o typed n
-is_near o typed n None has is = absurd (let e : None ≡ Some n = is in cc)
-is_near o typed n (Some name) has is =
-    let d = distance typed (chars name) in
-    by (leb (3 * d) (length typed)) refl is
+is_near : (name typed : List ℕ) (n : ℕ) → near_name typed name ≡ Some n → IsNear name typed n
+is_near name typed n is = by (leb (3 * distance typed (chars name)) (length typed)) refl is
   where
-    by : (b : Bool) → leb (3 * distance typed (chars name)) (length typed) ≡ b → cond b (Some (distance typed (chars name))) None ≡ Some n → IsNear o typed n
+    by : (b : Bool) → leb (3 * distance typed (chars name)) (length typed) ≡ b → cond b (Some (distance typed (chars name))) None ≡ Some n → IsNear name typed n
     by true least some =
         let same : distance typed (chars name) ≡ n = (let e : Some (distance typed (chars name)) ≡ Some n = some in cc) in
         record {
-          name = name;
-          has = has;
           distance = subst (IsDistance typed (chars name)) same (distance_of typed (chars name));
           third = subst (λ m. 3 * m ≤ length typed) same (leb-true (3 * distance typed (chars name)) (length typed) least);
         }
     by false least some = absurd (let e : None ≡ Some n = some in cc)
 
--- the same for each option
-abbrev pub near_names : List Declared → List ℕ → List (Option ℕ)
-near_names options typed = map (λ o. near_name typed o.long_name) options
+-- the same for each name
+abbrev pub near_names : List (List ℕ) → List ℕ → List (Option ℕ)
+near_names names typed = map (near_name typed) names
 
-at_is : (options : List Declared) (typed : List ℕ) (i n : ℕ) → IsNearAt options typed i n → slice_get (near_names options typed) i ≡ Some (Some n)
-at_is options typed i n at =
-    slice_get-map (λ o. near_name typed o.long_name) options i ∙ ap (option_map (λ (o : Declared). near_name typed o.long_name)) at.at ∙ ap (λ m. Some m) (near_is at.option typed n at.near)
+at_is : (names : List (List ℕ)) (typed : List ℕ) (i n : ℕ) → IsNearAt names typed i n → slice_get (near_names names typed) i ≡ Some (Some n)
+at_is names typed i n at =
+    slice_get-map (near_name typed) names i ∙ ap (option_map (near_name typed)) at.at ∙ ap (λ m. Some m) (near_is at.name typed n at.near)
 
-is_at : (options : List Declared) (typed : List ℕ) (i n : ℕ) (o : Declared) → slice_get options i ≡ Some o → near_name typed o.long_name ≡ Some n → IsNearAt options typed i n
-is_at options typed i n o at is = record { option = o; at = at; near = is_near o typed n o.long_name refl is }
+is_at : (names : List (List ℕ)) (typed : List ℕ) (i n : ℕ) (name : List ℕ) → slice_get names i ≡ Some name → near_name typed name ≡ Some n → IsNearAt names typed i n
+is_at names typed i n name at is = record { name = name; at = at; near = is_near name typed n is }
 
 -- no name is nearer
 abbrev pub is_least : ℕ → List (Option ℕ) → Bool
@@ -92,25 +85,25 @@ none_holds (None ∷ l) zero m is at = let e : Some None ≡ Some (Some m) = at 
 none_holds (None ∷ l) (suc j) m is at = none_holds l j m is at
 none_holds (Some k ∷ l) j m is at = true≢false (sym is)
 
-pub nearest_is : {options : List Declared} (name : List ℕ) (i n : ℕ) (o : Declared) → slice_get options i ≡ Some o → near_name (chars name) o.long_name ≡ Some n
-    → is_least n (near_names options (chars name)) ≡ true → is_first n i (near_names options (chars name)) ≡ true → IsNearest options name (Some i)
-nearest_is {options = options} name i n o at is least first = (
+pub nearest_is : {names : List (List ℕ)} (name : List ℕ) (i n : ℕ) (own : List ℕ) → slice_get names i ≡ Some own → near_name (chars name) own ≡ Some n
+    → is_least n (near_names names (chars name)) ≡ true → is_first n i (near_names names (chars name)) ≡ true → IsNearest names name (Some i)
+nearest_is {names = names} name i n own at is least first = (
   n,
   record {
-    here = is_at options (chars name) i n o at is;
-    least = λ j m near. least_holds n (near_names options (chars name)) j m least (at_is options (chars name) j m near);
-    first = λ j less near. first_holds n i (near_names options (chars name)) j first less (at_is options (chars name) j n near);
+    here = is_at names (chars name) i n own at is;
+    least = λ j m near. least_holds n (near_names names (chars name)) j m least (at_is names (chars name) j m near);
+    first = λ j less near. first_holds n i (near_names names (chars name)) j first less (at_is names (chars name) j n near);
   },
 )
 
-pub nothing_near : {options : List Declared} (name : List ℕ) → none_near (near_names options (chars name)) ≡ true → IsNearest options name None
-nothing_near {options = options} name none i n near = none_holds (near_names options (chars name)) i n none (at_is options (chars name) i n near)
+pub nothing_near : {names : List (List ℕ)} (name : List ℕ) → none_near (near_names names (chars name)) ≡ true → IsNearest names name None
+nothing_near {names = names} name none i n near = none_holds (near_names names (chars name)) i n none (at_is names (chars name) i n near)
 
 -- ---- no other is nearest
 
-pub not_this : {options : List Declared} (name : List ℕ) (i j : ℕ) → i == j ≡ false → IsNearest options name (Some j) → IsNearest options name (Some i) → ⊥
-not_this {options = options} name i j other is again =
-    let same : i ≡ j = (let e : Some i ≡ Some j = one_nearest options name (Some i) (Some j) again is in cc) in true≢false (sym (eq-eqb i j same) ∙ other)
+pub not_this : {names : List (List ℕ)} (name : List ℕ) (i j : ℕ) → i == j ≡ false → IsNearest names name (Some j) → IsNearest names name (Some i) → ⊥
+not_this {names = names} name i j other is again =
+    let same : i ≡ j = (let e : Some i ≡ Some j = one_nearest names name (Some i) (Some j) again is in cc) in true≢false (sym (eq-eqb i j same) ∙ other)
 
-pub not_none : {options : List Declared} (name : List ℕ) (j : ℕ) → IsNearest options name (Some j) → IsNearest options name None → ⊥
-not_none {options = options} name j is none = let e : None ≡ Some j = one_nearest options name None (Some j) none is in cc
+pub not_none : {names : List (List ℕ)} (name : List ℕ) (j : ℕ) → IsNearest names name (Some j) → IsNearest names name None → ⊥
+not_none {names = names} name j is none = let e : None ≡ Some j = one_nearest names name None (Some j) none is in cc

@@ -806,52 +806,51 @@ fn texts_are_so_far_apart()
     ensures no_more { IsDistance (codes "verbsoe") (codes "verbose") 2 → ⊥ }
 {}
 
-// The long name nearest to one that was typed. It is near up to a third of the number of characters
+// The name nearest to one that was typed. It is near up to a third of the number of characters
 // typed, and of two at the same distance it is the first. C3 A9 is one character.
 fn names_are_near()
-    ensures of_four { IsNearest sample_options (codes "verbsoe") (Some 0) }
-    ensures tie { IsNearest (named (codes "bar") ∷ named (codes "baz") ∷ []) (codes "bax")
-        (Some 0) }
-    ensures nearer { IsNearest (named (codes "outputs") ∷ named (codes "output") ∷ [])
-        (codes "ouptut") (Some 1) }
-    ensures a_third { IsNearest (named (codes "abd") ∷ []) (codes "abc") (Some 0) }
-    ensures more_than_a_third { IsNearest (named (codes "abc") ∷ []) (codes "ab") None }
-    ensures characters { IsNearest (named (0xC3 ∷ 0xA9 ∷ codes "ab") ∷ []) (codes "eab") (Some 0) }
-    ensures typed_characters { IsNearest (named (codes "eab") ∷ []) (0xC3 ∷ 0xA9 ∷ codes "ab")
-        (Some 0) }
-    ensures far { IsNearest sample_options (codes "colour") None }
-    ensures no_long_name { IsNearest (record verbose { long_name = None } ∷ []) (codes "verbose")
-        None }
-    ensures not_the_second { IsNearest (named (codes "bar") ∷ named (codes "baz") ∷ [])
-        (codes "bax") (Some 1) → ⊥ }
-    ensures not_the_farther { IsNearest (named (codes "outputs") ∷ named (codes "output") ∷ [])
-        (codes "ouptut") (Some 0) → ⊥ }
-    ensures not_none { IsNearest sample_options (codes "verbsoe") None → ⊥ }
+    ensures of_four { IsNearest (long_names sample_options) (codes "verbsoe") (Some 0) }
+    ensures tie { IsNearest (codes "bar" ∷ codes "baz" ∷ []) (codes "bax") (Some 0) }
+    ensures nearer { IsNearest (codes "outputs" ∷ codes "output" ∷ []) (codes "ouptut") (Some 1) }
+    ensures a_third { IsNearest (codes "abd" ∷ []) (codes "abc") (Some 0) }
+    ensures more_than_a_third { IsNearest (codes "abc" ∷ []) (codes "ab") None }
+    ensures characters { IsNearest ((0xC3 ∷ 0xA9 ∷ codes "ab") ∷ []) (codes "eab") (Some 0) }
+    ensures typed_characters { IsNearest (codes "eab" ∷ []) (0xC3 ∷ 0xA9 ∷ codes "ab") (Some 0) }
+    ensures far { IsNearest (long_names sample_options) (codes "colour") None }
+    ensures no_long_name { IsNearest (long_names (record verbose { long_name = None } ∷ []))
+        (codes "verbose") None }
+    ensures not_the_second { IsNearest (codes "bar" ∷ codes "baz" ∷ []) (codes "bax") (Some 1)
+        → ⊥ }
+    ensures not_the_farther { IsNearest (codes "outputs" ∷ codes "output" ∷ []) (codes "ouptut")
+        (Some 0) → ⊥ }
+    ensures not_none { IsNearest (long_names sample_options) (codes "verbsoe") None → ⊥ }
 {}
 
-// The long names that begin or end with what was typed.
+// The names that begin or end with what was typed.
 fn names_begin_or_end_so()
     ensures all { long_names sample_options
         ≡ codes "verbose" ∷ codes "output" ∷ codes "backup" ∷ codes "exclude" ∷ [] }
     ensures no_name { long_names (record verbose { long_name = None } ∷ []) ≡ [] }
-    ensures third { beginning sample_options (codes "back") ≡ codes "backup" ∷ [] }
-    ensures two { beginning (named (codes "outer") ∷ sample_options) (codes "out")
+    ensures third { beginning (long_names sample_options) (codes "back") ≡ codes "backup" ∷ [] }
+    ensures two { beginning (codes "outer" ∷ long_names sample_options) (codes "out")
         ≡ codes "outer" ∷ codes "output" ∷ [] }
-    ensures five_of_six { beginning (map named names_in_re) (codes "re") ≡ codes "recursive"
+    ensures five_of_six { beginning names_in_re (codes "re") ≡ codes "recursive"
         ∷ codes "reference" ∷ codes "regexp" ∷ codes "remove" ∷ codes "replace" ∷ [] }
-    ensures sixth { beginning (map named names_in_re) (codes "rev") ≡ codes "reverse" ∷ [] }
-    ensures inside { beginning sample_options (codes "put") ≡ [] }
-    ensures shorter { beginning (named (codes "verb") ∷ []) (codes "verbose") ≡ [] }
-    ensures nothing { beginning sample_options [] ≡ [] }
+    ensures sixth { beginning names_in_re (codes "rev") ≡ codes "reverse" ∷ [] }
+    ensures inside { beginning (long_names sample_options) (codes "put") ≡ [] }
+    ensures shorter { beginning (codes "verb" ∷ []) (codes "verbose") ≡ [] }
+    ensures nothing { beginning (long_names sample_options) [] ≡ [] }
     ensures none_of_none { if_one [] ≡ [] }
     ensures one_of_one { if_one (codes "a" ∷ []) ≡ codes "a" ∷ [] }
     ensures none_of_two { if_one (codes "a" ∷ codes "b" ∷ []) ≡ [] }
-    ensures ends { ending sample_options (codes "put") ≡ codes "output" ∷ [] }
-    ensures begins { ending sample_options (codes "out") ≡ [] }
-    ensures ends_shorter { ending (named (codes "bose") ∷ []) (codes "verbose") ≡ [] }
-    ensures two_end { ending (named (codes "input") ∷ sample_options) (codes "put") ≡ [] }
-    ensures near { hinted_names sample_options (codes "back") (Some 1) ≡ codes "output" ∷ [] }
-    ensures not_near { hinted_names sample_options (codes "back") None ≡ codes "backup" ∷ [] }
+    ensures ends { ending (long_names sample_options) (codes "put") ≡ codes "output" ∷ [] }
+    ensures begins { ending (long_names sample_options) (codes "out") ≡ [] }
+    ensures ends_shorter { ending (codes "bose" ∷ []) (codes "verbose") ≡ [] }
+    ensures two_end { ending (codes "input" ∷ long_names sample_options) (codes "put") ≡ [] }
+    ensures near { hinted_names (long_names sample_options) (codes "back") (Some 1)
+        ≡ codes "output" ∷ [] }
+    ensures not_near { hinted_names (long_names sample_options) (codes "back") None
+        ≡ codes "backup" ∷ [] }
 {}
 
 // The long names that the hint has.

@@ -1,14 +1,13 @@
 -- What is offered after some words.
-use Rattle.std.proofs.Common.{if◌then◌else◌, is_none, zero, suc, take, ◌≡◌, ◌≢◌, ◌↔◌, ◌≤◌, ◌-◌, ◌+◌, ℕ, Bool, IsTrue, not, true, false, List, [], ◌∷◌, ◌++◌, map, filter, get_or, length, slice_get, MatchOption, Option, Some, None, Vec, nat_eq, option_map, refl, sym, ap, subst, ◌∙◌, inl, inr, arith}
+use Rattle.std.proofs.Common.{if◌then◌else◌, zero, suc, ◌≡◌, ◌≤◌, ℕ, Bool, true, false, List, [], ◌∷◌, ◌++◌, map, filter, length, slice_get, Option, Some, None, Vec, nat_eq, option_map, refl, sym, ap, subst, ◌∙◌, inl, inr, arith}
 use Rattle.std.proofs.Common.{Result, Ok, Err, IfOk, OnOk}
 use Rattle.std.specs.Global.{Global}
 use Rattle.std.specs.List.{Contains, flat_map, starts_with}
 use Rattle.std.specs.Str.{IsUtf8}
-use Rattle.std.proofs.Common.{◌<◌, ◌⊎◌, nat_lt, position, length-append, ⊎_elim}
-use Rattle.std.proofs.Math.Seq.{take-append_seam}
-use Rattle.std.proofs.lemmas.Bool.{eq-eqb, false≢true, lt-ltb, ltb-true}
+use Rattle.std.proofs.Common.{◌<◌, position}
+use Rattle.std.proofs.lemmas.Bool.{eq-eqb, false≢true}
 use Rattle.std.proofs.lemmas.List.Quantifiers.{position-Some}
-use Rattle.std.proofs.lemmas.List.{get_or-drop, length-map, map-append}
+use Rattle.std.proofs.lemmas.List.{map-append}
 use Rattle.std.proofs.lemmas.Option.{slice_get-map}
 use Rattle.std.specs.declared.alloc.AllocError.{AllocError}
 use Rattle.lexopt_options_spec.specs.Declaration.{Declaration, Declared, has_name, index_of, is_long, is_short, is_sound}
@@ -17,11 +16,8 @@ use Rattle.lexopt_options_spec.specs.Legal.{MeansFront, parsed_item}
 use Rattle.lexopt_options_spec.proofs.Lists.{first_same}
 use Rattle.lexopt_line_spec.specs.Table as table
 use Rattle.lexopt_line_spec.specs.Table.{Item, Name}
-use Rattle.lexopt_spec.specs.UnreadLine.{BeginsWith, dash}
 use Rattle.lexopt_options_spec.specs.Completion as spec
 use Rattle.lexopt_options_spec.specs.Completion.{AreText, Completes, HasRole, IsJoined, IsOpen, IsOption, JoinsValue, explained, explained_by, joined_at, list_of, listed_by, names_of, offered_values, spelling, spellings, values_at}
-use Rattle.lexopt_options_spec.proofs.Fronts.{one_front}
-use Rattle.lexopt_options_spec.proofs.OpenLines.{dashes}
 use Rattle.lexopt_options_spec.proofs.Roles.{extends}
 use Rattle.lexopt_options_spec.proofs.Occurs.{AreNamed, occurs_accepted, occurs_open, occurs_taken}
 use Rattle.lexopt_options_spec.proofs.Taken.{filled}
@@ -44,9 +40,6 @@ use Rattle.lexopt_options.specs.declared.complete.Joined.{Joined}
 use Rattle.lexopt_options.specs.declared.complete.Role.{Role}
 use Rattle.lexopt_options.specs.declared.complete.Role.TheVariants as role
 use Rattle.lexopt_options.specs.Roles.{IsDeclared, IsJoinedAt, IsRoleAt}
-use Rattle.lexopt_options.specs.Taken as taken
-use Rattle.std.proofs.lemmas.List.Folds.{list_all-map}
-use Rattle.std.specs.List.{list_all}
 use Rattle.lexopt_options_spec.specs.Legal.{refused_value}
 
 -- ---- a value in the word of its option

@@ -1,10 +1,9 @@
 -- Words as the beginning of a line: what they mean, and what the next word is.
-use Rattle.std.proofs.Common.{◌≡◌, ◌≢◌, ◌↔◌, ◌<◌, ◌+◌, ◌==◌, zero, suc, ◌&&◌, ◌⊎◌, ℕ, Bool, IsTrue, true, false, not, is_none, position, get_or, slice_get, string_bytes, unwrap_or, List, [], ◌∷◌, ◌++◌, map, length, Option, Some, None, option_map, refl, sym, ap, subst, ◌∙◌, inl, inr, arith, ⊎_elim}
+use Rattle.std.proofs.Common.{◌≡◌, ◌≢◌, ◌↔◌, ◌<◌, ◌+◌, ◌&&◌, ◌⊎◌, ℕ, Bool, IsTrue, true, false, not, is_none, position, get_or, slice_get, string_bytes, unwrap_or, List, [], ◌∷◌, ◌++◌, map, length, Option, Some, None, option_map, refl, sym, ap, subst, ◌∙◌, inl, inr, arith}
 use Rattle.std.proofs.Common.{Result, Ok, Err, IfOk}
 use Rattle.std.specs.Borrow.{Bor}
-use Rattle.std.specs.List.{list_all}
 use Rattle.std.specs.Str.{IsUtf8}
-use Rattle.std.proofs.lemmas.Bool.{eqb-true, false≢true}
+use Rattle.std.proofs.lemmas.Bool.{false≢true}
 use Rattle.std.proofs.lemmas.List.Folds.{list_all-append}
 use Rattle.lexopt_spec.specs.UnreadLine.{dash, BeginsWith, IsLine, IsNormalIn, UnreadLine, pending}
 use Rattle.lexopt_spec.specs.Steps as steps
@@ -18,10 +17,9 @@ use Rattle.lexopt_line_spec.specs.Table.{Name}
 use Rattle.lexopt_line_spec.specs.Readings.{option_reply, start}
 use Rattle.lexopt_line_spec.proofs.RunAccounts.{step_line}
 use Rattle.lexopt_base.specs.Pending.{is_joined}
-use Rattle.lexopt_base.specs.Refusals.{refusal_reply, take_reply}
+use Rattle.lexopt_base.specs.Refusals.{take_reply}
 use Rattle.lexopt_base.specs.declared.refusal.Refusal.{Refusal}
 use Rattle.lexopt_base.specs.declared.refusal.Refusal.TheVariants.{MissingValue, OutOfMemory, UnexpectedValue}
-use Rattle.lexopt_line_spec.proofs.ReplyKinds.{value_reply}
 use Rattle.lexopt_declaration.specs.Models.{kind_of, option_view, words_view}
 use Rattle.lexopt_declaration.specs.declared.declaration.Declared as rust
 use Rattle.lexopt_declaration.specs.declared.declaration.Kind as rust_kind
@@ -31,7 +29,6 @@ use Rattle.lexopt_items.specs.declared.kinds.Kind.{Kind}
 use Rattle.lexopt_items.specs.declared.kinds.Kind.TheVariants.{Flag, One, Optional, Several}
 use Rattle.lexopt_items.specs.declared.values.Values.{Values}
 use Rattle.lexopt_items.specs.declared.values.Values.TheVariants.{AtMostOne, All}
-use Rattle.lexopt_options_spec.specs.Completion as completion
 use Rattle.lexopt_options_spec.specs.Completion.{CanBeTaken, HasRole, IsJoined, IsOpen, IsOption, JoinsValue, value_of}
 use Rattle.lexopt_options_spec.specs.Declaration as declared
 use Rattle.lexopt_options_spec.specs.Declaration.{Declaration, index_of, is_sound}
@@ -41,16 +38,16 @@ use Rattle.lexopt_options_spec.specs.States as spec
 use Rattle.lexopt_options_spec.specs.States.{LeadsNowhere, Leaves, Says, leaves_anything, leaves_due, leaves_first, leaves_further, leaves_ended, role_in, state_at_end}
 use Rattle.lexopt_options_spec.proofs.Fronts.{one_front}
 use Rattle.lexopt_options_spec.proofs.Cuts.{enough}
-use Rattle.lexopt_options_spec.proofs.Growing.{Grows, grows_flag, grows_one, grows_optional, grows_positional, grows_several, value_lacks_more, values_lack}
+use Rattle.lexopt_options_spec.proofs.Growing.{Grows, grows_flag, grows_one, grows_optional, grows_positional, grows_several, values_lack}
 use Rattle.lexopt_options_spec.proofs.Lists.{same_last, no_last}
 use Rattle.lexopt_options_spec.proofs.Lists.{count_append}
 use Rattle.lexopt_options_spec.proofs.Reached.{Reached, closed_reached, end_leaves, first_due, nothing_reached, open_reached, surplus_nowhere, undeclared_nowhere, unexpected_nowhere, value_due, values_nowhere}
-use Rattle.lexopt_options_spec.proofs.States.{front_says, says_front, never_open, no_role_nowhere, no_word_nowhere, nowhere_open, open_there, role_there, says_once, some_word}
+use Rattle.lexopt_options_spec.proofs.States.{front_says, says_front, never_open, nowhere_open, open_there, role_there, says_once}
 use Rattle.lexopt_options_spec.proofs.Taken.{words_append, words_count}
-use Rattle.lexopt_options.specs.Completions.{CanCome, HasPositional, Opens}
+use Rattle.lexopt_options.specs.Completions.{CanCome, Opens}
 use Rattle.lexopt_options.specs.Kinds.{kind_at}
 use Rattle.lexopt_options.specs.Reading.{ReadsParsed, StopsNext, UndeclaredNext, parsed_with}
-use Rattle.lexopt_options.specs.States.{IsFront, IsFrontOf, IsAfterName, IsLast, can_go_on, first_of, index_if, state_view, with_index}
+use Rattle.lexopt_options.specs.States.{IsFront, IsAfterName, IsLast, can_go_on, first_of, index_if, state_view, with_index}
 use Rattle.lexopt_options.specs.declared.front.Front.{Front}
 use Rattle.lexopt_options.specs.declared.front.AfterName.{AfterName}
 use Rattle.lexopt_options.specs.declared.front.AfterName.TheVariants as after
@@ -162,11 +159,6 @@ maybe_so v w r x is step = inl (subst (λ (y : Option (List ℕ)). OptionalStep 
 
 pub value_ends : (v w : UnreadLine) (r : Result (List ℕ) Refusal) (refused : Refusal) → r ≡ Err refused → Value v (take_reply r) w → ValuesEndBy One v refused
 value_ends v w r refused is step = inr (calls.value, w, refl, taken_so v w r (Err refused) is step)
-
-pub lacks_value : (v w : UnreadLine) (refused : Refusal) → Value v (refusal_reply refused) w → refused ≢ OutOfMemory → (pending v ≡ None) × (v.words ≡ [])
-lacks_value v w (MissingValue o) step lacks = let both = value_lacks_more v w (option_map string_bytes o) (enough ValueStep v (steps.missing (option_map string_bytes o)) w step (λ is. cc)) in (both.1, both.0)
-lacks_value v w (UnexpectedValue o x) step lacks = absurd (value_reply v w (steps.unexpected (string_bytes o) x) (enough ValueStep v (steps.unexpected (string_bytes o) x) w step (λ is. cc)))
-lacks_value v w OutOfMemory step lacks = absurd (lacks refl)
 
 pub lacks_values : (v : UnreadLine) (refused : Refusal) → ValuesEndBy Several v refused → refused ≢ OutOfMemory → (pending v ≡ None) × (¬ IsNormalIn v.ended v.words)
 lacks_values v refused (inl is) lacks = absurd (lacks is)
@@ -412,27 +404,6 @@ pub front_role : (d : Declaration) (words : List (List ℕ)) (typed : List ℕ) 
 front_role d words typed front dashed is so =
     subst (λ n. HasRole d words typed (role_in d.positionals n dashed (state_view front.state))) (sym (words_count is.l) ∙ ap (λ l. length l) is.words_are)
     (role_there d words typed is.l (state_view front.state) dashed so is.leaves is.within)
-
--- whether a positional is among the words
-pub front_positional : (d : Declaration) (words : List (List ℕ)) (front : Front) → IsFront d words front → (0 < length front.words.items) ↔ HasPositional d words
-front_positional d words front is =
-    let both = some_word d words is.l (state_view front.state) is.leaves is.within in
-    let same : positional_count is.l ≡ length front.words.items = sym (words_count is.l) ∙ ap (λ l. length l) is.words_are in
-    ((λ some. both.0 (subst (λ n. 0 < n) (sym same) some)), (λ there. subst (λ n. 0 < n) same (both.1 there)))
-
-pub some_words : {P : Type 0} (count n : ℕ) (b : Bool) → n ≡ count → b ≡ (n == 0) → ((0 < count) ↔ P) → IsTrue (not b) ↔ P
-some_words count zero b same is some = (
-  (λ yes. absurd (false≢true (sym (ap not is) ∙ yes))),
-  (λ there. let more = some.1 there in absurd (omega (arith, more, same))),
-)
-some_words {P} count (suc n) b same is some = by (suc n == 0) refl
-  where
-    by : (x : Bool) → (suc n == 0) ≡ x → IsTrue (not b) ↔ P
-    by true so = absurd (let e = eqb-true (suc n) 0 so in omega (arith, e))
-    by false so = ((λ yes. some.0 (omega (arith, same))), (λ there. ap not (is ∙ so)))
-
-pub nowhere_positional : (d : Declaration) (words : List (List ℕ)) → LeadsNowhere d words → HasPositional d words → ⊥
-nowhere_positional d words none there = no_word_nowhere d words none there
 
 -- ---- a value in the word of its option
 

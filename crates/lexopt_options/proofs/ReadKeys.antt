@@ -1,5 +1,5 @@
 -- One step of reading a line by keys.
-use Rattle.std.proofs.Common.{◌≡◌, ◌≤◌, ◌+◌, ◌==◌, ◌||◌, ◌&&◌, ℕ, suc, Bool, Ok, Option, is_none, true, false, add-zero, map, List, [], ◌∷◌, ◌++◌, None, Some, length, refl, sym, ap, subst, ◌∙◌, inl, inr, arith}
+use Rattle.std.proofs.Common.{◌≡◌, ◌≤◌, ◌+◌, ◌==◌, ◌||◌, ◌&&◌, ℕ, suc, Bool, Ok, Option, is_none, true, false, add-zero, List, [], ◌∷◌, ◌++◌, None, Some, length, refl, sym, ap, subst, ◌∙◌, inl, inr, arith}
 use Rattle.lexopt_spec.specs.UnreadLine.{UnreadLine, IsLine, LastOption, no_option, short_option, long_option, no_tail, joined, rest, equals, BeginsWith}
 use Rattle.lexopt_spec.specs.Steps as steps
 use Rattle.lexopt_spec.specs.Steps.{Reply, Next, NextStep, ReadsPositional, no_word_left, word_left, ReadsWord, no_word, reads_separator, reads_long, reads_cluster, reads_positional, unexpected, joined_value, equals_value, next_in_cluster, after_separator, next_word}
@@ -30,7 +30,6 @@ use Rattle.lexopt_options.specs.declared.mistake.Mistake.{Mistake}
 use Rattle.lexopt_options.specs.Mistakes.{IsMistake}
 use Rattle.lexopt_options.specs.Reading.{StopsAtOption, StopsByKey, AreSeen, IsReadByKey, ReadsParsed, noted, parsed_with}
 use Rattle.lexopt_options.specs.declared.parsed.Parsed.TheVariants as variant
-use Rattle.lexopt_declaration.specs.Models.{positional_view}
 use Rattle.lexopt_declaration.specs.declared.declaration.Positional.{Positional}
 use Rattle.lexopt_options_spec.specs.Completion.{IsOption}
 use Rattle.lexopt_options_spec.specs.Declaration as spec

@@ -12,7 +12,7 @@ use Rattle.lexopt_line_spec.proofs.ItemsRead.{one_more_item, option_given}
 use Rattle.lexopt_line_spec.proofs.RunAccounts.{step_line}
 use Rattle.std.proofs.Common.{encode_utf8, get_or, false, true}
 use Rattle.std.specs.Option.{MatchOption}
-use Rattle.lexopt_options_spec.specs.Nearest.{IsHint, ending}
+use Rattle.lexopt_options_spec.specs.Nearest.{IsHint, IsHinted, ending, long_names}
 use Rattle.std.specs.Prelude.{unwrap_or}
 use Rattle.std.proofs.lemmas.Option.{slice_get-get_or}
 use Rattle.std.proofs.lemmas.List.Quantifiers.{position-Some}
@@ -152,7 +152,7 @@ pub some_hint : (options os : List Declared) (c : ℕ) (bytes back : List ℕ) (
     → IsHint os (spec.short c) (rest back) found → MatchOption given (hints ≡ []) (λ left. IsHint options (spec.short c) (rest left) hints)
 some_hint options os c bytes back given hints found some back_is os_is hints_are told =
     subst (λ (x : Option (List ℕ)). MatchOption x (hints ≡ []) (λ left. IsHint options (spec.short c) (rest left) hints)) (sym some)
-    (hints_are ∙ told ∙ ap (λ o. ending o (encode_utf8 c ++ back)) os_is ∙ ap (λ b. ending options (encode_utf8 c ++ b)) back_is)
+    (hints_are ∙ told ∙ ap (λ o. ending (long_names o) (encode_utf8 c ++ back)) os_is ∙ ap (λ b. ending (long_names options) (encode_utf8 c ++ b)) back_is)
 
 pub no_hint : (options : List Declared) (c : ℕ) (given : Option (List ℕ)) (hints : List (List ℕ)) → given ≡ None → hints ≡ []
     → MatchOption given (hints ≡ []) (λ left. IsHint options (spec.short c) (rest left) hints)
@@ -160,10 +160,10 @@ no_hint options c given hints none is =
     subst (λ (x : Option (List ℕ)). MatchOption x (hints ≡ []) (λ left. IsHint options (spec.short c) (rest left) hints)) (sym none) is
 
 -- a copy of a name
-pub long_hinted : (options os : List Declared) (name text : List ℕ) (left : Tail) (hints : List (List ℕ)) → os ≡ options → name ≡ text → IsHint os (spec.long text) left hints
+pub long_hinted : (options : List Declared) (names : List (List ℕ)) (name text : List ℕ) (left : Tail) (hints : List (List ℕ)) → names ≡ long_names options → name ≡ text → IsHinted names text hints
     → IsHint options (spec.long name) left hints
-long_hinted options os name text left hints os_is is told =
-    subst (λ (o : List Declared). IsHint o (spec.long name) left hints) os_is (subst (λ (n : List ℕ). IsHint os (spec.long n) left hints) (sym is) told)
+long_hinted options names name text left hints are is told =
+    subst (λ (l : List (List ℕ)). IsHinted l name hints) are (subst (λ (n : List ℕ). IsHinted names n hints) (sym is) told)
 
 -- a long option that is not declared
 pub undeclared_long : (d : Declaration) (u v : UnreadLine) (text : List ℕ) → RepliesWith Next u (found_as v.last found.Long) v → ((n : List ℕ) → v.last ≡ long_option n → text ≡ n) → index_of d.options (spec.long text) ≡ None → UndeclaredNext d u None v

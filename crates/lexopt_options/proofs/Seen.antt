@@ -1,9 +1,8 @@
 -- Which required options were read.
-use Rattle.std.proofs.Common.{◌≡◌, ◌<◌, ◌≤◌, ◌||◌, Bool, ℕ, zero, suc, false, true, List, [], ◌∷◌, length, map, get_or, Option, Some, None, refl, sym, subst, ap, ◌∙◌, arith}
+use Rattle.std.proofs.Common.{◌≡◌, ◌<◌, ◌≤◌, ◌||◌, Bool, ℕ, zero, suc, false, true, List, [], ◌∷◌, length, map, get_or, Option, Some, None, refl, sym, subst, ap, arith}
 use Rattle.std.specs.List.{list_any}
-use Rattle.std.specs.Option.{MatchOption, option_map}
+use Rattle.std.specs.Option.{MatchOption}
 use Rattle.std.proofs.lemmas.Bool.{false≢true}
-use Rattle.std.proofs.lemmas.Option.{slice_get-get_or}
 use Rattle.lexopt_options_spec.specs.Legal.{is_required}
 use Rattle.lexopt_declaration.specs.Lookups.{names_at}
 use Rattle.lexopt_declaration.specs.Models.{long_name, option_view, short_name}

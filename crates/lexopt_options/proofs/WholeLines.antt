@@ -15,7 +15,7 @@ use Rattle.lexopt_options_spec.proofs.Taken.{words_count}
 use Rattle.lexopt_options_spec.specs.Stops as stops
 use Rattle.lexopt_options_spec.specs.Asking.{all_but_last, first_asked, parsed_before}
 use Rattle.lexopt_options_spec.specs.Stops.{ReadsUpTo, Stops, StopsAt, required_placeholder}
-use Rattle.lexopt_options_spec.proofs.Fronts.{ComesTo, front_later, front_parsed, no_front, nothing_parsed, one_front}
+use Rattle.lexopt_options_spec.proofs.Fronts.{front_later, front_parsed, nothing_parsed, one_front}
 use Rattle.std.specs.Borrow.{Bor}
 use Rattle.lexopt_declaration.specs.declared.declaration.Names.{Names}
 use Rattle.lexopt_options.specs.declared.mistake.Mistake.{Mistake}
@@ -130,6 +130,8 @@ before_is d (mistake.UnexpectedArgument word) why l told = ap (λ w. parsed_befo
 before_is d (mistake.InvalidArgument placeholder word values) why l told = ap (λ w. parsed_before w l) (sym told.1)
 before_is d (mistake.MissingArgument placeholder) why l told = ap (λ w. parsed_before w l) (sym told.1)
 before_is d (mistake.MissingOption names) why l told = ap (λ w. parsed_before w l) (sym told.1)
+before_is d (mistake.MissingCommand names) why l told = absurd told
+before_is d (mistake.UnknownCommand word hints) why l told = absurd told
 before_is d (mistake.InvalidVariable name) why l told = absurd told
 
 pub before_other : (m : Mistake) (l : List legal.Parsed) → ((option : _) (value : _) → m ≡ mistake.UnexpectedValue option value → ⊥) → before_mistake m l ≡ l
@@ -141,6 +143,8 @@ before_other (mistake.UnexpectedArgument word) l other = refl
 before_other (mistake.InvalidArgument placeholder word values) l other = refl
 before_other (mistake.MissingArgument placeholder) l other = refl
 before_other (mistake.MissingOption names) l other = refl
+before_other (mistake.MissingCommand names) l other = refl
+before_other (mistake.UnknownCommand word hints) l other = refl
 before_other (mistake.InvalidVariable name) l other = refl
 
 pub last_dropped : (l : List legal.Parsed) (s : legal.Parsed) → all_but_last (l ++ s ∷ []) ≡ l

@@ -1,11 +1,10 @@
 -- What can come where a word is typed, as contracts see it.
-use Rattle.std.specs.Prelude.{◌≡◌, ◌<◌, ◌⊎◌, ◌↔◌, ◌++◌, ℕ, Bool, true, IsTrue, List, []}
+use Rattle.std.specs.Prelude.{◌≡◌, ◌⊎◌, ◌↔◌, ◌++◌, ℕ, Bool, true, IsTrue, List, []}
 use Rattle.std.specs.Prelude.{Option, Some, None, filter, map, nat_eq, string_bytes}
 use Rattle.std.specs.List.{Contains, flat_map, starts_with}
 use Rattle.lexopt_options_spec.specs.Declaration.{Declaration, Positional}
 use Rattle.lexopt_options_spec.specs.Completion as spec
 use Rattle.lexopt_options_spec.specs.Completion.{AreOwnersIn, Completes, HasRole, IsJoined, IsOpen}
-use Rattle.lexopt_options_spec.specs.Completion.{Takes}
 use Rattle.lexopt_options_spec.specs.Completion.{explained, list_of, offered_values}
 use Rattle.lexopt_options_spec.specs.Completion.{words_at}
 use Rattle.lexopt_options_spec.specs.Legal as legal
@@ -47,14 +46,6 @@ pub record IsCompletion {F V P M S : Type 0} (o : Options F V P M S) (words : Li
   -- the values in lists that begin so
   pub values : map string_bytes completion.values.items
       ≡ offered_values (declaration_of o) typed role completion.arguments.items with_value
-
--- These words mean something with a positional, even if something is missing after them. If an
--- option at their end lacks its value, they mean something only with a word after them, which is not
--- counted.
-abbrev pub HasPositional : Declaration → List (List ℕ) → Type 0
-HasPositional d words = (l : List legal.Parsed) × (0 < legal.positional_count l)
-    × (legal.MeansFront d words l ⊎ (((m : List legal.Parsed) → ¬ legal.MeansFront d words m)
-    × (w : List ℕ) × (last : legal.Parsed) × Takes d words w l last))
 
 -- ---- values in lists
 

@@ -1,5 +1,5 @@
 -- The messages about a line that is refused. The source is `docs/formats.md`.
-use Rattle.std.specs.Prelude.{ℕ, List, ◌++◌, Option, codes, map, string_bytes}
+use Rattle.std.specs.Prelude.{ℕ, List, [], ◌++◌, Option, codes, map, string_bytes}
 use Rattle.lexopt_spec.specs.Text.{escaped, unexpected_option_message, visible}
 use Rattle.lexopt_options_spec.specs.Help.{escaped_text, list_text}
 use Rattle.lexopt_declaration.specs.Texts.{help_line, hint_text, names_text}
@@ -10,6 +10,7 @@ use Rattle.lexopt_options.specs.declared.mistake.Mistake.TheVariants.{Unexpected
 use Rattle.lexopt_options.specs.declared.mistake.Mistake.TheVariants.{InvalidArgument, InvalidValue}
 use Rattle.lexopt_options.specs.declared.mistake.Mistake.TheVariants.{UnexpectedArgument}
 use Rattle.lexopt_options.specs.declared.mistake.Mistake.TheVariants.{MissingArgument, MissingOption}
+use Rattle.lexopt_options.specs.declared.mistake.Mistake.TheVariants.{MissingCommand, UnknownCommand}
 use Rattle.lexopt_options.specs.declared.mistake.Mistake.TheVariants.{InvalidVariable}
 use Rattle.lexopt_options.specs.declared.mistake.OptionName.{OptionName}
 use Rattle.lexopt_options.specs.declared.mistake.OptionName.TheVariants.{Short, Long}
@@ -36,6 +37,10 @@ message (InvalidArgument placeholder word values) = codes "invalid argument " ++
     ++ (codes " for " ++ (escaped_text placeholder.now
     ++ (codes ": one of " ++ list_text (map (λ own. escaped_text own.now) values.now)))))
 message (MissingOption names) = codes "missing option '" ++ (names_text names ++ codes "'")
+message (MissingCommand names) =
+    codes "missing command: one of " ++ list_text (map (λ name. escaped_text name.now) names.items)
+message (UnknownCommand word hints) = codes "unknown command " ++ (visible word
+    ++ hint_text [] (map (λ hint. hint.now) hints.items))
 message (InvalidVariable name) = codes "invalid value of " ++ (string_bytes name
     ++ (codes ": one of bash_source, bash_complete, zsh_source, zsh_complete, fish_source, "
     ++ codes "fish_complete"))

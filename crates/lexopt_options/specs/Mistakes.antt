@@ -15,6 +15,7 @@ use Rattle.lexopt_options.specs.declared.mistake.Mistake.TheVariants.{Unexpected
 use Rattle.lexopt_options.specs.declared.mistake.Mistake.TheVariants.{InvalidArgument, InvalidValue}
 use Rattle.lexopt_options.specs.declared.mistake.Mistake.TheVariants.{UnexpectedArgument}
 use Rattle.lexopt_options.specs.declared.mistake.Mistake.TheVariants.{MissingArgument, MissingOption}
+use Rattle.lexopt_options.specs.declared.mistake.Mistake.TheVariants.{MissingCommand, UnknownCommand}
 use Rattle.lexopt_options.specs.declared.mistake.Mistake.TheVariants.{InvalidVariable}
 
 -- the option at this index has these names
@@ -54,4 +55,6 @@ IsMistake d (MissingArgument placeholder) m = (count : ℕ) × (m ≡ stops.miss
     × (placeholder.now ≡ required_placeholder d.positionals count)
 IsMistake d (MissingOption names) m = (index : ℕ) × (m ≡ stops.missing_option index)
     × AreNames d.options index names
+IsMistake d (MissingCommand names) m = ⊥
+IsMistake d (UnknownCommand word hints) m = ⊥
 IsMistake d (InvalidVariable name) m = ⊥

@@ -336,8 +336,8 @@ impl<'a, F, V, P, M, S> Options<'a, F, V, P, M, S> {
     ghost use Rattle.lexopt_options_spec.specs.Completion as completion;
     ghost use Rattle.lexopt_options_spec.specs.Completion.{AreOwnersIn, HasRole, IsJoined};
     ghost use Rattle.lexopt_declaration.specs.Models.{spelling_view};
-    ghost use Rattle.lexopt_options.specs.Completions.{AreOffered, CanCome, HasPositional};
-    ghost use Rattle.lexopt_options.specs.Completions.{IsCompletion, Opens};
+    ghost use Rattle.lexopt_options.specs.Completions.{AreOffered, CanCome, IsCompletion};
+    ghost use Rattle.lexopt_options.specs.Completions.{Opens};
     ghost use Rattle.lexopt_options.specs.Declarations.{declaration_of, options_of};
     ghost use Rattle.lexopt_options.specs.Roles.{IsCounted, IsJoinedAt, IsRoleAt, joined_view};
     ghost use Rattle.lexopt_options.specs.Roles.{place_view};
@@ -440,25 +440,6 @@ impl<'a, F, V, P, M, S> Options<'a, F, V, P, M, S> {
         match place {
             Some(Place::Argument(count)) => owners_of(alloc, self.positionals(), count),
             Some(Place::Value(_)) | None => Ok(Vec::new(alloc)),
-        }
-    }
-
-    /// Returns whether a positional is among these words.
-    ///
-    /// They are read as the beginning of a line: something may be missing after them, such as the
-    /// value of the last option. If no line begins with them, the result is `false`. This call
-    /// consumes the words.
-    ///
-    /// # Errors
-    ///
-    /// Returns `AllocError` if an allocation fails.
-    pub fn has_positional(&self, alloc: Global, words: Vec<OsString>) -> Result<bool, AllocError>
-        ensures { IfOk result (λ b.
-            IsTrue b ↔ HasPositional (declaration_of self.now) words.items) }
-    {
-        match self.front(alloc, words)? {
-            Some(front) => Ok(!front.words.is_empty()),
-            None => Ok(false),
         }
     }
 

@@ -9,7 +9,7 @@ use lexopt_declaration::declaration::{Declared, Names};
 use lexopt_declaration::hints::write_hints;
 use lexopt_declaration::listed::Listed;
 use lexopt_declaration::message::Escaped;
-use lexopt_declaration::nearest::ending;
+use lexopt_declaration::nearest::{ending, long_names};
 use lexopt_words::message::write_escaped;
 use lexopt_words::os_string::{OsString, Visible};
 use std::alloc::{AllocError, Global};
@@ -109,6 +109,20 @@ pub enum Mistake<'a> {
     /// declaration. In a whole line, no positional is missing then, and each accepts its words;
     /// [`Options::read_leading`](crate::Options::read_leading) ignores the positionals.
     MissingOption(Names<'a>),
+    /// No word comes after the general options, where the name of a command has to be. These are all
+    /// declared names, those that ask for the help among them. Only a line of a program with
+    /// commands (`Commands` of `lexopt_commands`) has this mistake.
+    MissingCommand(Vec<&'a str>),
+    /// The first word after the general options, or after a name that asks for the help, is not the
+    /// name of a command. Only a line of a program with commands has this mistake.
+    UnknownCommand {
+        /// The word.
+        word: OsString,
+        /// The names of commands that may have been meant: the nearest alone; or, if none is near,
+        /// those that begin with the word, in the order of the declaration, and at most the first
+        /// five. None is meant by the empty word.
+        hints: Vec<&'a str>,
+    },
     /// The environment variable of this name, by which shells ask, has a value that is not known.
     /// No line has this mistake; only the request of a shell does
     /// ([`Options::answer_request`](crate::Options::answer_request)).
@@ -171,6 +185,15 @@ impl fmt::Display for Mistake<'_> {
                 )
             }
             Mistake::MissingOption(names) => write!(f, "missing option '{names}'"),
+            Mistake::MissingCommand(names) => {
+                let names = Listed(names);
+                write!(f, "missing command: one of {names}")
+            }
+            Mistake::UnknownCommand { word, hints } => {
+                let command = Visible::new(word.as_bytes());
+                write!(f, "unknown command {command}")?;
+                write_hints("", hints, f)
+            }
             Mistake::InvalidVariable(name) => write!(
                 f,
                 "invalid value of {name}: one of bash_source, bash_complete, zsh_source, \
@@ -197,7 +220,8 @@ pub(crate) fn short_hints<'a, F, V, M, S>(
     ensures { IfOk result (λ hints. IsHint (map option_view options.now) (short option)
         (unread.rest rest.now) (map (λ text. text.now) hints.items)) }
 {
+    let names = long_names(alloc, options)?;
     let mut back = format!(in alloc; "{option}")?.into_bytes();
     back.extend_from_slice(rest)?;
-    ending(alloc, options, &back)
+    ending(alloc, &names, &back)
 }

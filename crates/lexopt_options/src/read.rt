@@ -44,7 +44,7 @@ use lexopt_base::refusal::Refusal;
 use lexopt_declaration::declaration as declared;
 use lexopt_declaration::declaration::{Declared, Names};
 use lexopt_declaration::lookup::{help_names_of, index_of_short, option_placeholder};
-use lexopt_declaration::nearest::hinted_names;
+use lexopt_declaration::nearest::{hinted_names, long_names};
 use lexopt_declaration::positionals::argument_placeholder;
 use lexopt_items::values::read_several;
 use lexopt_words::os_string::OsString;
@@ -154,7 +154,8 @@ fn unknown_long<'a, F, V, P, M, S>(
     ensures { IfOk result (λ mistake. (left : Tail) → IsMistake (declaration_of options.now) mistake
         (stops.unknown_option (table.long name.now) left)) }
 {
-    let hints = hinted_names(alloc, options.options(), name)?;
+    let names = long_names(alloc, options.options())?;
+    let hints = hinted_names(alloc, &names, name)?;
     let name = OptionName::Long(String::from_str(alloc, name)?);
     Ok(Mistake::UnknownOption { name, hints })
 }

@@ -1,25 +1,23 @@
 -- What a word is, by the state that the words before it leave.
-use Rattle.std.proofs.Common.{if◌then◌else◌, ◌≡◌, ◌≢◌, ◌<◌, ◌≤◌, ◌+◌, ◌==◌, ◌⊎◌, ◌↔◌, ℕ, Bool, true, false, List, [], ◌∷◌, ◌++◌, map, length, Option, Some, None, refl, sym, ap, subst, ◌∙◌, inl, inr, arith, append_assoc, length-append, true≢false}
+use Rattle.std.proofs.Common.{if◌then◌else◌, ◌≡◌, ◌≢◌, ◌≤◌, ◌+◌, ◌==◌, ◌⊎◌, ◌↔◌, ℕ, Bool, true, false, List, [], ◌∷◌, ◌++◌, map, length, Option, Some, None, refl, sym, ap, subst, ◌∙◌, inl, inr, arith, append_assoc, length-append, true≢false}
 use Rattle.std.specs.Bool.{IsTrue}
 use Rattle.std.proofs.lemmas.Bool.{eqb-true, false≢true}
 use Rattle.std.proofs.lemmas.Bool.Decides.{eqb_tells}
 use Rattle.std.proofs.lemmas.List.{append-nil}
-use Rattle.lexopt_spec.specs.UnreadLine.{dash, no_tail, BeginsWith, IsPlain, TailFits, UnreadLine, is_plain}
+use Rattle.lexopt_spec.specs.UnreadLine.{dash, no_tail, BeginsWith, IsPlain, TailFits, UnreadLine}
 use Rattle.lexopt_spec.specs.Steps as steps
 use Rattle.lexopt_spec.specs.Steps.{NextStep}
-use Rattle.lexopt_spec.proofs.PlainFronts.{plain_holds}
 use Rattle.lexopt_line_spec.specs.Readings.{start}
 use Rattle.lexopt_line_spec.specs.Table.{Item, Table}
 use Rattle.lexopt_line_spec.proofs.Exact.{next_same}
 use Rattle.lexopt_line_spec.proofs.Existence.{only_one}
 use Rattle.lexopt_line_spec.proofs.Names.{spelled_shows}
-use Rattle.lexopt_line_spec.proofs.SpellerRows.{off_plain}
 use Rattle.lexopt_options_spec.specs.Declaration.{Declaration, table}
 use Rattle.lexopt_options_spec.specs.Legal as legal
 use Rattle.lexopt_options_spec.specs.Legal.{Parsed, parsed_item, positional_count, most, IsWithin, MeansFront}
-use Rattle.lexopt_options_spec.specs.Completion.{EndsWith, Extends, HasRole, IsOpen, argument, value, Takes, role_of}
+use Rattle.lexopt_options_spec.specs.Completion.{EndsWith, Extends, HasRole, IsOpen, argument, value, role_of}
 use Rattle.lexopt_options_spec.specs.States.{State, Says, SaysOpenly, Leaves, leaves_anything, leaves_due, leaves_first, leaves_further, leaves_ended, LeadsNowhere, opens, is_full, room, role_in}
-use Rattle.lexopt_options_spec.proofs.Fronts.{Rest, one_front, rest_of, spelled_read}
+use Rattle.lexopt_options_spec.proofs.Fronts.{Rest, rest_of, spelled_read}
 use Rattle.lexopt_options_spec.proofs.Growing.{EndsSo, ended_before, open_there as line_open, separator_last, ends_so, adds_word, items_calm, longer}
 use Rattle.lexopt_options_spec.proofs.Lists.{Ending, has_none, has_last, ending, count_append, same_last, same_somes}
 use Rattle.lexopt_options_spec.proofs.Occurs.{dashes_calm, longer as no_longer}
@@ -223,65 +221,3 @@ no_role_nowhere d words typed nowhere = no_role d words typed (λ w longer m. no
 
 pub nowhere_open : (d : Declaration) (words : List (List ℕ)) → LeadsNowhere d words → (m : List Parsed) → IsOpen d words m → ⊥
 nowhere_open d words nowhere m is_open = nowhere.here m is_open.front
-
--- ---- positionals among words
-
-plain_or_not : (w : List ℕ) → IsPlain false w ⊎ ¬ IsPlain false w
-plain_or_not w = at (is_plain false w) refl
-  where
-    at : (b : Bool) → is_plain false w ≡ b → IsPlain false w ⊎ ¬ IsPlain false w
-    at true is = inl (plain_holds false w is)
-    at false is = inr (off_plain w is)
-
--- the words mean l
-counted_word : (d : Declaration) (words : List (List ℕ)) (l : List Parsed) → MeansFront d words l
-    → (0 < positional_count l)
-    ↔ ((l : List Parsed) × (0 < positional_count l) × (MeansFront d words l ⊎ (((m : List Parsed) → ¬ MeansFront d words m) × (w : List ℕ) × (last : Parsed) × Takes d words w l last)))
-counted_word d words l means = (λ some. (l, some, inl means), λ has. back has.0 has.1 has.2)
-  where
-    back : (m : List Parsed) → 0 < positional_count m → MeansFront d words m ⊎ (((n : List Parsed) → ¬ MeansFront d words n) × (w : List ℕ) × (last : Parsed) × Takes d words w m last) → 0 < positional_count l
-    back m some (inl front) = subst (λ n. 0 < positional_count n) (one_front d words m l front means) some
-    back m some (inr due_later) = absurd (due_later.0 l means)
-
--- the words mean nothing, and with a word after them they mean l and then the option of that word
-counted_value : (d : Declaration) (words : List (List ℕ)) (l : List Parsed) (s : List ℕ → Parsed) → ((m : List Parsed) → ¬ MeansFront d words m)
-    → ((w : List ℕ) (m : List Parsed) → MeansFront d (words ++ w ∷ []) m → Says d (words ++ w ∷ []) (l ++ s w ∷ [])) → Takes d words [] l (s [])
-    → (0 < positional_count l)
-    ↔ ((l : List Parsed) × (0 < positional_count l) × (MeansFront d words l ⊎ (((m : List Parsed) → ¬ MeansFront d words m) × (w : List ℕ) × (last : Parsed) × Takes d words w l last)))
-counted_value d words l s none says takes = (λ some. (l, some, inr (none, [], s [], takes)), λ has. back has.0 has.1 has.2)
-  where
-    back : (m : List Parsed) → 0 < positional_count m → MeansFront d words m ⊎ (((n : List Parsed) → ¬ MeansFront d words n) × (w : List ℕ) × (last : Parsed) × Takes d words w m last) → 0 < positional_count l
-    back m some (inl front) = absurd (none m front)
-    back m some (inr (never, w, last, taken)) =
-        let same = says_once d (words ++ w ∷ []) (m ++ last ∷ []) (l ++ s w ∷ []) (front_says d (words ++ w ∷ []) (m ++ last ∷ []) taken.means) (says w (m ++ last ∷ []) taken.means) in
-        subst (λ n. 0 < positional_count n) (same_last m l last (s w) same).0 some
-
-pub some_word : (d : Declaration) (words : List (List ℕ)) (l : List Parsed) (s : State) → Leaves d words l s → IsWithin (positional_count l) (most d.positionals)
-    → (0 < positional_count l)
-    ↔ ((l : List Parsed) × (0 < positional_count l) × (MeansFront d words l ⊎ (((m : List Parsed) → ¬ MeansFront d words m) × (w : List ℕ) × (last : Parsed) × Takes d words w l last)))
-some_word d words l s (leaves_anything says plain) within = counted_word d words l (says_front d words l says.says within)
-some_word d words l s (leaves_due i none all) within = counted_value d words l (λ w. legal.option i (Some w)) none (λ w m front. all w) (record {
-  means = with_other d (words ++ [] ∷ []) l (legal.option i (Some [])) refl within (all []);
-  whole = refl;
-})
-some_word d words l s (leaves_first i none plain never) within = counted_value d words l (λ w. legal.several i (w ∷ [])) none says (record {
-  means = with_other d (words ++ [] ∷ []) l (legal.several i ([] ∷ [])) refl within (plain [] (inr (inr (λ begins. begins))));
-  whole = ([], refl);
-})
-  where
-    says : (w : List ℕ) (m : List Parsed) → MeansFront d (words ++ w ∷ []) m → Says d (words ++ w ∷ []) (l ++ legal.several i (w ∷ []) ∷ [])
-    says w m front = at (plain_or_not w)
-      where
-        at : IsPlain false w ⊎ ¬ IsPlain false w → Says d (words ++ w ∷ []) (l ++ legal.several i (w ∷ []) ∷ [])
-        at (inl is) = plain w is
-        at (inr other) = absurd (never w m other front)
-some_word d words l s (leaves_further i before values are says plain) within = counted_word d words l (says_front d words l says.says within)
-some_word d words l s (leaves_ended says all) within = counted_word d words l (says_front d words l says within)
-
-pub no_word_nowhere : (d : Declaration) (words : List (List ℕ)) → LeadsNowhere d words
-    → ((l : List Parsed) × (0 < positional_count l) × (MeansFront d words l ⊎ (((m : List Parsed) → ¬ MeansFront d words m) × (w : List ℕ) × (last : Parsed) × Takes d words w l last))) → ⊥
-no_word_nowhere d words nowhere has = at has.0 has.2
-  where
-    at : (l : List Parsed) → MeansFront d words l ⊎ (((m : List Parsed) → ¬ MeansFront d words m) × (w : List ℕ) × (last : Parsed) × Takes d words w l last) → ⊥
-    at l (inl front) = nowhere.here l front
-    at l (inr (never, w, last, taken)) = nowhere.with_more w (l ++ last ∷ []) taken.means

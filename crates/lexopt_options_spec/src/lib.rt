@@ -1,5 +1,5 @@
 //! The definitions that the contracts of declared options cite, in `specs/`, over plain data:
-//! declarations, what words mean under them, where a reading stops, which option is nearest to a
+//! declarations, what words mean under them, where a reading stops, which name is nearest to a
 //! mistyped one, what can be completed, and what the help is. `proofs/` has the lemmas about them
 //! that other crates cite.
 //!

@@ -105,6 +105,8 @@ stopped_by S (mistake.InvalidArgument placeholder word values) why (index, same,
 stopped_by S (mistake.MissingArgument placeholder) why is stopped = (is.0, subst S is.1 stopped, is.2)
 stopped_by S (mistake.MissingOption own) why (index, same, (d, here, short, long)) stopped =
     (index, subst S same stopped, d, here, names_are d own short long)
+stopped_by S (mistake.MissingCommand names) why is stopped = absurd is
+stopped_by S (mistake.UnknownCommand word hints) why is stopped = absurd is
 stopped_by S (mistake.InvalidVariable own) why is stopped = absurd is
 
 pub refused_as : (o : Options Flag Value Word Maybe Values) (words : List (List ℕ)) (r : Refused Flag Value Word Maybe Values) → AreOfTool o → IsRefused o words r → ToolRefused words r

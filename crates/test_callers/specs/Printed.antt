@@ -77,21 +77,21 @@ abbrev pub typed_name : OptionName → List ℕ
 typed_name (typed.Short c) = codes "-" ++ escaped c
 typed_name (typed.Long name) = codes "--" ++ printed_text (string_bytes name)
 
--- a long name in quotes
-abbrev pub hinted : List ℕ → List ℕ
-hinted name = codes "'--" ++ (printed_text name ++ codes "'")
+-- a name after these dashes, in quotes
+abbrev pub hinted : List ℕ → List ℕ → List ℕ
+hinted dashes name = codes "'" ++ (dashes ++ (printed_text name ++ codes "'"))
 
--- the long names that may have been meant
-abbrev pub hints_line : List (List ℕ) → List ℕ
-hints_line [] = []
-hints_line (name ∷ []) = codes "; did you mean " ++ (hinted name ++ codes "?")
-hints_line (name ∷ names) =
-    codes "; did you mean one of " ++ (list_text (map hinted (name ∷ names)) ++ codes "?")
+-- the names that may have been meant, after these dashes
+abbrev pub hints_line : List ℕ → List (List ℕ) → List ℕ
+hints_line dashes [] = []
+hints_line dashes (name ∷ []) = codes "; did you mean " ++ (hinted dashes name ++ codes "?")
+hints_line dashes (name ∷ names) =
+    codes "; did you mean one of " ++ (list_text (map (hinted dashes) (name ∷ names)) ++ codes "?")
 
 abbrev pub mistake_line : Mistake → List ℕ
 mistake_line (mistake.UnknownOption name hints) =
     (codes "invalid option '" ++ (typed_name name ++ codes "'"))
-    ++ hints_line (map (λ hint. hint.now) hints.items)
+    ++ hints_line (codes "--") (map (λ hint. hint.now) hints.items)
 mistake_line (mistake.UnexpectedValue option value) = codes "unexpected argument for option '"
     ++ (printed_text (string_bytes option) ++ (codes "': " ++ visible value))
 mistake_line (mistake.MissingValue option placeholder) = codes "missing argument "
@@ -108,6 +108,10 @@ mistake_line (mistake.InvalidArgument placeholder word values) = codes "invalid 
     ++ (codes ": one of " ++ list_text (map (λ v. printed_text v.now) values.now)))))
 mistake_line (mistake.MissingOption names) =
     codes "missing option '" ++ (names_line names ++ codes "'")
+mistake_line (mistake.MissingCommand names) =
+    codes "missing command: one of " ++ list_text (map (λ name. printed_text name.now) names.items)
+mistake_line (mistake.UnknownCommand word hints) = codes "unknown command " ++ (visible word
+    ++ hints_line [] (map (λ hint. hint.now) hints.items))
 mistake_line (mistake.InvalidVariable name) = codes "invalid value of " ++ (string_bytes name
     ++ (codes ": one of bash_source, bash_complete, zsh_source, zsh_complete, fish_source, "
     ++ codes "fish_complete"))

@@ -1,63 +1,58 @@
 -- Lines of any commands, by the clauses of `Commands::read` and `Commands::answer_request`.
-use Rattle.std.proofs.Common.{◌≡◌, ◌⊎◌, ℕ, List, [], None, Some, string_bytes, sym, subst, ⊎_elim, inl, inr}
+use Rattle.std.proofs.Common.{◌≡◌, ℕ, List, [], None, Some, string_bytes, sym, subst, ⊎_elim, inl, inr}
+use Rattle.std.specs.declared.convert.Infallible.{Infallible}
 use Rattle.lexopt_options_spec.specs.Asking.{first_asked}
 use Rattle.lexopt_options_spec.specs.Declaration as spec
 use Rattle.lexopt_options_spec.specs.Declaration.{for_help, for_version}
 use Rattle.lexopt_options_spec.specs.Leading.{MeansLeading}
 use Rattle.lexopt_options_spec.specs.Legal as legal
 use Rattle.lexopt_declaration.specs.Lookups.{help_names}
+use Rattle.lexopt_options.specs.declared.mistake.Mistake.{Mistake}
 use Rattle.lexopt_options.specs.declared.options.Options.{Options}
 use Rattle.lexopt_options.specs.declared.parsed.Asked.{Asked}
 use Rattle.lexopt_options.specs.declared.parsed.Asked.TheVariants as asks
+use Rattle.lexopt_options.specs.declared.refused.Refused.{Refused}
 use Rattle.lexopt_options.specs.declared.request.Request.{Request}
 use Rattle.lexopt_options.specs.declared.request.Request.TheVariants as request
+use Rattle.lexopt_options.specs.Answers.{IsUnknownRequest}
 use Rattle.lexopt_options.specs.Declarations.{declaration_of, options_of}
 use Rattle.lexopt_options.specs.Keys.{AreParsedAs, asked_view}
+use Rattle.lexopt_options.specs.LeadingLines.{IsLeadingRefused}
 use Rattle.lexopt_commands.specs.declared.answer.Step.{Step}
 use Rattle.lexopt_commands.specs.declared.answer.Step.TheVariants as step
 use Rattle.lexopt_commands.specs.declared.command.Command.{Command}
 use Rattle.lexopt_commands.specs.declared.commands.Commands.{Commands}
-use Rattle.lexopt_commands.specs.declared.mistake.Mistake.{Mistake}
-use Rattle.lexopt_commands.specs.declared.mistake.Mistake.TheVariants as mistake
-use Rattle.lexopt_commands.specs.declared.refused.CommandLine.{CommandLine}
-use Rattle.lexopt_commands.specs.declared.refused.CommandLine.TheVariants as line
-use Rattle.lexopt_commands.specs.declared.refused.Refused.{Refused}
-use Rattle.lexopt_commands.specs.Answers.{IsAskedText, IsRequestStep, IsStep, IsUnknown}
-use Rattle.lexopt_commands.specs.Lines.{IsAfterOptions, IsCommandLine, IsLineAsking, IsLineOf, IsLineRead, IsOptionMistake}
-use Rattle.lexopt_commands.specs.Mistakes.{IsMistake}
+use Rattle.lexopt_commands.specs.declared.read.CommandLine.{CommandLine}
+use Rattle.lexopt_commands.specs.declared.read.CommandLine.TheVariants as line
+use Rattle.lexopt_commands.specs.Answers.{IsAskedText, IsRequestStep, IsStep}
+use Rattle.lexopt_commands.specs.Lines.{IsAfterOptions, IsCommandLine, IsLineAsking, IsLineOf, IsLineRead}
+use Rattle.lexopt_commands.specs.Mistakes.{IsMistake, unknown_command, missing_command}
 use Rattle.test_commands.specs.AnyCommands.{HaveMistake, IsAskedFor, IsNamed, IsVariable, LineTells, RequestTells, StepTells, TextTells}
 
 -- ---- a line that is read
 
-by_options : {C F V P M S : Type 0} (o : Options F V P M S) (commands : List (Command C)) (words : List (List ℕ)) (r : Refused F V P M S) (m : Mistake)
-    → IsOptionMistake o words r m → (r.program.now ≡ (declaration_of o).program) × (r.help ≡ help_names (options_of o)) × HaveMistake o commands words r m
-by_options o commands words r (mistake.General own) is = (is.program, is.help, is)
-by_options o commands words r (mistake.MissingCommand names) is = absurd is
-by_options o commands words r (mistake.UnknownCommand word hints) is = absurd is
-
-by_words : {C F V P M S : Type 0} (o : Options F V P M S) (commands : List (Command C)) (words : List (List ℕ)) (r : Refused F V P M S) (m : Mistake) (l : List legal.Parsed) (rest : List (List ℕ))
+by_words : {C F V M S : Type 0} (o : Options F V Infallible M S) (commands : List (Command C)) (words : List (List ℕ)) (r : Refused F V Infallible M S) (m : Mistake) (l : List legal.Parsed) (rest : List (List ℕ))
     → MeansLeading (declaration_of o) words l rest → first_asked (declaration_of o).options l ≡ None → AreParsedAs (options_of o) l r.before.items → IsMistake commands rest m → HaveMistake o commands words r m
-by_words o commands words r (mistake.General own) l rest means none are told = absurd told
-by_words o commands words r (mistake.MissingCommand names) l rest means none are told = ((l, rest, means, none, are, told.0), told.1)
-by_words o commands words r (mistake.UnknownCommand word hints) l rest means none are told = ((l, rest, means, none, are, told.0), told.1)
+by_words o commands words r m l rest means none are (missing_command names is named) = ((l, rest, means, none, are, is), named)
+by_words o commands words r m l rest means none are (unknown_command word hints is hinted) = ((l, rest, means, none, are, is), hinted)
 
-line_so : {C F V P M S : Type 0} (c : Commands C F V P M S) (words : List (List ℕ)) (it : CommandLine C F V P M S) → IsLineRead c words it → LineTells c.options c.commands.now words it
+line_so : {C F V M S : Type 0} (c : Commands C F V M S) (words : List (List ℕ)) (it : CommandLine C F V M S) → IsLineRead c words it → LineTells c.options c.commands.now words it
 line_so c words (line.Command parsed key own) is = ⊎_elim (λ no. absurd no)
     (λ (a : IsAfterOptions c words (line.Command parsed key own)).
     (a.read, a.rest, a.means, a.nothing, subst (λ x. AreParsedAs (options_of c.options) a.read x) (sym a.after.0) a.are, a.after.1)) is
 line_so c words (line.Asked asked) is = ⊎_elim (λ by. inl by)
     (λ (a : IsAfterOptions c words (line.Asked asked)). inr (a.after.1, a.parsed, (a.read, a.rest, a.means, a.nothing, a.are, a.after.0))) is
-line_so c words (line.Refused r) is = ⊎_elim (λ by. by_options c.options c.commands.now words r r.mistake by)
+line_so c words (line.Refused r) is = ⊎_elim (λ (by : IsLeadingRefused c.options words r). (by.program, by.help, inl by))
     (λ (a : IsAfterOptions c words (line.Refused r)).
-    (a.after.program, a.after.help, by_words c.options c.commands.now words r r.mistake a.read a.rest a.means a.nothing (subst (λ x. AreParsedAs (options_of c.options) a.read x) (sym a.after.before) a.are) a.after.told)) is
+    (a.after.program, a.after.help, inr (by_words c.options c.commands.now words r r.mistake a.read a.rest a.means a.nothing (subst (λ x. AreParsedAs (options_of c.options) a.read x) (sym a.after.before) a.are) a.after.told))) is
 
-pub line_tells : {C F V P M S : Type 0} (c : Commands C F V P M S) (o : Options F V P M S) (commands : List (Command C)) (words : List (List ℕ)) (it : CommandLine C F V P M S)
+pub line_tells : {C F V M S : Type 0} (c : Commands C F V M S) (o : Options F V Infallible M S) (commands : List (Command C)) (words : List (List ℕ)) (it : CommandLine C F V M S)
     → c.options ≡ o → c.commands.now ≡ commands → IsLineRead c words it → LineTells o commands words it
 line_tells c o commands words it same own is = subst (λ x. LineTells x commands words it) same (subst (λ cs. LineTells c.options cs words it) own (line_so c words it is))
 
 -- ---- the line of words that are given
 
-asked_so : {C F V P M S : Type 0} (asked : spec.Asked) (it : CommandLine C F V P M S) → IsLineAsking asked it → IsAskedFor asked it
+asked_so : {C F V M S : Type 0} (asked : spec.Asked) (it : CommandLine C F V M S) → IsLineAsking asked it → IsAskedFor asked it
 asked_so for_help (line.Command parsed key own) is = is
 asked_so (for_version text) (line.Command parsed key own) is = is
 asked_so for_help (line.Asked asks.Help) is = tt
@@ -67,30 +62,30 @@ asked_so (for_version text) (line.Asked (asks.Version own)) is = let e : for_ver
 asked_so for_help (line.Refused r) is = is
 asked_so (for_version text) (line.Refused r) is = is
 
-pub asked_line : {C F V P M S : Type 0} (c : Commands C F V P M S) (o : Options F V P M S) (l : List legal.Parsed) (rest : List (List ℕ)) (asked : spec.Asked) (it : CommandLine C F V P M S)
+pub asked_line : {C F V M S : Type 0} (c : Commands C F V M S) (o : Options F V Infallible M S) (l : List legal.Parsed) (rest : List (List ℕ)) (asked : spec.Asked) (it : CommandLine C F V M S)
     → c.options ≡ o → first_asked (declaration_of o).options l ≡ Some asked → IsLineOf c l rest it → IsAskedFor asked it
 asked_line c o l rest asked it same is of = asked_so asked it (of.asks asked (subst (λ x. first_asked (declaration_of x).options l ≡ Some asked) (sym same) is))
 
-named_so : {C F V P M S : Type 0} (c : Commands C F V P M S) (l : List legal.Parsed) (key : C) (words : List (List ℕ)) (it : CommandLine C F V P M S) → IsCommandLine c l key words it → IsNamed (options_of c.options) l key words it
+named_so : {C F V M S : Type 0} (c : Commands C F V M S) (l : List legal.Parsed) (key : C) (words : List (List ℕ)) (it : CommandLine C F V M S) → IsCommandLine c l key words it → IsNamed (options_of c.options) l key words it
 named_so c l key words (line.Command parsed own rest) is = is
 named_so c l key words (line.Asked asked) is = is
 named_so c l key words (line.Refused r) is = is
 
-pub named_line : {C F V P M S : Type 0} (c : Commands C F V P M S) (o : Options F V P M S) (l : List legal.Parsed) (key : C) (words : List (List ℕ)) (it : CommandLine C F V P M S)
+pub named_line : {C F V M S : Type 0} (c : Commands C F V M S) (o : Options F V Infallible M S) (l : List legal.Parsed) (key : C) (words : List (List ℕ)) (it : CommandLine C F V M S)
     → c.options ≡ o → IsCommandLine c l key words it → IsNamed (options_of o) l key words it
 named_line c o l key words it same is = subst (λ x. IsNamed (options_of x) l key words it) same (named_so c l key words it is)
 
 -- the same list under the same options
-pub none_of : {F V P M S : Type 0} (o own : Options F V P M S) (l : List legal.Parsed) → o ≡ own → first_asked (declaration_of own).options l ≡ None → first_asked (declaration_of o).options l ≡ None
+pub none_of : {F V M S : Type 0} (o own : Options F V Infallible M S) (l : List legal.Parsed) → o ≡ own → first_asked (declaration_of own).options l ≡ None → first_asked (declaration_of o).options l ≡ None
 none_of o own l same none = subst (λ x. first_asked (declaration_of x).options l ≡ None) (sym same) none
 
 -- ---- what is to be done
 
-text_so : {C F V P M S : Type 0} (c : Commands C F V P M S) (asked : Asked) (width : ℕ) (text : List ℕ) → IsAskedText c (asked_view asked) width text → TextTells c.options c.commands.now asked width text
+text_so : {C F V M S : Type 0} (c : Commands C F V M S) (asked : Asked) (width : ℕ) (text : List ℕ) → IsAskedText c (asked_view asked) width text → TextTells c.options c.commands.now asked width text
 text_so c asks.Help width text is = is
 text_so c (asks.Version own) width text is = is
 
-step_so : {C F V P M S : Type 0} (c : Commands C F V P M S) (words : List (List ℕ)) (width : ℕ) (it : Step C F V P M S) → IsStep c words width it → StepTells c.options c.commands.now words width it
+step_so : {C F V M S : Type 0} (c : Commands C F V M S) (words : List (List ℕ)) (width : ℕ) (it : Step C F V M S) → IsStep c words width it → StepTells c.options c.commands.now words width it
 step_so c words width (step.Command parsed key (request.Line own)) is = line_so c words (line.Command parsed key own) is
 step_so c words width (step.Command parsed key (request.Completion before typed)) is = is
 step_so c words width (step.Command parsed key (request.Script shell)) is = is
@@ -98,13 +93,11 @@ step_so c words width (step.Command parsed key request.Unknown) is = is
 step_so c words width (step.Text text) is = (is.0, line_so c words (line.Asked is.0) is.1, text_so c is.0 width (string_bytes text) is.2)
 step_so c words width (step.Refused r) is = line_so c words (line.Refused r) is
 
-unknown_so : {C F V P M S : Type 0} (c : Commands C F V P M S) (width : ℕ) (r : Refused F V P M S) (m : Mistake)
-    → IsUnknown c r m → (r.program.now ≡ (declaration_of c.options).program) × (r.help ≡ help_names (options_of c.options)) × (r.before.items ≡ []) × IsVariable (declaration_of c.options).program m
-unknown_so c width r (mistake.General own) is = (is.program, is.help, is.before, subst (λ m. IsVariable (declaration_of c.options).program (mistake.General m)) (sym is.mistake) is.variable)
-unknown_so c width r (mistake.MissingCommand names) is = absurd is
-unknown_so c width r (mistake.UnknownCommand word hints) is = absurd is
+unknown_so : {C F V M S : Type 0} (c : Commands C F V M S) (r : Refused F V Infallible M S)
+    → IsUnknownRequest c.options r → (r.program.now ≡ (declaration_of c.options).program) × (r.help ≡ help_names (options_of c.options)) × (r.before.items ≡ []) × IsVariable (declaration_of c.options).program r.mistake
+unknown_so c r is = (is.program, is.help, is.before, subst (IsVariable (declaration_of c.options).program) (sym is.mistake) is.variable)
 
-request_so : {C F V P M S : Type 0} (c : Commands C F V P M S) (asked : Request) (width : ℕ) (it : Step C F V P M S) → IsRequestStep c asked width it → RequestTells c.options c.commands.now asked width it
+request_so : {C F V M S : Type 0} (c : Commands C F V M S) (asked : Request) (width : ℕ) (it : Step C F V M S) → IsRequestStep c asked width it → RequestTells c.options c.commands.now asked width it
 request_so c (request.Line words) width it is = step_so c words.items width it is
 request_so c (request.Completion words typed) width it is = tt
 request_so c (request.Script shell) width (step.Command parsed key own) is = is
@@ -112,8 +105,8 @@ request_so c (request.Script shell) width (step.Text text) is = is
 request_so c (request.Script shell) width (step.Refused r) is = is
 request_so c request.Unknown width (step.Command parsed key own) is = is
 request_so c request.Unknown width (step.Text text) is = is
-request_so c request.Unknown width (step.Refused r) is = unknown_so c width r r.mistake is
+request_so c request.Unknown width (step.Refused r) is = unknown_so c r is
 
-pub request_tells : {C F V P M S : Type 0} (c : Commands C F V P M S) (o : Options F V P M S) (commands : List (Command C)) (asked : Request) (width : ℕ) (it : Step C F V P M S)
+pub request_tells : {C F V M S : Type 0} (c : Commands C F V M S) (o : Options F V Infallible M S) (commands : List (Command C)) (asked : Request) (width : ℕ) (it : Step C F V M S)
     → c.options ≡ o → c.commands.now ≡ commands → IsRequestStep c asked width it → RequestTells o commands asked width it
 request_tells c o commands asked width it same own is = subst (λ x. RequestTells x commands asked width it) same (subst (λ cs. RequestTells c.options cs asked width it) own (request_so c asked width it is))

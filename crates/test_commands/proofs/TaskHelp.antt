@@ -23,13 +23,11 @@ pub task_help : (d own : Declaration) (commands : List (Command Task)) (width : 
 task_help d own commands width text same are is = subst (λ x. IsTaskHelp x width text) same (record {
   usage = is.usage;
   about = is.about;
-  positionals = is.positionals;
   commands = is.commands;
   options = is.options;
   epilogue = is.epilogue;
   usage_first = is.usage_first;
   about_next = is.about_next;
-  each_positional = is.each_positional;
   each_command = subst (λ ps. AllZip (λ (p : List ℕ × List ℕ). IsEntry width p.0 p.1) ps is.commands) are (entries_so width commands is.commands is.each_command);
   each_option = is.each_option;
   each_paragraph = is.each_paragraph;

@@ -1,6 +1,7 @@
 -- What lines of any commands mean, by the meaning of their words.
 use Rattle.std.specs.Prelude.{◌≡◌, ◌⊎◌, ◌++◌, ℕ, List, [], ◌∷◌, None, map}
 use Rattle.std.specs.Prelude.{string_bytes}
+use Rattle.std.specs.declared.convert.Infallible.{Infallible}
 use Rattle.lexopt_options_spec.specs.Asking.{first_asked}
 use Rattle.lexopt_options_spec.specs.Declaration as spec
 use Rattle.lexopt_options_spec.specs.Declaration.{for_help, for_version}
@@ -9,11 +10,13 @@ use Rattle.lexopt_options_spec.specs.Legal as legal
 use Rattle.lexopt_declaration.specs.declared.declaration.Declared.{Declared}
 use Rattle.lexopt_declaration.specs.Lookups.{help_names}
 use Rattle.lexopt_declaration.specs.Scripts.{variable_name}
-use Rattle.lexopt_options.specs.declared.mistake.Mistake.TheVariants as general
+use Rattle.lexopt_options.specs.declared.mistake.Mistake.{Mistake}
+use Rattle.lexopt_options.specs.declared.mistake.Mistake.TheVariants as mistake
 use Rattle.lexopt_options.specs.declared.options.Options.{Options}
 use Rattle.lexopt_options.specs.declared.parsed.Asked.{Asked}
 use Rattle.lexopt_options.specs.declared.parsed.Asked.TheVariants as asks
 use Rattle.lexopt_options.specs.declared.parsed.Parsed.{Parsed}
+use Rattle.lexopt_options.specs.declared.refused.Refused.{Refused}
 use Rattle.lexopt_options.specs.declared.request.Request.{Request}
 use Rattle.lexopt_options.specs.declared.request.Request.TheVariants as request
 use Rattle.lexopt_options.specs.Answers.{script_lines}
@@ -23,11 +26,8 @@ use Rattle.lexopt_options.specs.LeadingLines.{IsLeadingRefused}
 use Rattle.lexopt_commands.specs.declared.answer.Step.{Step}
 use Rattle.lexopt_commands.specs.declared.answer.Step.TheVariants as step
 use Rattle.lexopt_commands.specs.declared.command.Command.{Command}
-use Rattle.lexopt_commands.specs.declared.mistake.Mistake.{Mistake}
-use Rattle.lexopt_commands.specs.declared.mistake.Mistake.TheVariants as mistake
-use Rattle.lexopt_commands.specs.declared.refused.CommandLine.{CommandLine}
-use Rattle.lexopt_commands.specs.declared.refused.CommandLine.TheVariants as line
-use Rattle.lexopt_commands.specs.declared.refused.Refused.{Refused}
+use Rattle.lexopt_commands.specs.declared.read.CommandLine.{CommandLine}
+use Rattle.lexopt_commands.specs.declared.read.CommandLine.TheVariants as line
 use Rattle.lexopt_commands.specs.Help.{IsHelp}
 use Rattle.lexopt_commands.specs.Meanings.{Meaning, command, help, meaning, missing, unknown}
 use Rattle.lexopt_commands.specs.Mistakes.{IsHint}
@@ -35,31 +35,26 @@ use Rattle.lexopt_commands.specs.Mistakes.{IsHint}
 -- ---- lines
 
 -- the words are general options that ask for nothing, and then words that mean this
-abbrev pub MeanSo : {C F V P M S : Type 0} → Options F V P M S → List (Command C) → List (List ℕ)
-    → List (Parsed F V P M S) → Meaning C → Type 0
+abbrev pub MeanSo : {C F V M S : Type 0} → Options F V Infallible M S → List (Command C) → List (List ℕ)
+    → List (Parsed F V Infallible M S) → Meaning C → Type 0
 MeanSo o commands words parsed what = (l : List legal.Parsed) × (rest : List (List ℕ))
     × MeansLeading (declaration_of o) words l rest
     × (first_asked (declaration_of o).options l ≡ None) × AreParsedAs (options_of o) l parsed
     × (meaning commands rest ≡ what)
 
--- this is wrong with the words
-abbrev pub HaveMistake : {C F V P M S : Type 0} → Options F V P M S → List (Command C)
-    → List (List ℕ) → Refused F V P M S → Mistake → Type 0
-HaveMistake o commands words r (mistake.General own) = IsLeadingRefused o words (record {
-  program = r.program;
-  help = r.help;
-  before = r.before;
-  mistake = own;
-})
+-- this is wrong with the words after the general options
+abbrev pub HaveMistake : {C F V M S : Type 0} → Options F V Infallible M S → List (Command C)
+    → List (List ℕ) → Refused F V Infallible M S → Mistake → Type 0
 HaveMistake o commands words r (mistake.MissingCommand names) =
     MeanSo o commands words r.before.items missing
     × (map (λ name. name.now) names.items ≡ map (λ c. c.name.now) commands)
 HaveMistake o commands words r (mistake.UnknownCommand word hints) =
     MeanSo o commands words r.before.items (unknown word)
     × IsHint commands word (map (λ hint. hint.now) hints.items)
+HaveMistake o commands words r m = ⊥
 
-abbrev pub LineTells : {C F V P M S : Type 0} → Options F V P M S → List (Command C)
-    → List (List ℕ) → CommandLine C F V P M S → Type 0
+abbrev pub LineTells : {C F V M S : Type 0} → Options F V Infallible M S → List (Command C)
+    → List (List ℕ) → CommandLine C F V M S → Type 0
 LineTells o commands words (line.Command parsed key own) =
     MeanSo o commands words parsed.items (command key own.items)
 LineTells o commands words (line.Asked asked) =
@@ -67,30 +62,31 @@ LineTells o commands words (line.Asked asked) =
     ⊎ ((asked ≡ asks.Help) × (parsed : List (Parsed _ _ _ _ _))
     × MeanSo o commands words parsed help)
 LineTells o commands words (line.Refused r) = (r.program.now ≡ (declaration_of o).program)
-    × (r.help ≡ help_names (options_of o)) × HaveMistake o commands words r r.mistake
+    × (r.help ≡ help_names (options_of o))
+    × (IsLeadingRefused o words r ⊎ HaveMistake o commands words r r.mistake)
 
 -- the line asks for this
-abbrev pub IsAskedFor : {C F V P M S : Type 0} → spec.Asked → CommandLine C F V P M S → Type 0
+abbrev pub IsAskedFor : {C F V M S : Type 0} → spec.Asked → CommandLine C F V M S → Type 0
 IsAskedFor for_help (line.Asked asks.Help) = Unit {0}
 IsAskedFor (for_version text) (line.Asked (asks.Version own)) = own.now ≡ text
 IsAskedFor what line = ⊥
 
 -- the line is the command of this key, with these words, after these general options
-abbrev pub IsNamed : {C F V P M S : Type 0} → List (Declared F V M S) → List legal.Parsed → C
-    → List (List ℕ) → CommandLine C F V P M S → Type 0
+abbrev pub IsNamed : {C F V M S : Type 0} → List (Declared F V M S) → List legal.Parsed → C
+    → List (List ℕ) → CommandLine C F V M S → Type 0
 IsNamed options l key words (line.Command parsed found own) = AreParsedAs options l parsed.items
     × (found ≡ key) × (own.items ≡ words)
 IsNamed options l key words line = ⊥
 
 -- ---- what the program does
 
-abbrev pub TextTells : {C F V P M S : Type 0} → Options F V P M S → List (Command C) → Asked → ℕ
+abbrev pub TextTells : {C F V M S : Type 0} → Options F V Infallible M S → List (Command C) → Asked → ℕ
     → List ℕ → Type 0
 TextTells o commands asks.Help width text = IsHelp (declaration_of o) commands width text
 TextTells o commands (asks.Version own) width text = text ≡ own.now ++ 10 ∷ []
 
-abbrev pub StepTells : {C F V P M S : Type 0} → Options F V P M S → List (Command C)
-    → List (List ℕ) → ℕ → Step C F V P M S → Type 0
+abbrev pub StepTells : {C F V M S : Type 0} → Options F V Infallible M S → List (Command C)
+    → List (List ℕ) → ℕ → Step C F V M S → Type 0
 StepTells o commands words width (step.Command parsed key (request.Line own)) =
     LineTells o commands words (line.Command parsed key own)
 StepTells o commands words width (step.Command parsed key asked) = ⊥
@@ -101,13 +97,12 @@ StepTells o commands words width (step.Refused r) = LineTells o commands words (
 
 -- the variable by which shells ask has a value that is not known
 abbrev pub IsVariable : List ℕ → Mistake → Type 0
-IsVariable program (mistake.General (general.InvalidVariable name)) =
-    string_bytes name ≡ variable_name program
+IsVariable program (mistake.InvalidVariable name) = string_bytes name ≡ variable_name program
 IsVariable program m = ⊥
 
 -- about a line, a shell and a request that is not known; `complete_tasks` is about what can come
-abbrev pub RequestTells : {C F V P M S : Type 0} → Options F V P M S → List (Command C) → Request
-    → ℕ → Step C F V P M S → Type 0
+abbrev pub RequestTells : {C F V M S : Type 0} → Options F V Infallible M S → List (Command C) → Request
+    → ℕ → Step C F V M S → Type 0
 RequestTells o commands (request.Line words) width found =
     StepTells o commands words.items width found
 RequestTells o commands (request.Completion words typed) width found = Unit {0}

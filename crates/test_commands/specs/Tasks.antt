@@ -1,17 +1,19 @@
 -- What lines of three commands mean, what completes a word, and what the help shows, by plain data.
 use Rattle.std.specs.Prelude.{◌≡◌, ◌⊎◌, ◌++◌, ℕ, if◌then◌else◌, nat_eq, List, [], ◌∷◌}
-use Rattle.std.specs.Prelude.{Option, Some, None, codes, false, map, string_bytes}
+use Rattle.std.specs.Prelude.{Option, None, codes, map, string_bytes}
 use Rattle.std.specs.List.{AllZip, concat, flat_map, starts_with}
-use Rattle.lexopt_line_spec.specs.Table.{flag}
+use Rattle.std.specs.declared.convert.Infallible.{Infallible}
 use Rattle.lexopt_options_spec.specs.Asking.{first_asked}
-use Rattle.lexopt_options_spec.specs.Declaration as spec
-use Rattle.lexopt_options_spec.specs.Declaration.{Declaration}
-use Rattle.lexopt_options_spec.specs.Help.{IsEntry, IsParagraph, IsUsage, described, label}
+use Rattle.lexopt_options_spec.specs.Declaration.{Count, Declaration, Positional, any_number, files}
+use Rattle.lexopt_options_spec.specs.Declaration.{once}
+use Rattle.lexopt_options_spec.specs.Help.{IsEntry, IsParagraph, IsUsage, label}
 use Rattle.lexopt_options_spec.specs.Help.{set_apart, visible, with_list}
 use Rattle.lexopt_options_spec.specs.Leading.{MeansLeading}
 use Rattle.lexopt_options_spec.specs.Legal as legal
 use Rattle.lexopt_options_spec.specs.Nearest.{IsNearest, hinted_names}
 use Rattle.lexopt_declaration.specs.declared.declaration.Declared.{Declared}
+use Rattle.lexopt_options.specs.declared.mistake.Mistake.{Mistake}
+use Rattle.lexopt_options.specs.declared.mistake.Mistake.TheVariants as mistake
 use Rattle.lexopt_options.specs.declared.parsed.Asked.TheVariants.{Help}
 use Rattle.lexopt_options.specs.declared.options.Options.{Options}
 use Rattle.lexopt_options.specs.declared.request.Request.TheVariants as request
@@ -20,10 +22,8 @@ use Rattle.lexopt_options.specs.Declarations.{declaration_of}
 use Rattle.lexopt_options.specs.Keys.{AreParsedAs}
 use Rattle.lexopt_commands.specs.declared.answer.Step.{Step}
 use Rattle.lexopt_commands.specs.declared.answer.Step.TheVariants as step
-use Rattle.lexopt_commands.specs.declared.mistake.Mistake.{Mistake}
-use Rattle.lexopt_commands.specs.declared.mistake.Mistake.TheVariants as mistake
-use Rattle.lexopt_commands.specs.declared.refused.CommandLine.{CommandLine}
-use Rattle.lexopt_commands.specs.declared.refused.CommandLine.TheVariants as line
+use Rattle.lexopt_commands.specs.declared.read.CommandLine.{CommandLine}
+use Rattle.lexopt_commands.specs.declared.read.CommandLine.TheVariants as line
 use Rattle.test_commands.specs.declared.callers.Task.{Task}
 
 -- the names of the commands, and the line about each
@@ -33,14 +33,14 @@ task_helps = (codes "add", codes "add files")
     ∷ (codes "help", codes "print the help of a command") ∷ []
 
 -- the line is this command with these words, after these general options
-abbrev pub IsTask : {F V P M S : Type 0} → List (Declared F V M S) → List legal.Parsed → Task
-    → List (List ℕ) → CommandLine Task F V P M S → Type 0
+abbrev pub IsTask : {F V M S : Type 0} → List (Declared F V M S) → List legal.Parsed → Task
+    → List (List ℕ) → CommandLine Task F V M S → Type 0
 IsTask options l task words (line.Command parsed key own) = AreParsedAs options l parsed.items
     × (key ≡ task) × (own.items ≡ words)
 IsTask options l task words line = ⊥
 
 -- it asks for the help
-abbrev pub IsAsking : {F V P M S : Type 0} → CommandLine Task F V P M S → Type 0
+abbrev pub IsAsking : {F V M S : Type 0} → CommandLine Task F V M S → Type 0
 IsAsking (line.Asked asked) = asked ≡ Help
 IsAsking line = ⊥
 
@@ -50,30 +50,16 @@ IsMissingName (mistake.MissingCommand names) =
 IsMissingName m = ⊥
 
 -- it has no command
-abbrev pub IsMissing : {F V P M S : Type 0} → List (Declared F V M S) → List legal.Parsed
-    → CommandLine Task F V P M S → Type 0
+abbrev pub IsMissing : {F V M S : Type 0} → List (Declared F V M S) → List legal.Parsed
+    → CommandLine Task F V M S → Type 0
 IsMissing options l (line.Refused refused) = AreParsedAs options l refused.before.items
     × IsMissingName refused.mistake
 IsMissing options l line = ⊥
 
--- a long option of this name
-abbrev pub long_option : List ℕ × List ℕ → spec.Declared
-long_option p = record {
-  short_name = None;
-  long_name = Some p.0;
-  kind = flag;
-  placeholder = [];
-  help = p.1;
-  asks = None;
-  hidden = false;
-  required = false;
-  words = spec.files;
-}
-
--- the hints for this text, if the names of the commands were those of long options
+-- the hints for this text
 abbrev pub AreHintsFor : List ℕ → List (List ℕ) → Type 0
-AreHintsFor typed hints = (found : Option ℕ) × IsNearest (map long_option task_helps) typed found
-    × (hints ≡ hinted_names (map long_option task_helps) typed found)
+AreHintsFor typed hints = (found : Option ℕ) × IsNearest (map (λ p. p.0) task_helps) typed found
+    × (hints ≡ hinted_names (map (λ p. p.0) task_helps) typed found)
 
 abbrev pub IsUnknownName : List ℕ → List ℕ → Mistake → Type 0
 IsUnknownName name typed (mistake.UnknownCommand word hints) =
@@ -81,8 +67,8 @@ IsUnknownName name typed (mistake.UnknownCommand word hints) =
 IsUnknownName name typed m = ⊥
 
 -- no command has this name, and its hints are those for this text
-abbrev pub IsUnknown : {F V P M S : Type 0} → List (Declared F V M S) → List legal.Parsed → List ℕ
-    → List ℕ → CommandLine Task F V P M S → Type 0
+abbrev pub IsUnknown : {F V M S : Type 0} → List (Declared F V M S) → List legal.Parsed → List ℕ
+    → List ℕ → CommandLine Task F V M S → Type 0
 IsUnknown options l name typed (line.Refused refused) = AreParsedAs options l refused.before.items
     × IsUnknownName name typed refused.mistake
 IsUnknown options l name typed line = ⊥
@@ -90,14 +76,14 @@ IsUnknown options l name typed line = ⊥
 -- ---- completion of a typed word
 
 -- this command is asked to complete this typed word after these words
-abbrev pub IsTaskAsked : {F V P M S : Type 0} → List (Declared F V M S) → List legal.Parsed → Task
-    → List (List ℕ) → List ℕ → Step Task F V P M S → Type 0
+abbrev pub IsTaskAsked : {F V M S : Type 0} → List (Declared F V M S) → List legal.Parsed → Task
+    → List (List ℕ) → List ℕ → Step Task F V M S → Type 0
 IsTaskAsked options l task rest typed (step.Command parsed key (request.Completion before last)) =
     AreParsedAs options l parsed.items × (key ≡ task) × (before.items ≡ rest) × (last ≡ typed)
 IsTaskAsked options l task rest typed found = ⊥
 
 -- this text is written
-abbrev pub IsWritten : {F V P M S : Type 0} → List ℕ → Step Task F V P M S → Type 0
+abbrev pub IsWritten : {F V M S : Type 0} → List ℕ → Step Task F V M S → Type 0
 IsWritten text (step.Text own) = string_bytes own ≡ text
 IsWritten text found = ⊥
 
@@ -121,8 +107,8 @@ IsLineOf d words typed p line = (CanCome d words p.0 × (line ≡ begun typed p)
     ⊎ ((¬ CanCome d words p.0) × (line ≡ []))
 
 -- the lines of the names that can come are written, and then the completion by the general options
-abbrev pub AreOffered : {F V P M S : Type 0} → Options F V P M S → List (List ℕ) → List ℕ
-    → Step Task F V P M S → Type 0
+abbrev pub AreOffered : {F V M S : Type 0} → Options F V Infallible M S → List (List ℕ) → List ℕ
+    → Step Task F V M S → Type 0
 AreOffered o words typed (step.Text text) = (lines : List (List ℕ))
     × AllZip (IsLineOf (declaration_of o) words typed) task_lines lines × (own : List ℕ)
     × IsCompletionText o words typed own × (string_bytes text ≡ concat lines ++ own)
@@ -130,22 +116,29 @@ AreOffered o words typed found = ⊥
 
 -- ---- the help
 
--- the parts of the help, with an entry for each command after those of the positionals
+-- a positional that the usage line shows
+abbrev pub shown : List ℕ → Count → Positional
+shown placeholder count = record {
+  placeholder = placeholder;
+  count = count;
+  help = [];
+  words = files;
+}
+
+-- the parts of the help, with an entry for each command before those of the options
 pub record IsTaskHelp (d : Declaration) (width : ℕ) (text : List ℕ) : Type 0 where
   pub usage : List ℕ
   pub about : List ℕ
-  pub positionals : List (List ℕ)
   pub commands : List (List ℕ)
   pub options : List (List ℕ)
   pub epilogue : List (List ℕ)
-  pub usage_first : IsUsage width d usage
+  pub usage_first : IsUsage width (record d {
+    positionals = shown (codes "COMMAND") once ∷ shown (codes "ARGUMENT") any_number ∷ [];
+  }) usage
   pub about_next : IsParagraph width d.about about
-  pub each_positional :
-      AllZip (λ p. IsEntry width p.placeholder (with_list p.help p.words)) (described d.positionals)
-      positionals
   pub each_command : AllZip (λ p. IsEntry width p.0 p.1) task_helps commands
   pub each_option :
       AllZip (λ o. IsEntry width (label o) (with_list o.help o.words)) (visible d.options) options
   pub each_paragraph : AllZip (IsParagraph width) d.epilogue epilogue
-  pub written : text ≡ usage ++ about ++ set_apart (concat positionals)
-      ++ set_apart (concat commands) ++ set_apart (concat options) ++ flat_map set_apart epilogue
+  pub written : text ≡ usage ++ about ++ set_apart (concat commands) ++ set_apart (concat options)
+      ++ flat_map set_apart epilogue

@@ -1,20 +1,11 @@
--- What is printed of commands, by plain data.
-use Rattle.std.specs.Prelude.{◌≡◌, ◌∷◌, ◌++◌, List, [], ℕ, codes, map}
+-- What is printed of a command that cannot be declared, by plain data.
+use Rattle.std.specs.Prelude.{◌++◌, List, ℕ, codes}
 use Rattle.std.specs.List.{flat_map}
 use Rattle.std.specs.Str.{chars}
 use Rattle.lexopt_spec.specs.Text.{escaped}
-use Rattle.lexopt_options_spec.specs.Help.{list_text}
-use Rattle.lexopt_options.specs.Messages as options
-use Rattle.lexopt_options.specs.Messages.{refusal_text}
-use Rattle.lexopt_options.specs.declared.mistake.Mistake.TheVariants.{UnexpectedArgument}
 use Rattle.lexopt_commands.specs.declared.command.CommandError.{CommandError}
 use Rattle.lexopt_commands.specs.declared.command.Reason.{Reason}
 use Rattle.lexopt_commands.specs.declared.command.Reason.TheVariants as reason
-use Rattle.lexopt_commands.specs.declared.mistake.Mistake.{Mistake}
-use Rattle.lexopt_commands.specs.declared.mistake.Mistake.TheVariants as mistake
-use Rattle.lexopt_commands.specs.declared.refused.Refused.{Refused}
-
--- ---- a command that cannot be declared
 
 abbrev pub reason_line : Reason → List ℕ
 reason_line reason.EmptyName = codes "its name is empty"
@@ -31,35 +22,3 @@ printed_text text = flat_map escaped (chars text)
 abbrev pub error_line : CommandError → List ℕ
 error_line e =
     codes "command '" ++ (printed_text e.name.now ++ (codes "': " ++ reason_line e.reason))
-
--- ---- a line that is refused
-
--- the word is printed as where it is an argument that was not expected
-abbrev pub IsPrinted : List ℕ → List ℕ → Type 0
-IsPrinted word text =
-    options.message (UnexpectedArgument word) ≡ codes "unexpected argument " ++ text
-
--- a name in quotes
-abbrev pub hinted : List ℕ → List ℕ
-hinted name = codes "'" ++ (printed_text name ++ codes "'")
-
--- the names that may have been meant
-abbrev pub hints_line : List (List ℕ) → List ℕ
-hints_line [] = []
-hints_line (name ∷ []) = codes "; did you mean " ++ (hinted name ++ codes "?")
-hints_line (name ∷ names) =
-    codes "; did you mean one of " ++ (list_text (map hinted (name ∷ names)) ++ codes "?")
-
--- what is wrong
-abbrev pub IsMessage : Mistake → List ℕ → Type 0
-IsMessage (mistake.General own) text = text ≡ options.message own
-IsMessage (mistake.MissingCommand names) text =
-    text ≡ codes "missing command: one of "
-    ++ list_text (map (λ name. printed_text name.now) names.items)
-IsMessage (mistake.UnknownCommand word hints) text = (own : List ℕ) × IsPrinted word own
-    × (text ≡ codes "unknown command " ++ (own ++ hints_line (map (λ hint. hint.now) hints.items)))
-
--- the name of the program, what is wrong, and where the help is
-abbrev pub IsRefusal : {F V P M S : Type 0} → Refused F V P M S → List ℕ → Type 0
-IsRefusal r text = (what : List ℕ) × IsMessage r.mistake what
-    × (text ≡ refusal_text r.program.now r.help what)

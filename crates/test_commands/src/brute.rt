@@ -70,7 +70,7 @@ fn are_before_help(alloc: Global, before: &[&str]) -> Result<bool, AllocError> {
 }
 
 // Whether this is the general option of this kind.
-fn is_kind(parsed: Option<&Parsed<Flag, Value, ()>>, kind: Kind) -> bool {
+fn is_kind(parsed: Option<&Parsed<Flag, Value>>, kind: Kind) -> bool {
     match (parsed, kind) {
         (Some(Parsed::Flag(Flag::Verbose)), Kind::Verbose) => true,
         (Some(Parsed::Value(Value::Directory, _)), Kind::Directory) => true,

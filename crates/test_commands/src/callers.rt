@@ -6,7 +6,6 @@ ghost use Rattle.std.specs.Prelude.{string_bytes, true};
 ghost use Rattle.lexopt_options_spec.specs.Asking.{first_asked};
 ghost use Rattle.lexopt_options_spec.specs.Leading.{MeansLeading};
 ghost use Rattle.lexopt_options_spec.specs.Legal as legal;
-ghost use Rattle.lexopt_options.specs.Completions.{HasPositional};
 ghost use Rattle.lexopt_options.specs.Declarations.{declaration_of, options_of};
 ghost use Rattle.lexopt_commands.specs.declared.command.Reason.TheVariants as reason;
 ghost use Rattle.test_commands.specs.declared.callers.Task.TheVariants as task;
@@ -17,6 +16,7 @@ ghost use Rattle.std.specs.List.{flat_map};
 use lexopt_commands::{Command, CommandLine, Commands, Reason, Runs, Step};
 use lexopt_options::{Options, OsString, Request};
 use std::alloc::{AllocError, Global};
+use std::convert::Infallible;
 
 /// What the commands do.
 #[derive(Clone, Copy)]
@@ -46,11 +46,11 @@ static TASKS: [Command<'static, Task>; 3] = [
 ];
 
 /// Reads a line of these commands under any general options.
-pub fn read_tasks<'a, F: Copy, V: Copy, P: Copy, M: Copy, S: Copy>(
+pub fn read_tasks<'a, F: Copy, V: Copy, M: Copy, S: Copy>(
     alloc: Global,
-    options: Options<'a, F, V, P, M, S>,
+    options: Options<'a, F, V, Infallible, M, S>,
     words: Vec<OsString>,
-) -> Result<CommandLine<'a, Task, F, V, P, M, S>, AllocError>
+) -> Result<CommandLine<'a, Task, F, V, M, S>, AllocError>
     ensures command { (l : List legal.Parsed) (rest : List (List ℕ))
         → first_asked (declaration_of options.entry).options l ≡ None
         → MeansLeading (declaration_of options.entry) words.items l (codes "remote" ∷ rest)
@@ -80,12 +80,12 @@ pub fn read_tasks<'a, F: Copy, V: Copy, P: Copy, M: Copy, S: Copy>(
 }
 
 /// What these commands do to complete this typed word after these words, under any general options.
-pub fn complete_tasks<'a, F: Copy, V: Copy, P: Copy, M: Copy, S: Copy>(
+pub fn complete_tasks<'a, F: Copy, V: Copy, M: Copy, S: Copy>(
     alloc: Global,
-    options: Options<'a, F, V, P, M, S>,
+    options: Options<'a, F, V, Infallible, M, S>,
     words: Vec<OsString>,
     typed: OsString,
-) -> Result<Step<'a, Task, F, V, P, M, S>, AllocError>
+) -> Result<Step<'a, Task, F, V, M, S>, AllocError>
     ensures command { (l : List legal.Parsed) (rest : List (List ℕ))
         → first_asked (declaration_of options.entry).options l ≡ None
         → MeansLeading (declaration_of options.entry) words.items l (codes "remote" ∷ rest)
@@ -109,24 +109,18 @@ pub fn complete_tasks<'a, F: Copy, V: Copy, P: Copy, M: Copy, S: Copy>(
         → first_asked (declaration_of options.entry).options l ≡ None
         → MeansLeading (declaration_of options.entry) words.items l []
         → IfOk result (λ step. AreOffered options.entry words.items typed step) }
-    ensures after_a_positional { ((l : List legal.Parsed) (rest : List (List ℕ))
-        → MeansLeading (declaration_of options.entry) words.items l rest
-        → first_asked (declaration_of options.entry).options l ≡ None → ⊥)
-        → HasPositional (declaration_of options.entry) words.items
-        → IfOk result (λ step. IsWritten [] step) }
     ensures after_a_mistake { ((l : List legal.Parsed) (rest : List (List ℕ))
         → MeansLeading (declaration_of options.entry) words.items l rest
         → first_asked (declaration_of options.entry).options l ≡ None → ⊥)
-        → (¬ HasPositional (declaration_of options.entry) words.items)
         → IfOk result (λ step. AreOffered options.entry words.items typed step) }
 {
     Commands::new(options, &TASKS).answer_request(alloc, Request::Completion(words, typed), 80)
 }
 
 /// The help of these commands under any general options.
-pub fn help_of_tasks<F, V, P, M, S>(
+pub fn help_of_tasks<F, V, M, S>(
     alloc: Global,
-    options: Options<'_, F, V, P, M, S>,
+    options: Options<'_, F, V, Infallible, M, S>,
     width: usize,
 ) -> Result<String, AllocError>
     ensures { IfOk result (λ text.
@@ -149,8 +143,8 @@ static BLANK: [Command<'static, Task>; 2] = [
 ];
 
 /// Tries to declare a name with a blank in it: returns the name that cannot be declared, and why.
-pub fn blank_in_name<'a, F, V, P, M, S>(
-    options: Options<'a, F, V, P, M, S>,
+pub fn blank_in_name<'a, F, V, M, S>(
+    options: Options<'a, F, V, Infallible, M, S>,
 ) -> Option<(&'a str, Reason)>
     ensures { MatchOption result ⊥ (λ fault.
         (fault.0.now ≡ codes "add more") × (fault.1 ≡ reason.BlankOrControlInName)) }
@@ -162,7 +156,7 @@ pub fn blank_in_name<'a, F, V, P, M, S>(
 }
 
 /// Tries to declare the commands above: returns whether they can be declared.
-pub fn can_be_declared<F, V, P, M, S>(options: Options<'_, F, V, P, M, S>) -> bool
+pub fn can_be_declared<F, V, M, S>(options: Options<'_, F, V, Infallible, M, S>) -> bool
     ensures { result ≡ true }
 {
     match Commands::try_new(options, &TASKS) {

@@ -43,7 +43,7 @@ It has no index.
 ";
 
 // Calls, lines, and what is read, printed or refused.
-static ROWS: [(Call, &[u8], &str); 12] = [
+static ROWS: [(Call, &[u8], &str); 14] = [
     (
         Read,
         b"-C dir -- add -f \xFF",
@@ -84,13 +84,17 @@ static ROWS: [(Call, &[u8], &str); 12] = [
         "[Flag(Verbose)] Remote Completion([\"add\"], \"-\")",
     ),
     (Complete, b"-vCdi", "files\t-vC\n"),
+    // After `--help` the general declaration alone decides. It has no positionals, so nothing can
+    // come after `x`.
+    (Complete, b"--help -v", "-v\ttell more\n"),
+    (Complete, b"--help x -v", ""),
 ];
 
 // The meaning of a line, as `Debug` writes it: the general options, the command and its words; or
 // the request; or the general options before the mistake, and the mistake.
 fn text_of_line(
     alloc: Global,
-    line: &CommandLine<'_, Task, Flag, Value, ()>,
+    line: &CommandLine<'_, Task, Flag, Value>,
 ) -> Result<String, AllocError> {
     match line {
         CommandLine::Command(parsed, task, words) => {
@@ -104,10 +108,7 @@ fn text_of_line(
 }
 
 // What the program does: the command, a text to print, or a refusal.
-fn text_of_step(
-    alloc: Global,
-    step: Step<'_, Task, Flag, Value, ()>,
-) -> Result<String, AllocError> {
+fn text_of_step(alloc: Global, step: Step<'_, Task, Flag, Value>) -> Result<String, AllocError> {
     match step {
         Step::Command(parsed, task, request) => {
             format!(in alloc; "{parsed:?} {task:?} {request:?}")
@@ -166,6 +167,11 @@ fn help_of_the_environment(rt: HostRuntime) {
 fn what_was_given(rt: HostRuntime) {
     assert_eq!(rt; git().options().program(), "git");
     assert_eq!(rt; git().commands().len(), 4);
+    let usage = git().usage(rt.alloc(), 30).expect(&rt, "memory");
+    assert_eq!(rt;
+        usage.as_str(),
+        "Usage: git [OPTION]... COMMAND\n       [ARGUMENT]...\n"
+    );
     let help = git().help(rt.alloc(), 30).expect(&rt, "memory");
     assert_eq!(rt; help.as_str(), HELP_AT_30);
 }

@@ -19,9 +19,9 @@ pub enum Task {
     Remote,
 }
 
-pub type Git<'a> = Commands<'a, Task, Flag, Value, ()>;
+pub type Git<'a> = Commands<'a, Task, Flag, Value>;
 
-static GENERAL: Declaration<'static, Flag, Value, ()> = declare! {
+static GENERAL: Declaration<'static, Flag, Value> = declare! {
     program: "git",
     about: "Tracks files.",
     options: [
@@ -30,7 +30,6 @@ static GENERAL: Declaration<'static, Flag, Value, ()> = declare! {
         help(Names::Both('h', "help")),
         version(Names::Long("version"), "git 1.0"),
     ],
-    positionals: [once((), "COMMAND").text(), any_number((), "ARGUMENT")],
     epilogue: ["It has no index."],
 };
 

@@ -14,14 +14,15 @@ ghost use Rattle.test_commands.specs.AnyCommands.{IsAskedFor, IsNamed, LineTells
 use lexopt_commands::{Command, CommandLine, Commands, Step};
 use lexopt_options::{Options, OsString, Request};
 use std::alloc::{AllocError, Global};
+use std::convert::Infallible;
 
 /// Reads a line.
-pub fn read_line<'a, C: Copy, F: Copy, V: Copy, P: Copy, M: Copy, S: Copy>(
+pub fn read_line<'a, C: Copy, F: Copy, V: Copy, M: Copy, S: Copy>(
     alloc: Global,
-    options: Options<'a, F, V, P, M, S>,
+    options: Options<'a, F, V, Infallible, M, S>,
     commands: &'a [Command<'a, C>],
     words: Vec<OsString>,
-) -> Result<CommandLine<'a, C, F, V, P, M, S>, AllocError>
+) -> Result<CommandLine<'a, C, F, V, M, S>, AllocError>
     requires { can_be_declared (names_of commands.now) ≡ true }
     ensures line { IfOk result (λ line.
         LineTells options.entry commands.now words.items line) }
@@ -40,13 +41,13 @@ pub fn read_line<'a, C: Copy, F: Copy, V: Copy, P: Copy, M: Copy, S: Copy>(
 }
 
 /// Returns what the program does about a request.
-pub fn answer_request<'a, C: Copy, F: Copy, V: Copy, P: Copy, M: Copy, S: Copy>(
+pub fn answer_request<'a, C: Copy, F: Copy, V: Copy, M: Copy, S: Copy>(
     alloc: Global,
-    options: Options<'a, F, V, P, M, S>,
+    options: Options<'a, F, V, Infallible, M, S>,
     commands: &'a [Command<'a, C>],
     request: Request,
     width: usize,
-) -> Result<Step<'a, C, F, V, P, M, S>, AllocError>
+) -> Result<Step<'a, C, F, V, M, S>, AllocError>
     requires { can_be_declared (names_of commands.now) ≡ true }
     ensures { IfOk result (λ step.
         RequestTells options.entry commands.now request width step) }

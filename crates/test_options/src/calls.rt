@@ -138,7 +138,6 @@ fn is_completed(alloc: Global) -> Result<bool, AllocError> {
                 .spellings
                 .iter()
                 .all(|own| own.text.as_str() == "--verbose")
-            && options.has_positional(alloc, words_of(alloc, b"a")?)?
             && text.as_str() == "--verbose\ttell more\n",
     )
 }

@@ -1,11 +1,22 @@
 //! Declared commands. If an allocation fails, `answer_request` returns an `AllocError`, and nothing
 //! of the line.
-use crate::refused_memory::{Flag, Outcome, PACK, Value, Word, check_outcome, out_of_memory_in};
+use crate::refused_memory::{Flag, Outcome, Value, check_outcome, out_of_memory_in};
 use lexopt_commands::{Command, Commands, Step, declare_commands};
-use lexopt_options::{Options, Request};
+use lexopt_options::{Declaration, Names, Options, Request, declare};
 use std::alloc::{AllocError, Global};
 use std::test::Fail;
 use test_helpers::parsers::words_of;
+
+static GENERAL: Declaration<'static, Flag, Value> = declare! {
+    program: "pack",
+    about: "Packs.",
+    options: [
+        flag(Flag::Verbose, Names::Both('v', "verbose"), "tell more"),
+        value(Value::Output, Names::Both('o', "output"), "FILE", "write to this file"),
+        help(Names::Both('h', "help")),
+        version(Names::Long("version"), "pack 1.0"),
+    ],
+};
 
 static TASKS: &[Command<'static, u8>] = declare_commands![
     command(1, "add", "add files"),
@@ -15,7 +26,7 @@ static TASKS: &[Command<'static, u8>] = declare_commands![
 // How a call went that is expected to return the step with this text.
 fn step_outcome(
     alloc: Global,
-    step: &Step<'_, u8, Flag, Value, Word>,
+    step: &Step<'_, u8, Flag, Value>,
     wanted: &str,
 ) -> Result<Outcome, AllocError> {
     let mut text = String::with_capacity(alloc, 400)?;
@@ -32,7 +43,7 @@ fn check_step(alloc: Global, value: Option<&[u8]>, line: &[u8], wanted: &str) ->
     let Ok(words) = words_of(alloc, line) else {
         return out_of_memory_in("the list");
     };
-    let commands = Commands::new(Options::new(&PACK), TASKS);
+    let commands = Commands::new(Options::new(&GENERAL), TASKS);
     match commands.answer_request(alloc, Request::new(alloc, value, words), 40) {
         Ok(step) => check_outcome(
             step_outcome(alloc, &step, wanted)?,
@@ -52,7 +63,7 @@ const ROWS: [(Option<&[u8]>, &[u8], &str); 5] = [
     (
         None,
         b"help",
-        "Usage: pack [OPTION]... [FILE]...\nPacks.\n\n  \
+        "Usage: pack [OPTION]... COMMAND\n       [ARGUMENT]...\nPacks.\n\n  \
         add        add files\n  \
         help       print the help of a command\n\n  \
         -v, --verbose\n             tell more\n  \
@@ -66,7 +77,7 @@ const ROWS: [(Option<&[u8]>, &[u8], &str); 5] = [
         "pack: unknown command \"Add\"; did you mean 'add'?\n\
         Try 'pack --help' for more information.",
     ),
-    (Some(b"bash_complete"), b"-v a", "+add\tadd files\nfiles\n"),
+    (Some(b"bash_complete"), b"-v a", "+add\tadd files\n"),
     (
         Some(b"bash_complete"),
         b"-v add -x -",

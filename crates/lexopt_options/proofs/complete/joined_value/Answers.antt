@@ -1,4 +1,4 @@
-use Rattle.std.proofs.Common.{◌++◌, ap, string_bytes, subst, sym, ◌∙◌, Some, None, ◌∷◌, []}
+use Rattle.std.proofs.Common.{◌++◌, ap, string_bytes, subst, sym, ◌∙◌, ◌∷◌, []}
 use Rattle.lexopt_options.specs.States.{IsLast}
 use Rattle.lexopt_options.proofs.Fronts.{joins, no_text, no_value}
 use Rattle.lexopt_options.proofs.complete.joined_value.Goals as goal

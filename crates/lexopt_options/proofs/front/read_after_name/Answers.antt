@@ -1,4 +1,4 @@
-use Rattle.std.proofs.Common.{◌≡◌, ◌∙◌, ℕ, List, None, Ok, Err, Some, ap, not, position, refl, subst, sym}
+use Rattle.std.proofs.Common.{◌∙◌, ℕ, List, None, Ok, Some, ap, not, position, refl, subst, sym}
 use Rattle.std.proofs.lemmas.Bool.{false≢true}
 use Rattle.lexopt_options_spec.specs.Declaration as declared
 use Rattle.lexopt_declaration.specs.Models.{words_view}
@@ -9,7 +9,7 @@ use Rattle.lexopt_items.specs.declared.values.Values.TheVariants as values
 use Rattle.lexopt_options.specs.declared.front.AfterName.TheVariants as after
 use Rattle.lexopt_options.specs.declared.front.State.TheVariants as state
 use Rattle.lexopt_options.proofs.Accepted.{none_is}
-use Rattle.lexopt_options.proofs.Fronts.{accepts_here, all_accepted, first_is, flag_here, value_lacks, kind_here, lacks_value, lacks_values, maybe_so, taken_so}
+use Rattle.lexopt_options.proofs.Fronts.{accepts_here, all_accepted, first_is, flag_here, value_lacks, kind_here, lacks_values, maybe_so, taken_so}
 use Rattle.lexopt_options.proofs.front.read_after_name.Goals as goal
 
 pub returns-in-Flag : goal.returns-in-Flag

@@ -1,13 +1,9 @@
-use Rattle.std.proofs.Common.{◌≡◌, ◌∙◌, ◌++◌, ◌∷◌, [], List, ℕ, None, Some, arith, ap, length, refl, subst, sym}
-use Rattle.lexopt_line_spec.specs.Bound.{bound}
-use Rattle.lexopt_line_spec.specs.Table as table
-use Rattle.lexopt_options_spec.specs.Legal as legal
+use Rattle.std.proofs.Common.{◌∙◌, ℕ, None, Some, arith, ap, length, refl, subst, sym}
 use Rattle.lexopt_options_spec.specs.States.{state_at_end}
 use Rattle.lexopt_items.proofs.ReadsItems.{positional_read}
 use Rattle.lexopt_options_spec.specs.Declaration.{table}
 use Rattle.lexopt_options.specs.Declarations.{declaration_of, options_of}
 use Rattle.lexopt_options.specs.Reading.{StopsNext}
-use Rattle.lexopt_options.specs.declared.front.Front.{Front}
 use Rattle.lexopt_options.proofs.Fronts.{front_at_end, front_lacking, has_nothing, has_option, has_positional, index_within, nowhere_lacking, nowhere_stopped, nowhere_undeclared, option_there, same_reached}
 use Rattle.lexopt_options.proofs.front.read_front.Goals as goal
 

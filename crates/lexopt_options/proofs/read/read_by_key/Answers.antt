@@ -1,4 +1,4 @@
-use Rattle.std.proofs.Common.{◌≡◌, ◌∙◌, List, None, Some, Ok, Err, ap, get_or, not, position, refl, subst, sym}
+use Rattle.std.proofs.Common.{◌≡◌, ◌∙◌, List, None, Some, Ok, ap, get_or, not, position, refl, subst, sym}
 use Rattle.lexopt_declaration.specs.declared.declaration.Declared.{Declared}
 use Rattle.lexopt_declaration.specs.declared.declaration.Kind.TheVariants as kind
 use Rattle.lexopt_items.specs.declared.kinds.Kind.TheVariants as arity

@@ -4,7 +4,7 @@ use Rattle.std.proofs.lemmas.Result.{IfOk-weaker}
 use Rattle.lexopt_line_spec.proofs.Computing.{computing}
 use Rattle.lexopt_commands.specs.Completions.{begun_line, place}
 use Rattle.test_commands.specs.declared.callers.Task.TheVariants as task
-use Rattle.test_commands.proofs.TypedTasks.{lines_so, name_and_line, names_written, nothing_offered, nothing_written, options_offered, options_offered_too, task_asked}
+use Rattle.test_commands.proofs.TypedTasks.{lines_so, name_and_line, names_written, nothing_written, options_offered, options_offered_too, task_asked}
 use Rattle.test_commands.proofs.callers.complete_tasks.Goals as goal
 
 pub returns-clause-command : goal.returns-clause-command
@@ -37,14 +37,6 @@ returns-clause-options g c = λ l none means.
     let so = λ (text : List ℕ). lines_so c.new.result words typed text (ap (map name_and_line) c.new.ensures.commands) in
     IfOk-weaker c.answer_request.result _ _ (λ it is. options_offered c.new.result c.args.options words typed l it c.new.ensures.options none means so is) c.answer_request.ensures
 
-pub returns-clause-after_a_positional : goal.returns-clause-after_a_positional
-returns-clause-after_a_positional g c = λ neither has.
-    IfOk-weaker c.answer_request.result _ _ (λ it is. nothing_offered c.new.result c.args.options c.args.words.items c.args.typed it c.new.ensures.options neither has is) c.answer_request.ensures
-
 pub returns-clause-after_a_mistake : goal.returns-clause-after_a_mistake
-unfolding computing
-returns-clause-after_a_mistake g c = λ neither none.
-    let words = c.args.words.items in
-    let typed = c.args.typed in
-    let so = λ (text : List ℕ). lines_so c.new.result words typed text (ap (map name_and_line) c.new.ensures.commands) in
-    IfOk-weaker c.answer_request.result _ _ (λ it is. options_offered_too c.new.result c.args.options words typed it c.new.ensures.options neither none so is) c.answer_request.ensures
+returns-clause-after_a_mistake g c = λ neither.
+    IfOk-weaker c.answer_request.result _ _ (λ it is. options_offered_too c.new.result c.args.options c.args.words.items c.args.typed it c.new.ensures.options neither is) c.answer_request.ensures

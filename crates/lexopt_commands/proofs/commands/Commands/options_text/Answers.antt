@@ -8,6 +8,6 @@ returns g c = (
   string_bytes c.in_ok-text.text,
   subst (λ ws. IsNamesText c.args.self.now ws c.args.typed.now (string_bytes c.in_ok-text.text)) c.deref.ensures.value c.in_ok-text.ensures,
   string_bytes c.in_ok-own.own,
-  subst (λ o. IsCompletionText o c.args.words.items c.args.typed.now (string_bytes c.in_ok-own.own)) c.options.ensures c.in_ok-own.ensures,
+  subst (λ o. IsCompletionText o c.args.words.items c.args.typed.now (string_bytes c.in_ok-own.own)) c.options.ensures.same c.in_ok-own.ensures,
   c.in_ok-push_str.ensures.bytes ∙ ap (λ l. string_bytes c.in_ok-text.text ++ l) c.as_str.ensures.value,
 )

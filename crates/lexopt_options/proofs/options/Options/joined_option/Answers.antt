@@ -1,8 +1,8 @@
-use Rattle.std.proofs.Common.{◌∷◌, [], None, Some, subst, sym}
+use Rattle.std.proofs.Common.{None, Some, subst}
 use Rattle.lexopt_options.specs.Completions.{Opens}
 use Rattle.lexopt_options.specs.Declarations.{declaration_of}
 use Rattle.lexopt_options.specs.Roles.{joined_view}
-use Rattle.lexopt_options.specs.States.{IsFrontOf, IsLast}
+use Rattle.lexopt_options.specs.States.{IsFrontOf}
 use Rattle.lexopt_options.proofs.Completing.{joined_so_far, none_joined}
 use Rattle.lexopt_options.proofs.Fronts.{nowhere_joined}
 use Rattle.lexopt_options.proofs.options.Options.joined_option.Goals as goal
