@@ -7,19 +7,25 @@
 //! - `copy` copies the words;
 //! - `parsed` copies the words, and reads the copies by ten declared options;
 //! - `completed` copies the words, and asks what can come after the copies where `f` is typed;
+//! - `commands10` and `commands50` do the same by a program of 10 or 50 commands, after the name of
+//!   the last of them;
 //! - `declare` declares these options, and copies nothing.
 //!
 //! Then it prints counts and a hash of what was read.
 #![tactic(auto)]
 
+mod commands;
 mod declared;
 mod seen;
 
 use anyhow::{Context, Result, bail};
+use commands::{GENERAL, commands_of, complete_command};
 use declared::{DECLARATION, Flag, Maybe, Value, Values, Word};
+use lexopt_commands::Commands;
 use lexopt_options::{Declaration, Line, Options, OsString, Role};
 use seen::Seen;
 use std::alloc::{AllocError, Global};
+use std::convert::Infallible;
 use std::env;
 use std::io::Read;
 
@@ -29,6 +35,7 @@ enum Work {
     Copy,
     Parsed,
     Completed,
+    Commands(usize),
     Declare,
 }
 
@@ -38,6 +45,8 @@ impl Work {
             "copy" => Some(Work::Copy),
             "parsed" => Some(Work::Parsed),
             "completed" => Some(Work::Completed),
+            "commands10" => Some(Work::Commands(10)),
+            "commands50" => Some(Work::Commands(50)),
             "declare" => Some(Work::Declare),
             _ => None,
         }
@@ -102,6 +111,7 @@ fn do_once(
     words: &[&[u8]],
     declaration: &Declaration<'_, Flag, Value, Word, Maybe, Values>,
     options: &Options<'_, Flag, Value, Word, Maybe, Values>,
+    commands: &Commands<'_, (), Infallible>,
     seen: &mut Seen,
 ) -> Result<bool, AllocError> {
     match work {
@@ -111,6 +121,7 @@ fn do_once(
         }
         Work::Parsed => Ok(read_line(alloc, copies(alloc, words)?, options, seen)),
         Work::Completed => complete(alloc, copies(alloc, words)?, options),
+        Work::Commands(_) => complete_command(alloc, commands, words),
         Work::Declare => Ok(declare(declaration, seen).is_some()),
     }
 }
@@ -129,8 +140,19 @@ fn repeat(
     let Some(options) = declare(&declaration, &mut Seen::new()) else {
         return Ok(false);
     };
+    let list = commands_of(
+        alloc,
+        if let Work::Commands(count) = work {
+            count
+        } else {
+            0
+        },
+    )?;
+    let Ok(commands) = Commands::try_new(Options::new(&GENERAL), &list) else {
+        return Ok(false);
+    };
     for _ in 0..times {
-        if !do_once(alloc, work, &words, &declaration, &options, seen)? {
+        if !do_once(alloc, work, &words, &declaration, &options, &commands, seen)? {
             return Ok(false);
         }
         seen.stop_hashing();
@@ -142,9 +164,9 @@ fn main(rt: HostRuntime) -> Result<()> {
     let alloc = rt.alloc();
     let mut args = env::args(&rt)?;
     let (Some(_program), Some(work), Some(times)) = (args.next(), args.next(), args.next()) else {
-        bail!("usage: bench_options copy|parsed|completed|declare TIMES");
+        bail!("usage: bench_options WORK TIMES");
     };
-    let work = Work::of_name(&work).context("the work is copy, parsed, completed or declare")?;
+    let work = Work::of_name(&work).context("there is no such work")?;
     let times = times.parse::<u64>().context("how many times")?;
 
     let mut input = Vec::new(alloc);

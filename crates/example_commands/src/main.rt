@@ -9,8 +9,10 @@
 //! or a line cannot be printed. Standard error then has the reason, unless nobody reads the lines.
 #![tactic(auto)]
 
-use lexopt_commands::{Command, Commands, Step, USAGE_ERROR, columns, declare_commands, finish};
-use lexopt_options::{Answer, Declaration, Names, Options, Parsed, Quoted, Request, declare};
+use lexopt_commands::{
+    Call, Command, Commands, Step, USAGE_ERROR, columns, declare_commands, finish,
+};
+use lexopt_options::{Answer, Declaration, Names, Options, Parsed, Quoted, declare};
 use std::convert::Infallible;
 use std::fmt::Display;
 use std::io;
@@ -39,8 +41,19 @@ static COMMANDS: &[Command<'static, Task>] = declare_commands![
     help("help"),
 ];
 
-static REMOTE: Declaration<'static, Infallible> = declare! {
-    program: "example_commands remote",
+static ADD: Declaration<'static, Infallible, Infallible, ()> = declare! {
+    program: "add",
+    options: [help(Names::Both('h', "help"))],
+    positionals: [at_least_once((), "FILE")],
+};
+
+static LIST: Declaration<'static, Infallible> = declare! {
+    program: "list",
+    options: [help(Names::Both('h', "help"))],
+};
+
+static REMOTE: Declaration<'static, Infallible, ()> = declare! {
+    program: "remote",
     options: [help(Names::Both('h', "help"))],
 };
 
@@ -50,19 +63,8 @@ static REMOTE_COMMANDS: &[Command<'static, ()>] = declare_commands![command(
     "add a remote"
 )];
 
-static ADD: Declaration<'static, Infallible, Infallible, ()> = declare! {
-    program: "example_commands add",
-    options: [help(Names::Both('h', "help"))],
-    positionals: [at_least_once((), "FILE")],
-};
-
-static LIST: Declaration<'static, Infallible> = declare! {
-    program: "example_commands list",
-    options: [help(Names::Both('h', "help"))],
-};
-
 static REMOTE_ADD: Declaration<'static, Infallible, Infallible, ()> = declare! {
-    program: "example_commands remote add",
+    program: "add",
     options: [help(Names::Both('h', "help"))],
     positionals: [once((), "NAME"), once((), "URL")],
 };
@@ -74,12 +76,18 @@ fn refuse(rt: &HostRuntime, refused: &impl Display) -> ExitCode {
 
 fn work<P: Copy>(
     rt: &HostRuntime,
-    options: &Options<'_, Infallible, Infallible, P>,
-    request: Request,
+    options: Options<'_, Infallible, Infallible, P>,
+    path: &str,
+    call: Call<Infallible, ()>,
 ) -> io::Result<ExitCode> {
-    match options.answer_request(rt.alloc(), request, columns(rt))? {
+    let options = options.with_program(path);
+    let (general, answer) = call.answer(rt.alloc(), &options, columns(rt))?;
+    match answer {
         Answer::Parsed(line) => {
-            rt.println(options.program())?;
+            if let Some(Parsed::Value((), dir)) = general.last() {
+                println!(rt; "in {}", Quoted::new(dir.as_bytes()))?;
+            }
+            rt.println(path)?;
             for parsed in line {
                 let Parsed::Positional(_, word) = parsed;
                 println!(rt; "{}", Quoted::new(word.as_bytes()))?;
@@ -91,10 +99,10 @@ fn work<P: Copy>(
     Ok(ExitCode::SUCCESS)
 }
 
-fn remote(rt: &HostRuntime, request: Request) -> io::Result<ExitCode> {
-    let commands = Commands::new(Options::new(&REMOTE), REMOTE_COMMANDS);
-    match commands.answer_request(rt.alloc(), request, columns(rt))? {
-        Step::Command(_, (), own) => work(rt, &Options::new(&REMOTE_ADD), own),
+fn remote(rt: &HostRuntime, path: &str, call: Call<Infallible, ()>) -> io::Result<ExitCode> {
+    let commands = Commands::new(Options::new(&REMOTE).with_program(path), REMOTE_COMMANDS);
+    match commands.answer_call(rt.alloc(), call, columns(rt))? {
+        Step::Command((), path, call) => work(rt, Options::new(&REMOTE_ADD), &path, call),
         Step::Text(text) => rt.print(text).map(|()| ExitCode::SUCCESS),
         Step::Refused(refused) => Ok(refuse(rt, &refused)),
     }
@@ -102,16 +110,11 @@ fn remote(rt: &HostRuntime, request: Request) -> io::Result<ExitCode> {
 
 fn run(rt: &HostRuntime) -> io::Result<ExitCode> {
     match Commands::new(Options::new(&GENERAL), COMMANDS).from_env(rt)? {
-        Step::Command(general, task, request) => {
-            if let (Request::Line(_), Some(Parsed::Value((), dir))) = (&request, general.last()) {
-                println!(rt; "in {}", Quoted::new(dir.as_bytes()))?;
-            }
-            match task {
-                Task::Add => work(rt, &Options::new(&ADD), request),
-                Task::List => work(rt, &Options::new(&LIST), request),
-                Task::Remote => remote(rt, request),
-            }
-        }
+        Step::Command(task, path, call) => match task {
+            Task::Add => work(rt, Options::new(&ADD), &path, call),
+            Task::List => work(rt, Options::new(&LIST), &path, call),
+            Task::Remote => remote(rt, &path, call),
+        },
         Step::Text(text) => rt.print(text).map(|()| ExitCode::SUCCESS),
         Step::Refused(refused) => Ok(refuse(rt, &refused)),
     }

@@ -13,7 +13,7 @@ use Rattle.lexopt_options_spec.proofs.Tables.{pointwise_refl}
 use Rattle.lexopt_commands.specs.declared.command.Command.{Command}
 use Rattle.lexopt_commands.specs.declared.command.Reason.{Reason}
 use Rattle.lexopt_commands.specs.Names.{can_be_declared, fault, first_fault, name_fault, names_of, or_else, with_fault}
-use Rattle.lexopt_commands.specs.Meanings.{runs_at, runs_of}
+use Rattle.lexopt_commands.specs.Meanings.{command_at, command_of}
 
 -- ---- a list without a fault has none at any place
 
@@ -60,7 +60,7 @@ take_names commands zero = refl
 take_names [] (suc i) = refl
 take_names (c ∷ cs) (suc i) = ap (λ l. c.name.now ∷ l) (take_names cs i)
 
-pub each_found : {C : Type 0} (commands : List (Command C)) → can_be_declared (names_of commands) ≡ true → (i : ℕ) (c : Command C) → slice_get commands i ≡ Some c → runs_of commands c.name.now ≡ Some c.runs
+pub each_found : {C : Type 0} (commands : List (Command C)) → can_be_declared (names_of commands) ≡ true → (i : ℕ) (c : Command C) → slice_get commands i ≡ Some c → command_of commands c.name.now ≡ Some c
 each_found commands sound i c at =
     let n = c.name.now in
     let named = slice_get-map (λ (x : Command _). x.name.now) commands i ∙ ap (option_map (λ (x : Command _). x.name.now)) at in
@@ -68,4 +68,4 @@ each_found commands sound i c at =
     let alone = not_among (name_fault n) (list_any (λ own. pointwise ◌==◌ own n) (take i (names_of commands))) _ none in
     let first = sym (list_any-map (λ (x : Command _). x.name.now) (λ own. pointwise ◌==◌ own n) (take i commands)) ∙ ap (list_any (λ own. pointwise ◌==◌ own n)) (sym (take_names commands i)) ∙ alone in
     let place = place_at (λ (x : Command _). pointwise ◌==◌ x.name.now n) commands i c at (pointwise_refl n) first in
-    ap (runs_at commands) place ∙ ap (option_map (λ (x : Command _). x.runs)) at
+    ap (command_at commands) place ∙ at

@@ -2,4 +2,3 @@ pub mod FirstFaults
 pub mod Found
 pub mod Entries
 pub mod LinesRead
-pub mod Placed

@@ -18,7 +18,7 @@ use Rattle.lexopt_commands.specs.declared.read.CommandLine.TheVariants as line
 use Rattle.lexopt_commands.specs.declared.command.Command.{Command}
 use Rattle.lexopt_commands.specs.declared.command.Runs.TheVariants as runs
 use Rattle.lexopt_commands.specs.Lines.{IsCommandLine, IsLineAfter, IsLineOf}
-use Rattle.lexopt_commands.specs.Meanings.{command, help, meaning, missing, named, unknown}
+use Rattle.lexopt_commands.specs.Meanings.{command, help, meaning, missing, named, named_by, unknown}
 use Rattle.lexopt_commands.specs.Mistakes.{IsMistake, unknown_command, missing_command}
 use Rattle.lexopt_commands.proofs.Found.{each_found}
 use Rattle.std.specs.Prelude.{slice_get}
@@ -53,31 +53,35 @@ of_asked c l rest asked is = record {
 -- ---- the command with a name
 
 -- the result for words that mean this command
-is_command : {C F V M S : Type 0} (c : Commands C F V M S) (l : List legal.Parsed) (key : C) (words rest : List (List ℕ)) (parsed : List (Parsed F V Infallible M S)) (it : CommandLine C F V M S)
-    → AreParsedAs (options_of c.options) l parsed → meaning c.commands.now words ≡ command key rest → IsLineAfter c parsed words it → IsCommandLine c l key rest it
-is_command c l key words rest parsed (line.Command own k ws) are means (same, other) =
-    let e : command key rest ≡ command k ws.items = sym means ∙ other in
-    (subst (λ x. AreParsedAs (options_of c.options) l x) (sym same) are, key_is key k rest ws.items e, rest_is key k rest ws.items e)
+is_command : {C F V M S : Type 0} (c : Commands C F V M S) (l : List legal.Parsed) (name : List ℕ) (key : C) (words rest : List (List ℕ)) (parsed : List (Parsed F V Infallible M S)) (it : CommandLine C F V M S)
+    → AreParsedAs (options_of c.options) l parsed → meaning c.commands.now words ≡ command name key rest → IsLineAfter c parsed words it → IsCommandLine c l name key rest it
+is_command c l name key words rest parsed (line.Command own n k ws) are means (same, other) =
+    let e : command name key rest ≡ command n.now k ws.items = sym means ∙ other in
+    (subst (λ x. AreParsedAs (options_of c.options) l x) (sym same) are, name_is name n.now key k rest ws.items e, key_is name n.now key k rest ws.items e, rest_is name n.now key k rest ws.items e)
   where
-    key_is : {C : Type 0} (key k : C) (rest ws : List (List ℕ)) → command key rest ≡ command k ws → k ≡ key
-    key_is key k rest ws e = cc
+    name_is : {C : Type 0} (name n : List ℕ) (key k : C) (rest ws : List (List ℕ)) → command name key rest ≡ command n k ws → n ≡ name
+    name_is name n key k rest ws e = cc
 
-    rest_is : {C : Type 0} (key k : C) (rest ws : List (List ℕ)) → command key rest ≡ command k ws → ws ≡ rest
-    rest_is key k rest ws e = cc
-is_command c l key words rest parsed (line.Asked asked) are means (other, same) = absurd (let e : command key rest ≡ help = sym means ∙ other in cc)
-is_command c l key words rest parsed (line.Refused refused) are means after = no_mistake refused.mistake after.told
+    key_is : {C : Type 0} (name n : List ℕ) (key k : C) (rest ws : List (List ℕ)) → command name key rest ≡ command n k ws → k ≡ key
+    key_is name n key k rest ws e = cc
+
+    rest_is : {C : Type 0} (name n : List ℕ) (key k : C) (rest ws : List (List ℕ)) → command name key rest ≡ command n k ws → ws ≡ rest
+    rest_is name n key k rest ws e = cc
+is_command c l name key words rest parsed (line.Asked asked) are means (other, same) = absurd (let e : command name key rest ≡ help = sym means ∙ other in cc)
+is_command c l name key words rest parsed (line.Refused refused) are means after = no_mistake refused.mistake after.told
   where
     no_mistake : (m : Mistake) → IsMistake c.commands.now words m → ⊥
-    no_mistake m (missing_command names is are) = let e : command key rest ≡ missing = sym means ∙ is in cc
-    no_mistake m (unknown_command word hints is are) = let e : command key rest ≡ unknown word = sym means ∙ is in cc
+    no_mistake m (missing_command names is are) = let e : command name key rest ≡ missing = sym means ∙ is in cc
+    no_mistake m (unknown_command word hints is are) = let e : command name key rest ≡ unknown word = sym means ∙ is in cc
 
 -- the name of a command, with the words after it, means that command
 name_means : {C F V M S : Type 0} (c : Commands C F V M S) (i : ℕ) (own : Command C) (key : C) (rest : List (List ℕ)) → slice_get c.commands.now i ≡ Some own → own.runs ≡ runs.Command key
-    → meaning c.commands.now (own.name.now ∷ rest) ≡ command key rest
+    → meaning c.commands.now (own.name.now ∷ rest) ≡ command own.name.now key rest
 name_means c i own key rest at is =
-    ap (λ r. named c.commands.now r own.name.now rest) (each_found c.commands.now c.sound i own at ∙ ap (λ r. Some r) is)
+    ap (λ r. named c.commands.now r own.name.now rest) (each_found c.commands.now c.sound i own at)
+    ∙ ap (λ r. named_by c.commands.now r own.name.now rest) is
 
 pub of_name : {C F V M S : Type 0} (c : Commands C F V M S) (i : ℕ) (own : Command C) (key : C) (l : List legal.Parsed) (rest : List (List ℕ)) (others : List (List ℕ)) (parsed : List (Parsed F V Infallible M S)) (it : CommandLine C F V M S)
-    → slice_get c.commands.now i ≡ Some own → own.runs ≡ runs.Command key → AreParsedAs (options_of c.options) l parsed → others ≡ own.name.now ∷ rest → IsLineAfter c parsed others it → IsCommandLine c l key rest it
+    → slice_get c.commands.now i ≡ Some own → own.runs ≡ runs.Command key → AreParsedAs (options_of c.options) l parsed → others ≡ own.name.now ∷ rest → IsLineAfter c parsed others it → IsCommandLine c l own.name.now key rest it
 of_name c i own key l rest others parsed it at is are same after =
-    is_command c l key others rest parsed it are (ap (meaning c.commands.now) same ∙ name_means c i own key rest at is) after
+    is_command c l own.name.now key others rest parsed it are (ap (meaning c.commands.now) same ∙ name_means c i own key rest at is) after

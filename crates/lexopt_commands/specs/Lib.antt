@@ -5,5 +5,6 @@ pub mod Messages
 pub mod Lines
 pub mod Views
 pub mod Help
+pub mod Calls
 pub mod Answers
 pub mod Completions

@@ -34,8 +34,8 @@ pub record IsRefusedAfter {C F V M S : Type 0} (c : Commands C F V M S)
 -- the result by these general options, by the keys, and these words after them
 abbrev pub IsLineAfter : {C F V M S : Type 0} → Commands C F V M S → List (Parsed F V Infallible M S)
     → List (List ℕ) → CommandLine C F V M S → Type 0
-IsLineAfter c parsed rest (line.Command own key words) =
-    (own.items ≡ parsed) × (meaning c.commands.now rest ≡ command key words.items)
+IsLineAfter c parsed rest (line.Command own name key words) =
+    (own.items ≡ parsed) × (meaning c.commands.now rest ≡ command name.now key words.items)
 IsLineAfter c parsed rest (line.Asked asked) = (meaning c.commands.now rest ≡ help) × (asked ≡ Help)
 IsLineAfter c parsed rest (line.Refused refused) = IsRefusedAfter c parsed rest refused
 
@@ -56,7 +56,7 @@ pub record IsAfterOptions {C F V M S : Type 0} (c : Commands C F V M S)
 -- they ask for the help or the version before any mistake, or have a mistake
 abbrev pub IsByOptions : {C F V M S : Type 0} → Options F V Infallible M S → List (List ℕ)
     → CommandLine C F V M S → Type 0
-IsByOptions o words (line.Command parsed key own) = ⊥
+IsByOptions o words (line.Command parsed name key own) = ⊥
 IsByOptions o words (line.Asked asked) = AsksLeading (declaration_of o) words (asked_view asked)
 IsByOptions o words (line.Refused refused) = IsLeadingRefused o words refused
 
@@ -82,9 +82,11 @@ pub record IsLineOf {C F V M S : Type 0} (c : Commands C F V M S) (l : List lega
       → (parsed : List (Parsed F V Infallible M S)) × AreParsedAs (options_of c.options) l parsed
       × IsLineAfter c parsed rest line
 
--- the result is the command with this key, with these words and this list of general options
-abbrev pub IsCommandLine : {C F V M S : Type 0} → Commands C F V M S → List legal.Parsed → C
+-- the result is the command with this name and key, with these words and this list of general
+-- options
+abbrev pub IsCommandLine : {C F V M S : Type 0} → Commands C F V M S → List legal.Parsed → List ℕ → C
     → List (List ℕ) → CommandLine C F V M S → Type 0
-IsCommandLine c l key words (line.Command parsed own rest) =
-    AreParsedAs (options_of c.options) l parsed.items × (own ≡ key) × (rest.items ≡ words)
-IsCommandLine c l key words line = ⊥
+IsCommandLine c l name key words (line.Command parsed own k rest) =
+    AreParsedAs (options_of c.options) l parsed.items × (own.now ≡ name) × (k ≡ key)
+    × (rest.items ≡ words)
+IsCommandLine c l name key words line = ⊥

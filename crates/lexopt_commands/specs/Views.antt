@@ -7,13 +7,12 @@ use Rattle.lexopt_commands.specs.Completions as places
 use Rattle.lexopt_commands.specs.Meanings as spec
 
 abbrev pub meaning_view : {C : Type 0} → Meaning C → spec.Meaning C
-meaning_view (meaning.Command key own) = spec.command key own.items
+meaning_view (meaning.Command name key own) = spec.command name.now key own.items
 meaning_view meaning.Help = spec.help
 meaning_view meaning.Missing = spec.missing
 meaning_view (meaning.Unknown word) = spec.unknown word
 
 abbrev pub place_view : {C : Type 0} → Place C → places.Place C
-place_view place.Options = places.at_options
-place_view (place.Command key own) = places.in_command key own.items
+place_view (place.Command name key own) = places.in_command name.now key own.items
 place_view place.Help = places.at_help
 place_view place.Nowhere = places.nowhere

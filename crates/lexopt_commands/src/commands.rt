@@ -26,7 +26,7 @@ impl<'a, C, F, V, M, S> Commands<'a, C, F, V, M, S> {
     ghost use Rattle.std.specs.Prelude.{◌≡◌, [], ℕ, MatchResult, Some, slice_get, true};
     ghost use Rattle.lexopt_options.specs.Declarations.{declaration_of};
     ghost use Rattle.lexopt_commands.specs.declared.command.Command.{Command};
-    ghost use Rattle.lexopt_commands.specs.Meanings.{runs_of};
+    ghost use Rattle.lexopt_commands.specs.Meanings.{command_of};
     ghost use Rattle.lexopt_commands.specs.Names.{can_be_declared, first_fault, names_of};
 
     /// Returns these general options and commands, where the commands are known when the program is
@@ -99,7 +99,7 @@ impl<'a, C, F, V, M, S> Commands<'a, C, F, V, M, S> {
 
         // Each is found by its name.
         ensures found { (i : ℕ) (c : Command C) → slice_get result.now i ≡ Some c
-            → runs_of result.now c.name.now ≡ Some c.runs }
+            → command_of result.now c.name.now ≡ Some c }
     {
         self.commands
     }

@@ -1,9 +1,10 @@
 //! Worked examples of the definitions, which the prover computes.
 ghost use Rattle.std.specs.Prelude.{◌≡◌, ◌∷◌, ◌++◌, [], ℕ, List, None, Some, codes, true};
+ghost use Rattle.lexopt_commands.specs.declared.command.Command as one;
 ghost use Rattle.lexopt_commands.specs.declared.command.Reason.TheVariants as reason;
 ghost use Rattle.lexopt_commands.specs.declared.command.Runs.TheVariants as runs;
-ghost use Rattle.lexopt_commands.specs.Meanings.{command, help, help_word, meaning, missing};
-ghost use Rattle.lexopt_commands.specs.Meanings.{runs_of, unknown};
+ghost use Rattle.lexopt_commands.specs.Meanings.{command, command_of, help, meaning, missing};
+ghost use Rattle.lexopt_commands.specs.Meanings.{unknown};
 ghost use Rattle.lexopt_commands.specs.Names.{can_be_declared, first_fault};
 
 use crate::command::Command;
@@ -40,28 +41,30 @@ pub fn names_are_refused()
 /// of commands.
 pub fn words_mean_so<C>(commands: &[Command<'_, C>])
     ensures nothing { meaning commands.now [] ≡ missing }
-    ensures command { (key : C) (name : List ℕ) (rest : List (List ℕ))
-        → runs_of commands.now name ≡ Some (runs.Command key)
-        → meaning commands.now (name ∷ rest) ≡ command key rest }
-    ensures another { (name : List ℕ) (rest : List (List ℕ)) → runs_of commands.now name ≡ None
-        → meaning commands.now (name ∷ rest) ≡ unknown name }
-    ensures help_alone { (first : List ℕ) → runs_of commands.now first ≡ Some runs.Help
-        → meaning commands.now (first ∷ []) ≡ help }
-    ensures help_of_a_command { (key : C) (first name : List ℕ) (rest : List (List ℕ))
-        → runs_of commands.now first ≡ Some runs.Help
-        → runs_of commands.now name ≡ Some (runs.Command key)
-        → meaning commands.now (first ∷ name ∷ rest)
-        ≡ command key (rest ++ codes "--help" ∷ []) }
-    ensures help_twice { (first second : List ℕ) (rest : List (List ℕ))
-        → runs_of commands.now first ≡ Some runs.Help
-        → runs_of commands.now second ≡ Some runs.Help
+    ensures command { (own : one.Command C) (key : C) (word : List ℕ) (rest : List (List ℕ))
+        → command_of commands.now word ≡ Some own → own.runs ≡ runs.Command key
+        → meaning commands.now (word ∷ rest) ≡ command own.name.now key rest }
+    ensures another { (word : List ℕ) (rest : List (List ℕ)) → command_of commands.now word ≡ None
+        → meaning commands.now (word ∷ rest) ≡ unknown word }
+    ensures help_alone { (own : one.Command C) (word : List ℕ)
+        → command_of commands.now word ≡ Some own → own.runs ≡ runs.Help
+        → meaning commands.now (word ∷ []) ≡ help }
+    ensures help_of_a_command { (asks own : one.Command C) (key : C) (first word : List ℕ)
+        (rest : List (List ℕ))
+        → command_of commands.now first ≡ Some asks → asks.runs ≡ runs.Help
+        → command_of commands.now word ≡ Some own → own.runs ≡ runs.Command key
+        → meaning commands.now (first ∷ word ∷ rest)
+        ≡ command own.name.now key (rest ++ codes "--help" ∷ []) }
+    ensures help_twice { (asks own : one.Command C) (first second : List ℕ) (rest : List (List ℕ))
+        → command_of commands.now first ≡ Some asks → asks.runs ≡ runs.Help
+        → command_of commands.now second ≡ Some own → own.runs ≡ runs.Help
         → meaning commands.now (first ∷ second ∷ rest) ≡ help }
-    ensures help_by_option { (first : List ℕ) (rest : List (List ℕ))
-        → runs_of commands.now first ≡ Some runs.Help
-        → runs_of commands.now (codes "--help") ≡ None
+    ensures help_by_option { (asks : one.Command C) (first : List ℕ) (rest : List (List ℕ))
+        → command_of commands.now first ≡ Some asks → asks.runs ≡ runs.Help
+        → command_of commands.now (codes "--help") ≡ None
         → meaning commands.now (first ∷ codes "--help" ∷ rest) ≡ help }
-    ensures help_of_another { (first : List ℕ) (rest : List (List ℕ))
-        → runs_of commands.now first ≡ Some runs.Help
-        → runs_of commands.now (codes "-h") ≡ None
+    ensures help_of_another { (asks : one.Command C) (first : List ℕ) (rest : List (List ℕ))
+        → command_of commands.now first ≡ Some asks → asks.runs ≡ runs.Help
+        → command_of commands.now (codes "-h") ≡ None
         → meaning commands.now (first ∷ codes "-h" ∷ rest) ≡ unknown (codes "-h") }
 {}

@@ -3,8 +3,9 @@
 //!
 //! A program declares its general options and the options of each command with `declare!` of
 //! `lexopt_options`, and its commands with [`declare_commands!`](crate::declare_commands). It makes
-//! [`Commands`] of the general declaration and the commands, and calls [`Commands::from_env`]. The
-//! declaration of a command reads the words after its name.
+//! [`Commands`] of the general declaration and the commands, and calls [`Commands::from_env`]. If
+//! the line has a command, that returns its key, its path and a [`Call`], which the program hands on
+//! to the options of the command.
 //!
 //! # A whole program
 //!
@@ -15,9 +16,9 @@
 //! #![tactic(auto)]
 //!
 //! use lexopt_commands::{
-//!     Command, Commands, Step, USAGE_ERROR, columns, declare_commands, finish,
+//!     Call, Command, Commands, Step, USAGE_ERROR, columns, declare_commands, finish,
 //! };
-//! use lexopt_options::{Answer, Declaration, Names, Options, Parsed, Request, declare};
+//! use lexopt_options::{Answer, Declaration, Names, Options, Parsed, declare};
 //! use std::convert::Infallible;
 //! use std::fmt::Display;
 //! use std::io;
@@ -55,13 +56,13 @@
 //! }
 //!
 //! static ADD: Declaration<'static, Infallible, Infallible, AddWord> = declare! {
-//!     program: "notes add",
+//!     program: "add",
 //!     options: [help(Names::Both('h', "help"))],
 //!     positionals: [at_least_once(AddWord::Note, "NOTE", "what to note").text()],
 //! };
 //!
 //! static LIST: Declaration<'static, Infallible> = declare! {
-//!     program: "notes list",
+//!     program: "list",
 //!     options: [help(Names::Both('h', "help"))],
 //! };
 //!
@@ -69,9 +70,13 @@
 //!     eprintln!(rt; "{refused}").map(|()| ExitCode::from(USAGE_ERROR))
 //! }
 //!
-//! fn add(rt: &HostRuntime, is_quiet: bool, request: Request) -> io::Result<ExitCode> {
-//!     match Options::new(&ADD).answer_request(rt.alloc(), request, columns(rt))? {
+//! fn add(rt: &HostRuntime, path: &str, call: Call<GeneralFlag>) -> io::Result<ExitCode> {
+//!     let options = Options::new(&ADD).with_program(path);
+//!     let (general, answer) = call.answer(rt.alloc(), &options, columns(rt))?;
+//!     match answer {
 //!         Answer::Parsed(line) => {
+//!             // `quiet` is the only general option.
+//!             let is_quiet = !general.is_empty();
 //!             for parsed in line {
 //!                 let Parsed::Positional(AddWord::Note, note) = parsed;
 //!                 if !is_quiet {
@@ -85,8 +90,10 @@
 //!     }
 //! }
 //!
-//! fn list(rt: &HostRuntime, request: Request) -> io::Result<ExitCode> {
-//!     match Options::new(&LIST).answer_request(rt.alloc(), request, columns(rt))? {
+//! fn list(rt: &HostRuntime, path: &str, call: Call<GeneralFlag>) -> io::Result<ExitCode> {
+//!     let options = Options::new(&LIST).with_program(path);
+//!     let (_general, answer) = call.answer(rt.alloc(), &options, columns(rt))?;
+//!     match answer {
 //!         Answer::Parsed(_) => rt.println("list").map(|()| ExitCode::SUCCESS),
 //!         Answer::Text(text) => rt.print(text).map(|()| ExitCode::SUCCESS),
 //!         Answer::Refused(refused) => refuse(rt, &refused),
@@ -95,16 +102,8 @@
 //!
 //! fn run(rt: &HostRuntime) -> io::Result<ExitCode> {
 //!     match Commands::new(Options::new(&GENERAL), COMMANDS).from_env(rt)? {
-//!         Step::Command(general, task, request) => {
-//!             let is_quiet = general.iter().any(|parsed| matches!(
-//!                 parsed,
-//!                 Parsed::Flag(GeneralFlag::Quiet)
-//!             ));
-//!             match task {
-//!                 Task::Add => add(rt, is_quiet, request),
-//!                 Task::List => list(rt, request),
-//!             }
-//!         }
+//!         Step::Command(Task::Add, path, call) => add(rt, &path, call),
+//!         Step::Command(Task::List, path, call) => list(rt, &path, call),
 //!         Step::Text(text) => rt.print(text).map(|()| ExitCode::SUCCESS),
 //!         Step::Refused(refused) => refuse(rt, &refused),
 //!     }
@@ -159,9 +158,9 @@
 //!   with `COMMAND` and `[ARGUMENT]...`.
 //! - [`declare_commands!`](crate::declare_commands) has a line for each [`Command`]: `command` with
 //!   the key, the name and the help text, or `help` with the name that asks for the help.
-//! - The declaration of a command has the name that messages and the help show, such as
-//!   `notes add`. It should have an option with the long name `help`, since `notes help add` means
-//!   `notes add --help`.
+//! - The declaration of a command should have an option with the long name `help`, since
+//!   `notes help add` means `notes add --help`. Its `program` is the name of the command, which
+//!   nothing shows: `Options::with_program` puts the path in its place, such as `notes add`.
 //!
 //! # What to call
 //!
@@ -169,21 +168,22 @@
 //!   [`Commands::try_new`] takes commands that are made when the program runs, and may return a
 //!   [`CommandError`].
 //! - [`Commands::from_env`] reads the program's own line up to the name of a command, or the
-//!   request of a shell. It returns a [`Step`]. `Step::Command` has what the general options mean,
-//!   the key of the command, and a `Request` of `lexopt_options` with the words after the name.
-//!   `Step::Text` has a text to print. `Step::Refused` has a mistake, to be printed on standard
-//!   error before the program exits with [`USAGE_ERROR`], which is 2.
-//! - Pass the request to `Options::answer_request` of the command's own declaration, whatever the
-//!   request is, with [`columns`] as the width of the help. So the same code runs the command,
-//!   prints its help and completes its words. A mistake that the command finds itself is printed by
-//!   `report` of the same `Options`, which names the command.
-//! - Print nothing before `answer_request` has returned, unless the request is `Request::Line`: any
-//!   other request comes from a shell, which reads what the program prints.
-//! - A command that has commands of its own, such as `remote add`, makes [`Commands`] of them in
-//!   its function, and passes the request to [`Commands::answer_request`].
+//!   request of a shell. It returns a [`Step`]. `Step::Command` has the key of the command, its
+//!   path, and its [`Call`]. `Step::Text` has a text to print. `Step::Refused` has a mistake, to be
+//!   printed on standard error before the program exits with [`USAGE_ERROR`], which is 2.
+//! - `Options::with_program` makes the path the name of the program in the options of the command.
+//!   [`Call::answer`] returns what the general options mean, and the answer of the command's
+//!   options, with [`columns`] as the width of the help. So the same code runs the command, prints
+//!   its help and completes its words. A mistake that the command finds itself is printed by
+//!   `report` of the same `Options`.
+//! - A command that has commands of its own, such as `remote add`, makes [`Commands`] of them, with
+//!   general options that have its path as the name of their program, and hands the call on to
+//!   [`Commands::answer_call`].
+//! - Print nothing before [`Call::answer`] or [`Commands::answer_call`] has returned: a shell may be
+//!   asking, and reads what the program prints.
 //! - [`Commands::answer`] reads words of the program's own, as a test does; [`Commands::read`]
 //!   returns the request for the help, and the mistake, as values; and [`Commands::help`] and
-//!   [`Commands::usage`] return the help and its first line.
+//!   [`Commands::usage`] return the help and its usage line.
 //!
 //! A shell completes the lines of `notes` after `source <(_NOTES_COMPLETE=bash_source notes)` in
 //! the start-up file of bash; `lexopt_options` has the lines for zsh and fish.
@@ -195,6 +195,7 @@
 #![tactic(auto)]
 
 pub mod answer;
+pub mod call;
 pub mod command;
 pub mod commands;
 mod complete;
@@ -204,6 +205,7 @@ pub mod help;
 pub mod read;
 
 pub use answer::Step;
+pub use call::Call;
 pub use command::{Command, CommandError, Reason, Runs};
 pub use commands::Commands;
 pub use read::CommandLine;

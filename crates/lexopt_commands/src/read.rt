@@ -3,8 +3,8 @@
 ghost use Rattle.std.specs.Prelude.{◌≡◌, ◌==◌, ◌∷◌, ◌++◌, [], IfOk, None, map, position};
 ghost use Rattle.std.specs.Option.{MatchOption};
 ghost use Rattle.std.specs.Cmp.Lexicographic.{pointwise};
-ghost use Rattle.lexopt_commands.specs.Meanings.{help_of, help_word, helped, meaning, runs_at};
-ghost use Rattle.lexopt_commands.specs.Meanings.{runs_of};
+ghost use Rattle.lexopt_commands.specs.Meanings.{command_at, command_of, help_of, help_word, helped};
+ghost use Rattle.lexopt_commands.specs.Meanings.{meaning};
 ghost use Rattle.lexopt_commands.specs.Mistakes.{IsHint};
 ghost use Rattle.lexopt_commands.specs.Names.{names_of};
 ghost use Rattle.lexopt_commands.specs.Views.{meaning_view};
@@ -22,9 +22,9 @@ use std::convert::Infallible;
 /// The result of reading a line of a program with commands.
 #[derive(Debug, Drop)]
 pub enum CommandLine<'a, C, F, V = Infallible, M = Infallible, S = Infallible> {
-    /// The line has a command: what the general options before it mean, its key, and the words
-    /// after its name.
-    Command(Vec<Parsed<F, V, Infallible, M, S>>, C, Vec<OsString>),
+    /// The line has a command: what the general options before it mean, its name, its key, and the
+    /// words after its name.
+    Command(Vec<Parsed<F, V, Infallible, M, S>>, &'a str, C, Vec<OsString>),
     /// The line asks for the help or the version before any mistake.
     Asked(Asked<'a>),
     /// The line has a mistake.
@@ -36,9 +36,9 @@ const HELP: &str = "--help";
 
 // What the words after the general options mean.
 #[derive(Drop)]
-pub(crate) enum Meaning<C> {
-    // Run a command, with the words for it.
-    Command(C, Vec<OsString>),
+pub(crate) enum Meaning<'a, C> {
+    // Run the command with this name and key, with the words for it.
+    Command(&'a str, C, Vec<OsString>),
     // Print the help of the program.
     Help,
     // There is no word.
@@ -54,21 +54,31 @@ fn place_of<C>(commands: &[Command<'_, C>], name: &[u8]) -> Option<usize>
     commands.iter().position(|command| is_named(command, name))
 }
 
-// What the command at this index does.
-fn runs_at<C: Copy>(commands: &[Command<'_, C>], index: Option<usize>) -> Option<Runs<C>>
-    ensures { result ≡ runs_at commands.now index }
+// The command at this index.
+fn command_at<'a, C: Copy>(
+    commands: &[Command<'a, C>],
+    index: Option<usize>,
+) -> Option<Command<'a, C>>
+    ensures { result ≡ command_at commands.now index }
 {
     match commands.get(index?) {
-        Some(command) => Some(command.runs),
+        Some(command) => Some(Command {
+            name: command.name,
+            help: command.help,
+            runs: command.runs,
+        }),
         None => None,
     }
 }
 
-/// What the first command with this name does; `None` if there is none.
-pub(crate) fn runs_of<C: Copy>(commands: &[Command<'_, C>], name: &[u8]) -> Option<Runs<C>>
-    ensures { result ≡ runs_of commands.now name.now }
+/// The first command with this name; `None` if there is none.
+pub(crate) fn command_of<'a, C: Copy>(
+    commands: &[Command<'a, C>],
+    name: &[u8],
+) -> Option<Command<'a, C>>
+    ensures { result ≡ command_of commands.now name.now }
 {
-    runs_at(commands, place_of(commands, name))
+    command_at(commands, place_of(commands, name))
 }
 
 /// Takes the first of these words; `None` if there is none.
@@ -93,7 +103,7 @@ fn with_help(alloc: Global, words: Vec<OsString>) -> Result<Vec<OsString>, Alloc
 }
 
 // What a word that is not the name of a command means after a name that asks for the help.
-fn help_of_other<C>(word: OsString) -> Meaning<C>
+fn help_of_other<'a, C>(word: OsString) -> Meaning<'a, C>
     ensures { meaning_view result ≡ helped None word [] }
 {
     if word.as_bytes() == HELP.as_bytes() {
@@ -104,40 +114,44 @@ fn help_of_other<C>(word: OsString) -> Meaning<C>
 }
 
 // What words mean after a name that asks for the help.
-fn help_of<C: Copy>(
+fn help_of<'a, C: Copy>(
     alloc: Global,
-    commands: &[Command<'_, C>],
+    commands: &[Command<'a, C>],
     words: Vec<OsString>,
-) -> Result<Meaning<C>, AllocError>
+) -> Result<Meaning<'a, C>, AllocError>
     ensures { IfOk result (λ found. meaning_view found ≡ help_of commands.now words.items) }
 {
     let mut words = words;
     let Some(word) = take_first(&mut words) else {
         return Ok(Meaning::Help);
     };
-    match runs_of(commands, word.as_bytes()) {
-        Some(Runs::Command(key)) => Ok(Meaning::Command(key, with_help(alloc, words)?)),
-        Some(Runs::Help) => Ok(Meaning::Help),
-        None => Ok(help_of_other(word)),
+    let Some(command) = command_of(commands, word.as_bytes()) else {
+        return Ok(help_of_other(word));
+    };
+    match command.runs {
+        Runs::Command(key) => Ok(Meaning::Command(command.name, key, with_help(alloc, words)?)),
+        Runs::Help => Ok(Meaning::Help),
     }
 }
 
 // What the words after the general options mean.
-fn meaning_of<C: Copy>(
+fn meaning_of<'a, C: Copy>(
     alloc: Global,
-    commands: &[Command<'_, C>],
+    commands: &[Command<'a, C>],
     words: Vec<OsString>,
-) -> Result<Meaning<C>, AllocError>
+) -> Result<Meaning<'a, C>, AllocError>
     ensures { IfOk result (λ found. meaning_view found ≡ meaning commands.now words.items) }
 {
     let mut words = words;
     let Some(word) = take_first(&mut words) else {
         return Ok(Meaning::Missing);
     };
-    match runs_of(commands, word.as_bytes()) {
-        Some(Runs::Command(key)) => Ok(Meaning::Command(key, words)),
-        Some(Runs::Help) => help_of(alloc, commands, words),
-        None => Ok(Meaning::Unknown(word)),
+    let Some(command) = command_of(commands, word.as_bytes()) else {
+        return Ok(Meaning::Unknown(word));
+    };
+    match command.runs {
+        Runs::Command(key) => Ok(Meaning::Command(command.name, key, words)),
+        Runs::Help => help_of(alloc, commands, words),
     }
 }
 
@@ -212,7 +226,7 @@ impl<'a, C: Copy, F: Copy, V: Copy, M: Copy, S: Copy> Commands<'a, C, F, V, M, S
         ensures { IfOk result (λ line. IsLineAfter self.now parsed.items words.items line) }
     {
         match meaning_of(alloc, self.commands(), words)? {
-            Meaning::Command(key, own) => Ok(CommandLine::Command(parsed, key, own)),
+            Meaning::Command(name, key, own) => Ok(CommandLine::Command(parsed, name, key, own)),
             Meaning::Help => Ok(CommandLine::Asked(Asked::Help)),
             Meaning::Missing => {
                 let mistake = Mistake::MissingCommand(names_of(alloc, self.commands())?);
@@ -252,8 +266,9 @@ impl<'a, C: Copy, F: Copy, V: Copy, M: Copy, S: Copy> Commands<'a, C, F, V, M, S
     ///     words.push(OsString::from_text(alloc, word)?)?;
     /// }
     /// match commands.read(alloc, words)? {
-    ///     CommandLine::Command(general, task, own) => {
-    ///         // `general` is Value((), "dir"), `task` is Task::Add, and `own` is `-f`, `x`.
+    ///     CommandLine::Command(general, name, task, own) => {
+    ///         // `general` is Value((), "dir"), `name` is "add", `task` is Task::Add, and `own` is
+    ///         // `-f`, `x`.
     ///     }
     ///     CommandLine::Asked(Asked::Help) => rt.print(commands.help(alloc, columns(rt))?)?,
     ///     CommandLine::Asked(Asked::Version(version)) => rt.println(version)?,
@@ -283,7 +298,7 @@ impl<'a, C: Copy, F: Copy, V: Copy, M: Copy, S: Copy> Commands<'a, C, F, V, M, S
             → own.runs ≡ runs.Command key
             → MeansLeading (declaration_of self.now.options) words.items l (own.name.now ∷ rest)
             → first_asked (declaration_of self.now.options).options l ≡ None
-            → IfOk result (λ line. IsCommandLine self.now l key rest line) }
+            → IfOk result (λ line. IsCommandLine self.now l own.name.now key rest line) }
     {
         match self.options().read_leading(alloc, words)? {
             Leading::Parsed(parsed, rest) => self.end(alloc, parsed, rest),

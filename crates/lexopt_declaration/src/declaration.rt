@@ -769,9 +769,9 @@ pub struct Declaration<'a, F, V = Infallible, P = Infallible, M = Infallible, S 
     /// Messages, the help, the environment variable by which shells ask and the scripts for shells
     /// have this name, whatever the name is by which the program is called. It should have only
     /// ASCII letters, digits, `-`, `_`, `.` and `+`, since the scripts have it unquoted and in
-    /// names of functions. Nothing checks that. The declaration of a command may have a blank in
-    /// its name, as in `git add`: a program with commands makes its scripts of the general
-    /// declaration alone.
+    /// names of functions. Nothing checks that. In the declaration of a command it is the name of
+    /// the command, such as `add`. `Options::with_program` of `lexopt_options` puts the path by which
+    /// the command was reached in its place, such as `git add`.
     pub program: &'a str,
     /// What the program does, in a sentence or two; maybe the empty text.
     pub about: &'a str,

@@ -4,12 +4,13 @@ use Rattle.std.proofs.Common.{Result, Ok, Err, IfOk, OnOk}
 use Rattle.std.specs.Global.{Global}
 use Rattle.std.specs.List.{Contains, flat_map, starts_with}
 use Rattle.std.specs.Str.{IsUtf8}
-use Rattle.std.proofs.Common.{◌<◌, position}
-use Rattle.std.proofs.lemmas.Bool.{eq-eqb, false≢true}
+use Rattle.std.proofs.Common.{◌<◌, ◌==◌, ◌≢◌, encode_utf8, position}
+use Rattle.std.proofs.lemmas.Bool.{and_parts, eq-eqb, eqb-true, false≢true}
 use Rattle.std.proofs.lemmas.List.Quantifiers.{position-Some}
 use Rattle.std.proofs.lemmas.List.{map-append}
 use Rattle.std.proofs.lemmas.Option.{slice_get-map}
 use Rattle.std.specs.declared.alloc.AllocError.{AllocError}
+use Rattle.lexopt_spec.specs.UnreadLine.{BeginsWith, dash}
 use Rattle.lexopt_options_spec.specs.Declaration.{Declaration, Declared, has_name, index_of, is_long, is_short, is_sound}
 use Rattle.lexopt_options_spec.specs.Legal as legal
 use Rattle.lexopt_options_spec.specs.Legal.{MeansFront, parsed_item}
@@ -113,6 +114,25 @@ pub none_stands : (d : Declaration) (words : List (List ℕ)) (typed : List ℕ)
 none_stands d words typed closed = record {
   sound = λ s has. absurd (none_there s has);
   complete = λ s completes. absurd (false≢true (closed.1 (completes.possible.before, occurs_open d words s completes.possible, occurs_accepted d words s completes.possible, occurs_taken d words s completes.possible)));
+  in_order = inr refl;
+}
+
+-- nor where another byte than a dash was typed first
+begun_by_dash : (typed rest : List ℕ) → typed ≢ [] → starts_with nat_eq (dash ∷ rest) typed ≡ true → BeginsWith dash typed
+begun_by_dash [] rest some is = absurd (some refl)
+begun_by_dash (b ∷ bs) rest some is = eqb-true b dash (and_parts (b == dash) _ is).0
+
+dashed : (name : Name) → (rest : List ℕ) × (spelling name ≡ dash ∷ rest)
+dashed (table.short c) = (encode_utf8 c, refl)
+dashed (table.long name) = (dash ∷ name, refl)
+
+pub none_begins : (d : Declaration) (words : List (List ℕ)) (typed : List ℕ) → typed ≢ [] → ¬ BeginsWith dash typed → AreOffered d words typed []
+none_begins d words typed some other = record {
+  sound = λ s has. absurd (none_there s has);
+  complete = λ s completes.
+      let p = completes.possible in
+      let rest = dashed p.name in
+      absurd (other (begun_by_dash typed rest.0 some (subst (λ (x : List ℕ). starts_with nat_eq x typed ≡ true) (p.spelled ∙ rest.1) completes.begins)));
   in_order = inr refl;
 }
 

@@ -65,7 +65,7 @@ abbrev pub IsReadLast : List Parsed → Option (ℕ × List ℕ) → Type 0
 IsReadLast l None = (others : List Parsed) (last : Parsed) → l ≡ others ++ last ∷ [] → value_of last ≡ None
 IsReadLast l (Some found) = (others : List Parsed) × (last : Parsed) × (l ≡ others ++ last ∷ []) × IsOption found.0 last × (value_of last ≡ Some found.1)
 
-option_with : (index : ℕ) (values : Values) → IsOption index (parsed_with index values)
+pub option_with : (index : ℕ) (values : Values) → IsOption index (parsed_with index values)
 option_with index (AtMostOne value) = refl
 option_with index (All values) = refl
 
@@ -223,10 +223,11 @@ fits Flag v w values reads = tt
 fits One v w values reads = tt
 fits Optional v w values reads = tt
 
-pub has_option : (d : Declaration) (s u v w : UnreadLine) (words : List (List ℕ)) (accepted own : Bool) (last : Option (ℕ × List ℕ)) (going : Option ℕ) (value : Option (List ℕ)) (goes_on : Bool) (name : Name) (index : ℕ) → is_sound d.options ≡ true
-    → HasReached d s u words accepted last going → Next u (option_reply name) v → index_of d.options name ≡ Some index → IsAfterName d index v (after.Values own value goes_on) w
-    → HasReached d s w words (accepted && own) (with_index index value) (index_if goes_on index) × (bound w < bound u)
-has_option d s u v w words accepted own last going value goes_on name index sound has next found (k, values, k_is, reads, own_is, value_is, goes_is) = (
+-- one more option, and what is read of it
+pub option_reached : (d : Declaration) (s u v w : UnreadLine) (words : List (List ℕ)) (accepted own : Bool) (last : Option (ℕ × List ℕ)) (going : Option ℕ) (value : Option (List ℕ)) (goes_on : Bool) (name : Name) (index : ℕ) → is_sound d.options ≡ true
+    → (has : HasReached d s u words accepted last going) → Next u (option_reply name) v → index_of d.options name ≡ Some index → (given : IsAfterName d index v (after.Values own value goes_on) w)
+    → (more : HasReached d s w words (accepted && own) (with_index index value) (index_if goes_on index)) × (more.l ≡ has.l ++ parsed_with index given.1 ∷ []) × (bound w < bound u)
+option_reached d s u v w words accepted own last going value goes_on name index sound has next found (k, values, k_is, reads, own_is, value_is, goes_is) = (
   record {
     l = has.l ++ parsed;
     at = reached_by d s u w has.l going name index k values (pending v) goes_on has.at found (grows (declared.table d.options) u v w name k values has.at.upto.line kind_so next reads) line within (fits k v w values reads) goes_is;
@@ -234,6 +235,7 @@ has_option d s u v w words accepted own last going value goes_on name index soun
     accepted_is = accepted_more d.options has.l (parsed_with index values) ∙ ap (λ b. b && is_none (refused_value d.options (parsed_with index values))) has.accepted_is ∙ ap (λ b. accepted && b) own_is;
     last_is = read_last has.l index (parsed_with index values) value (option_with index values) value_is;
   },
+  refl,
   read.shorter,
 )
   where
@@ -251,6 +253,13 @@ has_option d s u v w words accepted own last going value goes_on name index soun
 
     within : IsWithin (positional_count (has.l ++ parsed)) (most d.positionals)
     within = same_within has.l (parsed_with index values) (most d.positionals) (no_count index values) has.at.upto.within
+
+-- the same, without what was read
+pub has_option : (d : Declaration) (s u v w : UnreadLine) (words : List (List ℕ)) (accepted own : Bool) (last : Option (ℕ × List ℕ)) (going : Option ℕ) (value : Option (List ℕ)) (goes_on : Bool) (name : Name) (index : ℕ) → is_sound d.options ≡ true
+    → HasReached d s u words accepted last going → Next u (option_reply name) v → index_of d.options name ≡ Some index → IsAfterName d index v (after.Values own value goes_on) w
+    → HasReached d s w words (accepted && own) (with_index index value) (index_if goes_on index) × (bound w < bound u)
+has_option d s u v w words accepted own last going value goes_on name index sound has next found given =
+    let reached = option_reached d s u v w words accepted own last going value goes_on name index sound has next found given in (reached.0, reached.2)
 
 -- the same, as calls return it
 pub same_reached : (d : Declaration) (s u : UnreadLine) (words : List (List ℕ)) (a b : Bool) (l m : Option (ℕ × List ℕ)) (g h : Option ℕ) → a ≡ b → l ≡ m → g ≡ h → HasReached d s u words b m h → HasReached d s u words a l g

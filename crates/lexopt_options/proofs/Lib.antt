@@ -8,6 +8,7 @@ pub mod Asking
 pub mod Owners
 pub mod TakenWords
 pub mod Fronts
+pub mod Beginnings
 pub mod Completing
 pub mod Seen
 pub mod Accepted

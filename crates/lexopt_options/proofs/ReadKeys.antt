@@ -80,7 +80,7 @@ has_last : (i : ℕ) (l : List ℕ) (x : ℕ) → has i (l ++ x ∷ []) ≡ (has
 has_last i [] x = or_false (x == i)
 has_last i (y ∷ l) x = elim (y == i) as (λ b. (b || has i (l ++ x ∷ [])) ≡ ((b || has i l) || (x == i))) [ true ↦ refl | false ↦ has_last i l x ]
 
-seen_more : (options : List spec.Declared) (l : List legal.Parsed) (seen : List ℕ) (index : ℕ) (s : legal.Parsed) → IsOption index s → AreSeen options l seen
+pub seen_more : (options : List spec.Declared) (l : List legal.Parsed) (seen : List ℕ) (index : ℕ) (s : legal.Parsed) → IsOption index s → AreSeen options l seen
     → AreSeen options (l ++ s ∷ []) (noted (is_required options index) index seen)
 seen_more options l seen index s is are = λ i needed. at (is_required options index) refl i needed
   where

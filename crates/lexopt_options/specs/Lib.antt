@@ -9,6 +9,7 @@ pub mod Mistakes
 pub mod Lines
 pub mod LeadingLines
 pub mod States
+pub mod Begun
 pub mod Names
 pub mod Completions
 pub mod Roles

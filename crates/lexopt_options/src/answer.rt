@@ -9,6 +9,7 @@ ghost use Rattle.lexopt_options.specs.Answers.{listed_line, names_line, spelling
 ghost use Rattle.lexopt_options.specs.Answers.{spelling_lines, value_line, word_line};
 
 use crate::complete::{Completion, Joined, Role};
+use crate::front::Front;
 use crate::mistake::Mistake;
 use crate::options::Options;
 use crate::parsed::{Asked, Parsed};
@@ -254,10 +255,11 @@ pub fn columns<R: Env>(rt: &R) -> usize {
 }
 
 impl<F, V, P, M, S> Options<'_, F, V, P, M, S> {
-    ghost use Rattle.std.specs.Prelude.{◌≡◌, IfOk, map, string_bytes};
+    ghost use Rattle.std.specs.Prelude.{◌≡◌, ℕ, IfOk, List, map, string_bytes};
     ghost use Rattle.lexopt_options.specs.Answers.{IsAskedText, IsCompletionText, script_lines};
     ghost use Rattle.lexopt_options.specs.Declarations.{declaration_of};
     ghost use Rattle.lexopt_options.specs.Keys.{asked_view};
+    ghost use Rattle.lexopt_options.specs.States.{IsFrontOf};
 
     /// Returns what can come where `typed` is typed after `words`, as the scripts for shells read
     /// it.
@@ -298,7 +300,22 @@ impl<F, V, P, M, S> Options<'_, F, V, P, M, S> {
         ensures { IfOk result (λ text.
             IsCompletionText self.now words.items typed.now (string_bytes text)) }
     {
-        let completion = self.complete(alloc, words, typed)?;
+        let front = self.front(alloc, words)?;
+        self.completion_text_after(alloc, &front, typed)
+    }
+
+    // The text of `completion_text` where `typed` is typed after words that mean this.
+    pub(crate) fn completion_text_after(
+        &self,
+        alloc: Global,
+        front: &Option<Front>,
+        typed: &OsString,
+    ) -> Result<String, AllocError>
+        requires { (words : List (List ℕ)) × IsFrontOf (declaration_of self.now) words front.now }
+        ensures { (words : List (List ℕ)) → IsFrontOf (declaration_of self.now) words front.now
+            → IfOk result (λ text. IsCompletionText self.now words typed.now (string_bytes text)) }
+    {
+        let completion = self.complete_after(alloc, front, typed)?;
         text_of(alloc, self.positionals(), typed, &completion)
     }
 
@@ -306,7 +323,7 @@ impl<F, V, P, M, S> Options<'_, F, V, P, M, S> {
     /// at its end.
     ///
     /// [`Script`] describes the script, and which names of programs it works for. The script
-    /// completes the command that has the name of the declaration.
+    /// completes the command that has the name of the program ([`Options::program`]).
     ///
     /// # Errors
     ///
@@ -428,9 +445,8 @@ impl<'a, F: Copy, V: Copy, P: Copy, M: Copy, S: Copy> Options<'a, F, V, P, M, S>
     /// - [`Request::Script`]: print [`Options::script`].
     /// - [`Request::Unknown`]: refuse it, by [`Options::unknown_request`].
     ///
-    /// This call consumes the request. A program with commands calls this for the request that a
-    /// command gets. Unless that is a [`Request::Line`], a shell reads what the program prints, so
-    /// print nothing before this call has returned.
+    /// This call consumes the request. Unless that is a [`Request::Line`], a shell reads what the
+    /// program prints, so print nothing before this call has returned.
     ///
     /// # Errors
     ///
@@ -470,8 +486,8 @@ impl<'a, F: Copy, V: Copy, P: Copy, M: Copy, S: Copy> Options<'a, F, V, P, M, S>
     /// The first word is taken for the name that the program was called by, and is not read. The
     /// width of the help is [`columns`]. A shell asks by the environment variable that [`variable`]
     /// names, such as `_EXAMPLE_ARCHIVE_COMPLETE` for `example_archive`, with the values of
-    /// Python's click. The name is that of the declaration, whatever the name by which the program
-    /// was called. These are the values:
+    /// Python's click. The name is [`Options::program`], whatever the name by which the program was
+    /// called. These are the values:
     ///
     /// - `bash_source`, `zsh_source` and `fish_source` ask for the script of that shell.
     /// - `bash_complete`, `zsh_complete` and `fish_complete` ask what can come. Then the last word

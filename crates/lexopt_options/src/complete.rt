@@ -1,5 +1,5 @@
 //! What can come where a word is typed, for the completion of shells.
-ghost use Rattle.std.specs.Prelude.{◌≡◌, ◌↔◌, ◌∷◌, ◌++◌, ℕ, IfOk, IsTrue, List, MatchOption, OnOk, []};
+ghost use Rattle.std.specs.Prelude.{◌≡◌, ◌≢◌, ◌↔◌, ◌∷◌, ◌++◌, ℕ, IfOk, IsTrue, List, MatchOption, OnOk, []};
 ghost use Rattle.std.specs.Prelude.{◌<◌, Some, filter, length, nat_eq, map, option_map, slice_get};
 ghost use Rattle.std.specs.Prelude.{string_bytes, true};
 ghost use Rattle.std.specs.List.{flat_map, starts_with};
@@ -164,6 +164,13 @@ fn begins_with_dash(typed: &OsString) -> bool
     ensures { IsTrue result ↔ BeginsWith dash typed.now }
 {
     typed.as_bytes().first() == Some(&b'-')
+}
+
+// Whether what was typed begins with a byte other than a dash, so that no spelling begins with it.
+fn begins_otherwise(typed: &OsString) -> bool
+    ensures { IsTrue result → (typed.now ≢ []) × ¬ BeginsWith dash typed.now }
+{
+    !typed.is_empty() && !begins_with_dash(typed)
 }
 
 // ---- a value in the word of its option
@@ -358,6 +365,9 @@ impl<'a, F, V, P, M, S> Options<'a, F, V, P, M, S> {
         if !can_come {
             return Ok(Vec::new(alloc));
         }
+        if begins_otherwise(typed) {
+            return Ok(Vec::new(alloc));
+        }
         match typed.to_str() {
             Some(_) => spellings_of(alloc, self.options(), typed.as_bytes()),
             None => Ok(Vec::new(alloc)),
@@ -483,12 +493,26 @@ impl<'a, F, V, P, M, S> Options<'a, F, V, P, M, S> {
             IsCompletion self.now words.items typed.now completion) }
     {
         let front = self.front(alloc, words)?;
-        let place = self.place(&front, typed);
+        self.complete_after(alloc, &front, typed)
+    }
+
+    // What can come where `typed` is typed after words that mean this.
+    pub(crate) fn complete_after(
+        &self,
+        alloc: Global,
+        front: &Option<Front>,
+        typed: &OsString,
+    ) -> Result<Completion<'a, F, V, M, S>, AllocError>
+        requires { (words : List (List ℕ)) × IsFrontOf (declaration_of self.now) words front.now }
+        ensures { (words : List (List ℕ)) → IsFrontOf (declaration_of self.now) words front.now
+            → IfOk result (λ completion. IsCompletion self.now words typed.now completion) }
+    {
+        let place = self.place(front, typed);
         let word = self.role(typed, place);
         let arguments = self.arguments(alloc, place)?;
-        let joined = self.joined(alloc, is_open(&front), typed)?;
+        let joined = self.joined(alloc, is_open(front), typed)?;
         Ok(Completion {
-            spellings: self.spellings_for(alloc, can_come(self, &front), typed)?,
+            spellings: self.spellings_for(alloc, can_come(self, front), typed)?,
             values: values_for(alloc, &word, self.positionals(), &arguments, &joined, typed)?,
             word,
             arguments,

@@ -7,8 +7,7 @@
 /// be left out. All of them come in the order of this list:
 ///
 /// - `program` is the name under which the program is installed
-///   ([`Declaration::program`](crate::Declaration::program)), or the name of the program and of a
-///   command, such as `git add`.
+///   ([`Declaration::program`](crate::Declaration::program)), or the name of a command.
 /// - `about` says what the program does, in a sentence or two.
 /// - `options` has a line for each option, as described below.
 /// - `positionals` has a line for each positional, as described below.

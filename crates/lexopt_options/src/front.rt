@@ -51,7 +51,7 @@ pub struct Front {
 
 // What is read of an option after its name.
 #[derive(Drop)]
-enum AfterName {
+pub(crate) enum AfterName {
     // Its values: whether it accepts them, the first of them, and whether a plain word right after
     // them would be one more.
     Values {
@@ -99,7 +99,7 @@ fn first_of(mut values: Vec<OsString>) -> Option<OsString>
 }
 
 // Reads the values of this option, which is at this index, and whose name was just read.
-fn read_after_name<F, V, M, S>(
+pub(crate) fn read_after_name<F, V, M, S>(
     alloc: Global,
     parser: &mut Parser,
     option: &Declared<'_, F, V, M, S>,
@@ -158,7 +158,7 @@ fn read_after_name<F, V, M, S>(
 
 // The state where the words end, by whether the separator was read, and by the option of several
 // values of which a plain word would be one more, if there is one.
-fn state_at_end(going_on: Option<usize>, is_past_separator: bool) -> State
+pub(crate) fn state_at_end(going_on: Option<usize>, is_past_separator: bool) -> State
     ensures { state_view result ≡ spec.state_at_end going_on is_past_separator }
 {
     if is_past_separator {
@@ -170,16 +170,16 @@ fn state_at_end(going_on: Option<usize>, is_past_separator: bool) -> State
     }
 }
 
-// Whether both hold. This function and the next two are apart from the loop, so that its proof has
-// fewer cases.
-fn are_both(one: bool, other: bool) -> bool
+// Whether both hold. This function and the next two are apart from the loops, so that their proofs
+// have fewer cases.
+pub(crate) fn are_both(one: bool, other: bool) -> bool
     ensures { result ≡ (one && other) }
 {
     one && other
 }
 
 // This index with the value, if there is one.
-fn with_index(index: usize, value: Option<OsString>) -> Option<(usize, OsString)>
+pub(crate) fn with_index(index: usize, value: Option<OsString>) -> Option<(usize, OsString)>
     ensures { result ≡ with_index index value }
 {
     match value {
@@ -189,7 +189,7 @@ fn with_index(index: usize, value: Option<OsString>) -> Option<(usize, OsString)
 }
 
 // This index, if that holds.
-fn index_if(holds: bool, index: usize) -> Option<usize>
+pub(crate) fn index_if(holds: bool, index: usize) -> Option<usize>
     ensures { result ≡ index_if holds index }
 {
     if holds { Some(index) } else { None }

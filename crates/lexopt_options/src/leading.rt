@@ -139,7 +139,7 @@ fn add_left(words: &mut Vec<OsString>, left: &mut RawArgs<'_>) -> Result<(), All
 }
 
 // A word that was read, and the words after it.
-fn words_from(
+pub(crate) fn words_from(
     alloc: Global,
     parser: &mut Parser,
     word: OsString,

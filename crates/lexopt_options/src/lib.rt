@@ -214,6 +214,7 @@
 #![tactic(auto)]
 
 pub mod answer;
+pub mod begun;
 pub mod complete;
 mod declare;
 mod front;
@@ -231,6 +232,7 @@ mod taken;
 pub mod usage;
 
 pub use answer::{Answer, columns};
+pub use begun::LeadingCompletion;
 pub use complete::{Completion, Joined, Role};
 pub use leading::Leading;
 pub use mistake::{Mistake, OptionName};

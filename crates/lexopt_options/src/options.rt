@@ -23,6 +23,8 @@ use std::convert::Infallible;
 /// types of keys are those of [`Declaration`].
 pub struct Options<'a, F, V = Infallible, P = Infallible, M = Infallible, S = Infallible> {
     declaration: &'a Declaration<'a, F, V, P, M, S>,
+    // The name of the program: that of the declaration, or the path of a command.
+    program: &'a str,
     // What the end of each line is checked for, computed once.
     least: usize,
     most: Option<usize>,
@@ -62,10 +64,12 @@ fn checked<'a, F, V, P, M, S>(
     requires sound { is_sound (map option_view declaration.now.options.now) ≡ true }
     requires clear { are_clear (map positional_view declaration.now.positionals.now) ≡ true }
     requires listable { are_listable (map positional_view declaration.now.positionals.now) ≡ true }
-    ensures { result.declaration.now ≡ declaration.now }
+    ensures same { result.declaration.now ≡ declaration.now }
+    ensures program { result.program.now ≡ declaration.now.program.now }
 {
     Options {
         declaration,
+        program: declaration.program,
         least: least_of(declaration.positionals),
         most: most_of(declaration.positionals),
         has_lists: any_has_list(declaration.positionals),
@@ -166,11 +170,48 @@ impl<'a, F, V, P, M, S> Options<'a, F, V, P, M, S> {
         self.declaration.short_equals
     }
 
+    /// Returns the same options, for a program of this name.
+    ///
+    /// Messages, the usage line, the variable by which shells ask and the scripts for shells have
+    /// this name in place of the one in the declaration. It is for the options of a command: their
+    /// name is the path by which the command was reached, such as `git remote add`.
+    ///
+    /// # Examples
+    ///
+    /// ```rust
+    /// let options = Options::new(&DECLARATION).with_program(path);
+    /// ```
+    pub fn with_program(&self, program: &'a str) -> Options<'a, F, V, P, M, S>
+        ensures declaration { declaration_of result
+            ≡ record (declaration_of self.now) { program = program.now } }
+        ensures options { options_of result ≡ options_of self.now }
+        ensures positionals { positionals_of result ≡ positionals_of self.now }
+    {
+        Options {
+            declaration: self.declaration,
+            program,
+            least: self.least,
+            most: self.most,
+            has_lists: self.has_lists,
+            has_required: self.has_required,
+        }
+    }
+
     /// Returns the name of the program.
     pub fn program(&self) -> &'a str
         ensures { result.now ≡ (declaration_of self.now).program }
     {
-        self.declaration.program
+        self.program
+    }
+
+    // The declaration, with the name of the program.
+    fn named(&self) -> Declaration<'a, F, V, P, M, S>
+        ensures { declaration_view result ≡ declaration_of self.now }
+    {
+        Declaration {
+            program: self.program,
+            ..*self.declaration
+        }
     }
 
     /// Returns what the program does, in a sentence or two; maybe the empty text.
@@ -276,7 +317,7 @@ impl<'a, F, V, P, M, S> Options<'a, F, V, P, M, S> {
         ensures { IfOk result
             (λ text. IsUsage width (declaration_of self.now) (string_bytes text)) }
     {
-        help::usage(alloc, self.declaration, width)
+        help::usage(alloc, &self.named(), width)
     }
 
     /// Returns the help, wrapped to `width` columns: what a program prints for `--help`.
@@ -330,7 +371,7 @@ impl<'a, F, V, P, M, S> Options<'a, F, V, P, M, S> {
         ensures { IfOk result
             (λ text. IsHelp (declaration_of self.now) width (string_bytes text)) }
     {
-        help::help(alloc, self.declaration, width)
+        help::help(alloc, &self.named(), width)
     }
 }
 

@@ -81,7 +81,8 @@ option_item options (spec.positional word) s index are is =
 option_item options (spec.option name value) s index are is = tt
 option_item options (spec.many name values) s index are is = tt
 
-option_stops : (d : Declaration) → is_sound d.options ≡ true → (words : List (List ℕ)) (before l : List Parsed) (rest : List (List ℕ)) (u : UnreadLine) (mistake : Mistake) → ReadsUpTo d (start d.short_equals words) before u
+-- no leading options go past a mistake of an option
+pub option_stops : (d : Declaration) → is_sound d.options ≡ true → (words : List (List ℕ)) (before l : List Parsed) (rest : List (List ℕ)) (u : UnreadLine) (mistake : Mistake) → ReadsUpTo d (start d.short_equals words) before u
     → positional_count before ≡ 0 → IsOfOption mistake → Stops d before u mistake → IsSplit d words l rest → are_accepted d.options l ≡ true → ⊥
 option_stops d sound words before l rest u mistake read alone of (not_declared name v step none) means accepted =
     let t = table d.options in

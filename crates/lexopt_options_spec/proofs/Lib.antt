@@ -26,3 +26,4 @@ pub mod Shares
 pub mod Roles
 pub mod States
 pub mod Reached
+pub mod FirstWords

@@ -258,6 +258,23 @@ lacks d l u v w name index call due next found takes =
     let named = missing_names (kind (table d.options) name) call u v w name (spelling v.last) next due takes in
     (named.0, no_value name index named.0 call v w next found due (subst (λ o. Step call v (steps.missing o) w) named.1 takes))
 
+several_due : (d : Declaration) (name : Name) (n : ℕ) → kind (table d.options) name ≡ spec.several → IsDue (kind (table d.options) name) (calls.values n)
+several_due d name n k = subst (λ (x : spec.Kind). IsDue x (calls.values n)) (sym k) (n, refl)
+
+-- it lacks its value at the end of the words
+pub value_stops : (d : Declaration) (l : List Parsed) (u v : UnreadLine) (name : Name) (index : ℕ) → Next u (option_reply name) v → index_of d.options name ≡ Some index → kind (table d.options) name ≡ spec.one → pending v ≡ None
+    → v.words ≡ [] → (named : List ℕ) × Stops d l u (missing_value index named)
+value_stops d l u v name index next found k none empty =
+    lacks d l u v v name index calls.value (subst (λ (x : spec.Kind). IsDue x calls.value) (sym k) refl) next found (inl (nothing_to_take none empty refl refl))
+
+-- it lacks its values
+pub values_stop : (d : Declaration) (l : List Parsed) (u v : UnreadLine) (name : Name) (index : ℕ) → Next u (option_reply name) v → index_of d.options name ≡ Some index → kind (table d.options) name ≡ spec.several → pending v ≡ None
+    → ¬ IsNormalIn v.ended v.words → (named : List ℕ) × Stops d l u (missing_value index named)
+values_stop d l u v name index next found k none normal =
+    let lacking = lack_more v 1 [] none (subst (λ ws. ¬ IsNormalIn v.ended ws) (sym (append-nil v.words)) normal) in
+    let same : longer [] v ≡ v = ap (λ ws. record v { words = ws }) (append-nil v.words) in
+    lacks d l u v v name index (calls.values 1) (several_due d name 1 k) next found (inl (subst (λ x. ValuesStep 1 x (steps.missing (spelling v.last)) x) same lacking))
+
 no_tail_left : (v : UnreadLine) → IsLine v → pending v ≡ None → v.tail ≡ no_tail
 no_tail_left v line none = none_tail v.short_equals v.tail v.last v.ended line none
 
@@ -265,8 +282,7 @@ pub value_due : (d : Declaration) (words : List (List ℕ)) (l : List Parsed) (o
     → Next u (option_reply name) v → index_of d.options name ≡ Some index → kind (table d.options) name ≡ spec.one → pending v ≡ None → v.words ≡ [] → Leaves d words l (states.due index)
 value_due d words l o u v name index sound at next found k none empty = leaves_due index
     (λ m means.
-    let due : IsDue (kind (table d.options) name) calls.value = subst (λ (x : spec.Kind). IsDue x calls.value) (sym k) refl in
-    let stops = lacks d l u v v name index calls.value due next found (inl (nothing_to_take none empty refl refl)) in
+    let stops = value_stops d l u v name index next found k none empty in
     means_nothing d words l u (missing_value index stops.0) tt (here at stops.1) m means)
     (λ p.
     says sound
@@ -274,16 +290,11 @@ value_due d words l o u v name index sound at next found k none empty = leaves_d
     (first_one name p (longer (p ∷ []) v) v k (option_more u v name (p ∷ []) next) (takes_next v p none empty)) (ap (option_map (λ i. legal.option i (Some p))) found))
     (ends_here v v.ended refl (no_tail_left v (step_line calls.next u (option_reply name) v at.upto.line next) none) empty))
 
-several_due : (d : Declaration) (name : Name) (n : ℕ) → kind (table d.options) name ≡ spec.several → IsDue (kind (table d.options) name) (calls.values n)
-several_due d name n k = subst (λ (x : spec.Kind). IsDue x (calls.values n)) (sym k) (n, refl)
-
 pub first_due : (d : Declaration) (words : List (List ℕ)) (l : List Parsed) (o : Option ℕ) (u v : UnreadLine) (name : Name) (index : ℕ) → is_sound d.options ≡ true → Reached d (start d.short_equals words) l o u
     → Next u (option_reply name) v → index_of d.options name ≡ Some index → kind (table d.options) name ≡ spec.several → pending v ≡ None → v.words ≡ [] → Leaves d words l (states.first index)
 first_due d words l o u v name index sound at next found k none empty = leaves_first index
     (λ m means.
-    let lacking = lack_more v 1 [] none (subst (λ ws. ¬ IsNormalIn v.ended ws) (sym (appended v.words [] empty)) (λ normal. normal)) in
-    let same : longer [] v ≡ v = ap (λ ws. record v { words = ws }) (appended v.words [] empty ∙ sym empty) in
-    let stops = lacks d l u v v name index (calls.values 1) (several_due d name 1 k) next found (inl (subst (λ x. ValuesStep 1 x (steps.missing (spelling v.last)) x) same lacking)) in
+    let stops = values_stop d l u v name index next found k none (subst (λ ws. ¬ IsNormalIn v.ended ws) (sym empty) (λ normal. normal)) in
     means_nothing d words l u (missing_value index stops.0) tt (here at stops.1) m means)
     (λ p plain.
     says sound
@@ -303,9 +314,7 @@ pub values_nowhere : (d : Declaration) (words : List (List ℕ)) (l : List Parse
     → Next u (option_reply name) v → index_of d.options name ≡ Some index → kind (table d.options) name ≡ spec.several → pending v ≡ None → ¬ IsNormalIn v.ended v.words → v.words ≢ [] → LeadsNowhere d words
 values_nowhere d words l o u v name index at next found k none normal some = record {
   here = λ m means.
-      let lacking = lack_more v 1 [] none (subst (λ ws. ¬ IsNormalIn v.ended ws) (sym (append-nil v.words)) normal) in
-      let same : longer [] v ≡ v = ap (λ ws. record v { words = ws }) (append-nil v.words) in
-      let stops = lacks d l u v v name index (calls.values 1) (several_due d name 1 k) next found (inl (subst (λ x. ValuesStep 1 x (steps.missing (spelling v.last)) x) same lacking)) in
+      let stops = values_stop d l u v name index next found k none normal in
       means_nothing d words l u (missing_value index stops.0) tt (here at stops.1) m means;
   with_more = λ p m means.
       let stops = lacks d l (longer (p ∷ []) u) (longer (p ∷ []) v) (longer (p ∷ []) v) name index (calls.values 1) (several_due d name 1 k) (option_more u v name (p ∷ []) next) found

@@ -13,24 +13,19 @@ use Rattle.lexopt_spec.specs.Steps.{Reply, NextStep, ValueStep, OptionalStep, Re
 use Rattle.lexopt_spec.specs.Views.{ValuesStep}
 use Rattle.lexopt_line_spec.specs.Table as spec
 use Rattle.lexopt_line_spec.specs.Table.{Name, Item, Table}
-use Rattle.lexopt_line_spec.specs.Readings.{ReadsFirst, ReadsItems, first_positional, first_flag, first_one, first_optional, first_several, option_reply, start}
-use Rattle.lexopt_line_spec.specs.Spelling.{Spells}
+use Rattle.lexopt_line_spec.specs.Readings.{ReadsFirst, ReadsItems, first_positional, first_flag, first_one, first_optional, first_several, option_reply}
 use Rattle.lexopt_line_spec.proofs.FullValues.{FullStep, joined_one, attached_first, words_alone, nothing_given, full_step}
 use Rattle.lexopt_line_spec.proofs.ItemsRead.{option_given}
-use Rattle.lexopt_line_spec.proofs.Names.{shorter, spelled_shows}
-use Rattle.lexopt_line_spec.proofs.WholeLines.{shown_said}
-use Rattle.lexopt_options_spec.specs.Declaration.{Declaration, Declared, index_of, is_sound, table}
+use Rattle.lexopt_line_spec.proofs.Names.{shorter}
+use Rattle.lexopt_options_spec.specs.Declaration.{Declaration, Declared, index_of}
 use Rattle.lexopt_options_spec.specs.Legal as legal
 use Rattle.lexopt_options_spec.specs.Legal.{Parsed, parsed_item, positional_count, most, IsWithin}
 use Rattle.lexopt_options_spec.specs.Completion.{EndsWith, Extends, HasRole, Role, role_of}
-use Rattle.lexopt_options_spec.specs.Leading.{IsSplit, MeansLeading}
 use Rattle.lexopt_options_spec.proofs.Cuts.{came_is, enough}
-use Rattle.lexopt_options_spec.proofs.Fronts.{one_front, spelled_read}
-use Rattle.lexopt_options_spec.proofs.Growing.{Grown, closed_items, opened_items, grown, items_calm, longer, EndsSo, ended_before, open_there, separator_last, ends_so, adds_word}
-use Rattle.lexopt_options_spec.proofs.LeadingOptions.{ends_here, ends_reading, leading_front}
+use Rattle.lexopt_options_spec.proofs.Fronts.{one_front}
+use Rattle.lexopt_options_spec.proofs.Growing.{longer}
 use Rattle.lexopt_options_spec.proofs.Lists.{first_same, same_last}
 use Rattle.lexopt_options_spec.proofs.Occurs.{longer as no_longer}
-use Rattle.lexopt_options_spec.proofs.ReadItems.{ReadsAll}
 
 some_is : {X : Type 0} (x y : X) → Some x ≡ Some y → x ≡ y
 some_is x y is = cc
@@ -263,64 +258,3 @@ one_role d words typed (Some r) (Some s) is other =
     let b = other w w_longer in
     let same = same_last a.0 b.0 a.1 b.1 (one_front d (words ++ w ∷ []) (a.0 ++ a.1 ∷ []) (b.0 ++ b.1 ∷ []) a.2.means b.2.means) in
     ap (λ role. Some role) (sym a.3 ∙ ap (λ l. role_of l a.1) same.0 ∙ ap (role_of b.0) same.1 ∙ b.3)
-
--- ---- a positional in place of another
-
--- the first word after leading options can be any other plain word
-pub other_name : (d : Declaration) → is_sound d.options ≡ true → (words : List (List ℕ)) (l : List Parsed) (p q : List ℕ) → IsPlain false p → IsPlain false q → MeansLeading d (words ++ p ∷ []) l (p ∷ []) → MeansLeading d (words ++ q ∷ []) l (q ∷ [])
-other_name d sound words l p q plain plain_q means = record { split = at (ends_so all.there read.0 all.ends); complete = means.complete; accepted = means.accepted }
-  where
-    t : Table
-    t = table d.options
-
-    items : List Item
-    items = means.split.items
-
-    same : means.split.front ≡ words
-    same = sym (same_last words means.split.front p p means.split.words_are).0
-
-    read : (after : UnreadLine) × ReadsAll t (start d.short_equals words) items after
-    read = spelled_read t d.short_equals words items (subst (λ ws. Spells t d.short_equals ws items) same means.split.spelled)
-
-    all : ReadsAll t (start d.short_equals words) items read.0
-    all = read.1
-
-    -- with q the same is read, and then q
-    split : EndsSo all.there read.0 → read.0.words ≡ [] → all.there.tail ≡ no_tail → ReadsItems t (start d.short_equals (words ++ q ∷ [])) items (longer (q ∷ []) all.there) → IsSplit d (words ++ q ∷ []) l (q ∷ [])
-    split so none no_more reads =
-        subst (λ ws. IsSplit d (words ++ q ∷ []) l (q ∷ ws)) none
-        (leading_front d sound (words ++ q ∷ []) l (longer (q ∷ []) all.there) read.0 q
-        (record {
-          items = items;
-          read = reads;
-          line = subst (λ tail. TailFits tail all.there.last all.there.ended) (sym no_more) tt;
-          parsed = means.split.parsed;
-          within = none_within (most d.positionals);
-        })
-        means.split.alone (inl (adds_word all.there read.0 q so (λ before. plain_q))))
-      where
-        none_within : (limit : Option ℕ) → IsWithin (positional_count l) limit
-        none_within None = tt
-        none_within (Some n) = let none = means.split.alone in omega (arith, none)
-
-    -- with p it is not one more value
-    no_value : all.there.words ≡ [] → all.there.tail ≡ no_tail → (front : List Item) (name : Name) (values : List (List ℕ)) → ReadsItems t (start d.short_equals (words ++ p ∷ [])) (front ++ spec.many name values ∷ []) all.there → ⊥
-    no_value empty none front name values reads =
-        let spelled = subst (λ ws. Spells t d.short_equals (ws ++ p ∷ []) (items ++ spec.positional p ∷ [])) same (means.split.begins p [] refl) in
-        let both = shown_said t d.short_equals (words ++ p ∷ []) (items ++ spec.positional p ∷ []) (front ++ spec.many name values ∷ []) steps.end
-        (spelled_shows t d.short_equals (words ++ p ∷ []) (items ++ spec.positional p ∷ []) spelled)
-        (ends_reading t (start d.short_equals (words ++ p ∷ [])) all.there all.there (front ++ spec.many name values ∷ []) reads (ends_here all.there all.there.ended refl none empty)) in
-        let e = (same_last items front (spec.positional p) (spec.many name values) both.1).1 in cc
-
-    grows : all.there.words ≡ [] → all.there.tail ≡ no_tail → Grown t (start d.short_equals words) items all.there → ReadsItems t (start d.short_equals (words ++ q ∷ [])) items (longer (q ∷ []) all.there)
-    grows empty none (closed_items more) = more (q ∷ [])
-    grows empty none (opened_items before more) = let one_more = more empty p plain in absurd (no_value empty none one_more.0 one_more.1 one_more.2 one_more.3)
-
-    at : EndsSo all.there read.0 → IsSplit d (words ++ q ∷ []) l (q ∷ [])
-    at (ended_before none ended empty after) =
-        split (ended_before none ended empty after) (ap (λ (x : UnreadLine). x.words) after ∙ empty) none (grows empty none (grown t (start d.short_equals words) all.there items tt all.reads))
-    at (open_there none before empty after) =
-        split (open_there none before empty after) (ap (λ (x : UnreadLine). x.words) after ∙ empty) none (grows empty none (grown t (start d.short_equals words) all.there items tt all.reads))
-    at (separator_last none before last_is after) =
-        split (separator_last none before last_is after) (ap (λ (x : UnreadLine). x.words) after) none
-        (items_calm t (q ∷ []) (start d.short_equals words) all.there items tt (λ empty. absurd (let e : [] ≡ (dash ∷ dash ∷ []) ∷ [] = sym empty ∙ last_is in cc)) all.reads)

@@ -79,6 +79,11 @@ opens (first i) = false
 opens (further i) = true
 opens ended = false
 
+-- a plain word is one more value of an option
+abbrev pub is_further : State → Bool
+is_further (further i) = true
+is_further other = false
+
 -- this many positionals are as many as the limit allows, if there is a limit
 abbrev pub is_full : Option ℕ → ℕ → Bool
 is_full None count = false

@@ -85,7 +85,7 @@ pub fn report<'a, F, V, P, M, S>(
     options: &Options<'a, F, V, P, M, S>,
     error: UsageError<'a>,
 ) -> Report<'a>
-    ensures program { result.program.now ≡ options.now.declaration.now.program.now }
+    ensures program { result.program.now ≡ options.now.program.now }
     ensures help { result.help
         ≡ first_names asks_for_help options.now.declaration.now.options.now }
     ensures error { result.error ≡ error.entry }

@@ -11,6 +11,7 @@ use Rattle.lexopt_options.specs.declared.mistake.Mistake.{Mistake}
 use Rattle.lexopt_options.specs.declared.options.Options.{Options}
 use Rattle.lexopt_options.specs.declared.parsed.Asked.{Asked}
 use Rattle.lexopt_options.specs.declared.parsed.Asked.TheVariants as asks
+use Rattle.lexopt_options.specs.declared.parsed.Parsed.{Parsed}
 use Rattle.lexopt_options.specs.declared.refused.Refused.{Refused}
 use Rattle.lexopt_options.specs.declared.request.Request.{Request}
 use Rattle.lexopt_options.specs.declared.request.Request.TheVariants as request
@@ -25,6 +26,7 @@ use Rattle.lexopt_commands.specs.declared.commands.Commands.{Commands}
 use Rattle.lexopt_commands.specs.declared.read.CommandLine.{CommandLine}
 use Rattle.lexopt_commands.specs.declared.read.CommandLine.TheVariants as line
 use Rattle.lexopt_commands.specs.Answers.{IsAskedText, IsRequestStep, IsStep}
+use Rattle.lexopt_commands.specs.Completions.{IsPlaced, IsPlacedAfter, IsUnplaced, Place, at_help, in_command, nowhere, place}
 use Rattle.lexopt_commands.specs.Lines.{IsAfterOptions, IsCommandLine, IsLineAsking, IsLineOf, IsLineRead}
 use Rattle.lexopt_commands.specs.Mistakes.{IsMistake, unknown_command, missing_command}
 use Rattle.test_commands.specs.AnyCommands.{HaveMistake, IsAskedFor, IsNamed, IsVariable, LineTells, RequestTells, StepTells, TextTells}
@@ -37,8 +39,8 @@ by_words o commands words r m l rest means none are (missing_command names is na
 by_words o commands words r m l rest means none are (unknown_command word hints is hinted) = ((l, rest, means, none, are, is), hinted)
 
 line_so : {C F V M S : Type 0} (c : Commands C F V M S) (words : List (List ℕ)) (it : CommandLine C F V M S) → IsLineRead c words it → LineTells c.options c.commands.now words it
-line_so c words (line.Command parsed key own) is = ⊎_elim (λ no. absurd no)
-    (λ (a : IsAfterOptions c words (line.Command parsed key own)).
+line_so c words (line.Command parsed name key own) is = ⊎_elim (λ no. absurd no)
+    (λ (a : IsAfterOptions c words (line.Command parsed name key own)).
     (a.read, a.rest, a.means, a.nothing, subst (λ x. AreParsedAs (options_of c.options) a.read x) (sym a.after.0) a.are, a.after.1)) is
 line_so c words (line.Asked asked) is = ⊎_elim (λ by. inl by)
     (λ (a : IsAfterOptions c words (line.Asked asked)). inr (a.after.1, a.parsed, (a.read, a.rest, a.means, a.nothing, a.are, a.after.0))) is
@@ -53,8 +55,8 @@ line_tells c o commands words it same own is = subst (λ x. LineTells x commands
 -- ---- the line of words that are given
 
 asked_so : {C F V M S : Type 0} (asked : spec.Asked) (it : CommandLine C F V M S) → IsLineAsking asked it → IsAskedFor asked it
-asked_so for_help (line.Command parsed key own) is = is
-asked_so (for_version text) (line.Command parsed key own) is = is
+asked_so for_help (line.Command parsed name key own) is = is
+asked_so (for_version text) (line.Command parsed name key own) is = is
 asked_so for_help (line.Asked asks.Help) is = tt
 asked_so for_help (line.Asked (asks.Version own)) is = absurd (let e : for_version own.now ≡ for_help = is in cc)
 asked_so (for_version text) (line.Asked asks.Help) is = absurd (let e : for_help ≡ for_version text = is in cc)
@@ -66,14 +68,14 @@ pub asked_line : {C F V M S : Type 0} (c : Commands C F V M S) (o : Options F V 
     → c.options ≡ o → first_asked (declaration_of o).options l ≡ Some asked → IsLineOf c l rest it → IsAskedFor asked it
 asked_line c o l rest asked it same is of = asked_so asked it (of.asks asked (subst (λ x. first_asked (declaration_of x).options l ≡ Some asked) (sym same) is))
 
-named_so : {C F V M S : Type 0} (c : Commands C F V M S) (l : List legal.Parsed) (key : C) (words : List (List ℕ)) (it : CommandLine C F V M S) → IsCommandLine c l key words it → IsNamed (options_of c.options) l key words it
-named_so c l key words (line.Command parsed own rest) is = is
-named_so c l key words (line.Asked asked) is = is
-named_so c l key words (line.Refused r) is = is
+named_so : {C F V M S : Type 0} (c : Commands C F V M S) (l : List legal.Parsed) (name : List ℕ) (key : C) (words : List (List ℕ)) (it : CommandLine C F V M S) → IsCommandLine c l name key words it → IsNamed (options_of c.options) l name key words it
+named_so c l name key words (line.Command parsed told own rest) is = is
+named_so c l name key words (line.Asked asked) is = is
+named_so c l name key words (line.Refused r) is = is
 
-pub named_line : {C F V M S : Type 0} (c : Commands C F V M S) (o : Options F V Infallible M S) (l : List legal.Parsed) (key : C) (words : List (List ℕ)) (it : CommandLine C F V M S)
-    → c.options ≡ o → IsCommandLine c l key words it → IsNamed (options_of o) l key words it
-named_line c o l key words it same is = subst (λ x. IsNamed (options_of x) l key words it) same (named_so c l key words it is)
+pub named_line : {C F V M S : Type 0} (c : Commands C F V M S) (o : Options F V Infallible M S) (l : List legal.Parsed) (name : List ℕ) (key : C) (words : List (List ℕ)) (it : CommandLine C F V M S)
+    → c.options ≡ o → IsCommandLine c l name key words it → IsNamed (options_of o) l name key words it
+named_line c o l name key words it same is = subst (λ x. IsNamed (options_of x) l name key words it) same (named_so c l name key words it is)
 
 -- the same list under the same options
 pub none_of : {F V M S : Type 0} (o own : Options F V Infallible M S) (l : List legal.Parsed) → o ≡ own → first_asked (declaration_of own).options l ≡ None → first_asked (declaration_of o).options l ≡ None
@@ -85,28 +87,36 @@ text_so : {C F V M S : Type 0} (c : Commands C F V M S) (asked : Asked) (width :
 text_so c asks.Help width text is = is
 text_so c (asks.Version own) width text is = is
 
-step_so : {C F V M S : Type 0} (c : Commands C F V M S) (words : List (List ℕ)) (width : ℕ) (it : Step C F V M S) → IsStep c words width it → StepTells c.options c.commands.now words width it
-step_so c words width (step.Command parsed key (request.Line own)) is = line_so c words (line.Command parsed key own) is
-step_so c words width (step.Command parsed key (request.Completion before typed)) is = is
-step_so c words width (step.Command parsed key (request.Script shell)) is = is
-step_so c words width (step.Command parsed key request.Unknown) is = is
-step_so c words width (step.Text text) is = (is.0, line_so c words (line.Asked is.0) is.1, text_so c is.0 width (string_bytes text) is.2)
-step_so c words width (step.Refused r) is = line_so c words (line.Refused r) is
+step_so : {C F V M S : Type 0} (c : Commands C F V M S) (before : List (Parsed F V Infallible M S)) (words : List (List ℕ)) (width : ℕ) (it : Step C F V M S) → IsStep c before words width it → StepTells c.options c.commands.now before words width it
+step_so c before words width (step.Command key path call) is = (is.parsed, is.name, is.own, line_so c words (line.Command is.parsed is.name key is.own) is.read, is.by_path, is.general, is.line)
+step_so c before words width (step.Text text) is = (is.0, line_so c words (line.Asked is.0) is.1, text_so c is.0 width (string_bytes text) is.2)
+step_so c before words width (step.Refused r) is = line_so c words (line.Refused r) is
 
 unknown_so : {C F V M S : Type 0} (c : Commands C F V M S) (r : Refused F V Infallible M S)
     → IsUnknownRequest c.options r → (r.program.now ≡ (declaration_of c.options).program) × (r.help ≡ help_names (options_of c.options)) × (r.before.items ≡ []) × IsVariable (declaration_of c.options).program r.mistake
 unknown_so c r is = (is.program, is.help, is.before, subst (IsVariable (declaration_of c.options).program) (sym is.mistake) is.variable)
 
-request_so : {C F V M S : Type 0} (c : Commands C F V M S) (asked : Request) (width : ℕ) (it : Step C F V M S) → IsRequestStep c asked width it → RequestTells c.options c.commands.now asked width it
-request_so c (request.Line words) width it is = step_so c words.items width it is
-request_so c (request.Completion words typed) width it is = tt
-request_so c (request.Script shell) width (step.Command parsed key own) is = is
-request_so c (request.Script shell) width (step.Text text) is = is
-request_so c (request.Script shell) width (step.Refused r) is = is
-request_so c request.Unknown width (step.Command parsed key own) is = is
-request_so c request.Unknown width (step.Text text) is = is
-request_so c request.Unknown width (step.Refused r) is = unknown_so c r is
+request_so : {C F V M S : Type 0} (c : Commands C F V M S) (before : List (Parsed F V Infallible M S)) (asked : Request) (width : ℕ) (it : Step C F V M S)
+    → IsRequestStep c before asked width it → RequestTells c.options c.commands.now before asked width it
+request_so c before (request.Line words) width it is = step_so c before words.items width it is
+request_so c before (request.Completion words typed) width (step.Command key path call) is = ⊎_elim
+    (λ (after : IsPlacedAfter c words.items typed (step.Command key path call)). without_options (place c.commands.now after.rest) after.placed)
+    (λ (un : IsUnplaced c words.items typed (step.Command key path call)). absurd un.printed)
+    is
+  where
+    without_options : (at : Place _) → IsPlaced c typed at (step.Command key path call) → call.general.items ≡ []
+    without_options (in_command name own rest) placed = placed.2.general
+    without_options at_help placed = absurd placed
+    without_options nowhere placed = absurd placed
+request_so c before (request.Completion words typed) width (step.Text text) is = tt
+request_so c before (request.Completion words typed) width (step.Refused r) is = tt
+request_so c before (request.Script shell) width (step.Command key path call) is = is
+request_so c before (request.Script shell) width (step.Text text) is = is
+request_so c before (request.Script shell) width (step.Refused r) is = is
+request_so c before request.Unknown width (step.Command key path call) is = is
+request_so c before request.Unknown width (step.Text text) is = is
+request_so c before request.Unknown width (step.Refused r) is = unknown_so c r is
 
-pub request_tells : {C F V M S : Type 0} (c : Commands C F V M S) (o : Options F V Infallible M S) (commands : List (Command C)) (asked : Request) (width : ℕ) (it : Step C F V M S)
-    → c.options ≡ o → c.commands.now ≡ commands → IsRequestStep c asked width it → RequestTells o commands asked width it
-request_tells c o commands asked width it same own is = subst (λ x. RequestTells x commands asked width it) same (subst (λ cs. RequestTells c.options cs asked width it) own (request_so c asked width it is))
+pub request_tells : {C F V M S : Type 0} (c : Commands C F V M S) (o : Options F V Infallible M S) (commands : List (Command C)) (before : List (Parsed F V Infallible M S)) (asked : Request) (width : ℕ) (it : Step C F V M S)
+    → c.options ≡ o → c.commands.now ≡ commands → IsRequestStep c before asked width it → RequestTells o commands before asked width it
+request_tells c o commands before asked width it same own is = subst (λ x. RequestTells x commands before asked width it) same (subst (λ cs. RequestTells c.options cs before asked width it) own (request_so c before asked width it is))

@@ -20,27 +20,30 @@ use Rattle.test_commands.specs.declared.callers.Task.{Task}
 use Rattle.test_commands.specs.Tasks.{IsAsking, AreHintsFor, IsMissing, IsMissingName, IsTask, IsUnknown, IsUnknownName}
 
 -- the words after the general options are this command
-pub is_task : {F V M S : Type 0} (c : Commands Task F V M S) (l : List legal.Parsed) (parsed : List (Parsed F V Infallible M S)) (rest own : List (List ℕ)) (task : Task) (it : CommandLine Task F V M S)
-    → meaning c.commands.now rest ≡ command task own → AreParsedAs (options_of c.options) l parsed → IsLineAfter c parsed rest it → IsTask (options_of c.options) l task own it
-is_task c l parsed rest own task (line.Command words key others) means are after =
-    let e : command task own ≡ command key others.items = sym means ∙ after.1 in
-    (subst (λ x. AreParsedAs (options_of c.options) l x) (sym after.0) are, key_is key others.items e, own_is key others.items e)
+pub is_task : {F V M S : Type 0} (c : Commands Task F V M S) (l : List legal.Parsed) (parsed : List (Parsed F V Infallible M S)) (rest own : List (List ℕ)) (name : List ℕ) (task : Task) (it : CommandLine Task F V M S)
+    → meaning c.commands.now rest ≡ command name task own → AreParsedAs (options_of c.options) l parsed → IsLineAfter c parsed rest it → IsTask (options_of c.options) l name task own it
+is_task c l parsed rest own name task (line.Command words told key others) means are after =
+    let e : command name task own ≡ command told.now key others.items = sym means ∙ after.1 in
+    (subst (λ x. AreParsedAs (options_of c.options) l x) (sym after.0) are, name_is told.now key others.items e, key_is told.now key others.items e, own_is told.now key others.items e)
   where
-    key_is : (key : Task) (others : List (List ℕ)) → command task own ≡ command key others → key ≡ task
-    key_is key others e = cc
+    name_is : (told : List ℕ) (key : Task) (others : List (List ℕ)) → command name task own ≡ command told key others → told ≡ name
+    name_is told key others e = cc
 
-    own_is : (key : Task) (others : List (List ℕ)) → command task own ≡ command key others → others ≡ own
-    own_is key others e = cc
-is_task c l parsed rest own task (line.Asked asked) means are after = let e : command task own ≡ help = sym means ∙ after.0 in cc
-is_task c l parsed rest own task (line.Refused refused) means are after = no_mistake refused.mistake after.told
+    key_is : (told : List ℕ) (key : Task) (others : List (List ℕ)) → command name task own ≡ command told key others → key ≡ task
+    key_is told key others e = cc
+
+    own_is : (told : List ℕ) (key : Task) (others : List (List ℕ)) → command name task own ≡ command told key others → others ≡ own
+    own_is told key others e = cc
+is_task c l parsed rest own name task (line.Asked asked) means are after = let e : command name task own ≡ help = sym means ∙ after.0 in cc
+is_task c l parsed rest own name task (line.Refused refused) means are after = no_mistake refused.mistake after.told
   where
     no_mistake : (m : Mistake) → IsMistake c.commands.now rest m → ⊥
-    no_mistake m (missing_command names is are) = let e : command task own ≡ missing = sym means ∙ is in cc
-    no_mistake m (unknown_command word hints is are) = let e : command task own ≡ unknown word = sym means ∙ is in cc
+    no_mistake m (missing_command names is are) = let e : command name task own ≡ missing = sym means ∙ is in cc
+    no_mistake m (unknown_command word hints is are) = let e : command name task own ≡ unknown word = sym means ∙ is in cc
 
 pub is_asking : {F V M S : Type 0} (c : Commands Task F V M S) (parsed : List (Parsed F V Infallible M S)) (rest : List (List ℕ)) (it : CommandLine Task F V M S)
     → meaning c.commands.now rest ≡ help → IsLineAfter c parsed rest it → IsAsking it
-is_asking c parsed rest (line.Command words key others) means after = let e : ◌≡◌ {A = Meaning Task} help (command key others.items) = sym means ∙ after.1 in cc
+is_asking c parsed rest (line.Command words told key others) means after = let e : ◌≡◌ {A = Meaning Task} help (command told.now key others.items) = sym means ∙ after.1 in cc
 is_asking c parsed rest (line.Asked asked) means after = after.1
 is_asking c parsed rest (line.Refused refused) means after = no_mistake refused.mistake after.told
   where
@@ -50,7 +53,7 @@ is_asking c parsed rest (line.Refused refused) means after = no_mistake refused.
 
 pub is_missing : {F V M S : Type 0} (c : Commands Task F V M S) (l : List legal.Parsed) (parsed : List (Parsed F V Infallible M S)) (it : CommandLine Task F V M S)
     → names_of c.commands.now ≡ codes "add" ∷ codes "remote" ∷ codes "help" ∷ [] → AreParsedAs (options_of c.options) l parsed → IsLineAfter c parsed [] it → IsMissing (options_of c.options) l it
-is_missing c l parsed (line.Command words key others) names are after = let e : ◌≡◌ {A = Meaning Task} missing (command key others.items) = after.1 in cc
+is_missing c l parsed (line.Command words told key others) names are after = let e : ◌≡◌ {A = Meaning Task} missing (command told.now key others.items) = after.1 in cc
 is_missing c l parsed (line.Asked asked) names are after = let e : ◌≡◌ {A = Meaning Task} missing help = after.0 in cc
 is_missing c l parsed (line.Refused refused) names are after = (subst (λ x. AreParsedAs (options_of c.options) l x) (sym after.before) are, by_mistake refused.mistake after.told)
   where
@@ -64,7 +67,7 @@ same_name name word e = cc
 pub is_unknown : {F V M S : Type 0} (c : Commands Task F V M S) (l : List legal.Parsed) (parsed : List (Parsed F V Infallible M S)) (rest : List (List ℕ)) (name typed : List ℕ) (it : CommandLine Task F V M S)
     → meaning c.commands.now rest ≡ unknown name → ((own : List (List ℕ)) → IsHint c.commands.now name own → AreHintsFor typed own) → AreParsedAs (options_of c.options) l parsed → IsLineAfter c parsed rest it
     → IsUnknown (options_of c.options) l name typed it
-is_unknown c l parsed rest name typed (line.Command words key others) means are_hints are after = let e : ◌≡◌ {A = Meaning Task} (unknown name) (command key others.items) = sym means ∙ after.1 in cc
+is_unknown c l parsed rest name typed (line.Command words told key others) means are_hints are after = let e : ◌≡◌ {A = Meaning Task} (unknown name) (command told.now key others.items) = sym means ∙ after.1 in cc
 is_unknown c l parsed rest name typed (line.Asked asked) means are_hints are after = let e : ◌≡◌ {A = Meaning Task} (unknown name) help = sym means ∙ after.0 in cc
 is_unknown c l parsed rest name typed (line.Refused refused) means are_hints are after = (subst (λ x. AreParsedAs (options_of c.options) l x) (sym after.before) are, by_mistake refused.mistake after.told)
   where
@@ -80,11 +83,11 @@ after_none : {F V M S : Type 0} (c : Commands Task F V M S) (o : Options F V Inf
     → c.options ≡ o → first_asked (declaration_of o).options l ≡ None → IsLineOf c l rest it → (parsed : List (Parsed F V Infallible M S)) × AreParsedAs (options_of c.options) l parsed × IsLineAfter c parsed rest it
 after_none c o l rest it same none of = of.after (subst (λ x. first_asked (declaration_of x).options l ≡ None) (sym same) none)
 
-pub task_line : {F V M S : Type 0} (c : Commands Task F V M S) (o : Options F V Infallible M S) (l : List legal.Parsed) (rest own : List (List ℕ)) (task : Task) (it : CommandLine Task F V M S)
-    → c.options ≡ o → first_asked (declaration_of o).options l ≡ None → meaning c.commands.now rest ≡ command task own → IsLineOf c l rest it → IsTask (options_of o) l task own it
-task_line c o l rest own task it same none means of =
+pub task_line : {F V M S : Type 0} (c : Commands Task F V M S) (o : Options F V Infallible M S) (l : List legal.Parsed) (rest own : List (List ℕ)) (name : List ℕ) (task : Task) (it : CommandLine Task F V M S)
+    → c.options ≡ o → first_asked (declaration_of o).options l ≡ None → meaning c.commands.now rest ≡ command name task own → IsLineOf c l rest it → IsTask (options_of o) l name task own it
+task_line c o l rest own name task it same none means of =
     let a = after_none c o l rest it same none of in
-    subst (λ x. IsTask (options_of x) l task own it) same (is_task c l a.0 rest own task it means a.1 a.2)
+    subst (λ x. IsTask (options_of x) l name task own it) same (is_task c l a.0 rest own name task it means a.1 a.2)
 
 pub asking_line : {F V M S : Type 0} (c : Commands Task F V M S) (o : Options F V Infallible M S) (l : List legal.Parsed) (rest : List (List ℕ)) (it : CommandLine Task F V M S)
     → c.options ≡ o → first_asked (declaration_of o).options l ≡ None → meaning c.commands.now rest ≡ help → IsLineOf c l rest it → IsAsking it

@@ -1,6 +1,8 @@
 -- What lines of any commands mean, by the meaning of their words.
 use Rattle.std.specs.Prelude.{◌≡◌, ◌⊎◌, ◌++◌, ℕ, List, [], ◌∷◌, None, map}
-use Rattle.std.specs.Prelude.{string_bytes}
+use Rattle.std.specs.Prelude.{Vec, string_bytes}
+use Rattle.std.specs.Borrow.{Bor}
+use Rattle.std.specs.Global.{Global}
 use Rattle.std.specs.declared.convert.Infallible.{Infallible}
 use Rattle.lexopt_options_spec.specs.Asking.{first_asked}
 use Rattle.lexopt_options_spec.specs.Declaration as spec
@@ -25,6 +27,7 @@ use Rattle.lexopt_options.specs.Keys.{AreParsedAs, asked_view}
 use Rattle.lexopt_options.specs.LeadingLines.{IsLeadingRefused}
 use Rattle.lexopt_commands.specs.declared.answer.Step.{Step}
 use Rattle.lexopt_commands.specs.declared.answer.Step.TheVariants as step
+use Rattle.lexopt_commands.specs.declared.call.Call.{Call}
 use Rattle.lexopt_commands.specs.declared.command.Command.{Command}
 use Rattle.lexopt_commands.specs.declared.read.CommandLine.{CommandLine}
 use Rattle.lexopt_commands.specs.declared.read.CommandLine.TheVariants as line
@@ -55,8 +58,8 @@ HaveMistake o commands words r m = ⊥
 
 abbrev pub LineTells : {C F V M S : Type 0} → Options F V Infallible M S → List (Command C)
     → List (List ℕ) → CommandLine C F V M S → Type 0
-LineTells o commands words (line.Command parsed key own) =
-    MeanSo o commands words parsed.items (command key own.items)
+LineTells o commands words (line.Command parsed name key own) =
+    MeanSo o commands words parsed.items (command name.now key own.items)
 LineTells o commands words (line.Asked asked) =
     AsksLeading (declaration_of o) words (asked_view asked)
     ⊎ ((asked ≡ asks.Help) × (parsed : List (Parsed _ _ _ _ _))
@@ -71,12 +74,12 @@ IsAskedFor for_help (line.Asked asks.Help) = Unit {0}
 IsAskedFor (for_version text) (line.Asked (asks.Version own)) = own.now ≡ text
 IsAskedFor what line = ⊥
 
--- the line is the command of this key, with these words, after these general options
-abbrev pub IsNamed : {C F V M S : Type 0} → List (Declared F V M S) → List legal.Parsed → C
+-- the line is the command of this name and key, with these words, after these general options
+abbrev pub IsNamed : {C F V M S : Type 0} → List (Declared F V M S) → List legal.Parsed → List ℕ → C
     → List (List ℕ) → CommandLine C F V M S → Type 0
-IsNamed options l key words (line.Command parsed found own) = AreParsedAs options l parsed.items
-    × (found ≡ key) × (own.items ≡ words)
-IsNamed options l key words line = ⊥
+IsNamed options l name key words (line.Command parsed told found own) =
+    AreParsedAs options l parsed.items × (told.now ≡ name) × (found ≡ key) × (own.items ≡ words)
+IsNamed options l name key words line = ⊥
 
 -- ---- what the program does
 
@@ -85,30 +88,43 @@ abbrev pub TextTells : {C F V M S : Type 0} → Options F V Infallible M S → L
 TextTells o commands asks.Help width text = IsHelp (declaration_of o) commands width text
 TextTells o commands (asks.Version own) width text = text ≡ own.now ++ 10 ∷ []
 
+-- the words are the line of a command, which is called with its words, with the general options
+-- that came before and then those of the words, and by its path: the program and the command's name
+abbrev pub CommandTells : {C F V M S : Type 0} → Options F V Infallible M S → List (Command C)
+    → List (Parsed F V Infallible M S) → List (List ℕ) → C → List ℕ → Call F V M S → Type 0
+CommandTells o commands before words key path call = (parsed : Vec (Parsed _ _ _ _ _) Global)
+    × (name : Bor (List ℕ)) × (own : Vec (List ℕ) Global)
+    × LineTells o commands words (line.Command parsed name key own)
+    × (path ≡ (declaration_of o).program ++ 0x20 ∷ name.now)
+    × (call.general.items ≡ before ++ parsed.items) × (call.request ≡ request.Line own)
+
 abbrev pub StepTells : {C F V M S : Type 0} → Options F V Infallible M S → List (Command C)
-    → List (List ℕ) → ℕ → Step C F V M S → Type 0
-StepTells o commands words width (step.Command parsed key (request.Line own)) =
-    LineTells o commands words (line.Command parsed key own)
-StepTells o commands words width (step.Command parsed key asked) = ⊥
-StepTells o commands words width (step.Text text) = (asked : Asked)
+    → List (Parsed F V Infallible M S) → List (List ℕ) → ℕ → Step C F V M S → Type 0
+StepTells o commands before words width (step.Command key path call) =
+    CommandTells o commands before words key (string_bytes path) call
+StepTells o commands before words width (step.Text text) = (asked : Asked)
     × LineTells o commands words (line.Asked asked)
     × TextTells o commands asked width (string_bytes text)
-StepTells o commands words width (step.Refused r) = LineTells o commands words (line.Refused r)
+StepTells o commands before words width (step.Refused r) =
+    LineTells o commands words (line.Refused r)
 
 -- the variable by which shells ask has a value that is not known
 abbrev pub IsVariable : List ℕ → Mistake → Type 0
 IsVariable program (mistake.InvalidVariable name) = string_bytes name ≡ variable_name program
 IsVariable program m = ⊥
 
--- about a line, a shell and a request that is not known; `complete_tasks` is about what can come
-abbrev pub RequestTells : {C F V M S : Type 0} → Options F V Infallible M S → List (Command C) → Request
-    → ℕ → Step C F V M S → Type 0
-RequestTells o commands (request.Line words) width found =
-    StepTells o commands words.items width found
-RequestTells o commands (request.Completion words typed) width found = Unit {0}
-RequestTells o commands (request.Script shell) width (step.Text text) =
+-- about a line after these general options, a shell and a request that is not known; and that the
+-- call for a completion has no general options. `complete_tasks` is about what can come.
+abbrev pub RequestTells : {C F V M S : Type 0} → Options F V Infallible M S → List (Command C)
+    → List (Parsed F V Infallible M S) → Request → ℕ → Step C F V M S → Type 0
+RequestTells o commands before (request.Line words) width found =
+    StepTells o commands before words.items width found
+RequestTells o commands before (request.Completion words typed) width (step.Command key path call) =
+    call.general.items ≡ []
+RequestTells o commands before (request.Completion words typed) width found = Unit {0}
+RequestTells o commands before (request.Script shell) width (step.Text text) =
     string_bytes text ≡ script_lines o shell
-RequestTells o commands request.Unknown width (step.Refused r) =
+RequestTells o commands before request.Unknown width (step.Refused r) =
     (r.program.now ≡ (declaration_of o).program) × (r.help ≡ help_names (options_of o))
     × (r.before.items ≡ []) × IsVariable (declaration_of o).program r.mistake
-RequestTells o commands asked width found = ⊥
+RequestTells o commands before asked width found = ⊥

@@ -1,6 +1,7 @@
 -- What lines of three commands mean, what completes a word, and what the help shows, by plain data.
 use Rattle.std.specs.Prelude.{◌≡◌, ◌⊎◌, ◌++◌, ℕ, if◌then◌else◌, nat_eq, List, [], ◌∷◌}
-use Rattle.std.specs.Prelude.{Option, None, codes, map, string_bytes}
+use Rattle.std.specs.Prelude.{Option, None, Vec, codes, map, string_bytes}
+use Rattle.std.specs.Global.{Global}
 use Rattle.std.specs.List.{AllZip, concat, flat_map, starts_with}
 use Rattle.std.specs.declared.convert.Infallible.{Infallible}
 use Rattle.lexopt_options_spec.specs.Asking.{first_asked}
@@ -32,12 +33,12 @@ task_helps = (codes "add", codes "add files")
     ∷ (codes "remote", codes "add or remove a remote")
     ∷ (codes "help", codes "print the help of a command") ∷ []
 
--- the line is this command with these words, after these general options
-abbrev pub IsTask : {F V M S : Type 0} → List (Declared F V M S) → List legal.Parsed → Task
+-- the line is this command, by its name and key, with these words, after these general options
+abbrev pub IsTask : {F V M S : Type 0} → List (Declared F V M S) → List legal.Parsed → List ℕ → Task
     → List (List ℕ) → CommandLine Task F V M S → Type 0
-IsTask options l task words (line.Command parsed key own) = AreParsedAs options l parsed.items
-    × (key ≡ task) × (own.items ≡ words)
-IsTask options l task words line = ⊥
+IsTask options l name task words (line.Command parsed own key rest) =
+    AreParsedAs options l parsed.items × (own.now ≡ name) × (key ≡ task) × (rest.items ≡ words)
+IsTask options l name task words line = ⊥
 
 -- it asks for the help
 abbrev pub IsAsking : {F V M S : Type 0} → CommandLine Task F V M S → Type 0
@@ -75,12 +76,13 @@ IsUnknown options l name typed line = ⊥
 
 -- ---- completion of a typed word
 
--- this command is asked to complete this typed word after these words
-abbrev pub IsTaskAsked : {F V M S : Type 0} → List (Declared F V M S) → List legal.Parsed → Task
-    → List (List ℕ) → List ℕ → Step Task F V M S → Type 0
-IsTaskAsked options l task rest typed (step.Command parsed key (request.Completion before last)) =
-    AreParsedAs options l parsed.items × (key ≡ task) × (before.items ≡ rest) × (last ≡ typed)
-IsTaskAsked options l task rest typed found = ⊥
+-- this command, by its key and path, is asked to complete this typed word after these words
+abbrev pub IsTaskAsked : {F V M S : Type 0} → Task → List ℕ → List (List ℕ) → List ℕ
+    → Step Task F V M S → Type 0
+IsTaskAsked task path rest typed (step.Command key found call) = (key ≡ task)
+    × (string_bytes found ≡ path) × (call.general.items ≡ []) × (before : Vec (List ℕ) Global)
+    × (before.items ≡ rest) × (call.request ≡ request.Completion before typed)
+IsTaskAsked task path rest typed found = ⊥
 
 -- this text is written
 abbrev pub IsWritten : {F V M S : Type 0} → List ℕ → Step Task F V M S → Type 0

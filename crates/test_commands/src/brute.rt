@@ -51,7 +51,7 @@ fn asks_for_help(alloc: Global, before: &[&str]) -> Result<bool, AllocError> {
 // help by this name.
 fn can_be_name(alloc: Global, before: &[&str], name: &str) -> Result<bool, AllocError> {
     match git().read(alloc, words_of(alloc, before, &[name])?)? {
-        CommandLine::Command(_, _, _) => Ok(true),
+        CommandLine::Command(_, _, _, _) => Ok(true),
         CommandLine::Asked(Asked::Help) => Ok(name == "help" && !asks_for_help(alloc, before)?),
         CommandLine::Asked(Asked::Version(_)) | CommandLine::Refused(_) => Ok(false),
     }
@@ -88,7 +88,7 @@ fn has_option(
     kind: Kind,
 ) -> Result<bool, AllocError> {
     match git().read(alloc, words_of(alloc, before, after)?)? {
-        CommandLine::Command(parsed, _, _) => Ok(is_kind(parsed.get(count), kind)),
+        CommandLine::Command(parsed, _, _, _) => Ok(is_kind(parsed.get(count), kind)),
         CommandLine::Asked(Asked::Help) => Ok(matches!(kind, Kind::Help)),
         CommandLine::Asked(Asked::Version(_)) => Ok(matches!(kind, Kind::Version)),
         CommandLine::Refused(_) => Ok(false),
@@ -174,7 +174,7 @@ fn are_spellings(alloc: Global, before: &[&str], text: &str) -> Result<bool, All
 // Whether a command is asked if and only if these words name one.
 fn agrees_on_command(alloc: Global, before: &[&str], asked: bool) -> Result<bool, AllocError> {
     match git().read(alloc, words_of(alloc, before, &[])?)? {
-        CommandLine::Command(_, _, _) => Ok(asked),
+        CommandLine::Command(_, _, _, _) => Ok(asked),
         CommandLine::Asked(_) | CommandLine::Refused(_) => Ok(!asked),
     }
 }

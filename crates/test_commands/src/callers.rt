@@ -54,12 +54,13 @@ pub fn read_tasks<'a, F: Copy, V: Copy, M: Copy, S: Copy>(
     ensures command { (l : List legal.Parsed) (rest : List (List ℕ))
         → first_asked (declaration_of options.entry).options l ≡ None
         → MeansLeading (declaration_of options.entry) words.items l (codes "remote" ∷ rest)
-        → IfOk result (λ line. IsTask (options_of options.entry) l task.Remote rest line) }
+        → IfOk result (λ line. IsTask (options_of options.entry) l (codes "remote")
+        task.Remote rest line) }
     ensures help_of_a_command { (l : List legal.Parsed) (rest : List (List ℕ))
         → first_asked (declaration_of options.entry).options l ≡ None
         → MeansLeading (declaration_of options.entry) words.items l
         (codes "help" ∷ codes "remote" ∷ rest)
-        → IfOk result (λ line. IsTask (options_of options.entry) l task.Remote
+        → IfOk result (λ line. IsTask (options_of options.entry) l (codes "remote") task.Remote
         (rest ++ codes "--help" ∷ []) line) }
     ensures help { (l : List legal.Parsed)
         → first_asked (declaration_of options.entry).options l ≡ None
@@ -89,14 +90,14 @@ pub fn complete_tasks<'a, F: Copy, V: Copy, M: Copy, S: Copy>(
     ensures command { (l : List legal.Parsed) (rest : List (List ℕ))
         → first_asked (declaration_of options.entry).options l ≡ None
         → MeansLeading (declaration_of options.entry) words.items l (codes "remote" ∷ rest)
-        → IfOk result (λ step.
-        IsTaskAsked (options_of options.entry) l task.Remote rest typed step) }
+        → IfOk result (λ step. IsTaskAsked task.Remote
+        ((declaration_of options.entry).program ++ codes " remote") rest typed step) }
     ensures help_of_a_command { (l : List legal.Parsed) (rest : List (List ℕ))
         → first_asked (declaration_of options.entry).options l ≡ None
         → MeansLeading (declaration_of options.entry) words.items l
         (codes "help" ∷ codes "remote" ∷ rest)
-        → IfOk result (λ step.
-        IsTaskAsked (options_of options.entry) l task.Remote rest typed step) }
+        → IfOk result (λ step. IsTaskAsked task.Remote
+        ((declaration_of options.entry).program ++ codes " remote") rest typed step) }
     ensures help { (l : List legal.Parsed)
         → first_asked (declaration_of options.entry).options l ≡ None
         → MeansLeading (declaration_of options.entry) words.items l (codes "help" ∷ [])
@@ -105,13 +106,9 @@ pub fn complete_tasks<'a, F: Copy, V: Copy, M: Copy, S: Copy>(
         → first_asked (declaration_of options.entry).options l ≡ None
         → MeansLeading (declaration_of options.entry) words.items l (codes "remo" ∷ rest)
         → IfOk result (λ step. IsWritten [] step) }
-    ensures options { (l : List legal.Parsed)
-        → first_asked (declaration_of options.entry).options l ≡ None
-        → MeansLeading (declaration_of options.entry) words.items l []
-        → IfOk result (λ step. AreOffered options.entry words.items typed step) }
-    ensures after_a_mistake { ((l : List legal.Parsed) (rest : List (List ℕ))
+    ensures options { ((l : List legal.Parsed) (rest : List (List ℕ))
         → MeansLeading (declaration_of options.entry) words.items l rest
-        → first_asked (declaration_of options.entry).options l ≡ None → ⊥)
+        → first_asked (declaration_of options.entry).options l ≡ None → rest ≡ [])
         → IfOk result (λ step. AreOffered options.entry words.items typed step) }
 {
     Commands::new(options, &TASKS).answer_request(alloc, Request::Completion(words, typed), 80)

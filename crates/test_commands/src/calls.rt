@@ -1,7 +1,7 @@
 //! Each public call of `Commands`, and the words, the variable and `COLUMNS` of an environment.
 use crate::git::{Flag, Task, Value, git};
 use lexopt_commands::{Command, CommandLine, Commands, Runs, Step};
-use lexopt_options::Request;
+use lexopt_options::{OsString, Request};
 use std::alloc::{AllocError, Global};
 use test_helpers::environments::{Arguments, Variable};
 use test_helpers::parsers::words_of;
@@ -13,9 +13,10 @@ enum Call {
     Read,
     Answer,
     Complete,
+    CompleteLeading,
 }
 
-use Call::{Answer, Complete, Read};
+use Call::{Answer, Complete, CompleteLeading, Read};
 
 // At 30 columns the help of an entry begins at column 10.
 const HELP_AT_30: &str = "\
@@ -43,16 +44,16 @@ It has no index.
 ";
 
 // Calls, lines, and what is read, printed or refused.
-static ROWS: [(Call, &[u8], &str); 14] = [
+static ROWS: [(Call, &[u8], &str); 17] = [
     (
         Read,
         b"-C dir -- add -f \xFF",
-        "[Value(Directory, \"dir\")] Add [\"-f\", \"\\xFF\"]",
+        "[Value(Directory, \"dir\")] add Add [\"-f\", \"\\xFF\"]",
     ),
     (
         Read,
         b"-v help remote x",
-        "[Flag(Verbose)] Remote [\"x\", \"--help\"]",
+        "[Flag(Verbose)] remote Remote [\"x\", \"--help\"]",
     ),
     (Read, b"--version bogus", "Version(\"git 1.0\")"),
     (
@@ -67,7 +68,11 @@ static ROWS: [(Call, &[u8], &str); 14] = [
     ),
     (Answer, b"help", HELP_AT_30),
     (Answer, b"--version", "git 1.0\n"),
-    (Answer, b"-v add x", "[Flag(Verbose)] Add Line([\"x\"])"),
+    (
+        Answer,
+        b"-v add x",
+        "git add Add Call { general: [Flag(Verbose)], request: Line([\"x\"]) }",
+    ),
     (
         Answer,
         b"-x add",
@@ -81,24 +86,36 @@ static ROWS: [(Call, &[u8], &str); 14] = [
     (
         Complete,
         b"-v remote add -",
-        "[Flag(Verbose)] Remote Completion([\"add\"], \"-\")",
+        "git remote Remote Call { general: [], request: Completion([\"add\"], \"-\") }",
     ),
     (Complete, b"-vCdi", "files\t-vC\n"),
     // After `--help` the general declaration alone decides. It has no positionals, so nothing can
     // come after `x`.
     (Complete, b"--help -v", "-v\ttell more\n"),
     (Complete, b"--help x -v", ""),
+    (CompleteLeading, b"-v x y -", "Rest([\"x\", \"y\"])"),
+    (
+        CompleteLeading,
+        b"-C a",
+        "Text { text: \"files\\n\", can_come_first: false }",
+    ),
+    (
+        CompleteLeading,
+        b"-v --ver",
+        "Text { text: \"--verbose\\ttell more\\n--version\\tprint the version and exit\\n\", \
+        can_come_first: true }",
+    ),
 ];
 
-// The meaning of a line, as `Debug` writes it: the general options, the command and its words; or
-// the request; or the general options before the mistake, and the mistake.
+// The meaning of a line, as `Debug` writes it: the general options, the command's name, its key and
+// its words; or the request; or the general options before the mistake, and the mistake.
 fn text_of_line(
     alloc: Global,
     line: &CommandLine<'_, Task, Flag, Value>,
 ) -> Result<String, AllocError> {
     match line {
-        CommandLine::Command(parsed, task, words) => {
-            format!(in alloc; "{parsed:?} {task:?} {words:?}")
+        CommandLine::Command(parsed, name, task, words) => {
+            format!(in alloc; "{parsed:?} {name} {task:?} {words:?}")
         }
         CommandLine::Asked(asked) => format!(in alloc; "{asked:?}"),
         CommandLine::Refused(refused) => {
@@ -107,12 +124,10 @@ fn text_of_line(
     }
 }
 
-// What the program does: the command, a text to print, or a refusal.
+// What the program does: the command's path, its key and its call, a text to print, or a refusal.
 fn text_of_step(alloc: Global, step: Step<'_, Task, Flag, Value>) -> Result<String, AllocError> {
     match step {
-        Step::Command(parsed, task, request) => {
-            format!(in alloc; "{parsed:?} {task:?} {request:?}")
-        }
+        Step::Command(task, path, call) => format!(in alloc; "{path} {task:?} {call:?}"),
         Step::Text(text) => Ok(text),
         Step::Refused(refused) => refused.to_string(alloc),
     }
@@ -127,6 +142,12 @@ fn text_of(alloc: Global, call: Call, line: &[u8]) -> Result<String, AllocError>
         Complete => {
             let request = Request::new(alloc, Some(b"zsh_complete"), words);
             text_of_step(alloc, git().answer_request(alloc, request, 30)?)
+        }
+        CompleteLeading => {
+            let mut words = words;
+            let typed = words.pop().unwrap_or(OsString::new(alloc));
+            let completion = git().options().complete_leading(alloc, words, &typed)?;
+            format!(in alloc; "{completion:?}")
         }
     }
 }

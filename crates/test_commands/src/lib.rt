@@ -10,5 +10,7 @@ pub mod callers;
 mod calls;
 #[cfg(test)]
 mod git;
+#[cfg(test)]
+mod levels;
 pub mod line_callers;
 pub mod text_callers;

@@ -31,7 +31,7 @@ fn step_outcome(
 ) -> Result<Outcome, AllocError> {
     let mut text = String::with_capacity(alloc, 400)?;
     match step {
-        Step::Command(parsed, key, own) => write!(text, "{parsed:?} {key} {own:?}")?,
+        Step::Command(key, path, call) => write!(text, "{path} {key} {call:?}")?,
         Step::Text(own) => write!(text, "{own}")?,
         Step::Refused(refused) => write!(text, "{refused}")?,
     }
@@ -58,7 +58,8 @@ const ROWS: [(Option<&[u8]>, &[u8], &str); 5] = [
     (
         None,
         b"-vo x help add -q",
-        "[Flag(Verbose), Value(Output, \"x\")] 1 Line([\"-q\", \"--help\"])",
+        "pack add 1 Call { general: [Flag(Verbose), Value(Output, \"x\")], \
+        request: Line([\"-q\", \"--help\"]) }",
     ),
     (
         None,
@@ -81,7 +82,7 @@ const ROWS: [(Option<&[u8]>, &[u8], &str); 5] = [
     (
         Some(b"bash_complete"),
         b"-v add -x -",
-        "[Flag(Verbose)] 1 Completion([\"-x\"], \"-\")",
+        "pack add 1 Call { general: [], request: Completion([\"-x\"], \"-\") }",
     ),
 ];
 

@@ -13,13 +13,13 @@ use Rattle.test_commands.proofs.callers.read_tasks.Goals as goal
 pub returns-clause-command : goal.returns-clause-command
 returns-clause-command g c = λ l rest none means.
     let words = codes "remote" ∷ rest in
-    IfOk-weaker c.read.result _ _ (λ it of. task_line c.new.result c.args.options l words rest task.Remote it c.new.ensures.options none (ap (λ cs. meaning cs words) c.new.ensures.commands) of)
+    IfOk-weaker c.read.result _ _ (λ it of. task_line c.new.result c.args.options l words rest (codes "remote") task.Remote it c.new.ensures.options none (ap (λ cs. meaning cs words) c.new.ensures.commands) of)
     (c.read.ensures.answered l words (of_options c.new.result.options c.args.options c.args.words.items l words c.new.ensures.options means))
 
 pub returns-clause-help_of_a_command : goal.returns-clause-help_of_a_command
 returns-clause-help_of_a_command g c = λ l rest none means.
     let words = codes "help" ∷ codes "remote" ∷ rest in
-    IfOk-weaker c.read.result _ _ (λ it of. task_line c.new.result c.args.options l words (rest ++ codes "--help" ∷ []) task.Remote it c.new.ensures.options none (ap (λ cs. meaning cs words) c.new.ensures.commands) of)
+    IfOk-weaker c.read.result _ _ (λ it of. task_line c.new.result c.args.options l words (rest ++ codes "--help" ∷ []) (codes "remote") task.Remote it c.new.ensures.options none (ap (λ cs. meaning cs words) c.new.ensures.commands) of)
     (c.read.ensures.answered l words (of_options c.new.result.options c.args.options c.args.words.items l words c.new.ensures.options means))
 
 pub returns-clause-help : goal.returns-clause-help

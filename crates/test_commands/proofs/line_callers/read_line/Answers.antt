@@ -15,5 +15,5 @@ returns-clause-asked g c = λ l rest asked means is.
 
 pub returns-clause-named : goal.returns-clause-named
 returns-clause-named g c = λ i own key l rest at runs means none.
-    IfOk-weaker c.read.result _ _ (λ it is. named_line c.new.result c.args.options l key rest it c.new.ensures.options is)
+    IfOk-weaker c.read.result _ _ (λ it is. named_line c.new.result c.args.options l own.name.now key rest it c.new.ensures.options is)
     (c.read.ensures.named i own key l rest (subst (λ cs. slice_get cs i ≡ Some own) (sym c.new.ensures.commands) at) runs (of_options c.new.result.options c.args.options c.args.words.items l (own.name.now ∷ rest) c.new.ensures.options means) (none_of c.new.result.options c.args.options l c.new.ensures.options none))

@@ -1,17 +1,23 @@
-use Rattle.std.proofs.Common.{inl, inr, refl, string_bytes, subst, ◌∙◌}
+use Rattle.std.proofs.Common.{◌∙◌, ◌++◌, ap, inl, inr, string_bytes, subst}
 use Rattle.std.proofs.lemmas.Result.{IfOk-weaker}
-use Rattle.lexopt_options.specs.Answers.{IsCompletionText}
-use Rattle.lexopt_options.specs.LeadingLines.{IsLeadingRead}
-use Rattle.lexopt_commands.proofs.LinesRead.{IsOfEach}
-use Rattle.lexopt_commands.proofs.Placed.{placed_after, unplaced}
+use Rattle.lexopt_options.specs.Begun.{IsLeadingCompletion}
 use Rattle.lexopt_commands.proofs.commands.Commands.completion_step.Goals as goal
 
-pub returns-in-Some : goal.returns-in-Some
-returns-in-Some g c =
-    let read = subst (λ ws. IsLeadingRead c.options.result ws c.in_ok-leading.leading) (c.in_ok-copies.ensures ∙ c.deref.ensures.value) c.in_ok-leading.ensures.leading in
-    IfOk-weaker c.placed_step.result _ _ (λ it placed. inl (placed_after c.args.self.now c.options.result c.args.words.items c.args.typed c.in_ok-leading.leading c.in-Some.parsed c.in-Some.rest it c.options.ensures.same c.in-Some.ensures read placed)) c.placed_step.ensures
+pub returns-in-Rest : goal.returns-in-Rest
+returns-in-Rest g c =
+    let words = c.args.words.items in
+    let read = subst (IsLeadingCompletion c.args.self.now.options words c.args.typed) c.in-Rest.is (subst (λ o. IsLeadingCompletion o words c.args.typed c.in_ok-rest.field-0) c.options.ensures.same c.in_ok-rest.ensures) in
+    IfOk-weaker c.placed_step.result _ _ (λ it placed. inl (record { rest = c.in-Rest.rest.items; have_rest = read; placed = placed })) c.placed_step.ensures
 
 pub returns : goal.returns
 returns g c =
-    let of = subst (λ ws. IsOfEach c.options.result ws c.in_ok-leading.leading) (c.in_ok-copies.ensures ∙ c.deref.ensures.value) c.in_ok-leading.ensures.answered in
-    inr (unplaced c.args.self.now c.options.result c.args.words.items c.args.typed c.in_ok-leading.leading _ (string_bytes c.in_ok-text-in-None.text) c.options.ensures.same c.in-None.ensures of refl (subst (λ o. IsCompletionText o c.args.words.items c.args.typed (string_bytes c.in_ok-text-in-None.text)) c.options-in-None.ensures.same c.in_ok-text-in-None.ensures))
+    let words = c.args.words.items in
+    let read = subst (IsLeadingCompletion c.args.self.now.options words c.args.typed) c.in-Text.is (subst (λ o. IsLeadingCompletion o words c.args.typed c.in_ok-rest.field-0) c.options.ensures.same c.in_ok-rest.ensures) in
+    inr (record {
+      without_rest = read.0;
+      names = string_bytes c.in_ok-all-in-Text.all;
+      are_names = (c.in-Text.can_come_first, read.2, c.in_ok-all-in-Text.ensures);
+      own = string_bytes c.in-Text.text;
+      is_own = read.1;
+      printed = c.in_ok-push_str-in-Text.ensures.bytes ∙ ap (λ l. string_bytes c.in_ok-all-in-Text.all ++ l) c.as_str.ensures.value;
+    })

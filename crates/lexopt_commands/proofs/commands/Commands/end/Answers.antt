@@ -9,7 +9,7 @@ use Rattle.lexopt_commands.proofs.commands.Commands.end.Goals as goal
 pub returns-in_ok-names_of-in-Missing : goal.returns-in_ok-names_of-in-Missing
 returns-in_ok-names_of-in-Missing g c =
     let words = c.args.words.items in
-    let means = ap (λ cs. meaning cs words) (sym c.commands.ensures.same) ∙ sym c.in_ok-key.ensures ∙ ap meaning_view c.in-Missing.is in
+    let means = ap (λ cs. meaning cs words) (sym c.commands.ensures.same) ∙ sym c.in_ok-name.ensures ∙ ap meaning_view c.in-Missing.is in
     let named = c.in_ok-names_of-in-Missing.ensures ∙ ap names_of c.commands-in-Missing.ensures.same in
     record {
       program = c.refuse.ensures.program;
@@ -21,7 +21,7 @@ returns-in_ok-names_of-in-Missing g c =
 pub returns-in_ok-hints-in-Unknown : goal.returns-in_ok-hints-in-Unknown
 returns-in_ok-hints-in-Unknown g c =
     let words = c.args.words.items in
-    let means = ap (λ cs. meaning cs words) (sym c.commands.ensures.same) ∙ sym c.in_ok-key.ensures ∙ ap meaning_view c.in-Unknown.is in
+    let means = ap (λ cs. meaning cs words) (sym c.commands.ensures.same) ∙ sym c.in_ok-name.ensures ∙ ap meaning_view c.in-Unknown.is in
     let hinted = subst (λ (cs : List (Command _)). IsHint cs c.in-Unknown.word (map (λ hint. hint.now) c.in_ok-hints-in-Unknown.hints.items)) c.commands-in-Unknown.ensures.same c.in_ok-hints-in-Unknown.ensures in
     record {
       program = c.refuse-in-Unknown.ensures.program;

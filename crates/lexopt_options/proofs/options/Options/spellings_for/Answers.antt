@@ -4,13 +4,19 @@ use Rattle.lexopt_declaration.specs.declared.spellings.Spelling.{Spelling}
 use Rattle.lexopt_declaration.specs.Models.{spelling_view}
 use Rattle.lexopt_options.specs.Completions.{AreOffered, CanCome}
 use Rattle.lexopt_options.specs.Declarations.{declaration_of, options_of}
-use Rattle.lexopt_options.proofs.Completing.{all_named, none_stands, offered_all}
+use Rattle.lexopt_options.proofs.Completing.{all_named, none_begins, none_stands, offered_all}
 use Rattle.lexopt_options.proofs.options.Options.spellings_for.Goals as goal
 
 pub returns-then-not-can_come : goal.returns-then-not-can_come
 returns-then-not-can_come g c = λ words opens.
     subst (λ (l : List Spelling). AreOffered (declaration_of c.args.self.now) words c.args.typed.now (map spelling_view l)) (sym c.new.ensures.items)
     (none_stands (declaration_of c.args.self.now) words c.args.typed.now (subst (CanCome (declaration_of c.args.self.now) words) c.if-not-can_come.true opens))
+
+pub returns-then-begins_otherwise : goal.returns-then-begins_otherwise
+returns-then-begins_otherwise g c = λ words opens.
+    let otherwise = c.begins_otherwise.ensures c.if-begins_otherwise.true in
+    subst (λ (l : List Spelling). AreOffered (declaration_of c.args.self.now) words c.args.typed.now (map spelling_view l)) (sym c.new-then-begins_otherwise.ensures.items)
+    (none_begins (declaration_of c.args.self.now) words c.args.typed.now otherwise.0 otherwise.1)
 
 pub returns-in-Some : goal.returns-in-Some
 returns-in-Some g c =

@@ -1,19 +1,17 @@
 use Rattle.std.proofs.Common.{◌∙◌}
 use Rattle.lexopt_options.specs.Declarations.{declaration_of}
 use Rattle.lexopt_options.proofs.Completing.{values_given}
-use Rattle.lexopt_options.proofs.options.Options.complete.Goals as goal
+use Rattle.lexopt_options.proofs.options.Options.complete_after.Goals as goal
 
 pub joined-requires : goal.joined-requires
-joined-requires g c = (c.args.words.items, c.is_open.ensures (declaration_of c.args.self.now) c.args.words.items c.in_ok-front.ensures)
+joined-requires g c = (c.requires.0, c.is_open.ensures (declaration_of c.args.self.now) c.requires.0 c.requires.1)
 
 pub role-word-requires : goal.role-word-requires
-role-word-requires g c = (c.args.words.items, c.place-place.ensures.role c.args.words.items c.in_ok-front.ensures)
+role-word-requires g c = (c.requires.0, c.place-place.ensures.role c.requires.0 c.requires.1)
 
 pub returns : goal.returns
-returns g c =
+returns g c = λ words front.
     let d = declaration_of c.args.self.now in
-    let words = c.args.words.items in
-    let front = c.in_ok-front.ensures in
     let joined = c.in_ok-joined.ensures words (c.is_open.ensures d words front) in
     record {
       spellings = c.in_ok-spellings_for.ensures words (c.can_come.ensures words front);

@@ -1,0 +1,10 @@
+use Rattle.std.proofs.Common.{◌++◌, ◌∷◌, ◌∙◌, ap}
+use Rattle.std.proofs.lemmas.Result.{IfOk-weaker}
+use Rattle.lexopt_options_spec.specs.Help.{blank}
+use Rattle.lexopt_options.specs.Declarations.{declaration_of}
+use Rattle.lexopt_commands.proofs.commands.Commands.path_of.Goals as goal
+
+pub returns : goal.returns
+returns g c =
+    IfOk-weaker c.format.result _ _ (λ path is.
+    is ∙ ap (λ p. p ++ blank ∷ c.args.name.now) (c.program-program.ensures ∙ ap (λ o. (declaration_of o).program) c.options.ensures.same)) c.format.ensures.ok

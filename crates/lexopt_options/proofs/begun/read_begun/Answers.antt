@@ -1,0 +1,97 @@
+use Rattle.std.proofs.Common.{◌∙◌, ◌≡◌, ◌↔◌, IsTrue, ℕ, List, None, arith, ap, false, length, refl, subst, sym}
+use Rattle.std.proofs.lemmas.Bool.{false≢true}
+use Rattle.lexopt_declaration.specs.Models.{option_view}
+use Rattle.lexopt_options_spec.specs.States.{is_further, state_at_end}
+use Rattle.lexopt_options.specs.Declarations.{declaration_of, options_of}
+use Rattle.lexopt_options.specs.States.{state_view}
+use Rattle.lexopt_options.proofs.Beginnings.{AreLegal, begun_nothing, begun_option, end_begun, lacking_begun, missing_begun, mistake_begun, rest_begun, same_begun, surplus_begun, undeclared_begun}
+use Rattle.lexopt_options.proofs.Fronts.{index_within, option_there}
+use Rattle.lexopt_options.proofs.LeadingRead.{nothing_pending}
+use Rattle.lexopt_options.proofs.begun.read_begun.Goals as goal
+
+pub loop-last-init : goal.loop-last-init
+loop-last-init g c = begun_nothing (declaration_of c.args.options.now) c.args.parser.now c.new-seen.result.items c.requires c.new-seen.ensures.items
+
+pub offset_bounds-declared-index : goal.offset_bounds-declared-index
+offset_bounds-declared-index g c =
+    let next = rw c.in-Option.is at c.in_ok-index.ensures in
+    let within = index_within (options_of c.args.options.now) next.0 c.in-Option.index next.2 in
+    let same = ap (λ l. length l) c.options-declared.ensures.same in omega (arith, within, same)
+
+pub bounds-declared-index : goal.bounds-declared-index
+bounds-declared-index g c =
+    let next = rw c.in-Option.is at c.in_ok-index.ensures in
+    let within = index_within (options_of c.args.options.now) next.0 c.in-Option.index next.2 in
+    let same = ap (λ l. length l) c.options-declared.ensures.same in omega (arith, within, same)
+
+pub loop-last-smaller : goal.loop-last-smaller
+loop-last-smaller g c =
+    let o = c.args.options.now in
+    let next = rw c.in-Option.is at c.in_ok-index.ensures in
+    let at = option_there (options_of o) c.options-declared.result.now c.index-declared-index.result next.0 c.in-Option.index c.options-declared.ensures.same next.2 c.index-declared-index.is in
+    let given = rw c.in-Values.is at c.in_ok-accepted-in-Option.ensures (declaration_of o) at in
+    (begun_option (declaration_of o) c.args.parser.now c.loop-last.parser c.read_next.new.parser c.read_after_name.new.parser c.loop-last.seen.items c.note.new.seen.items c.loop-last.all_accepted c.in-Values.accepted c.loop-last.unasked c.asks_nothing.result c.loop-last.last c.loop-last.going_on
+    c.in-Values.first c.in-Values.goes_on next.0 c.in-Option.index (option_view c.index-declared-index.result) o.sound c.loop-last.invariant next.1 next.2 at c.asks_nothing.ensures given c.in_ok-note-in-Values.ensures).1
+
+pub loop-last-preserved : goal.loop-last-preserved
+loop-last-preserved g c =
+    let o = c.args.options.now in
+    let next = rw c.in-Option.is at c.in_ok-index.ensures in
+    let at = option_there (options_of o) c.options-declared.result.now c.index-declared-index.result next.0 c.in-Option.index c.options-declared.ensures.same next.2 c.index-declared-index.is in
+    let given = rw c.in-Values.is at c.in_ok-accepted-in-Option.ensures (declaration_of o) at in
+    same_begun (declaration_of o) c.args.parser.now c.read_after_name.new.parser c.note.new.seen.items _ _ _ _ _ _ _ _ c.are_both-all_accepted.ensures c.are_both-unasked.ensures c.with_index-last.ensures c.index_if-going_on.ensures
+    (begun_option (declaration_of o) c.args.parser.now c.loop-last.parser c.read_next.new.parser c.read_after_name.new.parser c.loop-last.seen.items c.note.new.seen.items c.loop-last.all_accepted c.in-Values.accepted c.loop-last.unasked c.asks_nothing.result c.loop-last.last c.loop-last.going_on
+    c.in-Values.first c.in-Values.goes_on next.0 c.in-Option.index (option_view c.index-declared-index.result) o.sound c.loop-last.invariant next.1 next.2 at c.asks_nothing.ensures given c.in_ok-note-in-Values.ensures).0
+
+pub returns-in-Lacks : goal.returns-in-Lacks
+returns-in-Lacks g c = λ words is.
+    let o = c.args.options.now in
+    let next = rw c.in-Option.is at c.in_ok-index.ensures in
+    let at = option_there (options_of o) c.options-declared.result.now c.index-declared-index.result next.0 c.in-Option.index c.options-declared.ensures.same next.2 c.index-declared-index.is in
+    let given = rw c.in-Lacks.is at c.in_ok-accepted-in-Option.ensures (declaration_of o) at in
+    lacking_begun (declaration_of o) c.args.parser.now c.loop-last.parser c.read_next.new.parser c.read_after_name.new.parser words (record { words = c.new.result; accepted = c.loop-last.all_accepted; last = None; state = c.in-Lacks.state }) c.loop-last.seen.items c.loop-last.all_accepted c.loop-last.unasked
+    c.loop-last.last c.loop-last.going_on next.0 c.in-Option.index o.sound is c.loop-last.invariant c.new.ensures.items refl refl next.1 next.2 given
+
+pub returns-in-Missing : goal.returns-in-Missing
+returns-in-Missing g c = λ words is.
+    let o = c.args.options.now in
+    let next = rw c.in-Option.is at c.in_ok-index.ensures in
+    let at = option_there (options_of o) c.options-declared.result.now c.index-declared-index.result next.0 c.in-Option.index c.options-declared.ensures.same next.2 c.index-declared-index.is in
+    let given = rw c.in-Missing.is at c.in_ok-accepted-in-Option.ensures (declaration_of o) at in
+    missing_begun (declaration_of o) c.args.parser.now c.loop-last.parser c.read_next.new.parser c.read_after_name.new.parser words c.loop-last.seen.items c.loop-last.all_accepted c.loop-last.unasked c.loop-last.last c.loop-last.going_on next.0 c.in-Option.index o.sound is c.loop-last.invariant next.1 next.2 given
+
+pub words_from-requires : goal.words_from-requires
+words_from-requires g c = nothing_pending c.loop-last.parser c.read_next.new.parser c.in-Positional.word (rw c.in-Positional.is at c.in_ok-index.ensures).0
+
+pub returns-then-are_legal : goal.returns-then-are_legal
+returns-then-are_legal g c = λ words is.
+    let d = declaration_of c.args.options.now in
+    let next = rw c.in-Positional.is at c.in_ok-index.ensures in
+    rest_begun d c.args.parser.now c.loop-last.parser c.read_next.new.parser words c.in_ok-words_from-in-Positional.field-0.items c.in-Positional.word c.loop-last.seen.items c.loop-last.all_accepted c.loop-last.unasked c.loop-last.last c.loop-last.going_on c.args.options.now.sound is c.loop-last.invariant next.0
+    (subst (λ (seen : List ℕ). AreLegal d seen c.loop-last.all_accepted c.loop-last.unasked) c.deref.ensures.value (c.are_legal.ensures.0 c.if-are_legal.true)) c.in_ok-words_from-in-Positional.ensures
+
+pub returns-in-Positional : goal.returns-in-Positional
+returns-in-Positional g c = λ words is.
+    let d = declaration_of c.args.options.now in
+    let next = rw c.in-Positional.is at c.in_ok-index.ensures in
+    surplus_begun c.args.options.now c.args.parser.now c.loop-last.parser c.read_next.new.parser words c.in-Positional.word c.loop-last.seen.items c.loop-last.all_accepted c.loop-last.unasked c.loop-last.last c.loop-last.going_on is c.loop-last.invariant next.0
+    (λ are.
+    false≢true (sym c.if-are_legal.false ∙ c.are_legal.ensures.1 (subst (λ (seen : List ℕ). AreLegal d seen c.loop-last.all_accepted c.loop-last.unasked) (sym c.deref.ensures.value) are)))
+
+pub returns-in-End : goal.returns-in-End
+returns-in-End g c = λ words is.
+    let d = declaration_of c.args.options.now in
+    let step = rw c.in-End.is at c.in_ok-index.ensures in
+    end_begun d c.args.parser.now c.loop-last.parser c.read_next.new.parser words (record { words = c.new-in-End.result; accepted = c.loop-last.all_accepted; last = c.loop-last.last; state = c.state_at_end-state.result }) c.loop-last.seen.items c.loop-last.all_accepted c.loop-last.unasked c.can_end-ends.result
+    c.loop-last.going_on c.args.options.now.sound is c.loop-last.invariant c.new-in-End.ensures.items refl step (c.state_at_end-state.ensures ∙ ap (state_at_end c.loop-last.going_on) c.is_past_separator.ensures)
+    (subst (λ (seen : List ℕ). IsTrue c.can_end-ends.result ↔ (AreLegal d seen c.loop-last.all_accepted c.loop-last.unasked × (is_further (state_view c.state_at_end-state.result) ≡ false))) c.deref-in-End.ensures.value c.can_end-ends.ensures)
+
+pub returns-in-Undeclared : goal.returns-in-Undeclared
+returns-in-Undeclared g c = λ words is.
+    undeclared_begun (declaration_of c.args.options.now) c.args.parser.now c.loop-last.parser c.read_next.new.parser words c.loop-last.seen.items c.loop-last.all_accepted c.loop-last.unasked c.loop-last.last c.loop-last.going_on c.in-Undeclared.field-0 c.args.options.now.sound is c.loop-last.invariant
+    (rw c.in-Undeclared.is at c.in_ok-index.ensures)
+
+pub returns-in-Mistake : goal.returns-in-Mistake
+returns-in-Mistake g c = λ words is.
+    let stops = rw c.in-Mistake.is at c.in_ok-index.ensures in
+    mistake_begun (declaration_of c.args.options.now) c.args.parser.now c.loop-last.parser words c.loop-last.seen.items c.loop-last.all_accepted c.loop-last.unasked c.loop-last.last c.loop-last.going_on _ c.args.options.now.sound is c.loop-last.invariant stops

@@ -1,0 +1,10 @@
+use Rattle.lexopt_line_spec.specs.Bound.{bound}
+use Rattle.lexopt_options.specs.Declarations.{declaration_of}
+use Rattle.lexopt_options.proofs.Beginnings.{HasBegun}
+use Rattle.lexopt_options.proofs.begun.read_begun.Given as goal
+
+abbrev pub invariant-loop-last : goal.invariant-loop-last
+invariant-loop-last g l = HasBegun (declaration_of l.options) l.initial.parser l.parser l.seen.items l.all_accepted l.unasked l.last l.going_on
+
+abbrev pub decreases-loop-last : goal.decreases-loop-last
+decreases-loop-last g l = bound l.parser

@@ -1,0 +1,60 @@
+-- Which words come after leading options, or else what can come there, as contracts see it. The
+-- source is `docs/behaviour.md`.
+use Rattle.std.specs.Prelude.{◌≡◌, ◌≢◌, ◌++◌, ◌∷◌, ℕ, Bool, false, List, [], None, string_bytes}
+use Rattle.std.specs.Bool.{MatchBool}
+use Rattle.std.specs.declared.convert.Infallible.{Infallible}
+use Rattle.lexopt_spec.specs.UnreadLine.{IsPlain}
+use Rattle.lexopt_options_spec.specs.Asking.{first_asked}
+use Rattle.lexopt_options_spec.specs.Declaration.{Declaration}
+use Rattle.lexopt_options_spec.specs.Leading.{MeansLeading}
+use Rattle.lexopt_options_spec.specs.Legal.{Parsed}
+use Rattle.lexopt_options.specs.declared.begun.Begun.{Begun}
+use Rattle.lexopt_options.specs.declared.begun.Begun.TheVariants as begun
+use Rattle.lexopt_options.specs.declared.begun.LeadingCompletion.{LeadingCompletion}
+use Rattle.lexopt_options.specs.declared.begun.LeadingCompletion.TheVariants as found
+use Rattle.lexopt_options.specs.declared.options.Options.{Options}
+use Rattle.lexopt_options.specs.Answers.{IsCompletionText}
+use Rattle.lexopt_options.specs.Declarations.{declaration_of}
+use Rattle.lexopt_options.specs.States.{IsFrontOf}
+
+-- these words are leading options that ask for nothing, and this word is the first after them
+abbrev pub ComesFirst : Declaration → List (List ℕ) → List ℕ → Type 0
+ComesFirst d words word = (l : List Parsed)
+    × MeansLeading d (words ++ word ∷ []) l (word ∷ []) × (first_asked d.options l ≡ None)
+
+-- any word that is plain without a separator before it would be the first after them
+abbrev pub AnyComesFirst : Declaration → List (List ℕ) → Type 0
+AnyComesFirst d words = (word : List ℕ) → IsPlain false word → ComesFirst d words word
+
+-- no such word would be
+abbrev pub NoneComesFirst : Declaration → List (List ℕ) → Type 0
+NoneComesFirst d words = (word : List ℕ) → IsPlain false word → ¬ ComesFirst d words word
+
+-- any such word would be, or none would, as this tells
+abbrev pub TellsFirst : Declaration → List (List ℕ) → Bool → Type 0
+TellsFirst d words can = MatchBool can (AnyComesFirst d words) (NoneComesFirst d words)
+
+-- the words are leading options that ask for nothing, and then comes this rest, which has a word
+abbrev pub HaveRest : Declaration → List (List ℕ) → List (List ℕ) → Type 0
+HaveRest d words rest = (l : List Parsed) × MeansLeading d words l rest
+    × (first_asked d.options l ≡ None) × (rest ≢ [])
+
+-- they have no such rest
+abbrev pub HaveNoRest : Declaration → List (List ℕ) → Type 0
+HaveNoRest d words = (l : List Parsed) (rest : List (List ℕ)) → MeansLeading d words l rest
+    → first_asked d.options l ≡ None → rest ≡ []
+
+-- this rest comes after leading options; or none does, and this is what the words mean as the
+-- beginning of a line, and whether a word can come first
+abbrev pub IsBegun : Declaration → List (List ℕ) → Begun → Type 0
+IsBegun d words (begun.Rest rest) = HaveRest d words rest.items
+IsBegun d words (begun.Front front can) =
+    HaveNoRest d words × IsFrontOf d words front × TellsFirst d words can
+
+-- this rest comes after leading options; or none does, and this is the text of what can come where
+-- this is typed, and whether a word can come first
+abbrev pub IsLeadingCompletion : {F V M S : Type 0} → Options F V Infallible M S → List (List ℕ)
+    → List ℕ → LeadingCompletion → Type 0
+IsLeadingCompletion o words typed (found.Rest rest) = HaveRest (declaration_of o) words rest.items
+IsLeadingCompletion o words typed (found.Text text can) = HaveNoRest (declaration_of o) words
+    × IsCompletionText o words typed (string_bytes text) × TellsFirst (declaration_of o) words can

@@ -1,0 +1,130 @@
+//! A command that has commands of its own: what is read at each level, and the path in what is
+//! printed.
+use crate::git::{Flag, Task, Value, git};
+use lexopt_commands::{Call, Command, Commands, Step, declare_commands};
+use lexopt_options::{Answer, Declaration, Names, Options, Request, declare};
+use std::alloc::{AllocError, Global};
+use std::convert::Infallible;
+use test_helpers::parsers::words_of;
+
+static REMOTE: Declaration<'static, Flag, Value> = declare! {
+    program: "remote",
+    options: [
+        flag(Flag::Verbose, Names::Both('v', "verbose"), "tell more"),
+        help(Names::Both('h', "help")),
+    ],
+};
+
+static REMOTE_COMMANDS: &[Command<'static, ()>] = declare_commands![
+    command((), "add", "add a remote"),
+    help("help")
+];
+
+static ADD: Declaration<'static, Infallible, Infallible, ()> = declare! {
+    program: "add",
+    options: [help(Names::Both('h', "help"))],
+    positionals: [once((), "NAME").text()],
+};
+
+// Lines, or requests of a shell, and what is read or printed.
+static ROWS: [(bool, &[u8], &str); 8] = [
+    (
+        false,
+        b"-C dir remote -v add x",
+        "[Value(Directory, \"dir\"), Flag(Verbose)] [Positional((), \"x\")]",
+    ),
+    (
+        false,
+        b"remote add",
+        "git remote add: missing argument NAME\n\
+        Try 'git remote add --help' for more information.",
+    ),
+    (
+        false,
+        b"remote ad",
+        "git remote: unknown command \"ad\"; did you mean 'add'?\n\
+        Try 'git remote --help' for more information.",
+    ),
+    (
+        false,
+        b"help remote help",
+        "Usage: git remote [OPTION]... COMMAND [ARGUMENT]...\n\n  \
+        add                   add a remote\n  \
+        help                  print the help of a command\n\n  \
+        -v, --verbose         tell more\n  \
+        -h, --help            print this help and exit\n",
+    ),
+    (
+        false,
+        b"help remote add",
+        "Usage: git remote add [OPTION]... NAME\n\n  \
+        -h, --help            print this help and exit\n",
+    ),
+    (true, b"-v remote a", "+add\tadd a remote\n"),
+    (
+        true,
+        b"-v remote add -",
+        "-h\tprint this help and exit\n--help\tprint this help and exit\n",
+    ),
+    (
+        true,
+        b"-v remote add x -",
+        "-h\tprint this help and exit\n--help\tprint this help and exit\n",
+    ),
+];
+
+// What is read of the words of `remote add`, or printed.
+fn text_of_add(alloc: Global, path: &str, call: Call<Flag, Value>) -> Result<String, AllocError> {
+    let options = Options::new(&ADD).with_program(path);
+    let (general, answer) = call.answer(alloc, &options, 80)?;
+    match answer {
+        Answer::Parsed(line) => format!(in alloc; "{general:?} {line:?}"),
+        Answer::Text(text) => Ok(text),
+        Answer::Refused(refused) => refused.to_string(alloc),
+    }
+}
+
+// What is read of the words of `remote`, or printed.
+fn text_of_remote(
+    alloc: Global,
+    path: &str,
+    call: Call<Flag, Value>,
+) -> Result<String, AllocError> {
+    let commands = Commands::new(Options::new(&REMOTE).with_program(path), REMOTE_COMMANDS);
+    match commands.answer_call(alloc, call, 80)? {
+        Step::Command((), path, call) => text_of_add(alloc, path.as_str(), call),
+        Step::Text(text) => Ok(text),
+        Step::Refused(refused) => refused.to_string(alloc),
+    }
+}
+
+// What is read of these words, or printed.
+fn text_of(alloc: Global, is_asked: bool, line: &[u8]) -> Result<String, AllocError> {
+    let words = words_of(alloc, line)?;
+    let value: Option<&[u8]> = if is_asked {
+        Some(b"zsh_complete")
+    } else {
+        None
+    };
+    match git().answer_request(alloc, Request::new(alloc, value, words), 80)? {
+        Step::Command(Task::Remote, path, call) => text_of_remote(alloc, path.as_str(), call),
+        Step::Command(_, path, _) => Ok(path),
+        Step::Text(text) => Ok(text),
+        Step::Refused(refused) => refused.to_string(alloc),
+    }
+}
+
+// The place of the first row that does not hold, if there is one.
+fn first_wrong(alloc: Global) -> Result<Option<usize>, AllocError> {
+    for (row, (is_asked, line, wanted)) in ROWS.iter().enumerate() {
+        if text_of(alloc, *is_asked, line)?.as_str() != *wanted {
+            return Ok(Some(row));
+        }
+    }
+    Ok(None)
+}
+
+#[test]
+fn rows(rt: HostRuntime) {
+    assert_eq!(rt; first_wrong(rt.alloc()).expect(&rt, "memory"), None);
+}
