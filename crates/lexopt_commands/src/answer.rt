@@ -17,10 +17,10 @@ use std::env::Env;
 /// [`Commands`].
 #[derive(Debug, Drop)]
 pub enum Step<'a, C, F, V = Infallible, M = Infallible, S = Infallible> {
-    /// Run the command with this key. The text is the path by which it was reached, such as
-    /// `git remote add`. By [`Options::with_program`](lexopt_options::Options::with_program), the options of the
-    /// command get it as the name of their program. [`Call::answer`] answers the call by these
-    /// options, and [`Commands::answer_call`] if the command has commands of its own.
+    /// Run the command with this key. The text is its path, such as `git remote add`, which
+    /// `Options::with_program` makes the name of the program in the command's options. Then hand the
+    /// call on: to [`Call::answer`] with these options, or to [`Commands::answer_call`] if the command
+    /// has commands of its own.
     Command(C, String, Call<F, V, M, S>),
     /// Print this to standard output, and exit: the help, the version, or what a shell asked for.
     Text(String),
