@@ -1,6 +1,2 @@
 mod Words
 mod Pairs
-pub mod Tool
-pub mod Keyed
-pub mod Completed
-pub mod Printed

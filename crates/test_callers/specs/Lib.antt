@@ -1,5 +1,1 @@
 pub mod Callers
-pub mod Tool
-pub mod Keyed
-pub mod Printed
-pub mod Grouped

@@ -1,11 +1,7 @@
-//! Callers of the library that exist for the prover. Each has clauses of its own, which are proved
-//! from the clauses of the public calls alone. `test_calls` runs some of them.
+//! Callers of the parser, and of what reads and spells whole lines, that exist for the prover. Each
+//! has clauses of its own, which are proved from the clauses of the public calls alone.
 #![tactic(auto)]
 
 pub mod callers;
-pub mod declared;
-pub mod declared_keys;
-pub mod declared_texts;
-pub mod grouped;
 pub mod line_callers;
 pub mod text_callers;

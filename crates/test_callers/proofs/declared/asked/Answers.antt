@@ -1,5 +1,0 @@
-use Rattle.test_callers.proofs.Completed.{asked_so}
-use Rattle.test_callers.proofs.declared.asked.Goals as goal
-
-pub returns : goal.returns
-returns c = asked_so _ c.args.words.items c.new.result c.new.ensures

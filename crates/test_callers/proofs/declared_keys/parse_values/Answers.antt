@@ -1,6 +1,0 @@
-use Rattle.lexopt_options.specs.Declarations.{options_of}
-use Rattle.test_callers.proofs.Keyed.{converted, values_first}
-use Rattle.test_callers.proofs.declared_keys.parse_values.Goals as goal
-
-pub returns : goal.returns
-returns g c = converted _ _ _ _ c.args.word.now c.parse_values.result (values_first g.S.PartialEq.eq c.args.key (options_of c.args.options.now)) c.parse_values.ensures

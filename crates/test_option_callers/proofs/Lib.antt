@@ -1,0 +1,4 @@
+pub mod Tool
+pub mod Keyed
+pub mod Completed
+pub mod Printed

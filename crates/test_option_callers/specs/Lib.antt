@@ -1,0 +1,4 @@
+pub mod Tool
+pub mod Keyed
+pub mod Printed
+pub mod Grouped

@@ -1,0 +1,161 @@
+//! Callers that print names and errors, and that declare options which may be refused. Their
+//! clauses state the texts by plain data.
+ghost use Rattle.std.specs.Prelude.{◌≡◌, ◌≢◌, IfOk, MatchResult, codes, map, string_bytes, true};
+ghost use Rattle.std.specs.Option.{MatchOption};
+ghost use Rattle.lexopt_options_spec.specs.Declaration.{is_sound};
+ghost use Rattle.test_option_callers.specs.Printed.{IsErrorOf, IsFaultOf, IsUsageOf, declaration_line};
+ghost use Rattle.test_option_callers.specs.Printed.{IsErrorWith, IsUsageWith, names_line, refused_line};
+ghost use Rattle.test_option_callers.specs.Printed.{report_line, two_options};
+
+use crate::declared::{Flag, Value, Word};
+use lexopt_options::{
+    Count, Declaration, DeclarationError, Declared, Mistake, Names, Options, Positional, Reason,
+    Refused, Report, UsageError, Words,
+};
+use std::alloc::{AllocError, Global};
+
+/// Prints the names of an option.
+pub fn names_text(alloc: Global, names: &Names<'_>) -> Result<String, AllocError>
+    ensures { IfOk result (λ text. string_bytes text ≡ names_line names.now) }
+{
+    format!(in alloc; "{names}")
+}
+
+/// Prints why an option cannot be declared.
+pub fn declaration_text(alloc: Global, error: &DeclarationError<'_>) -> Result<String, AllocError>
+    ensures { IfOk result (λ text. string_bytes text ≡ declaration_line error.now) }
+{
+    format!(in alloc; "{error}")
+}
+
+/// Prints why a line is refused.
+pub fn refused_text<F, V, P, M, S>(
+    alloc: Global,
+    refused: &Refused<'_, F, V, P, M, S>,
+) -> Result<String, AllocError>
+    ensures { IfOk result (λ text. string_bytes text ≡ refused_line refused.now) }
+{
+    format!(in alloc; "{refused}")
+}
+
+/// Prints that an option is missing.
+#[tactic(auto, unfolding(lexopt_line_spec::proofs::Computing::computing))]
+pub fn missing_option_text(alloc: Global) -> Result<String, AllocError>
+    ensures { IfOk result (λ text. string_bytes text ≡ codes "missing option '--user'") }
+{
+    let mistake = Mistake::MissingOption(Names::Both('u', "user"));
+    format!(in alloc; "{mistake}")
+}
+
+/// Prints a mistake that a program found itself.
+pub fn report_text(alloc: Global, report: &Report<'_>) -> Result<String, AllocError>
+    ensures { IfOk result (λ text. string_bytes text ≡ report_line report.now) }
+{
+    format!(in alloc; "{report}")
+}
+
+/// The exit status after such a mistake.
+pub fn report_status(report: &Report<'_>) -> u8
+    ensures memory { report.now.error ≡ UsageError.OutOfMemory → result ≡ 1 }
+    ensures usage { report.now.error ≢ UsageError.OutOfMemory → result ≡ 2 }
+{
+    report.status()
+}
+
+/// Declares two options, the second with a list of values. Returns the character of the first that
+/// cannot be declared, and the reason, or `None` if both can be declared together.
+pub fn fault_of_two(
+    character: char,
+    name: &str,
+    placeholder: &str,
+    values: &[&str],
+) -> Option<(char, Reason)>
+    ensures { let listed = map (λ value. value.now) values.now in MatchOption result
+        (is_sound (two_options character name.now placeholder.now listed) ≡ true)
+        (IsFaultOf character name.now placeholder.now listed) }
+{
+    let options = [
+        Declared::flag(Flag::Verbose, Names::Both(character, name), ""),
+        Declared::value(Value::Output, Names::Both('v', "verbose"), placeholder, "").one_of(values),
+    ];
+    let declaration: Declaration<'_, Flag, Value> = Declaration {
+        program: "",
+        about: "",
+        options: &options,
+        positionals: &[],
+        epilogue: &[],
+        short_equals: true,
+        guesses: &[],
+    };
+    match Options::try_new(&declaration) {
+        Ok(_) => None,
+        Err(
+            DeclarationError::Option {
+                option: Names::Both(character, _),
+                reason,
+            },
+        ) => Some((character, reason)),
+        Err(_) => None,
+    }
+}
+
+// The usage line of a declaration, or the text of its error.
+fn usage_or_error_of<'a>(
+    alloc: Global,
+    width: usize,
+    declaration: &'a Declaration<'a, Flag, Value, Word>,
+) -> Result<Result<String, String>, AllocError>
+    ensures { IfOk result (λ found. MatchResult found
+        (λ text. IsUsageWith width declaration.now (string_bytes text))
+        (λ text. IsErrorWith declaration.now (string_bytes text))) }
+{
+    match Options::try_new(declaration) {
+        Ok(options) => Ok(Ok(options.usage(alloc, width)?)),
+        Err(error) => Ok(Err(format!(in alloc; "{error}")?)),
+    }
+}
+
+/// Declares an option and two positionals, the second with a list of words. Returns the usage line
+/// if they can be declared together, and otherwise the text of the error.
+pub fn usage_or_error(
+    alloc: Global,
+    width: usize,
+    character: char,
+    help: &str,
+    first: Count,
+    second: Count,
+    values: &[&str],
+) -> Result<Result<String, String>, AllocError>
+    ensures { let listed = map (λ value. value.now) values.now in
+        IfOk result (λ found. MatchResult found
+        (λ text. IsUsageOf width character help.now first second listed (string_bytes text))
+        (λ text. IsErrorOf character help.now first second listed (string_bytes text))) }
+{
+    let options = [Declared::flag(Flag::Verbose, Names::Short(character), help)];
+    let positionals = [
+        Positional {
+            key: Word::From,
+            placeholder: "FROM",
+            count: first,
+            help,
+            words: Words::Directories,
+        },
+        Positional {
+            key: Word::To,
+            placeholder: "TO",
+            count: second,
+            help,
+            words: Words::Listed(values),
+        },
+    ];
+    let declaration: Declaration<'_, Flag, Value, Word> = Declaration {
+        program: "small",
+        about: "",
+        options: &options,
+        positionals: &positionals,
+        epilogue: &[],
+        short_equals: true,
+        guesses: &[],
+    };
+    usage_or_error_of(alloc, width, &declaration)
+}
