@@ -27,7 +27,7 @@ static ADD: Declaration<'static, Infallible, Infallible, ()> = declare! {
 };
 
 // Lines, or requests of a shell, and what is read or printed.
-static ROWS: [(bool, &[u8], &str); 8] = [
+static ROWS: [(bool, &[u8], &str); 6] = [
     (
         false,
         b"-C dir remote -v add x",
@@ -54,21 +54,10 @@ static ROWS: [(bool, &[u8], &str); 8] = [
         -v, --verbose         tell more\n  \
         -h, --help            print this help and exit\n",
     ),
-    (
-        false,
-        b"help remote add",
-        "Usage: git remote add [OPTION]... NAME\n\n  \
-        -h, --help            print this help and exit\n",
-    ),
     (true, b"-v remote a", "+add\tadd a remote\n"),
     (
         true,
         b"-v remote add -",
-        "-h\tprint this help and exit\n--help\tprint this help and exit\n",
-    ),
-    (
-        true,
-        b"-v remote add x -",
         "-h\tprint this help and exit\n--help\tprint this help and exit\n",
     ),
 ];

@@ -19,7 +19,6 @@ mod plain;
 mod tables;
 mod tally;
 
-use crate::lines::clusters::Counts;
 use crate::lines::pieces::push_quoted;
 use crate::lines::plain::Refusal;
 use crate::lines::tables::{CHOICES, Choice, OVERLAPS};
@@ -28,7 +27,7 @@ use lexopt_base::{Error, OsString};
 use lexopt_items::items::{Item, Table, read_items};
 use std::alloc::{AllocError, Global};
 use std::io;
-use test_helpers::lists::{list_of, numbers_of};
+use test_helpers::lists::list_of;
 use test_helpers::parsers::words_from;
 use test_helpers::words::WORDS;
 
@@ -102,9 +101,10 @@ impl Tally {
         Ok(())
     }
 
-    // Reads all lists under both settings of `short_equals`, the shortest first.
-    fn read_all(&mut self, alloc: Global, table: &Table) -> Result<(), AllocError> {
-        for number in 0..numbers_of(WORDS.len()) {
+    // Reads the lists with numbers below this one under both settings of `short_equals`, the
+    // shortest first.
+    fn read_all(&mut self, alloc: Global, table: &Table, end: usize) -> Result<(), AllocError> {
+        for number in 0..end {
             if let Some(words) = list_of(alloc, &WORDS, number)? {
                 self.read(alloc, &words, true, table)?;
                 self.read(alloc, &words, false, table)?;
@@ -115,39 +115,33 @@ impl Tally {
 }
 
 impl Choice {
-    // Reads all lists of words by this table, and prints the counts.
-    fn read(self, rt: &(impl Print + AllocGlobal)) -> io::Result<Tally> {
+    // Reads these lists of words by this table, and prints the counts.
+    fn read(self, rt: &(impl Print + AllocGlobal), end: usize) -> io::Result<Tally> {
         let table = self.table(rt.alloc())?;
         let name = self.name(rt.alloc())?;
         let mut tally = Tally::new();
-        tally.read_all(rt.alloc(), &table)?;
+        tally.read_all(rt.alloc(), &table, end)?;
         tally.print(rt, name.as_str())?;
         Ok(tally)
     }
 }
 
-// Reads all lists of words by all tables, and prints the counts.
-fn print_lists(rt: &(impl Print + AllocGlobal)) -> io::Result<()> {
+/// Reads the lists with numbers below this one by all tables, and prints the counts.
+pub fn print_lists(rt: &(impl Print + AllocGlobal), end: usize) -> io::Result<()> {
     let mut total = Tally::new();
     for number in 0..CHOICES {
-        total.add(&Choice::of_kinds(number).read(rt)?);
+        total.add(&Choice::of_kinds(number).read(rt, end)?);
     }
     for lists in OVERLAPS {
-        total.add(&Choice::same(lists).read(rt)?);
+        total.add(&Choice::same(lists).read(rt, end)?);
     }
     total.print(rt, "total")
 }
 
-// Reads clusters, and prints the counts.
-fn print_clusters(rt: &(impl Print + AllocGlobal)) -> io::Result<()> {
-    let Ok(Counts { agreed, differed }) = Counts::of_all(rt.alloc()) else {
+/// Reads the clusters, and prints the counts.
+pub fn print_clusters(rt: &(impl Print + AllocGlobal)) -> io::Result<()> {
+    let Ok(clusters) = clusters::read_all(rt.alloc()) else {
         return Err(io::Error::from(io::ErrorKind::Other));
     };
-    println!(rt; "clusters: {agreed} agreed, {differed} differed")
-}
-
-/// Reads everything, and prints the counts.
-pub fn print(rt: &(impl Print + AllocGlobal)) -> io::Result<()> {
-    print_lists(rt)?;
-    print_clusters(rt)
+    clusters.print(rt, "clusters")
 }

@@ -140,7 +140,7 @@ fn is_found(
 }
 
 // Lines, and what they mean.
-const ROWS: [(&[u8], &str); 3] = [
+const ROWS: [(&[u8], &str); 2] = [
     (
         b"--sort-user me --add-date --list-file",
         "[Value(299, \"me\"), Flag(0), Flag(162)]",
@@ -148,10 +148,6 @@ const ROWS: [(&[u8], &str); 3] = [
     (
         b"--quote-tabel",
         "invalid option '--quote-tabel'; did you mean '--quote-table'?",
-    ),
-    (
-        b"--sort-users me",
-        "invalid option '--sort-users'; did you mean '--sort-user'?",
     ),
 ];
 

@@ -1,6 +1,7 @@
 //! Clusters of a few bytes, read by `next` with `short_equals` false: an option for each piece, and
 //! then the end of the line.
-use crate::lines::pieces::first_piece;
+use crate::lines::pieces::{first_piece, push_quoted};
+use crate::lines::tally::Tally;
 use lexopt_base::{Error, Parser};
 use std::alloc::Global;
 use test_helpers::calls::{is_at_end, reads_short};
@@ -11,13 +12,6 @@ const BYTES: [u8; 20] = [
     0x41, 0x7F, 0x80, 0x8F, 0x90, 0x9F, 0xA0, 0xBF, 0xC1, 0xC2, 0xDF, 0xE0, 0xE1, 0xED, 0xEE, 0xF0,
     0xF1, 0xF4, 0xF5, 0xFF,
 ];
-
-/// How many clusters were read as their pieces, and how many were not.
-#[derive(Clone, Copy)]
-pub struct Counts {
-    pub agreed: u64,
-    pub differed: u64,
-}
 
 // A parser of the cluster of these bytes.
 fn parser_of_cluster(alloc: Global, bytes: &[u8]) -> Result<Parser, Error> {
@@ -44,40 +38,38 @@ fn reads_pieces(parser: &mut Parser, bytes: &[u8]) -> Result<bool, Error> {
     is_at_end(parser)
 }
 
-impl Counts {
-    fn read(&mut self, alloc: Global, bytes: &[u8]) -> Result<(), Error> {
-        if reads_pieces(&mut parser_of_cluster(alloc, bytes)?, bytes)? {
-            self.agreed = self.agreed.saturating_add(1);
-        } else {
-            self.differed = self.differed.saturating_add(1);
-        }
-        Ok(())
+// Reads a cluster, and counts it.
+fn read(alloc: Global, tally: &mut Tally, bytes: &[u8]) -> Result<(), Error> {
+    if reads_pieces(&mut parser_of_cluster(alloc, bytes)?, bytes)? {
+        tally.agree();
+    } else {
+        let mut text = String::new(alloc);
+        push_quoted(&mut text, bytes)?;
+        tally.differ(text);
     }
+    Ok(())
+}
 
-    // Reads these two bytes, alone and with one or two bytes after them.
-    fn read_longer(&mut self, alloc: Global, first: u8, second: u8) -> Result<(), Error> {
-        self.read(alloc, &[first, second])?;
-        for third in BYTES {
-            self.read(alloc, &[first, second, third])?;
-            for fourth in BYTES {
-                self.read(alloc, &[first, second, third, fourth])?;
-            }
+// Reads these two bytes, alone and with one or two bytes after them.
+fn read_longer(alloc: Global, tally: &mut Tally, first: u8, second: u8) -> Result<(), Error> {
+    read(alloc, tally, &[first, second])?;
+    for third in BYTES {
+        read(alloc, tally, &[first, second, third])?;
+        for fourth in BYTES {
+            read(alloc, tally, &[first, second, third, fourth])?;
         }
-        Ok(())
     }
+    Ok(())
+}
 
-    /// Reads each list of one to four of the bytes as a cluster.
-    pub fn of_all(alloc: Global) -> Result<Counts, Error> {
-        let mut counts = Counts {
-            agreed: 0,
-            differed: 0,
-        };
-        for first in BYTES {
-            counts.read(alloc, &[first])?;
-            for second in BYTES {
-                counts.read_longer(alloc, first, second)?;
-            }
+/// Reads each list of one to four of the bytes as a cluster.
+pub fn read_all(alloc: Global) -> Result<Tally, Error> {
+    let mut tally = Tally::new();
+    for first in BYTES {
+        read(alloc, &mut tally, &[first])?;
+        for second in BYTES {
+            read_longer(alloc, &mut tally, first, second)?;
         }
-        Ok(counts)
     }
+    Ok(tally)
 }
