@@ -179,7 +179,7 @@ impl<'a, F, V, P, M, S> Options<'a, F, V, P, M, S> {
     /// # Examples
     ///
     /// ```rust
-    /// let options = Options::new(&DECLARATION).with_program(path);
+    /// let options = Options::new(&DECLARATION).with_program("git remote add");
     /// ```
     pub fn with_program(&self, program: &'a str) -> Options<'a, F, V, P, M, S>
         ensures declaration { declaration_of result
