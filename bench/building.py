@@ -1,6 +1,7 @@
 """What the scripts of this folder share: files, a copy of the crates, building both programs, and
 running a command."""
 
+import glob
 import os
 import shutil
 import subprocess
@@ -57,12 +58,22 @@ def want(**commands):
             stop(f"{command} was not found; it is {whose}")
 
 
+def is_current(built):
+    """Whether this was built, as by `rt ci`, since a crate changed. Only what is proved is built."""
+    sources = [f"{TOP}/crates.txt", *glob.glob(f"{TOP}/crates/*/[sp]*/**/*.*", recursive=True)]
+    newest = max(map(os.path.getmtime, sources))
+    return os.path.isfile(built) and os.path.getmtime(built) > newest
+
+
 def build_port(name, *arguments, backend="llvm"):
-    """Proves, builds and runs a program of this repository. If nothing changed, it is only run."""
+    """Proves, builds and runs a program of this repository, unless it is built already."""
     folder = f"{TOP}/crates/{name}"
-    environment = dict(os.environ, RT_BACKEND=backend)
-    call(["rt", "run", "--", *arguments], cwd=folder, stdin=subprocess.DEVNULL, env=environment)
-    return f"{folder}/out/{name}"
+    program = f"{folder}/out/{name}" + ("" if backend == "llvm" else f".by-{backend}")
+    if not is_current(program):
+        environment = dict(os.environ, RT_BACKEND=backend)
+        call(["rt", "run", "--", *arguments], cwd=folder, stdin=subprocess.DEVNULL, env=environment)
+        os.replace(f"{folder}/out/{name}", program)
+    return program
 
 
 def build_crate(name):
