@@ -10,7 +10,7 @@ use Rattle.lexopt_base.specs.declared.parser.Found.TheVariants as found
 use Rattle.lexopt_options_spec.specs.Asking.{asked_by, first_asked}
 use Rattle.lexopt_options_spec.specs.Legal as legal
 use Rattle.lexopt_options_spec.proofs.Listed.{accepted_append}
-use Rattle.lexopt_options_spec.specs.Legal.{IsWithin, are_accepted, counts, is_required, most, occurs, positional_count, refused_value}
+use Rattle.lexopt_options_spec.specs.Legal.{are_accepted, counts, is_required, occurs, positional_count, refused_value}
 use Rattle.lexopt_options_spec.specs.Stops.{ReadsUpTo}
 use Rattle.lexopt_declaration.specs.declared.declaration.Declared.{Declared}
 use Rattle.lexopt_line_spec.specs.Readings.{option_reply}
@@ -95,7 +95,7 @@ seen_more options l seen index s is are = λ i needed. at (is_required options i
         other : (index == i) ≡ false
         other = differ (index == i) refl
 
-seen_same : (options : List spec.Declared) (l : List legal.Parsed) (seen : List ℕ) (word : List ℕ) → AreSeen options l seen → AreSeen options (l ++ legal.positional word ∷ []) seen
+pub seen_same : (options : List spec.Declared) (l : List legal.Parsed) (seen : List ℕ) (word : List ℕ) → AreSeen options l seen → AreSeen options (l ++ legal.positional word ∷ []) seen
 seen_same options l seen word are = λ i needed. are i needed ∙ sym (or_false (occurs i l)) ∙ sym (occurs_last i l (legal.positional word))
 
 -- ---- the keys of positionals
@@ -167,7 +167,7 @@ has_positional o u v w count seen parsed more word key had reads first more_is =
   accepted = accepted_append (declaration_of o).options had.l (legal.positional word ∷ []) had.accepted refl;
 }
 
-option_with : (index : ℕ) (values : Values) → IsOption index (parsed_with index values)
+pub option_with : (index : ℕ) (values : Values) → IsOption index (parsed_with index values)
 option_with index (AtMostOne value) = refl
 option_with index (All values) = refl
 

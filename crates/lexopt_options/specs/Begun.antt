@@ -3,15 +3,16 @@
 use Rattle.std.specs.Prelude.{◌≡◌, ◌≢◌, ◌++◌, ◌∷◌, ℕ, Bool, false, List, [], None, string_bytes}
 use Rattle.std.specs.Bool.{MatchBool}
 use Rattle.std.specs.declared.convert.Infallible.{Infallible}
-use Rattle.lexopt_spec.specs.UnreadLine.{IsPlain}
+use Rattle.lexopt_spec.specs.UnreadLine.{IsPlain, UnreadLine, pending}
 use Rattle.lexopt_options_spec.specs.Asking.{first_asked}
 use Rattle.lexopt_options_spec.specs.Declaration.{Declaration}
 use Rattle.lexopt_options_spec.specs.Leading.{MeansLeading}
 use Rattle.lexopt_options_spec.specs.Legal.{Parsed}
-use Rattle.lexopt_options.specs.declared.begun.Begun.{Begun}
-use Rattle.lexopt_options.specs.declared.begun.Begun.TheVariants as begun
+use Rattle.lexopt_options_spec.specs.States.{LeadsNowhere}
 use Rattle.lexopt_options.specs.declared.begun.LeadingCompletion.{LeadingCompletion}
 use Rattle.lexopt_options.specs.declared.begun.LeadingCompletion.TheVariants as found
+use Rattle.lexopt_options.specs.declared.front.Begun.{Begun}
+use Rattle.lexopt_options.specs.declared.front.Begun.TheVariants as begun
 use Rattle.lexopt_options.specs.declared.options.Options.{Options}
 use Rattle.lexopt_options.specs.Answers.{IsCompletionText}
 use Rattle.lexopt_options.specs.Declarations.{declaration_of}
@@ -44,12 +45,15 @@ abbrev pub HaveNoRest : Declaration → List (List ℕ) → Type 0
 HaveNoRest d words = (l : List Parsed) (rest : List (List ℕ)) → MeansLeading d words l rest
     → first_asked d.options l ≡ None → rest ≡ []
 
--- this rest comes after leading options; or none does, and this is what the words mean as the
--- beginning of a line, and whether a word can come first
-abbrev pub IsBegun : Declaration → List (List ℕ) → Begun → Type 0
-IsBegun d words (begun.Rest rest) = HaveRest d words rest.items
-IsBegun d words (begun.Front front can) =
-    HaveNoRest d words × IsFrontOf d words front × TellsFirst d words can
+-- This word, before this line, is one positional too many: the words mean nothing as the beginning of
+-- a line, and if no positionals are declared, it begins the rest after leading options. Or this is
+-- what the words mean as the beginning of a line, and if none are declared, no rest comes after
+-- leading options, and this tells whether a word can come first.
+abbrev pub IsBegun : Declaration → List (List ℕ) → Begun → UnreadLine → Type 0
+IsBegun d words (begun.Rest word) u = LeadsNowhere d words × (pending u ≡ None)
+    × (d.positionals ≡ [] → HaveRest d words (word ∷ u.words))
+IsBegun d words (begun.Front front can) u = IsFrontOf d words front
+    × (d.positionals ≡ [] → HaveNoRest d words × TellsFirst d words can)
 
 -- this rest comes after leading options; or none does, and this is the text of what can come where
 -- this is typed, and whether a word can come first

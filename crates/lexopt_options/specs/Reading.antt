@@ -1,5 +1,5 @@
 -- What is read from a line, as contracts see it, and what one step of the reading reads.
-use Rattle.std.specs.Prelude.{None, ◌≡◌, ◌≢◌, ◌<◌, ◌+◌, ◌++◌, ◌∷◌, ◌⊎◌, ℕ, Bool, true, false, List, [], Some}
+use Rattle.std.specs.Prelude.{None, ◌≡◌, ◌≢◌, ◌<◌, ◌+◌, ◌++◌, ◌∷◌, ℕ, Bool, true, false, List, [], Some}
 use Rattle.std.specs.Prelude.{Option, Result, Ok, Err, slice_get}
 use Rattle.lexopt_spec.specs.UnreadLine.{UnreadLine, IsLine, long_option}
 use Rattle.lexopt_spec.specs.Steps as steps
@@ -58,14 +58,8 @@ pub record StopsByKey (d : Declaration) (count : ℕ) (u : UnreadLine) (mistake 
   pub of_option : IsOfOption why
   pub stops : (l : List spec.Parsed) → IsLine u → count ≡ positional_count l → Stops d l u why
 
--- an option without values has one, or there is one positional more than the limit
-abbrev pub StopsNext : Option ℕ → ℕ → UnreadLine → Type 0
-StopsNext limit count u = ((option value : List ℕ) × (v : UnreadLine)
-    × Next u (steps.unexpected option value) v)
-    ⊎ ((word : List ℕ) × (v : UnreadLine) × Next u (steps.positional word) v × (limit ≡ Some count))
-
 -- After `count` positionals, of which there may be `limit`, the reading stops with this mistake.
--- Without a limit it is a mistake of an option, whatever was read before.
+-- Without a limit it is that an option without values has one, whatever was read before.
 pub record StopsWithin (d : Declaration) (limit : Option ℕ) (count : ℕ) (u : UnreadLine)
     (mistake : Mistake) : Type 0 where
   pub why : stops.Mistake
@@ -73,7 +67,8 @@ pub record StopsWithin (d : Declaration) (limit : Option ℕ) (count : ℕ) (u :
   pub stops : (l : List spec.Parsed) → limit ≡ most d.positionals → count ≡ positional_count l
       → Stops d l u why
   pub of_option : limit ≡ None → IsOfOption why × ((l : List spec.Parsed) → Stops d l u why)
-  pub next : StopsNext limit count u
+      × (option : List ℕ) × (value : List ℕ) × (v : UnreadLine)
+      × Next u (steps.unexpected option value) v
 
 -- an option comes next that is not declared: the short one with this character, or a long one
 abbrev pub UndeclaredNext : Declaration → UnreadLine → Option ℕ → UnreadLine → Type 0

@@ -1,18 +1,22 @@
 //! What words mean as the beginning of a line, and what the next word is. `read.rt` reads a whole
 //! line by keys.
-ghost use Rattle.std.specs.Prelude.{◌≡◌, ◌≢◌, ◌↔◌, ◌&&◌, ℕ, [], IfOk, IsTrue, List, None, Some, slice_get};
+ghost use Rattle.std.specs.Prelude.{◌≡◌, ◌≢◌, ◌↔◌, ◌&&◌, ℕ, [], false, IfOk, IsTrue, is_none};
+ghost use Rattle.std.specs.Prelude.{List, None, Some, slice_get, true};
 ghost use Rattle.lexopt_spec.specs.UnreadLine.{IsLine, pending};
 ghost use Rattle.lexopt_line_spec.specs.Readings.{start};
 ghost use Rattle.lexopt_options_spec.specs.Declaration.{Declaration};
 ghost use Rattle.lexopt_options_spec.specs.States as spec;
+ghost use Rattle.lexopt_options_spec.specs.States.{is_further};
 ghost use Rattle.lexopt_declaration.specs.Models.{option_view};
+ghost use Rattle.lexopt_options.specs.Begun.{IsBegun};
 ghost use Rattle.lexopt_options.specs.Declarations.{declaration_of};
-ghost use Rattle.lexopt_options.specs.States.{IsAfterName, IsFrontOf, first_of, index_if};
+ghost use Rattle.lexopt_options.specs.Reading.{AllSeen};
+ghost use Rattle.lexopt_options.specs.States.{IsAfterName, first_of, index_if};
 ghost use Rattle.lexopt_options.specs.States.{state_view, with_index};
 
 use crate::listed::{accepts, refused_place};
 use crate::options::Options;
-use crate::read::{Outcome, read_next};
+use crate::read::{Outcome, is_full, missing_option, note, read_next};
 use lexopt_base::parser::Parser;
 use lexopt_base::refusal::Refusal;
 use lexopt_declaration::declaration::{Declared, Kind};
@@ -49,9 +53,23 @@ pub struct Front {
     pub state: State,
 }
 
+// What words mean, as the beginning of a line and as leading options.
+#[derive(Drop)]
+pub(crate) enum Begun {
+    // This word, which was read last, is one positional too many. So they mean nothing as the
+    // beginning of a line, and nothing with any one word after them. If no positionals are
+    // declared, it is the first word after legal leading options that ask for nothing.
+    Rest(OsString),
+    // This is what they mean as the beginning of a line; `None` if they mean nothing, and nothing
+    // with any one word after them. If no positionals are declared, no word comes after legal
+    // leading options that ask for nothing, and this is whether a plain word that comes right after
+    // the words would be the first.
+    Front(Option<Front>, bool),
+}
+
 // What is read of an option after its name.
 #[derive(Drop)]
-pub(crate) enum AfterName {
+enum AfterName {
     // Its values: whether it accepts them, the first of them, and whether a plain word right after
     // them would be one more.
     Values {
@@ -99,7 +117,7 @@ fn first_of(mut values: Vec<OsString>) -> Option<OsString>
 }
 
 // Reads the values of this option, which is at this index, and whose name was just read.
-pub(crate) fn read_after_name<F, V, M, S>(
+fn read_after_name<F, V, M, S>(
     alloc: Global,
     parser: &mut Parser,
     option: &Declared<'_, F, V, M, S>,
@@ -158,7 +176,7 @@ pub(crate) fn read_after_name<F, V, M, S>(
 
 // The state where the words end, by whether the separator was read, and by the option of several
 // values of which a plain word would be one more, if there is one.
-pub(crate) fn state_at_end(going_on: Option<usize>, is_past_separator: bool) -> State
+fn state_at_end(going_on: Option<usize>, is_past_separator: bool) -> State
     ensures { state_view result ≡ spec.state_at_end going_on is_past_separator }
 {
     if is_past_separator {
@@ -170,16 +188,16 @@ pub(crate) fn state_at_end(going_on: Option<usize>, is_past_separator: bool) -> 
     }
 }
 
-// Whether both hold. This function and the next two are apart from the loops, so that their proofs
-// have fewer cases.
-pub(crate) fn are_both(one: bool, other: bool) -> bool
+// Whether both hold. This function and the next two are apart from the loop, so that its proof has
+// fewer cases.
+fn are_both(one: bool, other: bool) -> bool
     ensures { result ≡ (one && other) }
 {
     one && other
 }
 
 // This index with the value, if there is one.
-pub(crate) fn with_index(index: usize, value: Option<OsString>) -> Option<(usize, OsString)>
+fn with_index(index: usize, value: Option<OsString>) -> Option<(usize, OsString)>
     ensures { result ≡ with_index index value }
 {
     match value {
@@ -189,72 +207,132 @@ pub(crate) fn with_index(index: usize, value: Option<OsString>) -> Option<(usize
 }
 
 // This index, if that holds.
-pub(crate) fn index_if(holds: bool, index: usize) -> Option<usize>
+fn index_if(holds: bool, index: usize) -> Option<usize>
     ensures { result ≡ index_if holds index }
 {
     if holds { Some(index) } else { None }
 }
 
-// Reads words as the beginning of a line: what they mean, and what the next word is; `None` if they
-// mean nothing, and nothing with any one word after them.
-fn read_front<F, V, P, M, S>(
+// Whether an option asks for nothing.
+fn asks_nothing<F, V, M, S>(option: &Declared<'_, F, V, M, S>) -> bool
+    ensures { result ≡ is_none (option_view option.now).asks }
+{
+    !matches!(option.kind, Kind::Help | Kind::Version(_))
+}
+
+// Whether each required option is among these, and the options accept their values and ask for
+// nothing: `accepted` and `unasked`.
+fn are_legal<F, V, P, M, S>(
+    options: &Options<'_, F, V, P, M, S>,
+    seen: &[usize],
+    accepted: bool,
+    unasked: bool,
+) -> bool
+    ensures { IsTrue result ↔ AllSeen (declaration_of options.now).options seen.now
+        × (accepted ≡ true) × (unasked ≡ true) }
+{
+    if !are_both(accepted, unasked) {
+        return false;
+    }
+    missing_option(options, seen).is_none()
+}
+
+// Whether a plain word would be one more value of an option in this state.
+fn is_further(state: State) -> bool
+    ensures { result ≡ is_further (state_view state) }
+{
+    matches!(state, State::Further(_))
+}
+
+// Whether a plain word would come first after options of which these were seen: they are legal, ask
+// for nothing, and would not take the word as one more value.
+fn can_end<F, V, P, M, S>(
+    options: &Options<'_, F, V, P, M, S>,
+    seen: &[usize],
+    accepted: bool,
+    unasked: bool,
+    state: State,
+) -> bool
+    ensures { IsTrue result ↔ (AllSeen (declaration_of options.now).options seen.now
+        × (accepted ≡ true) × (unasked ≡ true)) × (is_further (state_view state) ≡ false) }
+{
+    if is_further(state) {
+        return false;
+    }
+    are_legal(options, seen, accepted, unasked)
+}
+
+// Reads words as the beginning of a line, up to one positional too many.
+pub(crate) fn read_front<F, V, P, M, S>(
     alloc: Global,
     parser: &mut Parser,
     options: &Options<'_, F, V, P, M, S>,
-) -> Result<Option<Front>, AllocError>
+) -> Result<Begun, AllocError>
     requires { IsLine parser.old }
     ensures { (words : List (List ℕ))
         → parser.old ≡ start (declaration_of options.now).short_equals words
-        → IfOk result (λ found. IsFrontOf (declaration_of options.now) words found) }
+        → IfOk result (λ begun. IsBegun (declaration_of options.now) words begun parser.new) }
 {
     let limit = options.most();
     let declared = options.options();
     let mut words = Vec::new(alloc);
+    let mut seen = Vec::new(alloc);
     let mut all_accepted = true;
+    let mut unasked = true;
     let mut last = None;
     let mut going_on = None;
     loop {
-        match read_next(parser, options, limit, words.len())? {
-            Outcome::Option(index) => match read_after_name(
-                alloc,
-                parser,
-                &declared[index],
-                index,
-            )? {
-                AfterName::Values {
-                    accepted,
-                    first,
-                    goes_on,
-                } => {
-                    all_accepted = are_both(all_accepted, accepted);
-                    last = with_index(index, first);
-                    going_on = index_if(goes_on, index);
+        match read_next(parser, options, None, 0)? {
+            Outcome::Option(index) => {
+                let option = &declared[index];
+                match read_after_name(alloc, parser, option, index)? {
+                    AfterName::Values {
+                        accepted,
+                        first,
+                        goes_on,
+                    } => {
+                        note(options, index, &mut seen)?;
+                        all_accepted = are_both(all_accepted, accepted);
+                        unasked = are_both(unasked, asks_nothing(option));
+                        last = with_index(index, first);
+                        going_on = index_if(goes_on, index);
+                    }
+                    AfterName::Lacks(state) => {
+                        let front = Front {
+                            words,
+                            accepted: all_accepted,
+                            last: None,
+                            state,
+                        };
+                        return Ok(Begun::Front(Some(front), false));
+                    }
+                    AfterName::Missing => return Ok(Begun::Front(None, false)),
                 }
-                AfterName::Lacks(state) => {
-                    return Ok(Some(Front {
-                        words,
-                        accepted: all_accepted,
-                        last: None,
-                        state,
-                    }));
-                }
-                AfterName::Missing => return Ok(None),
-            },
+            }
             Outcome::Positional(word) => {
+                if is_full(limit, words.len()) {
+                    if are_legal(options, &seen, all_accepted, unasked) {
+                        return Ok(Begun::Rest(word));
+                    }
+                    return Ok(Begun::Front(None, false));
+                }
                 words.push(word)?;
                 last = None;
                 going_on = None;
             }
             Outcome::End => {
-                return Ok(Some(Front {
+                let state = state_at_end(going_on, parser.is_past_separator());
+                let ends = can_end(options, &seen, all_accepted, unasked, state);
+                let front = Front {
                     words,
                     accepted: all_accepted,
                     last,
-                    state: state_at_end(going_on, parser.is_past_separator()),
-                }));
+                    state,
+                };
+                return Ok(Begun::Front(Some(front), ends));
             }
-            Outcome::Undeclared(_) => return Ok(None),
-            Outcome::Mistake(_) => return Ok(None),
+            Outcome::Undeclared(_) => return Ok(Begun::Front(None, false)),
+            Outcome::Mistake(_) => return Ok(Begun::Front(None, false)),
         }
     }
 }
@@ -274,6 +352,9 @@ impl<F, V, P, M, S> Options<'_, F, V, P, M, S> {
         ensures { IfOk result (λ found. IsFrontOf (declaration_of self.now) words.items found) }
     {
         let mut parser = self.parser_of(words);
-        read_front(alloc, &mut parser, self)
+        match read_front(alloc, &mut parser, self)? {
+            Begun::Rest(_) => Ok(None),
+            Begun::Front(front, _) => Ok(front),
+        }
     }
 }

@@ -1,14 +1,17 @@
-use Rattle.std.proofs.Common.{◌∙◌, ℕ, None, Some, arith, ap, length, refl, subst, sym}
-use Rattle.lexopt_options_spec.specs.States.{state_at_end}
+use Rattle.std.proofs.Common.{◌∙◌, ◌≡◌, ◌↔◌, IsTrue, ℕ, List, None, Some, arith, ap, false, length, refl, subst, sym}
+use Rattle.std.proofs.lemmas.Bool.{false≢true}
 use Rattle.lexopt_items.proofs.ReadsItems.{positional_read}
+use Rattle.lexopt_declaration.specs.Models.{option_view}
 use Rattle.lexopt_options_spec.specs.Declaration.{table}
+use Rattle.lexopt_options_spec.specs.States.{is_further, state_at_end}
 use Rattle.lexopt_options.specs.Declarations.{declaration_of, options_of}
-use Rattle.lexopt_options.specs.Reading.{StopsNext}
-use Rattle.lexopt_options.proofs.Fronts.{front_at_end, front_lacking, has_nothing, has_option, has_positional, index_within, nowhere_lacking, nowhere_stopped, nowhere_undeclared, option_there, same_reached}
+use Rattle.lexopt_options.specs.States.{state_view}
+use Rattle.lexopt_options.proofs.Beginnings.{AreLegal, end_begun, lacking_begun, missing_begun, mistake_begun, rest_begun, surplus_begun, undeclared_begun}
+use Rattle.lexopt_options.proofs.Fronts.{has_nothing, has_option, has_positional, index_within, option_there, same_reached, starts}
 use Rattle.lexopt_options.proofs.front.read_front.Goals as goal
 
 pub loop-last-init : goal.loop-last-init
-loop-last-init g c = has_nothing (declaration_of c.args.options.now) c.args.parser.now c.new-words.result.items c.requires c.new-words.ensures.items
+loop-last-init g c = has_nothing (declaration_of c.args.options.now) c.args.parser.now c.new-words.result.items c.new-seen.result.items c.requires c.new-words.ensures.items c.new-seen.ensures.items
 
 pub offset_bounds-declared-index : goal.offset_bounds-declared-index
 offset_bounds-declared-index g c =
@@ -28,8 +31,8 @@ loop-last-smaller-in-Values g c =
     let next = rw c.in-Option.is at c.in_ok-index.ensures in
     let at = option_there (options_of o) c.options-declared.result.now c.index-declared-index.result next.0 c.in-Option.index c.options-declared.ensures.same next.2 c.index-declared-index.is in
     let given = rw c.in-Values.is at c.in_ok-accepted-in-Option.ensures (declaration_of o) at in
-    (has_option (declaration_of o) c.args.parser.now c.loop-last.parser c.read_next.new.parser c.read_after_name.new.parser c.loop-last.words.items c.loop-last.all_accepted c.in-Values.accepted c.loop-last.last c.loop-last.going_on c.in-Values.first c.in-Values.goes_on next.0 c.in-Option.index o.sound
-    c.loop-last.invariant next.1 next.2 given).1
+    (has_option (declaration_of o) c.args.parser.now c.loop-last.parser c.read_next.new.parser c.read_after_name.new.parser c.loop-last.words.items c.loop-last.seen.items c.note.new.seen.items c.loop-last.all_accepted c.in-Values.accepted c.loop-last.unasked c.asks_nothing.result c.loop-last.last c.loop-last.going_on
+    c.in-Values.first c.in-Values.goes_on next.0 c.in-Option.index (option_view c.index-declared-index.result) o.sound c.loop-last.invariant next.1 next.2 at c.asks_nothing.ensures given c.in_ok-note-in-Values.ensures).1
 
 pub loop-last-preserved-in-Values : goal.loop-last-preserved-in-Values
 loop-last-preserved-in-Values g c =
@@ -37,9 +40,9 @@ loop-last-preserved-in-Values g c =
     let next = rw c.in-Option.is at c.in_ok-index.ensures in
     let at = option_there (options_of o) c.options-declared.result.now c.index-declared-index.result next.0 c.in-Option.index c.options-declared.ensures.same next.2 c.index-declared-index.is in
     let given = rw c.in-Values.is at c.in_ok-accepted-in-Option.ensures (declaration_of o) at in
-    same_reached (declaration_of o) c.args.parser.now c.read_after_name.new.parser c.loop-last.words.items _ _ _ _ _ _ c.are_both-all_accepted.ensures c.with_index-last.ensures c.index_if-going_on.ensures
-    (has_option (declaration_of o) c.args.parser.now c.loop-last.parser c.read_next.new.parser c.read_after_name.new.parser c.loop-last.words.items c.loop-last.all_accepted c.in-Values.accepted c.loop-last.last c.loop-last.going_on c.in-Values.first c.in-Values.goes_on next.0 c.in-Option.index o.sound
-    c.loop-last.invariant next.1 next.2 given).0
+    same_reached (declaration_of o) c.args.parser.now c.read_after_name.new.parser c.loop-last.words.items c.note.new.seen.items _ _ _ _ _ _ _ _ c.are_both-all_accepted.ensures c.are_both-unasked.ensures c.with_index-last.ensures c.index_if-going_on.ensures
+    (has_option (declaration_of o) c.args.parser.now c.loop-last.parser c.read_next.new.parser c.read_after_name.new.parser c.loop-last.words.items c.loop-last.seen.items c.note.new.seen.items c.loop-last.all_accepted c.in-Values.accepted c.loop-last.unasked c.asks_nothing.result c.loop-last.last c.loop-last.going_on
+    c.in-Values.first c.in-Values.goes_on next.0 c.in-Option.index (option_view c.index-declared-index.result) o.sound c.loop-last.invariant next.1 next.2 at c.asks_nothing.ensures given c.in_ok-note-in-Values.ensures).0
 
 pub returns-in-Lacks : goal.returns-in-Lacks
 returns-in-Lacks g c = λ words is.
@@ -47,8 +50,8 @@ returns-in-Lacks g c = λ words is.
     let next = rw c.in-Option.is at c.in_ok-index.ensures in
     let at = option_there (options_of o) c.options-declared.result.now c.index-declared-index.result next.0 c.in-Option.index c.options-declared.ensures.same next.2 c.index-declared-index.is in
     let given = rw c.in-Lacks.is at c.in_ok-accepted-in-Option.ensures (declaration_of o) at in
-    front_lacking (declaration_of o) c.args.parser.now c.loop-last.parser c.read_next.new.parser c.read_after_name.new.parser words (record { words = c.loop-last.words; accepted = c.loop-last.all_accepted; last = None; state = c.in-Lacks.state }) c.loop-last.last c.loop-last.going_on next.0 c.in-Option.index o.sound is
-    c.loop-last.invariant refl next.1 next.2 c.in-Lacks.state refl given
+    lacking_begun (declaration_of o) c.loop-last.parser c.read_next.new.parser c.read_after_name.new.parser words (record { words = c.loop-last.words; accepted = c.loop-last.all_accepted; last = None; state = c.in-Lacks.state }) c.loop-last.seen.items c.loop-last.unasked c.loop-last.last c.loop-last.going_on
+    next.0 c.in-Option.index o.sound (starts is c.loop-last.invariant) refl next.1 next.2 given
 
 pub returns-in-Missing : goal.returns-in-Missing
 returns-in-Missing g c = λ words is.
@@ -56,7 +59,23 @@ returns-in-Missing g c = λ words is.
     let next = rw c.in-Option.is at c.in_ok-index.ensures in
     let at = option_there (options_of o) c.options-declared.result.now c.index-declared-index.result next.0 c.in-Option.index c.options-declared.ensures.same next.2 c.index-declared-index.is in
     let given = rw c.in-Missing.is at c.in_ok-accepted-in-Option.ensures (declaration_of o) at in
-    nowhere_lacking (declaration_of o) c.args.parser.now c.loop-last.parser c.read_next.new.parser c.read_after_name.new.parser words c.loop-last.words.items c.loop-last.all_accepted c.loop-last.last c.loop-last.going_on next.0 c.in-Option.index o.sound is c.loop-last.invariant next.1 next.2 given
+    missing_begun (declaration_of o) c.loop-last.parser c.read_next.new.parser c.read_after_name.new.parser words c.loop-last.words.items c.loop-last.seen.items c.loop-last.all_accepted c.loop-last.unasked c.loop-last.last c.loop-last.going_on next.0 c.in-Option.index o.sound (starts is c.loop-last.invariant) next.1 next.2 given
+
+pub returns-then-are_legal : goal.returns-then-are_legal
+returns-then-are_legal g c = λ words is.
+    let d = declaration_of c.args.options.now in
+    let next = rw c.in-Positional.is at c.in_ok-index.ensures in
+    rest_begun d c.loop-last.parser c.read_next.new.parser words c.loop-last.words.items c.in-Positional.word c.loop-last.seen.items c.loop-last.all_accepted c.loop-last.unasked c.loop-last.last c.loop-last.going_on c.args.options.now.sound (starts is c.loop-last.invariant) next.0
+    (sym c.most-limit.ensures ∙ c.is_full.ensures.0 c.if-is_full.true ∙ ap (λ n. Some n) (c.len.ensures ∙ c.loop-last.words.ok.0))
+    (subst (λ (seen : List ℕ). AreLegal d seen c.loop-last.all_accepted c.loop-last.unasked) c.deref.ensures.value (c.are_legal.ensures.0 c.if-are_legal.true))
+
+pub returns-then-is_full : goal.returns-then-is_full
+returns-then-is_full g c = λ words is.
+    let d = declaration_of c.args.options.now in
+    let next = rw c.in-Positional.is at c.in_ok-index.ensures in
+    surplus_begun d c.loop-last.parser c.read_next.new.parser words c.loop-last.words.items c.in-Positional.word c.loop-last.seen.items c.loop-last.all_accepted c.loop-last.unasked c.loop-last.last c.loop-last.going_on c.args.options.now.sound (starts is c.loop-last.invariant) next.0
+    (sym c.most-limit.ensures ∙ c.is_full.ensures.0 c.if-is_full.true ∙ ap (λ n. Some n) (c.len.ensures ∙ c.loop-last.words.ok.0))
+    (λ are. false≢true (sym c.if-are_legal.false ∙ c.are_legal.ensures.1 (subst (λ (seen : List ℕ). AreLegal d seen c.loop-last.all_accepted c.loop-last.unasked) (sym c.deref.ensures.value) are)))
 
 pub loop-last-smaller : goal.loop-last-smaller
 loop-last-smaller g c =
@@ -66,21 +85,23 @@ loop-last-smaller g c =
 pub loop-last-preserved : goal.loop-last-preserved
 loop-last-preserved g c =
     let next = rw c.in-Positional.is at c.in_ok-index.ensures in
-    has_positional (declaration_of c.args.options.now) c.args.parser.now c.loop-last.parser c.read_next.new.parser c.loop-last.words.items c.push.new.self.items c.in-Positional.word c.loop-last.all_accepted c.loop-last.last c.loop-last.going_on c.most-limit.result c.loop-last.invariant next.0
-    c.most-limit.ensures (λ full. next.1 (full ∙ ap (λ n. Some n) (sym (c.len.ensures ∙ c.loop-last.words.ok.0)))) c.in_ok-push-in-Positional.ensures.items
+    has_positional (declaration_of c.args.options.now) c.args.parser.now c.loop-last.parser c.read_next.new.parser c.loop-last.words.items c.push.new.self.items c.in-Positional.word c.loop-last.seen.items c.loop-last.all_accepted c.loop-last.unasked c.loop-last.last c.loop-last.going_on c.most-limit.result
+    c.loop-last.invariant next.0 c.most-limit.ensures (λ full. false≢true (sym c.if-is_full.false ∙ c.is_full.ensures.1 (full ∙ ap (λ n. Some n) (sym (c.len.ensures ∙ c.loop-last.words.ok.0))))) c.in_ok-push-in-Positional.ensures.items
 
 pub returns-in-End : goal.returns-in-End
 returns-in-End g c = λ words is.
-    let ends = rw c.in-End.is at c.in_ok-index.ensures in
-    front_at_end (declaration_of c.args.options.now) c.args.parser.now c.loop-last.parser c.read_next.new.parser words (record { words = c.loop-last.words; accepted = c.loop-last.all_accepted; last = c.loop-last.last; state = c.state_at_end.result }) c.loop-last.going_on c.args.options.now.sound is
-    c.loop-last.invariant ends (c.state_at_end.ensures ∙ ap (state_at_end c.loop-last.going_on) c.is_past_separator.ensures)
+    let d = declaration_of c.args.options.now in
+    let step = rw c.in-End.is at c.in_ok-index.ensures in
+    end_begun d c.loop-last.parser c.read_next.new.parser words (record { words = c.loop-last.words; accepted = c.loop-last.all_accepted; last = c.loop-last.last; state = c.state_at_end-state.result }) c.loop-last.seen.items c.loop-last.unasked c.can_end-ends.result
+    c.loop-last.going_on c.args.options.now.sound (starts is c.loop-last.invariant) step (c.state_at_end-state.ensures ∙ ap (state_at_end c.loop-last.going_on) c.is_past_separator.ensures)
+    (subst (λ (seen : List ℕ). IsTrue c.can_end-ends.result ↔ (AreLegal d seen c.loop-last.all_accepted c.loop-last.unasked × (is_further (state_view c.state_at_end-state.result) ≡ false))) c.deref-in-End.ensures.value c.can_end-ends.ensures)
 
 pub returns-in-Undeclared : goal.returns-in-Undeclared
 returns-in-Undeclared g c = λ words is.
-    nowhere_undeclared (declaration_of c.args.options.now) c.args.parser.now c.loop-last.parser c.read_next.new.parser words c.loop-last.words.items c.loop-last.all_accepted c.loop-last.last c.loop-last.going_on c.in-Undeclared.field-0 is c.loop-last.invariant (rw c.in-Undeclared.is at c.in_ok-index.ensures)
+    undeclared_begun (declaration_of c.args.options.now) c.loop-last.parser c.read_next.new.parser words c.loop-last.words.items c.loop-last.seen.items c.loop-last.all_accepted c.loop-last.unasked c.loop-last.last c.loop-last.going_on c.in-Undeclared.field-0 c.args.options.now.sound (starts is c.loop-last.invariant)
+    (rw c.in-Undeclared.is at c.in_ok-index.ensures)
 
 pub returns-in-Mistake : goal.returns-in-Mistake
 returns-in-Mistake g c = λ words is.
     let stops = rw c.in-Mistake.is at c.in_ok-index.ensures in
-    nowhere_stopped (declaration_of c.args.options.now) c.args.parser.now c.loop-last.parser words c.loop-last.words.items c.loop-last.all_accepted c.loop-last.last c.loop-last.going_on c.most-limit.result is c.most-limit.ensures c.loop-last.invariant
-    (subst (λ (n : ℕ). StopsNext c.most-limit.result n c.loop-last.parser) (c.len.ensures ∙ c.loop-last.words.ok.0) stops.next)
+    mistake_begun (declaration_of c.args.options.now) c.loop-last.parser words c.loop-last.words.items c.loop-last.seen.items c.loop-last.all_accepted c.loop-last.unasked c.loop-last.last c.loop-last.going_on _ c.args.options.now.sound (starts is c.loop-last.invariant) stops

@@ -1,4 +1,4 @@
-use Rattle.std.proofs.Common.{◌≡◌, ◌∙◌, Ok, Err, Some, None, string_bytes, inl, inr, refl, sym, ap}
+use Rattle.std.proofs.Common.{◌≡◌, ◌∙◌, Ok, Err, Some, None, string_bytes, refl, sym, ap}
 use Rattle.std.proofs.lemmas.Bool.{false≢true}
 use Rattle.lexopt_line_spec.specs.Table.{long, short}
 use Rattle.lexopt_options_spec.specs.Declaration.{index_of}
@@ -41,7 +41,6 @@ returns-then-is_full g c =
       told = refl;
       stops = λ l most_is counted. stops.one_too_many c.in-Ok-Value.word c.advance.new.self (answered _ _ _ _ c.advance.ensures is) (sym most_is ∙ c.is_full.ensures.0 c.if-is_full.true ∙ ap Some counted);
       of_option = λ none. absurd (let e : None ≡ Some c.args.count = sym none ∙ c.is_full.ensures.0 c.if-is_full.true in cc);
-      next = inr (c.in-Ok-Value.word, c.advance.new.self, answered _ _ _ _ c.advance.ensures is, c.is_full.ensures.0 c.if-is_full.true);
     }
 
 pub returns-else-is_full : goal.returns-else-is_full
@@ -61,8 +60,9 @@ returns-in-UnexpectedValue g c =
       why = stops.unexpected_value (string_bytes c.in-UnexpectedValue.option) c.in-UnexpectedValue.value;
       told = refl;
       stops = λ l most_is counted. stops.value_of_flag (string_bytes c.in-UnexpectedValue.option) c.in-UnexpectedValue.value c.advance.new.self (answered _ _ _ _ c.advance.ensures is);
-      next = inl (string_bytes c.in-UnexpectedValue.option, c.in-UnexpectedValue.value, c.advance.new.self, answered _ _ _ _ c.advance.ensures is);
-      of_option = λ none. (tt, λ l. stops.value_of_flag (string_bytes c.in-UnexpectedValue.option) c.in-UnexpectedValue.value c.advance.new.self (answered _ _ _ _ c.advance.ensures is));
+      of_option = λ none.
+          let next = answered _ _ _ _ c.advance.ensures is in
+          (tt, (λ l. stops.value_of_flag (string_bytes c.in-UnexpectedValue.option) c.in-UnexpectedValue.value c.advance.new.self next), string_bytes c.in-UnexpectedValue.option, c.in-UnexpectedValue.value, c.advance.new.self, next);
     }
 
 pub unreachable-requires : goal.unreachable-requires
