@@ -40,10 +40,19 @@ impl<F, V, M, S> Options<'_, F, V, Infallible, M, S> {
     ///
     /// # Examples
     ///
-    /// With the option `C|directory` of one value, after the words `-C`, `dir`:
+    /// After the word `-Cdir`:
     ///
     /// ```rust
-    /// match options.complete_leading(alloc, words, &typed)? {
+    /// use std::convert::Infallible;
+    ///
+    /// static GENERAL: Declaration<'static, Infallible, ()> = declare! {
+    ///     program: "git",
+    ///     options: [value((), Names::Both('C', "directory"), "DIR", "work there")],
+    /// };
+    ///
+    /// let words = vec![in alloc; OsString::from_text(alloc, "-Cdir")?]?;
+    /// let typed = OsString::from_text(alloc, "a")?;
+    /// match Options::new(&GENERAL).complete_leading(alloc, words, &typed)? {
     ///     // There were words after the options, such as `add`.
     ///     LeadingCompletion::Rest(rest) => println!(rt; "{} words", rest.len())?,
     ///     LeadingCompletion::Text { text, can_come_first } => {
