@@ -45,9 +45,9 @@ abbrev pub HaveNoRest : Declaration → List (List ℕ) → Type 0
 HaveNoRest d words = (l : List Parsed) (rest : List (List ℕ)) → MeansLeading d words l rest
     → first_asked d.options l ≡ None → rest ≡ []
 
--- This word, before this line, is one positional too many: the words mean nothing as the beginning of
--- a line, and if no positionals are declared, it begins the rest after leading options. Or this is
--- what the words mean as the beginning of a line, and if none are declared, no rest comes after
+-- This word, before this line, is one positional too many: the words mean nothing as the beginning
+-- of a line, and if no positionals are declared, it begins the rest after leading options. Or this
+-- is what the words mean as the beginning of a line, and if none are declared, no rest comes after
 -- leading options, and this tells whether a word can come first.
 abbrev pub IsBegun : Declaration → List (List ℕ) → Begun → UnreadLine → Type 0
 IsBegun d words (begun.Rest word) u = LeadsNowhere d words × (pending u ≡ None)

@@ -285,15 +285,15 @@ pub(crate) fn read_front<F, V, P, M, S>(
         match read_next(parser, options, None, 0)? {
             Outcome::Option(index) => {
                 let option = &declared[index];
+                note(options, index, &mut seen)?;
+                unasked = are_both(unasked, asks_nothing(option));
                 match read_after_name(alloc, parser, option, index)? {
                     AfterName::Values {
                         accepted,
                         first,
                         goes_on,
                     } => {
-                        note(options, index, &mut seen)?;
                         all_accepted = are_both(all_accepted, accepted);
-                        unasked = are_both(unasked, asks_nothing(option));
                         last = with_index(index, first);
                         going_on = index_if(goes_on, index);
                     }

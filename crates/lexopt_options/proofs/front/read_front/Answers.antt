@@ -32,7 +32,7 @@ loop-last-smaller-in-Values g c =
     let at = option_there (options_of o) c.options-declared.result.now c.index-declared-index.result next.0 c.in-Option.index c.options-declared.ensures.same next.2 c.index-declared-index.is in
     let given = rw c.in-Values.is at c.in_ok-accepted-in-Option.ensures (declaration_of o) at in
     (has_option (declaration_of o) c.args.parser.now c.loop-last.parser c.read_next.new.parser c.read_after_name.new.parser c.loop-last.words.items c.loop-last.seen.items c.note.new.seen.items c.loop-last.all_accepted c.in-Values.accepted c.loop-last.unasked c.asks_nothing.result c.loop-last.last c.loop-last.going_on
-    c.in-Values.first c.in-Values.goes_on next.0 c.in-Option.index (option_view c.index-declared-index.result) o.sound c.loop-last.invariant next.1 next.2 at c.asks_nothing.ensures given c.in_ok-note-in-Values.ensures).1
+    c.in-Values.first c.in-Values.goes_on next.0 c.in-Option.index (option_view c.index-declared-index.result) o.sound c.loop-last.invariant next.1 next.2 at c.asks_nothing.ensures given c.in_ok-note-in-Option.ensures).1
 
 pub loop-last-preserved-in-Values : goal.loop-last-preserved-in-Values
 loop-last-preserved-in-Values g c =
@@ -42,7 +42,7 @@ loop-last-preserved-in-Values g c =
     let given = rw c.in-Values.is at c.in_ok-accepted-in-Option.ensures (declaration_of o) at in
     same_reached (declaration_of o) c.args.parser.now c.read_after_name.new.parser c.loop-last.words.items c.note.new.seen.items _ _ _ _ _ _ _ _ c.are_both-all_accepted.ensures c.are_both-unasked.ensures c.with_index-last.ensures c.index_if-going_on.ensures
     (has_option (declaration_of o) c.args.parser.now c.loop-last.parser c.read_next.new.parser c.read_after_name.new.parser c.loop-last.words.items c.loop-last.seen.items c.note.new.seen.items c.loop-last.all_accepted c.in-Values.accepted c.loop-last.unasked c.asks_nothing.result c.loop-last.last c.loop-last.going_on
-    c.in-Values.first c.in-Values.goes_on next.0 c.in-Option.index (option_view c.index-declared-index.result) o.sound c.loop-last.invariant next.1 next.2 at c.asks_nothing.ensures given c.in_ok-note-in-Values.ensures).0
+    c.in-Values.first c.in-Values.goes_on next.0 c.in-Option.index (option_view c.index-declared-index.result) o.sound c.loop-last.invariant next.1 next.2 at c.asks_nothing.ensures given c.in_ok-note-in-Option.ensures).0
 
 pub returns-in-Lacks : goal.returns-in-Lacks
 returns-in-Lacks g c = λ words is.
