@@ -16,3 +16,4 @@ pub mod Tables
 pub mod Given
 pub mod KeysGiven
 pub mod Guessed
+pub mod Looked

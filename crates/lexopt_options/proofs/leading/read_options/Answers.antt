@@ -1,4 +1,4 @@
-use Rattle.std.proofs.Common.{◌≡◌, ◌++◌, ◌∷◌, [], Ok, refl, subst, sym}
+use Rattle.std.proofs.Common.{◌≡◌, ◌++◌, ◌∷◌, [], Ok, refl, subst, sym, ap, ◌∙◌}
 use Rattle.lexopt_spec.specs.UnreadLine.{UnreadLine}
 use Rattle.lexopt_options_spec.specs.Leading.{IsSplit, at_option, ends, positional}
 use Rattle.lexopt_options_spec.specs.Stops.{ReadsUpTo}
@@ -18,7 +18,7 @@ loop-seen-init g c = at_start c.args.options.now c.args.parser.now c.requires c.
 pub loop-seen-smaller : goal.loop-seen-smaller
 loop-seen-smaller g c =
     let next = rw c.in-Option.is at c.in_ok-index.ensures in
-    let is : c.in_ok-own-in-Option.field-0 ≡ Ok (told.Parsed c.in-Ok-Parsed.own) = cc in
+    let is : c.in_ok-own-in-Option.field-0 ≡ Ok (told.Parsed c.in-Ok-Parsed.own) = c.in-Ok-Parsed.is ∙ ap Ok c.in-Ok-Parsed.field-0-is in
     let read = rw is at c.in_ok-own-in-Option.ensures 0 c.loop-seen.parser next.0 next.1 next.2 in
     read.1.shorter
 
@@ -26,7 +26,7 @@ pub loop-seen-preserved : goal.loop-seen-preserved
 loop-seen-preserved g c =
     let o = c.args.options.now in
     let next = rw c.in-Option.is at c.in_ok-index.ensures in
-    let is : c.in_ok-own-in-Option.field-0 ≡ Ok (told.Parsed c.in-Ok-Parsed.own) = cc in
+    let is : c.in_ok-own-in-Option.field-0 ≡ Ok (told.Parsed c.in-Ok-Parsed.own) = c.in-Ok-Parsed.is ∙ ap Ok c.in-Ok-Parsed.field-0-is in
     let read = rw is at c.in_ok-own-in-Option.ensures 0 c.loop-seen.parser next.0 next.1 next.2 in
     has_option o c.args.parser.now c.loop-seen.parser c.read_by_key.new.parser 0 c.in-Option.index c.loop-seen.seen.items c.note.new.seen.items c.loop-seen.parsed.items c.push.new.self.items read.0 c.in-Ok-Parsed.own
     c.loop-seen.invariant read.1 read.2.0 read.2.1 read.3 read.4 read.5
@@ -37,7 +37,7 @@ returns-in-Ok-Asked g c = λ words is_start.
     let d = declaration_of c.args.options.now in
     let had = c.loop-seen.invariant in
     let next = rw c.in-Option.is at c.in_ok-index.ensures in
-    let is : c.in_ok-own-in-Option.field-0 ≡ Ok (told.Asked c.in-Ok-Asked.asked) = cc in
+    let is : c.in_ok-own-in-Option.field-0 ≡ Ok (told.Asked c.in-Ok-Asked.asked) = c.in-Ok-Asked.is ∙ ap Ok c.in-Ok-Asked.field-0-is in
     let read = rw is at c.in_ok-own-in-Option.ensures 0 c.loop-seen.parser next.0 next.1 next.2 in
     c.ask.ensures words had.l read.0
     (subst (λ (u : UnreadLine). ReadsUpTo d u (had.l ++ read.0 ∷ []) c.read_by_key.new.parser) is_start (one_more d c.args.parser.now c.loop-seen.parser c.read_by_key.new.parser had.l 0 read.0 had.read had.counted read.1))

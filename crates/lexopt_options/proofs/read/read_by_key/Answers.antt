@@ -1,4 +1,5 @@
-use Rattle.std.proofs.Common.{◌≡◌, ◌∙◌, List, None, Some, Ok, ap, get_or, not, position, refl, subst, sym}
+use Rattle.std.proofs.Common.{◌≡◌, ◌<◌, ◌∙◌, List, [], None, Some, Ok, ap, arith, get_or, length, not, position, refl, subst, sym}
+use Rattle.std.proofs.lemmas.List.Quantifiers.{position-Some}
 use Rattle.lexopt_declaration.specs.declared.declaration.Declared.{Declared}
 use Rattle.lexopt_declaration.specs.declared.declaration.Kind.TheVariants as kind
 use Rattle.lexopt_items.specs.declared.kinds.Kind.TheVariants as arity
@@ -14,6 +15,14 @@ use Rattle.lexopt_options.proofs.Accepted.{first_refused, place_refused, value_a
 use Rattle.lexopt_options.proofs.Fronts.{maybe_so, taken_so, value_ends}
 use Rattle.lexopt_options.proofs.ReadKeys.{by_key, read_so, refused_so}
 use Rattle.lexopt_options.proofs.read.read_by_key.Goals as goal
+
+pub bounds-declared-index : goal.bounds-declared-index
+bounds-declared-index g c =
+    subst (λ (os : List (Declared _ _ _ _)). c.args.index < length os) (sym c.options-declared.ensures.same)
+    (found_within (options_of c.args.options.now) c.requires.1 c.args.index c.requires.3)
+
+pub offset_bounds-declared-index : goal.offset_bounds-declared-index
+offset_bounds-declared-index g c = let within = bounds-declared-index g c in omega (arith, within)
 
 pub returns-in-Flag : goal.returns-in-Flag
 returns-in-Flag g c = λ count u name step found.
@@ -54,6 +63,9 @@ returns-then-accepts g c = λ count u name step found.
     (kind_is (options_of o) c.args.index r (kind.Value c.in-Value.key c.in-Value.field-1) inside at c.in-Value.is) step found (taken_so c.args.parser.now c.take.new.self c.take.result (Ok c.in-Ok.value) c.in-Ok.is c.take.ensures) (tells_value o c.args.index r c.in-Value.key c.in-Value.field-1 c.in-Ok.value inside at c.in-Value.is)
     (value_accepted d.options c.args.index (option_view r) c.in-Ok.value view (sym c.accepts.ensures ∙ c.if-accepts.true))
 
+pub invalid_value-requires : goal.invalid_value-requires
+invalid_value-requires g c = sym c.accepts.ensures ∙ c.if-accepts.false
+
 pub returns-in-Ok : goal.returns-in-Ok
 returns-in-Ok g c = λ count u name step found.
     let o = c.args.options.now in
@@ -93,6 +105,9 @@ returns-then-accepts-2 g c = λ count u name step found.
     (kind_is (options_of o) c.args.index r (kind.Maybe c.in-Maybe.key c.in-Maybe.field-1) inside at c.in-Maybe.is) step found (maybe_so c.args.parser.now c.optional_value.new.self c.optional_value.result (Some c.in-Some.value) c.in-Some.is c.optional_value.ensures) (tells_maybe o c.args.index r c.in-Maybe.key c.in-Maybe.field-1 (Some c.in-Some.value) inside at c.in-Maybe.is)
     (value_accepted d.options c.args.index (option_view r) c.in-Some.value view (sym c.accepts-in-Some.ensures ∙ c.if-accepts-2.true))
 
+pub invalid_value-requires-else-accepts-2 : goal.invalid_value-requires-else-accepts-2
+invalid_value-requires-else-accepts-2 g c = sym c.accepts-in-Some.ensures ∙ c.if-accepts-2.false
+
 pub returns-in-Some : goal.returns-in-Some
 returns-in-Some g c = λ count u name step found.
     let o = c.args.options.now in
@@ -113,6 +128,14 @@ returns-in-Maybe g c = λ count u name step found.
     let at = subst (λ (os : List (Declared _ _ _ _)). r ≡ get_or os c.args.index r) c.options-declared.ensures.same c.index-declared-index.is in
     read_so o count u c.args.parser.now c.optional_value.new.self name arity.Optional c.args.index (values.AtMostOne None) (told.Parsed (parsed.Maybe c.in-Maybe.key None))
     (kind_is (options_of o) c.args.index r (kind.Maybe c.in-Maybe.key c.in-Maybe.field-1) inside at c.in-Maybe.is) step found (maybe_so c.args.parser.now c.optional_value.new.self c.optional_value.result None c.in-None.is c.optional_value.ensures) (tells_maybe o c.args.index r c.in-Maybe.key c.in-Maybe.field-1 None inside at c.in-Maybe.is) refl
+
+pub swap_remove-requires : goal.swap_remove-requires
+swap_remove-requires g c =
+    let words = words_view c.index-declared-index.result.words in
+    let items = c.in-Ok-read_several.values.items in
+    let first = sym c.in-Some-refused_place.is ∙ c.refused_place.ensures ∙ ap (position (λ value. not (spec.accepts words value))) c.deref.ensures.value in
+    let within = (position-Some (λ value. not (spec.accepts words value)) items c.in-Some-refused_place.place [] (sym first)).0 in
+    omega (arith, within, c.in-Ok-read_several.values.ok.0)
 
 pub invalid_value-requires-in-Some-refused_place : goal.invalid_value-requires-in-Some-refused_place
 invalid_value-requires-in-Some-refused_place g c =
@@ -147,6 +170,9 @@ returns-in-Ok-read_several g c = λ count u name step found.
     read_so o count u c.args.parser.now c.read_several.new.parser name arity.Several c.args.index (values.All c.in-Ok-read_several.values) (told.Parsed (parsed.Values c.in-Values.key c.in-Ok-read_several.values))
     (kind_is (options_of o) c.args.index r (kind.Values c.in-Values.key c.in-Values.field-1) inside at c.in-Values.is) step found c.in-Ok-read_several.ensures.ok (tells_values o c.args.index r c.in-Values.key c.in-Values.field-1 c.in-Ok-read_several.values inside at c.in-Values.is)
     (first_refused d.options c.args.index (option_view r) c.in-Ok-read_several.values.items None view all)
+
+pub missing_value-requires-in-Err-read_several : goal.missing_value-requires-in-Err-read_several
+missing_value-requires-in-Err-read_several g c = (arity.Several, c.requires.0, c.args.parser.now, c.requires.1, c.requires.2, (λ is. cc), c.in-Err-read_several.ensures.err)
 
 pub returns : goal.returns
 returns g c = λ count u name step found.

@@ -25,7 +25,7 @@ overflow_add-count g c =
 pub loop-seen-smaller-in-Continue-branch-8 : goal.loop-seen-smaller-in-Continue-branch-8
 loop-seen-smaller-in-Continue-branch-8 g c =
     let next = rw c.in-Option.is at c.in_ok-index.ensures in
-    let is : c.in_ok-own-in-Option.field-0 ≡ Ok (told.Parsed c.in-Ok-Parsed.own) = cc in
+    let is : c.in_ok-own-in-Option.field-0 ≡ Ok (told.Parsed c.in-Ok-Parsed.own) = c.in-Ok-Parsed.is ∙ ap Ok c.in-Ok-Parsed.field-0-is in
     let read = rw is at c.in_ok-own-in-Option.ensures c.loop-seen.count c.loop-seen.parser next.0 next.1 next.2 in
     read.1.shorter
 
@@ -33,7 +33,7 @@ pub loop-seen-preserved-in-Continue-branch-8 : goal.loop-seen-preserved-in-Conti
 loop-seen-preserved-in-Continue-branch-8 g c =
     let o = c.args.options.now in
     let next = rw c.in-Option.is at c.in_ok-index.ensures in
-    let is : c.in_ok-own-in-Option.field-0 ≡ Ok (told.Parsed c.in-Ok-Parsed.own) = cc in
+    let is : c.in_ok-own-in-Option.field-0 ≡ Ok (told.Parsed c.in-Ok-Parsed.own) = c.in-Ok-Parsed.is ∙ ap Ok c.in-Ok-Parsed.field-0-is in
     let read = rw is at c.in_ok-own-in-Option.ensures c.loop-seen.count c.loop-seen.parser next.0 next.1 next.2 in
     has_option o c.args.parser.now c.loop-seen.parser c.read_by_key.new.parser c.loop-seen.count c.in-Option.index c.loop-seen.seen.items c.note.new.seen.items c.loop-seen.parsed.items c.push.new.self.items read.0 c.in-Ok-Parsed.own
     c.loop-seen.invariant read.1 read.2.0 read.2.1 read.3 read.4 read.5
@@ -44,7 +44,7 @@ returns-in-Ok-Asked g c = λ words is_start.
     let d = declaration_of c.args.options.now in
     let had = c.loop-seen.invariant in
     let next = rw c.in-Option.is at c.in_ok-index.ensures in
-    let is : c.in_ok-own-in-Option.field-0 ≡ Ok (told.Asked c.in-Ok-Asked.asked) = cc in
+    let is : c.in_ok-own-in-Option.field-0 ≡ Ok (told.Asked c.in-Ok-Asked.asked) = c.in-Ok-Asked.is ∙ ap Ok c.in-Ok-Asked.field-0-is in
     let read = rw is at c.in_ok-own-in-Option.ensures c.loop-seen.count c.loop-seen.parser next.0 next.1 next.2 in
     c.ask.ensures words had.l read.0
     (subst (λ (u : UnreadLine). ReadsUpTo d u (had.l ++ read.0 ∷ []) c.read_by_key.new.parser) is_start (one_more d c.args.parser.now c.loop-seen.parser c.read_by_key.new.parser had.l c.loop-seen.count read.0 had.read had.counted read.1))
