@@ -1,9 +1,8 @@
-//! Calls that a script cannot make in this way: copies of a parser, its name, and `optional_value`
-//! itself. The other modules make the other calls that read a line, and so do the cases of
-//! `test_cases`.
+//! Calls that a script cannot make in this way: copies of a parser, and `optional_value` itself.
+//! The other modules make the other calls that read a line, and so do the cases of `test_cases`.
 use lexopt::{Error, Parser};
 use test_helpers::calls::{gives, reads_short, reads_word, takes};
-use test_helpers::parsers::{named, parser_of};
+use test_helpers::parsers::parser_of;
 
 // Whether all bytes after `-c` are its value when `short_equals` is false, and the next word is not
 // a value.
@@ -35,10 +34,4 @@ fn both_take(parser: &mut Parser) -> Result<bool, Error> {
 fn copies_of_parsers(rt: HostRuntime) {
     let mut parser = parser_of(rt.alloc(), &[b"-ab"]).expect(&rt, "success");
     assert!(rt; both_take(&mut parser).expect(&rt, "success"));
-}
-
-#[test]
-fn names(rt: HostRuntime) {
-    let parser = named(rt.alloc(), &[b"a\xf0\x9db", b"-x"]).expect(&rt, "success");
-    assert_eq!(rt; parser.bin_name(), Some("a\u{FFFD}b"));
 }

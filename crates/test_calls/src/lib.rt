@@ -17,6 +17,8 @@ mod ends;
 #[cfg(test)]
 mod errors;
 #[cfg(test)]
+mod names;
+#[cfg(test)]
 mod replays;
 #[cfg(test)]
 mod sizes;
