@@ -1,4 +1,4 @@
-//! Tests of declared options by brute force. Lines of at most three of twelve words are read by the
+//! Tests of declared options by brute force. Lines of at most three of thirteen words are read by the
 //! library and by a plain reader, which is written from the rules alone. The spellings that are
 //! offered are compared with the lines that the plain reader finds to be legal.
 #![tactic(auto)]

@@ -127,11 +127,11 @@ fn count_lines(alloc: Global, plan: &'static Plan) -> Result<usize, AllocError> 
     }
 }
 
-// All lists of at most three of the words: 1 + 12 + 144 + 1728.
+// All lists of at most three of the words: 1 + 13 + 169 + 2197.
 #[test]
 fn lines(rt: HostRuntime) {
     for plan in plans() {
         let lines = count_lines(rt.alloc(), plan).expect(&rt, "memory");
-        assert_eq!(rt; lines, 1885, "{}", plan.program);
+        assert_eq!(rt; lines, 2_380, "{}", plan.program);
     }
 }

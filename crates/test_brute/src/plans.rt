@@ -4,23 +4,7 @@ use lexopt_options::{Names, declare};
 
 /// The words of the lines. No name in them is near another declared name, or begins one, so no
 /// message has a hint.
-pub static WORDS: [&str; 12] = [
-    "-v",
-    "-vx",
-    "--user",
-    "--user=u",
-    "-u",
-    "-uu",
-    "--",
-    "--help",
-    "-h",
-    "a",
-    "",
-    "--verbose=1",
-];
-
-/// The words that may come after a spelling: the words of the lines, and `x`.
-pub static MORE_WORDS: [&str; 13] = [
+pub static WORDS: [&str; 13] = [
     "-v",
     "-vx",
     "--user",

@@ -4,7 +4,7 @@ use crate::plain::{
     Item, Key, Next, Place, Plan, Reading, Typed, ends_in_option, list_at, next_after, place_of,
     read,
 };
-use crate::plans::{FRONTS, MORE_WORDS, SPELLINGS, TAILS, WORDS, plans};
+use crate::plans::{FRONTS, SPELLINGS, TAILS, WORDS, plans};
 use crate::words_of;
 use lexopt_options::{Arity, Options, OsString, Spelling as Offered};
 use std::alloc::{AllocError, Global};
@@ -94,9 +94,9 @@ fn can_come(
         }
     }
     // The numbers of the lists of at most two of the words are below the square of `base`.
-    let base = MORE_WORDS.len().saturating_add(1);
+    let base = WORDS.len().saturating_add(1);
     for number in 0..base.saturating_mul(base) {
-        if let Some(after) = list_of(alloc, &MORE_WORDS, number)? {
+        if let Some(after) = list_of(alloc, &WORDS, number)? {
             let words = joined(alloc, before, spelling.text, &after)?;
             if continues_with(&front, spelling.place, &read(alloc, plan, &words)?) {
                 return Ok(true);
@@ -277,11 +277,11 @@ fn count_right(alloc: Global, plan: &'static Plan) -> Result<usize, AllocError> 
     Ok(right)
 }
 
-// Eight words are typed after each of 1 + 12 + 144 lines.
+// Eight words are typed after each of 1 + 13 + 169 lines.
 #[test]
 fn spellings(rt: HostRuntime) {
     for plan in plans() {
         let right = count_right(rt.alloc(), plan).expect(&rt, "memory");
-        assert_eq!(rt; right, 1_256, "{}", plan.program);
+        assert_eq!(rt; right, 1_464, "{}", plan.program);
     }
 }

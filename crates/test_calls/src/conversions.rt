@@ -76,19 +76,14 @@ const ROWS: [(Call, &[u8], Result<i32, &str>); 10] = [
     (Call::Failure, b"foo\xff", Err(DAMAGED)),
 ];
 
-// The place of the first row that does not hold, if there is one.
-fn first_wrong(alloc: Global) -> Result<Option<usize>, AllocError> {
-    for (place, (call, word, wanted)) in ROWS.iter().enumerate() {
-        if !is_converted(alloc, *call, word, *wanted)? {
-            return Ok(Some(place));
-        }
-    }
-    Ok(None)
-}
-
 #[test]
 fn conversions(rt: HostRuntime) {
-    assert_eq!(rt; first_wrong(rt.alloc()).expect(&rt, "success"), None);
+    for (call, word, wanted) in ROWS {
+        assert!(rt;
+            is_converted(rt.alloc(), call, word, wanted).expect(&rt, "success"),
+            "{word:?}: {wanted:?}"
+        );
+    }
 }
 
 #[test]

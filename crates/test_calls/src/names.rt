@@ -28,17 +28,12 @@ const NAMES: [(&[&[u8]], Option<&str>); 16] = [
     (&[b"\xef\xbf\xbd"], Some("\u{FFFD}")),
 ];
 
-// The place of the first row whose parser has another name, if there is one.
-fn first_wrong(alloc: Global) -> Result<Option<usize>, Error> {
-    for (place, (words, name)) in NAMES.iter().enumerate() {
-        if !has_name(alloc, words, *name)? {
-            return Ok(Some(place));
-        }
-    }
-    Ok(None)
-}
-
 #[test]
 fn names(rt: HostRuntime) {
-    assert_eq!(rt; first_wrong(rt.alloc()).expect(&rt, "success"), None);
+    for (words, name) in NAMES {
+        assert!(rt;
+            has_name(rt.alloc(), words, name).expect(&rt, "success"),
+            "{name:?}"
+        );
+    }
 }

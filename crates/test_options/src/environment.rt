@@ -58,22 +58,12 @@ fn text_of<'v>(
     text_of_answer(alloc, archive_of_files().from_env(&(environment, alloc))?)
 }
 
-// The place of the first row that does not hold, if there is one.
-fn first_wrong(alloc: Global) -> Result<Option<usize>, AllocError> {
-    for (row, (line, name, value, front)) in ROWS.iter().enumerate() {
-        if !text_of(alloc, line, name, *value)?
-            .as_str()
-            .starts_with(front)
-        {
-            return Ok(Some(row));
-        }
-    }
-    Ok(None)
-}
-
 #[test]
 fn environments(rt: HostRuntime) {
-    assert_eq!(rt; first_wrong(rt.alloc()).expect(&rt, "memory"), None);
+    for (line, name, value, front) in ROWS.iter() {
+        let text = text_of(rt.alloc(), line, name, *value).expect(&rt, "memory");
+        assert!(rt; text.as_str().starts_with(front), "{front}");
+    }
 }
 
 // Values of `COLUMNS`, and the width. It is 80 if the value is not a number, is 0, or does not fit

@@ -1,5 +1,4 @@
-//! Three hundred options in fifteen groups: what lines of them mean, and each option found by its
-//! name.
+//! Three hundred options in fifteen groups, each found by its name.
 use lexopt_options::{
     Combined, Declaration, Declared, Group, Kind, Line, Names, Options, Parsed, declare,
     declare_group,
@@ -89,19 +88,6 @@ static DECLARATION: Declaration<'static, u16, u16> = declare! {
     options: [help(Names::Both('h', "help"))],
 };
 
-// What a line means, as `Debug` writes it, or its refusal.
-fn text_of(
-    alloc: Global,
-    options: &Options<'_, u16, u16>,
-    line: &[u8],
-) -> Result<String, AllocError> {
-    match options.read(alloc, words_of(alloc, line)?)? {
-        Line::Parsed(parsed) => format!(in alloc; "{parsed:?}"),
-        Line::Asked(asked) => format!(in alloc; "{asked:?}"),
-        Line::Refused(refused) => refused.mistake.to_string(alloc),
-    }
-}
-
 // Whether a line is one option with this key.
 fn is_read(
     alloc: Global,
@@ -139,21 +125,8 @@ fn is_found(
     }
 }
 
-// Lines, and what they mean.
-const ROWS: [(&[u8], &str); 2] = [
-    (
-        b"--sort-user me --add-date --list-file",
-        "[Value(299, \"me\"), Flag(0), Flag(162)]",
-    ),
-    (
-        b"--quote-tabel",
-        "invalid option '--quote-tabel'; did you mean '--quote-table'?",
-    ),
-];
-
-// How many of the options are found by their long names, and the place of the first row that does
-// not hold, if there is one.
-fn found(alloc: Global) -> Result<(usize, Option<usize>), AllocError> {
+// How many of the options are found by their long names.
+fn found(alloc: Global) -> Result<usize, AllocError> {
     let groups = [
         ADD, ALLOW, COPY, COUNT, HIDE, IGNORE, KEEP, LIMIT, LIST, MERGE, PRINT, QUOTE, READ, SKIP,
         SORT,
@@ -167,15 +140,10 @@ fn found(alloc: Global) -> Result<(usize, Option<usize>), AllocError> {
             count = count.wrapping_add(1);
         }
     }
-    for (row, (line, wanted)) in ROWS.iter().enumerate() {
-        if text_of(alloc, &options, line)?.as_str() != *wanted {
-            return Ok((count, Some(row)));
-        }
-    }
-    Ok((count, None))
+    Ok(count)
 }
 
 #[test]
 fn options_in_groups(rt: HostRuntime) {
-    assert_eq!(rt; found(rt.alloc()).expect(&rt, "memory"), (300, None));
+    assert_eq!(rt; found(rt.alloc()).expect(&rt, "memory"), 300);
 }
