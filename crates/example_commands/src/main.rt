@@ -14,7 +14,6 @@ use lexopt_commands::{
 };
 use lexopt_options::{Answer, Declaration, Names, Options, Parsed, Quoted, declare};
 use std::convert::Infallible;
-use std::fmt::Display;
 use std::io;
 use std::process::ExitCode;
 
@@ -57,22 +56,14 @@ static REMOTE: Declaration<'static, Infallible, ()> = declare! {
     options: [help(Names::Both('h', "help"))],
 };
 
-static REMOTE_COMMANDS: &[Command<'static, ()>] = declare_commands![command(
-    (),
-    "add",
-    "add a remote"
-)];
+static REMOTE_COMMANDS: &[Command<'static, ()>] =
+    declare_commands! { command((), "add", "add a remote") };
 
 static REMOTE_ADD: Declaration<'static, Infallible, Infallible, ()> = declare! {
     program: "add",
     options: [help(Names::Both('h', "help"))],
     positionals: [once((), "NAME"), once((), "URL")],
 };
-
-fn refuse(rt: &HostRuntime, refused: &impl Display) -> ExitCode {
-    let _ = eprintln!(rt; "{refused}");
-    ExitCode::from(USAGE_ERROR)
-}
 
 fn work<P: Copy>(
     rt: &HostRuntime,
@@ -82,19 +73,18 @@ fn work<P: Copy>(
 ) -> io::Result<ExitCode> {
     let options = options.with_program(path);
     let (general, answer) = call.answer(rt.alloc(), &options, columns(rt))?;
-    match answer {
-        Answer::Parsed(line) => {
-            if let Some(Parsed::Value((), dir)) = general.last() {
-                println!(rt; "in {}", Quoted::new(dir.as_bytes()))?;
-            }
-            rt.println(path)?;
-            for parsed in line {
-                let Parsed::Positional(_, word) = parsed;
-                println!(rt; "{}", Quoted::new(word.as_bytes()))?;
-            }
-        }
-        Answer::Text(text) => rt.print(text)?,
-        Answer::Refused(refused) => return Ok(refuse(rt, &refused)),
+    let line = match answer {
+        Answer::Parsed(line) => line,
+        Answer::Text(text) => return rt.print(text).map(|()| ExitCode::SUCCESS),
+        Answer::Refused(why) => return rt.eprintln(why).map(|()| ExitCode::from(USAGE_ERROR)),
+    };
+    if let Some(Parsed::Value((), dir)) = general.last() {
+        println!(rt; "in {}", Quoted::new(dir.as_bytes()))?;
+    }
+    rt.println(path)?;
+    for parsed in line {
+        let Parsed::Positional(_, word) = parsed;
+        println!(rt; "{}", Quoted::new(word.as_bytes()))?;
     }
     Ok(ExitCode::SUCCESS)
 }
@@ -104,19 +94,17 @@ fn remote(rt: &HostRuntime, path: &str, call: Call<Infallible, ()>) -> io::Resul
     match commands.answer_call(rt.alloc(), call, columns(rt))? {
         Step::Command((), path, call) => work(rt, Options::new(&REMOTE_ADD), &path, call),
         Step::Text(text) => rt.print(text).map(|()| ExitCode::SUCCESS),
-        Step::Refused(refused) => Ok(refuse(rt, &refused)),
+        Step::Refused(why) => rt.eprintln(why).map(|()| ExitCode::from(USAGE_ERROR)),
     }
 }
 
 fn run(rt: &HostRuntime) -> io::Result<ExitCode> {
     match Commands::new(Options::new(&GENERAL), COMMANDS).from_env(rt)? {
-        Step::Command(task, path, call) => match task {
-            Task::Add => work(rt, Options::new(&ADD), &path, call),
-            Task::List => work(rt, Options::new(&LIST), &path, call),
-            Task::Remote => remote(rt, &path, call),
-        },
+        Step::Command(Task::Add, path, call) => work(rt, Options::new(&ADD), &path, call),
+        Step::Command(Task::List, path, call) => work(rt, Options::new(&LIST), &path, call),
+        Step::Command(Task::Remote, path, call) => remote(rt, &path, call),
         Step::Text(text) => rt.print(text).map(|()| ExitCode::SUCCESS),
-        Step::Refused(refused) => Ok(refuse(rt, &refused)),
+        Step::Refused(why) => rt.eprintln(why).map(|()| ExitCode::from(USAGE_ERROR)),
     }
 }
 
