@@ -1,8 +1,5 @@
 //! Calls of a parser, and comparisons of their results with the expected ones.
 use lexopt_base::{Arg, Error, OsString, Parser};
-use lexopt_calls::replay::replay;
-use lexopt_calls::reply::{Call, Reply};
-use std::alloc::Global;
 
 /// Whether `next` returns this short option.
 pub fn reads_short(parser: &mut Parser, wanted: char) -> Result<bool, Error> {
@@ -58,9 +55,4 @@ pub fn has_words(
         .iter()
         .all(|word| unread.next().as_ref() == Some(word));
     Ok(is_named && are_there && unread.next().is_none())
-}
-
-/// The unread line: the pending value, the words, and the last option.
-pub fn left(alloc: Global, parser: &mut Parser) -> Result<Vec<Reply>, Error> {
-    replay(alloc, parser, &[Call::Optional, Call::Raw(9), Call::Value])
 }

@@ -4,7 +4,6 @@ use lexopt::replay::{Call, Reply, replay};
 use lexopt::{Error, OsString, Parser};
 use std::alloc::{AllocError, Global};
 use std::test::Fail;
-use test_helpers::calls::left;
 use test_helpers::parsers::parser_of;
 
 // The words on which the calls are made.
@@ -33,6 +32,11 @@ fn every_call(alloc: Global) -> Result<[Call; 13], AllocError> {
         Call::TryRaw(1),
         Call::Value,
     ])
+}
+
+// The unread line: the pending value, the words, and the last option.
+fn left(alloc: Global, parser: &mut Parser) -> Result<Vec<Reply>, Error> {
+    replay(alloc, parser, &[Call::Optional, Call::Raw(9), Call::Value])
 }
 
 // What a list has before a place and after it, if the list has that place.
