@@ -2,11 +2,9 @@ pub mod Faults
 pub mod Positions
 pub mod Counting
 pub mod Hinted
-pub mod Replacement
 pub mod Rows
 pub mod Candidates
 pub mod Spelled
 pub mod Repeated
-pub mod Suspects
 pub mod Marks
 pub mod BadLists

@@ -43,14 +43,6 @@ count_more ps i d b within is =
     ∙ length-append (filter (λ (p : spec.Positional). may_repeat p.count) (map positional_view (take i ps))) (filter (λ (p : spec.Positional). may_repeat p.count) (positional_view (get_or ps i d) ∷ []))
     ∙ ap (λ (c : Bool). repeated_count (map positional_view (take i ps)) + length (if c then positional_view (get_or ps i d) ∷ [] else [])) is
 
-pub passed_repeated : {P : Type 0} (ps : List (Positional P)) (i : ℕ) (d : Positional P) → i < length ps → may_repeat (count_view (get_or ps i d).count) ≡ true
-    → repeated_count (map positional_view (take i ps)) ≡ 0 → repeated_count (map positional_view (take (i + 1) ps)) ≡ 1
-passed_repeated ps i d within is none = count_more ps i d true within is ∙ ap (λ n. n + 1) none
-
-pub passed_other : {P : Type 0} (ps : List (Positional P)) (i : ℕ) (d : Positional P) (n : ℕ) → i < length ps → may_repeat (count_view (get_or ps i d).count) ≡ false
-    → repeated_count (map positional_view (take i ps)) ≡ n → repeated_count (map positional_view (take (i + 1) ps)) ≡ n
-passed_other ps i d n within is same = let more = count_more ps i d false within is in omega arith
-
 pub second : {P : Type 0} (ps : List (Positional P)) (i : ℕ) (d : Positional P) → i < length ps → may_repeat (count_view (get_or ps i d).count) ≡ true
     → repeated_count (map positional_view (take i ps)) ≡ 1 → IsSecondRepeated (map positional_view ps) i
 second ps i d within is one = record {

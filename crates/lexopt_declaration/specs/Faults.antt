@@ -1,10 +1,9 @@
 -- What cannot be declared, as contracts see it.
-use Rattle.std.specs.Prelude.{◌≡◌, ◌==◌, ◌||◌, ℕ, Bool, true, List, Some, map, option_map}
+use Rattle.std.specs.Prelude.{◌≡◌, ℕ, true, List, Some, map, option_map}
 use Rattle.std.specs.Prelude.{slice_get}
 use Rattle.std.specs.Borrow.{Bor}
-use Rattle.lexopt_spec.specs.UnreadLine.{equals}
 use Rattle.lexopt_options_spec.specs.Declaration.{IsFirstBadList, IsFirstFault, IsSecondRepeated}
-use Rattle.lexopt_options_spec.specs.Declaration.{are_clear, is_blank_or_control, is_sound}
+use Rattle.lexopt_options_spec.specs.Declaration.{are_clear, is_sound}
 use Rattle.lexopt_declaration.specs.declared.declaration.Declaration.{Declaration}
 use Rattle.lexopt_declaration.specs.declared.declaration.DeclarationError.{DeclarationError}
 use Rattle.lexopt_declaration.specs.declared.declaration.DeclarationError.TheVariants as error
@@ -14,10 +13,6 @@ use Rattle.lexopt_declaration.specs.declared.declaration.Positional.{Positional}
 use Rattle.lexopt_declaration.specs.declared.declaration.Reason.{Reason}
 use Rattle.lexopt_declaration.specs.Lookups.{names_at}
 use Rattle.lexopt_declaration.specs.Models.{option_view, positional_view, reason_view}
-
--- `=`, a blank or a control character of ASCII, or the first byte of U+FFFD
-abbrev pub is_suspect : ℕ → Bool
-is_suspect b = is_blank_or_control b || (b == equals || b == 0xEF)
 
 -- the option with these names is the first that cannot be declared after those before it, for this
 -- reason

@@ -8,7 +8,7 @@ ghost use Rattle.lexopt_spec.specs.Pieces.{lossy_characters, replacement};
 ghost use Rattle.lexopt_options_spec.specs.Completion.{AreText};
 ghost use Rattle.lexopt_options_spec.specs.Declaration as spec;
 ghost use Rattle.lexopt_options_spec.specs.Declaration.{are_clear, are_listable, has, is_sound};
-ghost use Rattle.lexopt_declaration.specs.Faults.{IsDeclarationError, IsOptionError, is_suspect};
+ghost use Rattle.lexopt_declaration.specs.Faults.{IsDeclarationError, IsOptionError};
 ghost use Rattle.lexopt_declaration.specs.Models.{arity_kind, arity_placeholder, option_view};
 ghost use Rattle.lexopt_declaration.specs.Models.{positional_view, reason_view, words_view};
 
@@ -797,13 +797,10 @@ fn any_replacement(name: &str) -> bool
     name.chars().any(|character| character == '\u{FFFD}')
 }
 
-// Whether a name has U+FFFD in it. Few names have its first byte, EF, so this looks for that first.
+// Whether a name has U+FFFD in it.
 fn has_replacement(name: &str) -> bool
     ensures { result ≡ has replacement (lossy_characters name.now) }
 {
-    if !name.as_bytes().contains(&0xEF) {
-        return false;
-    }
     any_replacement(name)
 }
 
@@ -835,27 +832,8 @@ fn short_fault(name: Option<char>) -> Option<Reason>
     }
 }
 
-// Whether a byte of a name can be part of a fault: `=`, a blank or a control character of ASCII, or
-// the first byte of U+FFFD.
-fn is_suspect(byte: u8) -> bool
-    ensures { result ≡ is_suspect byte }
-{
-    // Most bytes of names are letters.
-    if byte > b'=' && byte < 0x7F {
-        return false;
-    }
-    byte < b'!' || byte == b'=' || byte == 0x7F || byte == 0xEF
-}
-
-// Whether a name has a byte that can be part of a fault.
-fn has_suspect(name: &str) -> bool
-    ensures { result ≡ list_any is_suspect name.now }
-{
-    name.as_bytes().iter().any(|byte| is_suspect(*byte))
-}
-
-// What is wrong with a name. This looks for each fault in turn.
-fn exact_name_fault(name: &str) -> Option<Reason>
+// What is wrong with a name.
+fn name_fault(name: &str) -> Option<Reason>
     ensures { option_map reason_view result ≡ spec.long_fault (Some name.now) }
 {
     if name.is_empty() {
@@ -869,17 +847,6 @@ fn exact_name_fault(name: &str) -> Option<Reason>
     } else {
         None
     }
-}
-
-// What is wrong with a name. Few names have a byte that can be part of a fault, so this looks for
-// one first.
-fn name_fault(name: &str) -> Option<Reason>
-    ensures { option_map reason_view result ≡ spec.long_fault (Some name.now) }
-{
-    if name.is_empty() || has_suspect(name) {
-        return exact_name_fault(name);
-    }
-    None
 }
 
 // What is wrong with the name of an option, if it has one.

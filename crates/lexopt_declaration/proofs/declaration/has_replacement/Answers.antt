@@ -1,13 +1,8 @@
 use Rattle.std.proofs.Common.{◌==◌, sym, ap, ◌∙◌}
 use Rattle.std.specs.List.{list_any}
 use Rattle.lexopt_spec.specs.Pieces.{replacement}
-use Rattle.lexopt_options_spec.specs.Declaration.{has}
 use Rattle.lexopt_options_spec.proofs.Texts.{text_characters}
-use Rattle.lexopt_declaration.proofs.Replacement.{without_first}
 use Rattle.lexopt_declaration.proofs.declaration.has_replacement.Goals as goal
-
-pub returns-then-not-contains : goal.returns-then-not-contains
-returns-then-not-contains c = sym (without_first c.args.name.now c.utf8.name (sym (ap (has 0xEF) c.as_bytes.ensures.value) ∙ sym c.contains.ensures.value ∙ c.if-not-contains.true))
 
 pub returns : goal.returns
 returns c = c.any_replacement.ensures ∙ ap (list_any (λ b. b == replacement)) (sym (text_characters c.args.name.now c.utf8.name))
