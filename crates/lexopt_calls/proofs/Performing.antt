@@ -62,9 +62,6 @@ pub record Done (script : Script) (commands : List Command) (v : UnreadLine) (on
   pub written : Written (table_view script.table) script.words.items true commands replies text
   pub on_is : on ≡ switch_after true commands
 
-pub nothing_done : (script : Script) (u : UnreadLine) (text : List ℕ) → u ≡ fresh script.words.items → text ≡ [] → Done script [] u true text
-nothing_done script u text is none = record { replies = []; run = is; written = none; on_is = refl }
-
 -- one more call
 call_done : (script : Script) (commands : List Command) (c : Call) (reply : Reply) (u v : UnreadLine) (on : Bool) (text : List ℕ) → Done script commands u on text
     → Step c u reply v → Done script (commands ++ call c ∷ []) v (short_equals_after on c) (text ++ with_newline (reply_text reply))

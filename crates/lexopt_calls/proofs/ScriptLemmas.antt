@@ -35,10 +35,6 @@ whole_character bs n c size all char =
 
 -- ---- the lines
 
-pub length-lines_of : (bs : List ℕ) → length (lines_of bs) ≤ length bs + 1
-length-lines_of bs =
-    omega (arith, length-slice_split (λ b. b == newline) bs, count_by-le-length (λ b. b == newline) bs)
-
 -- ---- the first lines of a script
 
 -- one of these commands reads the words
@@ -68,9 +64,6 @@ pub record ReadsTo (script : List ℕ) (n : ℕ) (words : List (List ℕ)) (t : 
   pub table_is : table_with t (filter_map (λ line. entry_of (meaning line)) (drop n (lines_of script))) ≡ table_of script
   pub commands_are : commands ++ filter_map (λ line. command_of (meaning line)) (drop n (lines_of script)) ≡ commands_of script
   pub none_bad : first_bad (n + 1) (called commands) (drop n (lines_of script)) ≡ bad_line script
-
-pub ReadsTo-start : (script : List ℕ) → ReadsTo script 0 [] (one_value [] []) []
-ReadsTo-start script = record { words_are = refl; table_is = refl; commands_are = refl; none_bad = refl }
 
 next_line : (lines : List (List ℕ)) (n : ℕ) (line : List ℕ) → n < length lines → line ≡ get_or lines n line → drop n lines ≡ line ∷ drop (n + 1) lines
 next_line lines n line within is = at_drop_more (λ l. l) lines n line within ∙ ap (λ l. l ∷ drop (n + 1) lines) (sym is)

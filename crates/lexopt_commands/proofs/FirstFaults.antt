@@ -14,15 +14,6 @@ use Rattle.lexopt_commands.specs.Names.{fault, first_fault, name_fault, names_of
 abbrev pub found_from : {C : Type 0} → List (Command C) → ℕ → Option (List ℕ × Reason)
 found_from commands i = first_fault (names_of (take i commands)) (names_of (drop i commands))
 
--- the command at this index has this fault, or none
-pub one_step : {C : Type 0} (commands : List (Command C)) (i : ℕ) (c : Command C) → i < length commands → c ≡ get_or commands i c
-    → found_from commands i ≡ with_fault c.name.now (fault (names_of (take i commands)) c.name.now) (found_from commands (i + 1))
-one_step commands i c within is =
-    let rest = drop_more commands i c within ∙ ap (λ x. x ∷ drop (i + 1) commands) (sym is) in
-    let front = ap names_of (take_more commands i c within ∙ ap (λ x. take i commands ++ x ∷ []) (sym is)) ∙ map-append (λ (x : Command _). x.name.now) (take i commands) (c ∷ []) in
-    ap (λ l. first_fault (names_of (take i commands)) (names_of l)) rest
-    ∙ ap (λ names. with_fault c.name.now (fault (names_of (take i commands)) c.name.now) (first_fault names (names_of (drop (i + 1) commands)))) (sym front)
-
 -- a name without a fault of its own cannot be declared if a command before it has that name
 pub fault_among : {C : Type 0} (commands : List (Command C)) (name own : List ℕ) (is_among : Bool) → own ≡ name → None ≡ name_fault own → is_among ≡ list_any (λ (c : Command C). pointwise ◌==◌ c.name.now own) commands
     → (if is_among then Some SameName else None) ≡ fault (names_of commands) name

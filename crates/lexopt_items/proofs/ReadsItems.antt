@@ -94,11 +94,6 @@ joins t u v before after item (Ok true) reads h = (item, h.1, reads)
 joins t u v before after item (Ok false) reads h = absurd (true≢false (sym h.0))
 joins t u v before after item (Err e) reads h = tt
 
--- the list cannot grow, so memory ran out
-pub cannot_join : (t : Table) (u : UnreadLine) (r : Result Bool Refusal) → IfErr r (λ refusal. refusal ≡ OutOfMemory) → IfErr r (EndsBy t u)
-cannot_join t u (Ok b) h = tt
-cannot_join t u (Err e) h = inl h
-
 -- ---- errors
 
 -- the call for the values of an option is refused

@@ -207,6 +207,3 @@ given_falls u v r some found (inl step) = ⊎_elim
     (λ (one : reply_count r ≡ 1). let most = step_bound next u r v (inl step) in omega arith)
     (next_counts u r v step)
 given_falls u v r some found (inr refused) = absurd (found refused.reply_is)
-
-pub taken_falls : (u v : UnreadLine) (word : List ℕ) → Value u (taken word) v → bound v < bound u
-taken_falls u v word step = let most = step_bound value u (taken word) v step in omega arith

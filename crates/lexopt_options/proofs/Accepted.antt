@@ -75,11 +75,6 @@ pub one_accepted : {F V M S : Type 0} (options : List (Declared F V M S)) (i : �
     → is_none (refused_value (map option_view options) (legal.option i (Some value))) ≡ spec.accepts (words_view o.words) value
 one_accepted options i o value at = none_cond (accepts_at (map option_view options) i value) value ∙ accepts_one options i o value at
 
--- several values
-pub places_are : {F V M S : Type 0} (options : List (Declared F V M S)) (i : ℕ) (o : Declared F V M S) (values : List (List ℕ)) → slice_get options i ≡ Some o
-    → position (λ value. not (accepts_at (map option_view options) i value)) values ≡ position (λ value. not (spec.accepts (words_view o.words) value)) values
-places_are options i o values at = ap (λ x. position (λ (value : List ℕ). not (unwrap_or (option_map (λ p. spec.accepts p.words value) x) true)) values) (view_at options i (Some o) at)
-
 -- one value is accepted or not
 pub value_accepted : (options : List spec.Declared) (i : ℕ) (o : spec.Declared) (value : List ℕ) → slice_get options i ≡ Some o → spec.accepts o.words value ≡ true
     → refused_value options (legal.option i (Some value)) ≡ None

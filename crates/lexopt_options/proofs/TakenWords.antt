@@ -200,15 +200,6 @@ parsed_past [] (suc k) past = refl
 parsed_past (x ∷ xs) zero past = absurd (omega (arith, past))
 parsed_past (x ∷ xs) (suc k) past = parsed_past xs k (omega (arith, past))
 
--- there are at most as many words as things that were read
-pub parsed_count : {F V P M S : Type 0} (xs : List (Parsed F V P M S)) → length (parsed_words xs) ≤ length xs
-parsed_count [] = omega arith
-parsed_count (parsed.Flag key ∷ xs) = let rest = parsed_count xs in omega (arith, rest)
-parsed_count (parsed.Value key word ∷ xs) = let rest = parsed_count xs in omega (arith, rest)
-parsed_count (parsed.Maybe key value ∷ xs) = let rest = parsed_count xs in omega (arith, rest)
-parsed_count (parsed.Values key values ∷ xs) = let rest = parsed_count xs in omega (arith, rest)
-parsed_count (parsed.Positional key word ∷ xs) = let rest = parsed_count xs in omega (arith, rest)
-
 -- the words of the positionals that were read
 pub words_are : {F V P M S : Type 0} (options : List (Declared F V M S)) (l : List legal.Parsed) (xs : List (Parsed F V P M S)) → AreParsedAs options l xs → positional_words l ≡ parsed_words xs
 words_are options [] [] are = refl
@@ -275,19 +266,6 @@ not_taken ps ws spare i w within is refused =
     record { places = some.0; are_places = some.1; refused = so_many ps ws some.0 some.1 ∙ ap (λ s. refused_word ps (owners 0 (greedy ps s)) ws) (sym is) ∙ refused }
 
 -- ---- the positional at an index
-
-view_here : {P : Type 0} (ps : List (Positional P)) (i : ℕ) (x : Positional P) → i < length ps → x ≡ get_or ps i x → slice_get (map positional_view ps) i ≡ Some (positional_view x)
-view_here [] i x within is = absurd (omega (arith, within))
-view_here (p ∷ ps) zero x within is = ap (λ q. Some (positional_view q)) (sym is)
-view_here (p ∷ ps) (suc i) x within is = view_here ps i x (omega (arith, within)) is
-
-pub takes_here : {P : Type 0} (ps : List (Positional P)) (i : ℕ) (x : Positional P) (w : List ℕ) → i < length ps → x ≡ get_or ps i x → takes_at (map positional_view ps) i w ≡ spec.accepts (words_view x.words) w
-takes_here ps i x w within is = ap (λ o. unwrap_or (option_map (λ p. spec.accepts p.words w) o) true) (view_here ps i x within is)
-
-pub takes_past : {P : Type 0} (ps : List (Positional P)) (i : ℕ) (w : List ℕ) → length ps ≤ i → takes_at (map positional_view ps) i w ≡ true
-takes_past [] i w past = refl
-takes_past (p ∷ ps) zero w past = absurd (omega (arith, past))
-takes_past (p ∷ ps) (suc i) w past = takes_past ps i w (omega (arith, past))
 
 -- ---- the positionals that a word can belong to
 

@@ -359,11 +359,6 @@ adds_word u v p (separator_last none before last_is after) plain =
 
 -- ---- values that lack
 
-pub value_lacks_more : (v w : UnreadLine) (o : Option (List ℕ)) → ValueStep v (steps.missing o) w → (v.words ≡ []) × (pending v ≡ None)
-value_lacks_more v w o (pending_value value by_equals has r_is after) = absurd (let e : steps.missing o ≡ steps.taken value = r_is in cc)
-value_lacks_more v w o (takes_word x ws none some r_is after) = absurd (let e : steps.missing o ≡ steps.taken x = r_is in cc)
-value_lacks_more v w o (nothing_to_take none empty r_is after) = (empty, none)
-
 pub takes_next : (v : UnreadLine) (word : List ℕ) → pending v ≡ None → v.words ≡ [] → Value (longer (word ∷ []) v) (steps.taken word) v
 takes_next v word has none = inl (takes_word word [] has (ap (λ l. l ++ word ∷ []) none) refl (ap (λ (l : List (List ℕ)). record v { words = l }) none))
 

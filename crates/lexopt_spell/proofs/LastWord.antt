@@ -24,8 +24,3 @@ pub extended : (old left new : List (List ℕ)) (last : Option (List ℕ)) (w by
     → new ≡ onto_last old bytes
 extended old left new last w bytes was is now =
     now ∙ sym (onto_snoc left w bytes) ∙ ap (λ l. onto_last l bytes) (sym (was ∙ ap (λ (o : Option (List ℕ)). left ++ option_to_list o) is))
-
--- one more word is appended
-pub pushed_more : (continues : Bool) (words : List (List ℕ)) (word : List ℕ) (more last : List (List ℕ)) → pushed continues words word more ++ last ≡ pushed continues words word (more ++ last)
-pushed_more true words word more last = append_assoc (onto_last words word) more last
-pushed_more false words word more last = append_assoc words (word ∷ more) last
