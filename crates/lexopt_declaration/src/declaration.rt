@@ -188,7 +188,8 @@ pub struct Declared<'a, F, V = Infallible, M = Infallible, S = Infallible> {
     /// Its help text. The help wraps it at spaces, of which several count as one. Shells show it as
     /// it is, with a space for each control character.
     pub help: &'a str,
-    /// Whether the help and its usage line leave it out. Lines may have it all the same.
+    /// Whether it is left out of the help and its usage line, of what shells offer, and of hints.
+    /// Lines may have it all the same.
     pub hidden: bool,
     /// Whether every legal line has it.
     pub required: bool,
@@ -378,10 +379,11 @@ impl<'a, F, V, M, S> Declared<'a, F, V, M, S> {
         }
     }
 
-    /// Leaves the option out of the help, and of the usage line.
+    /// Leaves the option out of the help and of the usage line. Shells do not offer its names, and
+    /// no hint has its long name.
     ///
-    /// In all else it is like any other option: a line may have it, shells complete its names and
-    /// values, and the hint after an unknown option may name it.
+    /// In all else it is like any other option: a line may have it, and has to if it is required,
+    /// and shells complete its values after it was typed.
     ///
     /// # Examples
     ///

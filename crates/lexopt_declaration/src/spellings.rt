@@ -1,15 +1,13 @@
 //! The spellings of options, and the values in lists, that begin with what was typed.
 ghost use Rattle.std.specs.Prelude.{◌≡◌, ◌∷◌, ◌++◌, [], IfOk, OnOk, filter, map, nat_eq};
 ghost use Rattle.std.specs.Prelude.{string_bytes};
-ghost use Rattle.std.specs.Char.{IsScalar};
 ghost use Rattle.std.specs.List.{starts_with};
-ghost use Rattle.std.specs.Str.{IsUtf8};
 ghost use Rattle.lexopt_line_spec.specs.Table as table;
 ghost use Rattle.lexopt_options_spec.specs.Completion as spec;
 ghost use Rattle.lexopt_options_spec.specs.Completion.{AreText, spelling};
 ghost use Rattle.lexopt_declaration.specs.Models.{option_view, spelling_view, words_view};
 
-use crate::declaration::{Declared, Words};
+use crate::declaration::{Declared, Words, are_text};
 use std::alloc::{AllocError, Global};
 
 /// A word that is an option without a value.
@@ -23,16 +21,14 @@ pub struct Spelling<'a> {
 
 // The word `-c` of a character.
 fn short_spelling(alloc: Global, character: char) -> Result<String, AllocError>
-    ensures text { IsScalar character }
-    ensures spelled { IfOk result (λ s. string_bytes s ≡ spelling (table.short character)) }
+    ensures { IfOk result (λ s. string_bytes s ≡ spelling (table.short character)) }
 {
     format!(in alloc; "-{character}")
 }
 
 // The word `--name` of a name.
 fn long_spelling(alloc: Global, name: &str) -> Result<String, AllocError>
-    ensures text { IsUtf8 name.now }
-    ensures spelled { IfOk result (λ s. string_bytes s ≡ spelling (table.long name.now)) }
+    ensures { IfOk result (λ s. string_bytes s ≡ spelling (table.long name.now)) }
 {
     format!(in alloc; "--{name}")
 }
@@ -61,8 +57,7 @@ fn add_spellings<'a, F, V, M, S>(
     option: &Declared<'a, F, V, M, S>,
     typed: &[u8],
 ) -> Result<(), AllocError>
-    ensures text { OnOk result (AreText (option_view option.now ∷ [])) }
-    ensures added { OnOk result (map spelling_view spellings.new.items
+    ensures { OnOk result (map spelling_view spellings.new.items
         ≡ map spelling_view spellings.old.items
         ++ filter (λ p. starts_with nat_eq p.0 typed.now)
         (spec.explained_by (option_view option.now))) }
@@ -81,7 +76,8 @@ fn add_spellings<'a, F, V, M, S>(
     Ok(())
 }
 
-/// Returns the spellings of these options that begin with what was typed, in order.
+/// Returns the spellings that begin with what was typed, of the options that are not hidden, in
+/// order.
 ///
 /// # Errors
 ///
@@ -91,13 +87,17 @@ pub fn spellings_of<'a, F, V, M, S>(
     options: &[Declared<'a, F, V, M, S>],
     typed: &[u8],
 ) -> Result<Vec<Spelling<'a>>, AllocError>
-    ensures text { OnOk result (AreText (map option_view options.now)) }
+    ensures text { AreText (map option_view options.now) }
     ensures spellings { IfOk result (λ spellings. map spelling_view spellings.items
         ≡ filter (λ p. starts_with nat_eq p.0 typed.now)
         (spec.explained (map option_view options.now))) }
 {
+    are_text(options);
     let mut spellings = Vec::new(alloc);
     for option in options {
+        if option.hidden {
+            continue;
+        }
         add_spellings(alloc, &mut spellings, option, typed)?;
     }
     Ok(spellings)

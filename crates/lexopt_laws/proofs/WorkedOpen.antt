@@ -16,12 +16,13 @@ use Rattle.lexopt_line_spec.proofs.Computing.{computing}
 use Rattle.lexopt_line_spec.proofs.Worked.{last_of, cluster_line, plain_front_is, some}
 use Rattle.lexopt_options_spec.specs.Declaration.{Declaration, Declared, has_name, is_short, is_long, table}
 use Rattle.lexopt_options_spec.specs.Legal.{Parsed, option, several, parsed_item, positional_count, most, IsWithin}
-use Rattle.lexopt_options_spec.specs.Completion.{AreText, CanOccur, IsOpen, IsText, spellings}
-use Rattle.lexopt_options_spec.proofs.Offered.{occurs_offered}
+use Rattle.lexopt_options_spec.specs.Completion.{AreText, CanOccur, Completes, IsOpen, IsText, spellings}
+use Rattle.lexopt_options_spec.specs.Help.{visible}
+use Rattle.lexopt_options_spec.proofs.Offered.{completes_shown, occurs_offered}
 use Rattle.lexopt_options_spec.proofs.Sound.{either}
 use Rattle.lexopt_options_spec.proofs.Occurs.{AreNamed}
 use Rattle.lexopt_options_spec.proofs.Tables.{pointwise_refl}
-use Rattle.lexopt_laws.specs.Sample.{sample, sample_options, verbose, output, backup, exclude, mode}
+use Rattle.lexopt_laws.specs.Sample.{hiding_options, hiding_sample, sample, sample_options, verbose, output, backup, exclude, mode}
 use Rattle.lexopt_laws.proofs.WorkedMeans.{front_of}
 
 -- ---- names that are text
@@ -74,6 +75,14 @@ pub sample_named : AreNamed sample_options
 unfolding computing
 sample_named = ((short 0x76, refl), ((short 0x6F, refl), ((short 0x62, refl), ((short 0x78, refl), tt))))
 
+pub hiding_text : AreText hiding_options
+unfolding computing
+hiding_text = all_text hiding_options (text_of (record output { hidden = true }) 0x6F (codes "output") refl refl refl refl, (text_of verbose 0x76 (codes "verbose") refl refl refl refl, tt))
+
+pub hiding_named : AreNamed hiding_options
+unfolding computing
+hiding_named = ((short 0x6F, refl), ((short 0x76, refl), tt))
+
 pub no_utf8 : (bs : List ℕ) → is_utf8 bs ≡ false → IsUtf8 bs → ⊥
 no_utf8 bs is text = true≢false (sym (is_utf8-from_IsUtf8 bs text) ∙ is)
 
@@ -89,6 +98,9 @@ at_the_start = open_of [] no_words (separator []) refl (lit≤ tt)
 
 pub at_the_start_otherwise : IsOpen (sample [] false) [] []
 at_the_start_otherwise = open_of [] no_words (separator []) refl (lit≤ tt)
+
+pub before_hidden : IsOpen hiding_sample [] []
+before_hidden = open_of [] no_words (separator []) refl (lit≤ tt)
 
 pub before_a_positional : IsOpen (sample (mode ∷ []) true) [] []
 before_a_positional = open_of [] no_words (separator []) refl (lit≤ tt)
@@ -132,3 +144,7 @@ not_listed s xs is (i, within, same) =
 -- no other spelling can come next
 pub not_offered : (d : Declaration) (words : List (List ℕ)) (s : List ℕ) → list_any (λ w. pointwise ◌==◌ w s) (spellings d.options) ≡ false → CanOccur d words s → ⊥
 not_offered d words s none possible = not_listed s (spellings d.options) none (occurs_offered d words s possible)
+
+-- nor does one complete that is not shown
+pub not_completed : (d : Declaration) (words : List (List ℕ)) (typed s : List ℕ) → list_any (λ w. pointwise ◌==◌ w s) (spellings (visible d.options)) ≡ false → Completes d words typed s → ⊥
+not_completed d words typed s none completes = not_listed s (spellings (visible d.options)) none (completes_shown d words typed s completes)

@@ -178,6 +178,13 @@ demanding_sample positionals short_equals = record (sample positionals short_equ
   options = sample_options ++ user ∷ [];
 }
 
+-- `-o`, which is hidden here, and `-v`
+abbrev pub hiding_options : List Declared
+hiding_options = record output { hidden = true } ∷ verbose ∷ []
+
+abbrev pub hiding_sample : Declaration
+hiding_sample = record (sample [] true) { options = hiding_options }
+
 -- options that accept only the values in a list
 abbrev pub listed_mode : Declared
 listed_mode = record {

@@ -56,7 +56,7 @@ ghost use Rattle.lexopt_options_spec.specs.Nearest.{IsDistance, IsHint, IsNeares
 ghost use Rattle.lexopt_options_spec.specs.Nearest.{ending, hinted_names, if_one, long_names};
 ghost use Rattle.lexopt_laws.specs.Sample.{demanding_sample, dest, new, old, sources, user};
 ghost use Rattle.lexopt_laws.specs.Sample.{demanding_listed, listed_mode, listed_options};
-ghost use Rattle.lexopt_laws.specs.Sample.{listed_sample};
+ghost use Rattle.lexopt_laws.specs.Sample.{hiding_options, hiding_sample, listed_sample};
 ghost use Rattle.lexopt_laws.specs.Sample.{named, names_in_re, sample_options, target, verbose};
 
 // The index of the option with a name: the first, if two have the name. A name is typed whole.
@@ -831,6 +831,7 @@ fn names_begin_or_end_so()
     ensures all { long_names sample_options
         ≡ codes "verbose" ∷ codes "output" ∷ codes "backup" ∷ codes "exclude" ∷ [] }
     ensures no_name { long_names (record verbose { long_name = None } ∷ []) ≡ [] }
+    ensures no_hidden_option { long_names hiding_options ≡ codes "verbose" ∷ [] }
     ensures third { beginning (long_names sample_options) (codes "back") ≡ codes "backup" ∷ [] }
     ensures two { beginning (codes "outer" ∷ long_names sample_options) (codes "out")
         ≡ codes "outer" ∷ codes "output" ∷ [] }
@@ -879,6 +880,11 @@ fn names_are_hinted_at()
         (long (codes "outpu")) no_tail (codes "output" ∷ []) }
     ensures nearest_alone { IsHint (named (codes "outputs") ∷ sample_options)
         (long (codes "outpu")) no_tail (codes "outputs" ∷ codes "output" ∷ []) → ⊥ }
+    ensures hidden_option { IsHint hiding_options (long (codes "ouptut")) no_tail [] }
+    ensures not_the_hidden_option { IsHint hiding_options (long (codes "ouptut")) no_tail
+        (codes "output" ∷ []) → ⊥ }
+    ensures beside_a_hidden_option { IsHint hiding_options (long (codes "verbsoe")) no_tail
+        (codes "verbose" ∷ []) }
     ensures character { IsHint sample_options (short 0x65) no_tail [] }
     ensures no_character { IsHint sample_options (short 0x65) no_tail (codes "verbose" ∷ [])
         → ⊥ }
@@ -886,6 +892,8 @@ fn names_are_hinted_at()
         (codes "verbose" ∷ []) }
     ensures cluster_later { IsHint sample_options (short 0x65) (rest (codes "rbose"))
         (codes "verbose" ∷ []) }
+    ensures cluster_of_a_hidden_option { IsHint hiding_options (short 0x75) (rest (codes "tput"))
+        [] }
     ensures cluster_of_the_rest { IsHint sample_options (short 0x7A) (rest (codes "erbose")) [] }
     ensures cluster_of_two_bytes { IsHint (named (0xC3 ∷ 0xA9 ∷ codes "t") ∷ []) (short 0xE9)
         (rest (codes "t")) ((0xC3 ∷ 0xA9 ∷ codes "t") ∷ []) }
@@ -939,6 +947,7 @@ fn options_can_occur()
     ensures another { CanOccur (sample [] true) (codes "-b" ∷ []) (codes "-x") }
     ensures past_values { CanOccur (sample [] true) (codes "-x" ∷ codes "a" ∷ [])
         (codes "--verbose") }
+    ensures hidden { CanOccur hiding_sample [] (codes "--output") }
     ensures without_a_required_option { IsOpen (demanding_sample [] true) (codes "-v" ∷ [])
         (option 0 None ∷ []) }
     ensures before_a_required_option { CanOccur (demanding_sample [] true) (codes "-v" ∷ [])
@@ -984,6 +993,9 @@ fn what_is_typed_is_completed()
     ensures nothing { Completes (sample [] true) (codes "-v" ∷ []) [] (codes "--backup") }
     ensures required { Completes (demanding_sample [] true) (codes "-v" ∷ []) (codes "--us")
         (codes "--user") }
+    ensures beside_a_hidden_option { Completes hiding_sample [] (codes "--") (codes "--verbose") }
+    ensures hidden_option { Completes hiding_sample [] (codes "--") (codes "--output") → ⊥ }
+    ensures hidden_character { Completes hiding_sample [] (codes "-o") (codes "-o") → ⊥ }
     ensures another { Completes (sample [] true) [] (codes "--in") (codes "--output") → ⊥ }
     ensures no_option { Completes (sample [] true) [] (codes "-z") (codes "-z") → ⊥ }
     ensures part_of_a_character { (d : Declaration) (words : List (List ℕ))
@@ -1235,7 +1247,7 @@ fn helps_are_written()
         (record (sample (mode ∷ target ∷ files ∷ []) true) { options = []; about = [] }) 80
         (codes "Usage: example_archive MODE [TARGET] [FILE]...\n") }
     ensures every_part { IsHelp (record (sample (mode ∷ described_files ∷ []) true) {
-      options = record output { hidden = true } ∷ verbose ∷ [];
+      options = hiding_options;
       epilogue = codes "Each file is read once." ∷ codes " " ∷ codes "No file is changed." ∷ [];
     }) 80
         (codes "Usage: example_archive [OPTION]... MODE [FILE]...\nPrints what it has read.\n\n  FILE                  a file to read\n\n  -v, --verbose         tell more\n\nEach file is read once.\n\nNo file is changed.\n") }

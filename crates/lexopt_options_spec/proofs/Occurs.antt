@@ -375,6 +375,12 @@ can_occur d words l name i sound utf8 names is accepted filled found text =
       };
     }
 
+pub its_name : (d : Declaration) (words : List (List ℕ)) (l : List Parsed) (name : Name) (i : ℕ) (sound : is_sound d.options ≡ true) (utf8 : AreText d.options) (names : AreNamed d.options) (is : IsOpen d words l)
+    (accepted : are_accepted d.options l ≡ true) (filled : AreFilled d.positionals (positional_words l)) (found : index_of d.options name ≡ Some i) (text : IsText name)
+    → name ≡ (can_occur d words l name i sound utf8 names is accepted filled found text).name
+unfolding can_occur
+its_name d words l name i sound utf8 names is accepted filled found text = refl
+
 -- ---- where no option can come, no declared option can
 
 same_later : (l : List Parsed) (s : Parsed) (ss ts : List Parsed) → l ++ s ∷ ss ≡ l ++ ts → s ∷ ss ≡ ts

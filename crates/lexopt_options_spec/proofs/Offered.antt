@@ -1,17 +1,19 @@
 -- Which spellings there are.
-use Rattle.std.proofs.Common.{◌≡◌, ◌<◌, ℕ, zero, suc, Bool, not, true, false, ◌||◌, ◌⊎◌, ◌+◌, List, [], ◌∷◌, ◌++◌, map, filter, length, Option, Some, None, if◌then◌else◌, refl, sym, ap, subst, ◌∙◌, arith, inl, inr, ⊎_elim}
-use Rattle.std.specs.List.{Contains, list_any}
+use Rattle.std.proofs.Common.{◌≡◌, ◌<◌, ℕ, zero, suc, Bool, not, true, false, ◌||◌, ◌⊎◌, ◌+◌, List, [], ◌∷◌, ◌++◌, map, filter, length, nat_eq, Option, Some, None, if◌then◌else◌, refl, sym, ap, subst, ◌∙◌, arith, inl, inr, ⊎_elim}
+use Rattle.std.specs.List.{Contains, list_any, starts_with}
 use Rattle.std.specs.List.{position_or_len}
 use Rattle.std.specs.Option.{option_to_list}
+use Rattle.std.specs.Str.{IsUtf8}
 use Rattle.std.specs.Cmp.Lexicographic.{bytes_decides, same_text}
 use Rattle.std.proofs.lemmas.Bool.{false≢true, eqb-true, eq-eqb, lt-ltb}
 use Rattle.std.proofs.lemmas.List.Elements.{Contains-append_left, Contains-append_right, Contains-append_cases}
 use Rattle.lexopt_line_spec.specs.Table.{Name, short, long}
 use Rattle.lexopt_options_spec.specs.Declaration.{Declaration, Declared, has_name, is_short, is_long, index_of, is_sound}
 use Rattle.lexopt_options_spec.specs.Legal.{Parsed, are_accepted, positional_words}
-use Rattle.lexopt_options_spec.specs.Completion.{spelling, names_of, spellings, AreText, IsOpen, CanOccur}
+use Rattle.lexopt_options_spec.specs.Completion.{spelling, names_of, spellings, AreText, IsOpen, CanOccur, Completes, is_shown}
+use Rattle.lexopt_options_spec.specs.Help.{visible}
 use Rattle.lexopt_options_spec.proofs.Sound.{found, either}
-use Rattle.lexopt_options_spec.proofs.Occurs.{AreNamed, can_occur}
+use Rattle.lexopt_options_spec.proofs.Occurs.{AreNamed, can_occur, its_name}
 use Rattle.lexopt_options_spec.proofs.Taken.{AreFilled}
 
 pub cons_cases : {X : Type 0} (x : X) (xs : List X) (s : X) → Contains (x ∷ xs) s → (x ≡ s) ⊎ Contains xs s
@@ -144,3 +146,32 @@ offered_occurs d words l s sound text names is accepted filled has =
 pub occurs_offered : (d : Declaration) (words : List (List ℕ)) (s : List ℕ) → CanOccur d words s → Contains (spellings d.options) s
 occurs_offered d words s possible =
     subst (Contains (spellings d.options)) (sym possible.spelled) (is_among possible.name d.options (found (has_name possible.name) d.options possible.index possible.declared))
+
+-- ---- what is offered
+
+any_visible : (p : Declared → Bool) (os : List Declared) → list_any p (visible os) ≡ true → list_any p os ≡ true
+any_visible p [] is = is
+any_visible p (o ∷ os) is = go o.hidden is (λ more. ap (λ b. p o || b) (any_visible p os more) ∙ or_right (p o))
+  where
+    go : (h : Bool) → list_any p (if not h then o ∷ visible os else visible os) ≡ true → (list_any p (visible os) ≡ true → (p o || list_any p os) ≡ true) → (p o || list_any p os) ≡ true
+    go true is later = later is
+    go false is later = either (p o) (list_any p (visible os)) ((p o || list_any p os) ≡ true) is (λ one. ap (λ b. b || list_any p os) one) later
+
+pub shown_completes : (d : Declaration) (words : List (List ℕ)) (l : List Parsed) (typed s : List ℕ) → is_sound d.options ≡ true → AreText d.options → AreNamed d.options → IsOpen d words l
+    → are_accepted d.options l ≡ true → AreFilled d.positionals (positional_words l) → IsUtf8 typed → starts_with nat_eq s typed ≡ true → Contains (spellings (visible d.options)) s
+    → Completes d words typed s
+shown_completes d words l typed s sound text names is accepted filled utf8 begins has =
+    let n = named (visible d.options) s has in
+    let declared = any_visible (has_name n.name) d.options n.among in
+    let i = an_index n.name d.options declared in
+    let t = text n.name declared in
+    subst (Completes d words typed) (sym n.is) (record {
+      text = utf8;
+      begins = subst (λ (x : List ℕ). starts_with nat_eq x typed ≡ true) n.is begins;
+      possible = can_occur d words l n.name i.0 sound text names is accepted filled i.1 t;
+      shown = subst (λ x. is_shown d.options x ≡ true) (its_name d words l n.name i.0 sound text names is accepted filled i.1 t) n.among;
+    })
+
+pub completes_shown : (d : Declaration) (words : List (List ℕ)) (typed s : List ℕ) → Completes d words typed s → Contains (spellings (visible d.options)) s
+completes_shown d words typed s completes =
+    subst (Contains (spellings (visible d.options))) (sym completes.possible.spelled) (is_among completes.possible.name (visible d.options) completes.shown)

@@ -1,7 +1,7 @@
 -- What can come where a word is typed, after the words before it.
 -- The source is `docs/behaviour.md`.
 use Rattle.std.specs.Prelude.{◌≡◌, ◌≢◌, ◌<◌, ◌≤◌, ◌++◌, ℕ, length}
-use Rattle.std.specs.Prelude.{true, false, nat_eq, List, [], ◌∷◌, map, Option, Some, None}
+use Rattle.std.specs.Prelude.{Bool, true, false, nat_eq, List, [], ◌∷◌, map, Option, Some, None}
 use Rattle.std.specs.Prelude.{encode_utf8, filter, slice_get, unwrap_or}
 use Rattle.std.specs.Char.{IsScalar}
 use Rattle.std.specs.List.{Contains, flat_map, list_any, starts_with}
@@ -11,6 +11,7 @@ use Rattle.lexopt_spec.specs.UnreadLine.{dash, BeginsWith, IsPlain}
 use Rattle.lexopt_line_spec.specs.Table.{Name, short, long}
 use Rattle.lexopt_options_spec.specs.Declaration.{Declaration, Declared, has_name, index_of}
 use Rattle.lexopt_options_spec.specs.Declaration.{Positional, Words, listed}
+use Rattle.lexopt_options_spec.specs.Help.{visible}
 use Rattle.lexopt_options_spec.specs.Legal.{IsWithin, Parsed, Means, MeansFront, most, option}
 use Rattle.lexopt_options_spec.specs.Legal.{positional, positional_count, several}
 use Rattle.lexopt_options_spec.specs.Places.{ArePlaces, refused_word}
@@ -41,11 +42,17 @@ pub record CanOccur (d : Declaration) (words : List (List ℕ)) (s : List ℕ) :
   pub words_say : MeansFront d words before
   pub line_means : Means d (words ++ s ∷ rest) (before ++ parsed ∷ later)
 
--- after these words, s can come where `typed` is typed, which is UTF-8
+-- an option with this name is not hidden
+abbrev pub is_shown : List Declared → Name → Bool
+is_shown options name = list_any (has_name name) (visible options)
+
+-- after these words, s can come where `typed` is typed, which is UTF-8, and the option that it
+-- spells is not hidden
 pub record Completes (d : Declaration) (words : List (List ℕ)) (typed s : List ℕ) : Type 0 where
   pub text : IsUtf8 typed
   pub begins : starts_with nat_eq s typed ≡ true
   pub possible : CanOccur d words s
+  pub shown : is_shown d.options possible.name ≡ true
 
 -- ---- where an option can come
 
@@ -67,9 +74,9 @@ spellings options = flat_map (λ o. map spelling (names_of o)) options
 abbrev pub explained_by : Declared → List (List ℕ × List ℕ)
 explained_by o = map (λ n. (spelling n, o.help)) (names_of o)
 
--- the spellings of these options, each with its help text, in order
+-- the spellings of the options that are not hidden, each with its help text, in order
 abbrev pub explained : List Declared → List (List ℕ × List ℕ)
-explained options = flat_map explained_by options
+explained options = flat_map explained_by (visible options)
 
 -- a name is text, as a `char` or a `&str` is
 abbrev pub IsText : Name → Type 0

@@ -43,7 +43,7 @@ pub record Declared : Type 0 where
   pub help : List ℕ
   -- what it asks for, if anything
   pub asks : Option Asked
-  -- the help leaves it out
+  -- the help leaves it out, completion does not offer it, and no hint has its name
   pub hidden : Bool
   -- every legal line has it
   pub required : Bool

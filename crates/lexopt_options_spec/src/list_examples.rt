@@ -6,7 +6,7 @@ ghost use Rattle.lexopt_options_spec.specs.Declaration.{bad_list};
 ghost use Rattle.lexopt_options_spec.specs.Declaration.{directories, files, list_fault, listed, text};
 ghost use Rattle.lexopt_options_spec.specs.Examples.{explained_options, joined_after};
 ghost use Rattle.lexopt_options_spec.specs.Examples.{listed_positionals, lists};
-ghost use Rattle.lexopt_options_spec.specs.Examples.{positional_of};
+ghost use Rattle.lexopt_options_spec.specs.Examples.{option_of, positional_of};
 ghost use Rattle.lexopt_options_spec.specs.Places.{refused_word};
 
 /// With a list, exactly the values in it are accepted; without a list, all values are.
@@ -59,11 +59,14 @@ pub fn values_in_lists_are_offered()
     ensures nothing { offered_values lists [] None [] None ≡ [] }
 {}
 
-/// The spellings of options, each with the help text of its option.
+/// The spellings of the options that are not hidden, each with the help text of its option.
 pub fn spellings_are_explained()
     ensures all { explained explained_options ≡ (codes "-m", codes "how fast")
         ∷ (codes "--mode", codes "how fast") ∷ (codes "-m", codes "what else") ∷ [] }
     ensures none { explained [] ≡ [] }
+    ensures hidden { explained (record (option_of (Some (codes "mode")) files) { hidden = true }
+        ∷ option_of None files ∷ []) ≡ (codes "-m", []) ∷ [] }
+    ensures hidden_alone { explained (record (option_of None files) { hidden = true } ∷ []) ≡ [] }
 {}
 
 /// The words that have a value in a list after what was typed before it.

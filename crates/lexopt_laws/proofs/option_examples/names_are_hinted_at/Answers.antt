@@ -2,7 +2,7 @@ use Rattle.std.proofs.Common.{◌≡◌, ◌∷◌, [], ℕ, List, Option, Some,
 use Rattle.lexopt_line_spec.proofs.Computing.{computing}
 use Rattle.lexopt_options_spec.specs.Nearest.{IsHinted, IsNearest, hinted_names, long_names}
 use Rattle.lexopt_options_spec.proofs.Nearest.{one_nearest}
-use Rattle.lexopt_laws.specs.Sample.{names_in_re, sample_options}
+use Rattle.lexopt_laws.specs.Sample.{hiding_options, names_in_re, sample_options}
 use Rattle.lexopt_laws.proofs.WorkedNames.{nearest_is, nothing_near}
 use Rattle.lexopt_laws.proofs.option_examples.names_are_hinted_at.Goals as goal
 
@@ -68,6 +68,19 @@ unfolding computing
 returns-clause-nearest_alone c is =
     let e : codes "outputs" ∷ codes "output" ∷ [] ≡ codes "output" ∷ [] = only (codes "outputs" ∷ long_names sample_options) (codes "outpu") (Some 2) (codes "outputs" ∷ codes "output" ∷ []) (nearest_is (codes "outpu") 2 1 _ refl refl refl refl) is in cc
 
+pub returns-clause-hidden_option : goal.returns-clause-hidden_option
+unfolding computing
+returns-clause-hidden_option c = (None, nothing_near (codes "ouptut") refl, refl)
+
+pub returns-clause-not_the_hidden_option : goal.returns-clause-not_the_hidden_option
+unfolding computing
+returns-clause-not_the_hidden_option c is =
+    let e : codes "output" ∷ [] ≡ [] = only (long_names hiding_options) (codes "ouptut") None (codes "output" ∷ []) (nothing_near (codes "ouptut") refl) is in cc
+
+pub returns-clause-beside_a_hidden_option : goal.returns-clause-beside_a_hidden_option
+unfolding computing
+returns-clause-beside_a_hidden_option c = (Some 0, nearest_is (codes "verbsoe") 0 1 _ refl refl refl refl, refl)
+
 pub returns-clause-character : goal.returns-clause-character
 returns-clause-character c = refl
 
@@ -81,6 +94,10 @@ returns-clause-cluster c = refl
 pub returns-clause-cluster_later : goal.returns-clause-cluster_later
 unfolding computing
 returns-clause-cluster_later c = refl
+
+pub returns-clause-cluster_of_a_hidden_option : goal.returns-clause-cluster_of_a_hidden_option
+unfolding computing
+returns-clause-cluster_of_a_hidden_option c = refl
 
 pub returns-clause-cluster_of_the_rest : goal.returns-clause-cluster_of_the_rest
 unfolding computing

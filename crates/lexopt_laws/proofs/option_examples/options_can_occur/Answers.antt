@@ -3,7 +3,7 @@ use Rattle.lexopt_line_spec.proofs.Computing.{computing}
 use Rattle.lexopt_options_spec.proofs.Offered.{offered_occurs}
 use Rattle.lexopt_laws.proofs.AnyWords.{any_filled}
 use Rattle.lexopt_laws.proofs.WorkedOpen as worked
-use Rattle.lexopt_laws.proofs.WorkedOpen.{sample_named, sample_text}
+use Rattle.lexopt_laws.proofs.WorkedOpen.{hiding_named, hiding_text, sample_named, sample_text}
 use Rattle.lexopt_laws.proofs.WorkedRequired.{demanding_named, demanding_text, open_before_both, open_without_user}
 use Rattle.lexopt_laws.proofs.WorkedWords.{mode_filled, open_after_mode, open_after_source, source_filled}
 use Rattle.lexopt_laws.proofs.option_examples.options_can_occur.Goals as goal
@@ -41,6 +41,10 @@ returns-clause-another c = offered_occurs _ _ _ _ refl sample_text sample_named 
 pub returns-clause-past_values : goal.returns-clause-past_values
 unfolding computing
 returns-clause-past_values c = offered_occurs _ _ _ _ refl sample_text sample_named worked.after_several_values refl (any_filled refl refl (lit≤ tt)) (1, lit< tt, refl)
+
+pub returns-clause-hidden : goal.returns-clause-hidden
+unfolding computing
+returns-clause-hidden c = offered_occurs _ _ _ _ refl hiding_text hiding_named worked.before_hidden refl (any_filled refl refl (lit≤ tt)) (1, lit< tt, refl)
 
 pub returns-clause-without_a_required_option : goal.returns-clause-without_a_required_option
 returns-clause-without_a_required_option c = open_without_user
