@@ -1,6 +1,6 @@
 -- What is offered after some words.
 use Rattle.std.proofs.Common.{if◌then◌else◌, zero, suc, ◌≡◌, ◌≤◌, ℕ, Bool, true, false, List, [], ◌∷◌, ◌++◌, map, filter, length, slice_get, Option, Some, None, Vec, nat_eq, option_map, refl, sym, ap, subst, ◌∙◌, inl, inr, arith}
-use Rattle.std.proofs.Common.{Result, Ok, Err, IfOk, OnOk}
+use Rattle.std.proofs.Common.{Result, Ok, Err, IfOk}
 use Rattle.std.specs.Global.{Global}
 use Rattle.std.specs.List.{Contains, flat_map, starts_with}
 use Rattle.std.specs.Str.{IsUtf8}
@@ -19,6 +19,7 @@ use Rattle.lexopt_line_spec.specs.Table as table
 use Rattle.lexopt_line_spec.specs.Table.{Item, Name}
 use Rattle.lexopt_options_spec.specs.Completion as spec
 use Rattle.lexopt_options_spec.specs.Completion.{AreText, Completes, HasRole, IsJoined, IsOpen, IsOption, JoinsValue, explained, explained_by, joined_at, list_of, listed_by, names_of, offered_values, spelling, spellings, values_at}
+use Rattle.lexopt_options_spec.specs.Help.{visible}
 use Rattle.lexopt_options_spec.proofs.Roles.{extends}
 use Rattle.lexopt_options_spec.proofs.Occurs.{AreNamed, occurs_accepted, occurs_open, occurs_taken}
 use Rattle.lexopt_options_spec.proofs.Taken.{filled}
@@ -35,7 +36,7 @@ use Rattle.lexopt_declaration.specs.declared.declaration.Positional as rust_posi
 use Rattle.lexopt_declaration.specs.declared.declaration.Declared as rust
 use Rattle.lexopt_declaration.specs.declared.declaration.Names.{Names}
 use Rattle.lexopt_declaration.specs.declared.declaration.Names.TheVariants as names
-use Rattle.lexopt_options_spec.proofs.Offered.{kept, keeps, offered_occurs, occurs_offered}
+use Rattle.lexopt_options_spec.proofs.Offered.{kept, keeps, shown_completes, completes_shown}
 use Rattle.lexopt_options.specs.Completions.{AreOffered, CanCome, Opens, joined_values, values_so, word_values, words_so}
 use Rattle.lexopt_options.specs.declared.complete.Joined.{Joined}
 use Rattle.lexopt_options.specs.declared.complete.Role.{Role}
@@ -76,30 +77,32 @@ firsts_of : (help : List ℕ) (names : List Name) → map (λ (p : List ℕ × L
 firsts_of help [] = refl
 firsts_of help (n ∷ names) = ap (λ l. spelling n ∷ l) (firsts_of help names)
 
-firsts_spelled : (options : List Declared) → map (λ p. p.0) (explained options) ≡ spellings options
+firsts_spelled : (options : List Declared) → map (λ p. p.0) (flat_map explained_by options) ≡ spellings options
 firsts_spelled [] = refl
 firsts_spelled (o ∷ options) =
-    map-append (λ (p : List ℕ × List ℕ). p.0) (explained_by o) (explained options) ∙ ap (λ l. l ++ map (λ (p : List ℕ × List ℕ). p.0) (explained options)) (firsts_of o.help (names_of o)) ∙ ap (λ l. map spelling (names_of o) ++ l) (firsts_spelled options)
+    map-append (λ (p : List ℕ × List ℕ). p.0) (explained_by o) (flat_map explained_by options) ∙ ap (λ l. l ++ map (λ (p : List ℕ × List ℕ). p.0) (flat_map explained_by options)) (firsts_of o.help (names_of o))
+    ∙ ap (λ l. map spelling (names_of o) ++ l) (firsts_spelled options)
 
-firsts_are : (typed : List ℕ) (options : List Declared) (list : List (List ℕ × List ℕ)) → list ≡ filter (λ p. starts_with nat_eq p.0 typed) (explained options) → map (λ p. p.0) list ≡ filter (λ s. starts_with nat_eq s typed) (spellings options)
+firsts_are : (typed : List ℕ) (options : List Declared) (list : List (List ℕ × List ℕ)) → list ≡ filter (λ p. starts_with nat_eq p.0 typed) (explained options) → map (λ p. p.0) list ≡ filter (λ s. starts_with nat_eq s typed) (spellings (visible options))
 firsts_are typed options list is =
-    ap (map (λ (p : List ℕ × List ℕ). p.0)) is ∙ firsts_kept (λ s. starts_with nat_eq s typed) (explained options) ∙ ap (filter (λ s. starts_with nat_eq s typed)) (firsts_spelled options)
+    ap (map (λ (p : List ℕ × List ℕ). p.0)) is ∙ firsts_kept (λ s. starts_with nat_eq s typed) (explained options) ∙ ap (filter (λ s. starts_with nat_eq s typed)) (firsts_spelled (visible options))
 
 pub offered : (d : Declaration) (words : List (List ℕ)) (typed : List ℕ) (list : List (List ℕ × List ℕ)) → is_sound d.options ≡ true → are_listable d.positionals ≡ true → AreNamed d.options → IsUtf8 typed → CanCome d words true → AreText d.options
     → list ≡ filter (λ p. starts_with nat_eq p.0 typed) (explained d.options) → AreOffered d words typed list
 offered d words typed list sound good named utf8 opens text is = record {
   sound = λ s has.
-      let k = kept (λ x. starts_with nat_eq x typed) (spellings d.options) s (subst (λ x. Contains x s) (firsts_are typed d.options list is) has) in
-      record { text = utf8; begins = k.1; possible = let there = opens.0 refl in offered_occurs d words there.0 s sound text named there.1 there.2 (filled d.positionals (positional_words there.0) good there.3) k.0 };
+      let k = kept (λ x. starts_with nat_eq x typed) (spellings (visible d.options)) s (subst (λ x. Contains x s) (firsts_are typed d.options list is) has) in
+      let there = opens.0 refl in
+      shown_completes d words there.0 typed s sound text named there.1 there.2 (filled d.positionals (positional_words there.0) good there.3) utf8 k.1 k.0;
   complete = λ s completes.
       subst (λ x. Contains x s) (sym (firsts_are typed d.options list is))
-      (keeps (λ x. starts_with nat_eq x typed) (spellings d.options) s (occurs_offered d words s completes.possible) completes.begins);
+      (keeps (λ x. starts_with nat_eq x typed) (spellings (visible d.options)) s (completes_shown d words typed s completes) completes.begins);
   in_order = inl is;
 }
 
 -- the same for the spellings that a call returns
 pub offered_all : (d : Declaration) (typed : List ℕ) (r : Result (Vec Spelling Global) AllocError) (options : List Declared) (bytes : List ℕ) (b : Bool) → is_sound d.options ≡ true → are_listable d.positionals ≡ true → AreNamed d.options → IsUtf8 typed → b ≡ true
-    → options ≡ d.options → bytes ≡ typed → OnOk r (AreText options) → IfOk r (λ list. map spelling_view list.items ≡ filter (λ p. starts_with nat_eq p.0 bytes) (explained options))
+    → options ≡ d.options → bytes ≡ typed → AreText options → IfOk r (λ list. map spelling_view list.items ≡ filter (λ p. starts_with nat_eq p.0 bytes) (explained options))
     → IfOk r (λ list. (words : List (List ℕ)) → CanCome d words b → AreOffered d words typed (map spelling_view list.items))
 offered_all d typed (Ok list) options bytes b sound good named utf8 can are also text is = λ words is_open.
     offered d words typed (map spelling_view list.items) sound good named utf8 (subst (CanCome d words) can is_open) (subst AreText are text)

@@ -19,8 +19,8 @@ use Rattle.lexopt_options.specs.declared.options.Options.{Options}
 use Rattle.lexopt_options.specs.Declarations.{declaration_of, options_of}
 use Rattle.lexopt_options.specs.Roles.{IsJoinedAt, IsRoleAt}
 
--- exactly the spellings that can come where this was typed after these words, each with the help
--- text of its option, in the order of the declaration
+-- exactly the spellings that can come where this was typed after these words, of the options that
+-- are not hidden, each with the help text of its option, in the order of the declaration
 pub record AreOffered (d : Declaration) (words : List (List ℕ)) (typed : List ℕ)
     (offered : List (List ℕ × List ℕ)) : Type 0 where
   pub sound : (s : List ℕ) → Contains (map (λ p. p.0) offered) s → Completes d words typed s

@@ -28,7 +28,7 @@
 ///
 /// After that come any of these, in any order:
 ///
-/// - `.hidden()` leaves the option out of the help. Shells still complete it.
+/// - `.hidden()` leaves the option out of the help, of what shells offer, and of hints.
 /// - `.required()` makes it an option that every line has to have.
 /// - `.one_of(&["fast", "slow"])` lists the values that it accepts, which shells offer.
 /// - `.directories()` has shells offer the names of directories for its values.

@@ -60,7 +60,7 @@ pub enum Mistake<'a> {
     UnknownOption {
         /// The name.
         name: OptionName,
-        /// The declared long names that may have been meant.
+        /// The declared long names that may have been meant, without those of hidden options.
         ///
         /// For a long option it is the nearest name alone, if its distance is at most a third of
         /// the number of characters typed; otherwise the names that begin with what was typed, in
@@ -205,8 +205,8 @@ impl fmt::Display for Mistake<'_> {
 
 impl std::error::Error for Mistake<'_> {}
 
-/// Returns the declared long name that may have been meant by a cluster with a dash too few, if
-/// there is one: an undeclared option of it, and the `rest` after that.
+/// Returns the long name of an option that is not hidden and may have been meant by a cluster with
+/// a dash too few, if there is one: an undeclared option of it, and the `rest` after that.
 ///
 /// # Errors
 ///
