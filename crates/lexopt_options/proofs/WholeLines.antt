@@ -131,7 +131,7 @@ before_is d (mistake.InvalidArgument placeholder word values) why l told = ap (�
 before_is d (mistake.MissingArgument placeholder) why l told = ap (λ w. parsed_before w l) (sym told.1)
 before_is d (mistake.MissingOption names) why l told = ap (λ w. parsed_before w l) (sym told.1)
 before_is d (mistake.MissingCommand names) why l told = absurd told
-before_is d (mistake.UnknownCommand word hints) why l told = absurd told
+before_is d (mistake.UnknownCommand word rest hints) why l told = absurd told
 before_is d (mistake.InvalidVariable name) why l told = absurd told
 
 pub before_other : (m : Mistake) (l : List legal.Parsed) → ((option : _) (value : _) → m ≡ mistake.UnexpectedValue option value → ⊥) → before_mistake m l ≡ l
@@ -144,7 +144,7 @@ before_other (mistake.InvalidArgument placeholder word values) l other = refl
 before_other (mistake.MissingArgument placeholder) l other = refl
 before_other (mistake.MissingOption names) l other = refl
 before_other (mistake.MissingCommand names) l other = refl
-before_other (mistake.UnknownCommand word hints) l other = refl
+before_other (mistake.UnknownCommand word rest hints) l other = refl
 before_other (mistake.InvalidVariable name) l other = refl
 
 pub last_dropped : (l : List legal.Parsed) (s : legal.Parsed) → all_but_last (l ++ s ∷ []) ≡ l

@@ -39,7 +39,7 @@ message (InvalidArgument placeholder word values) = codes "invalid argument " ++
 message (MissingOption names) = codes "missing option '" ++ (names_text names ++ codes "'")
 message (MissingCommand names) =
     codes "missing command: one of " ++ list_text (map (λ name. escaped_text name.now) names.items)
-message (UnknownCommand word hints) = codes "unknown command " ++ (visible word
+message (UnknownCommand word rest hints) = codes "unknown command " ++ (visible word
     ++ hint_text [] (map (λ hint. hint.now) hints.items))
 message (InvalidVariable name) = codes "invalid value of " ++ (string_bytes name
     ++ (codes ": one of bash_source, bash_complete, zsh_source, zsh_complete, fish_source, "

@@ -56,5 +56,5 @@ IsMistake d (MissingArgument placeholder) m = (count : ℕ) × (m ≡ stops.miss
 IsMistake d (MissingOption names) m = (index : ℕ) × (m ≡ stops.missing_option index)
     × AreNames d.options index names
 IsMistake d (MissingCommand names) m = ⊥
-IsMistake d (UnknownCommand word hints) m = ⊥
+IsMistake d (UnknownCommand word rest hints) m = ⊥
 IsMistake d (InvalidVariable name) m = ⊥

@@ -118,6 +118,9 @@ pub enum Mistake<'a> {
     UnknownCommand {
         /// The word.
         word: OsString,
+        /// The words for it, as a declared command would get them: the words after it; and after a
+        /// name that asks for the help also `--help`, at their end.
+        rest: Vec<OsString>,
         /// The names of commands that may have been meant: the nearest alone; or, if none is near,
         /// those that begin with the word, in the order of the declaration, and at most the first
         /// five. None is meant by the empty word.
@@ -189,7 +192,7 @@ impl fmt::Display for Mistake<'_> {
                 let names = Listed(names);
                 write!(f, "missing command: one of {names}")
             }
-            Mistake::UnknownCommand { word, hints } => {
+            Mistake::UnknownCommand { word, hints, .. } => {
                 let command = Visible::new(word.as_bytes());
                 write!(f, "unknown command {command}")?;
                 write_hints("", hints, f)
