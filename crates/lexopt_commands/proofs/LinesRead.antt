@@ -72,7 +72,7 @@ is_command c l name key words rest parsed (line.Refused refused) are means after
   where
     no_mistake : (m : Mistake) → IsMistake c.commands.now words m → ⊥
     no_mistake m (missing_command names is are) = let e : command name key rest ≡ missing = sym means ∙ is in cc
-    no_mistake m (unknown_command word hints is are) = let e : command name key rest ≡ unknown word = sym means ∙ is in cc
+    no_mistake m (unknown_command word own hints is are) = let e : command name key rest ≡ unknown word own.items = sym means ∙ is in cc
 
 -- the name of a command, with the words after it, means that command
 name_means : {C F V M S : Type 0} (c : Commands C F V M S) (i : ℕ) (own : Command C) (key : C) (rest : List (List ℕ)) → slice_get c.commands.now i ≡ Some own → own.runs ≡ runs.Command key

@@ -23,8 +23,8 @@ pub data Meaning (C : Type 0) : Type 0 where
   help : Meaning C
   -- there is no word
   missing : Meaning C
-  -- this word is not the name of a command
-  unknown : List ℕ → Meaning C
+  -- this word is not the name of a command, and these are the words for it
+  unknown : List ℕ → List (List ℕ) → Meaning C
 
 -- the word that asks a command for its help
 abbrev pub help_word : List ℕ
@@ -40,7 +40,8 @@ helped_by runs.Help name rest = help
 -- has the word as its name
 abbrev pub helped : {C : Type 0} → Option (Command C) → List ℕ → List (List ℕ) → Meaning C
 helped (Some own) word rest = helped_by own.runs own.name.now rest
-helped None word rest = if pointwise ◌==◌ word help_word then help else unknown word
+helped None word rest =
+    if pointwise ◌==◌ word help_word then help else unknown word (rest ++ help_word ∷ [])
 
 -- what words mean after a name that asks for the help
 abbrev pub help_of : {C : Type 0} → List (Command C) → List (List ℕ) → Meaning C
@@ -56,7 +57,7 @@ named_by commands runs.Help name rest = help_of commands rest
 abbrev pub named : {C : Type 0} → List (Command C) → Option (Command C) → List ℕ → List (List ℕ)
     → Meaning C
 named commands (Some own) word rest = named_by commands own.runs own.name.now rest
-named commands None word rest = unknown word
+named commands None word rest = unknown word rest
 
 -- what the words after the general options mean
 abbrev pub meaning : {C : Type 0} → List (Command C) → List (List ℕ) → Meaning C

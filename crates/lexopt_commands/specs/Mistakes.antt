@@ -20,7 +20,7 @@ pub data IsMistake {C : Type 0} (commands : List (Command C)) (words : List (Lis
   missing_command : (names : Vec (Bor (List ℕ)) Global) → meaning commands words ≡ missing
       → map (λ name. name.now) names.items ≡ names_of commands
       → IsMistake commands words (mistake.MissingCommand names)
-  unknown_command : (word : List ℕ) (hints : Vec (Bor (List ℕ)) Global)
-      → meaning commands words ≡ unknown word
+  unknown_command : (word : List ℕ) (rest : Vec (List ℕ) Global)
+      (hints : Vec (Bor (List ℕ)) Global) → meaning commands words ≡ unknown word rest.items
       → IsHint commands word (map (λ hint. hint.now) hints.items)
-      → IsMistake commands words (mistake.UnknownCommand word hints)
+      → IsMistake commands words (mistake.UnknownCommand word rest hints)

@@ -10,7 +10,7 @@ abbrev pub meaning_view : {C : Type 0} → Meaning C → spec.Meaning C
 meaning_view (meaning.Command name key own) = spec.command name.now key own.items
 meaning_view meaning.Help = spec.help
 meaning_view meaning.Missing = spec.missing
-meaning_view (meaning.Unknown word) = spec.unknown word
+meaning_view (meaning.Unknown word rest) = spec.unknown word rest.items
 
 abbrev pub place_view : {C : Type 0} → Place C → places.Place C
 place_view (place.Command name key own) = places.in_command name.now key own.items

@@ -45,7 +45,7 @@ pub fn words_mean_so<C>(commands: &[Command<'_, C>])
         → command_of commands.now word ≡ Some own → own.runs ≡ runs.Command key
         → meaning commands.now (word ∷ rest) ≡ command own.name.now key rest }
     ensures another { (word : List ℕ) (rest : List (List ℕ)) → command_of commands.now word ≡ None
-        → meaning commands.now (word ∷ rest) ≡ unknown word }
+        → meaning commands.now (word ∷ rest) ≡ unknown word rest }
     ensures help_alone { (own : one.Command C) (word : List ℕ)
         → command_of commands.now word ≡ Some own → own.runs ≡ runs.Help
         → meaning commands.now (word ∷ []) ≡ help }
@@ -66,5 +66,6 @@ pub fn words_mean_so<C>(commands: &[Command<'_, C>])
     ensures help_of_another { (asks : one.Command C) (first : List ℕ) (rest : List (List ℕ))
         → command_of commands.now first ≡ Some asks → asks.runs ≡ runs.Help
         → command_of commands.now (codes "-h") ≡ None
-        → meaning commands.now (first ∷ codes "-h" ∷ rest) ≡ unknown (codes "-h") }
+        → meaning commands.now (first ∷ codes "-h" ∷ rest)
+        ≡ unknown (codes "-h") (rest ++ codes "--help" ∷ []) }
 {}

@@ -43,8 +43,8 @@ pub(crate) enum Meaning<'a, C> {
     Help,
     // There is no word.
     Missing,
-    // This word has to be the name of a command, and is not.
-    Unknown(OsString),
+    // This word has to be the name of a command, and is not. The words for it.
+    Unknown(OsString, Vec<OsString>),
 }
 
 // The index of the first command with this name.
@@ -102,14 +102,19 @@ fn with_help(alloc: Global, words: Vec<OsString>) -> Result<Vec<OsString>, Alloc
     Ok(words)
 }
 
-// What a word that is not the name of a command means after a name that asks for the help.
-fn help_of_other<'a, C>(word: OsString) -> Meaning<'a, C>
-    ensures { meaning_view result ≡ helped None word [] }
+// What a word that is not the name of a command, and the words after it, mean after a name that asks
+// for the help.
+fn help_of_other<'a, C>(
+    alloc: Global,
+    word: OsString,
+    rest: Vec<OsString>,
+) -> Result<Meaning<'a, C>, AllocError>
+    ensures { IfOk result (λ found. meaning_view found ≡ helped None word rest.items) }
 {
     if word.as_bytes() == HELP.as_bytes() {
-        Meaning::Help
+        Ok(Meaning::Help)
     } else {
-        Meaning::Unknown(word)
+        Ok(Meaning::Unknown(word, with_help(alloc, rest)?))
     }
 }
 
@@ -126,7 +131,7 @@ fn help_of<'a, C: Copy>(
         return Ok(Meaning::Help);
     };
     let Some(command) = command_of(commands, word.as_bytes()) else {
-        return Ok(help_of_other(word));
+        return help_of_other(alloc, word, words);
     };
     match command.runs {
         Runs::Command(key) => Ok(Meaning::Command(command.name, key, with_help(alloc, words)?)),
@@ -147,7 +152,7 @@ fn meaning_of<'a, C: Copy>(
         return Ok(Meaning::Missing);
     };
     let Some(command) = command_of(commands, word.as_bytes()) else {
-        return Ok(Meaning::Unknown(word));
+        return Ok(Meaning::Unknown(word, words));
     };
     match command.runs {
         Runs::Command(key) => Ok(Meaning::Command(command.name, key, words)),
@@ -232,9 +237,9 @@ impl<'a, C: Copy, F: Copy, V: Copy, M: Copy, S: Copy> Commands<'a, C, F, V, M, S
                 let mistake = Mistake::MissingCommand(names_of(alloc, self.commands())?);
                 Ok(CommandLine::Refused(self.refuse(parsed, mistake)))
             }
-            Meaning::Unknown(word) => {
+            Meaning::Unknown(word, rest) => {
                 let hints = hints_for(alloc, self.commands(), &word)?;
-                let mistake = Mistake::UnknownCommand { word, hints };
+                let mistake = Mistake::UnknownCommand { word, rest, hints };
                 Ok(CommandLine::Refused(self.refuse(parsed, mistake)))
             }
         }

@@ -27,5 +27,5 @@ returns-in_ok-hints-in-Unknown g c =
       program = c.refuse-in-Unknown.ensures.program;
       help = c.refuse-in-Unknown.ensures.help;
       before = ap (λ v. v.items) c.refuse-in-Unknown.ensures.before;
-      told = subst (IsMistake c.args.self.now.commands.now words) (sym c.refuse-in-Unknown.ensures.mistake) (unknown_command c.in-Unknown.word c.in_ok-hints-in-Unknown.hints means hinted);
+      told = subst (IsMistake c.args.self.now.commands.now words) (sym c.refuse-in-Unknown.ensures.mistake) (unknown_command c.in-Unknown.word c.in-Unknown.rest c.in_ok-hints-in-Unknown.hints means hinted);
     }
