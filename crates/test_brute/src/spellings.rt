@@ -30,12 +30,12 @@ fn place_of_spelling(plan: &Plan, spelling: &str) -> Option<usize> {
     }
 }
 
-// The declared spellings, in order.
+// The declared spellings of options that are not hidden, in order.
 fn spellings_of(alloc: Global, plan: &Plan) -> Result<Vec<Spelling>, AllocError> {
     let mut spellings = Vec::new(alloc);
-    for place in 0..plan.options.len() {
+    for (place, option) in plan.options.iter().enumerate() {
         for text in SPELLINGS {
-            if place_of_spelling(plan, text) == Some(place) {
+            if !option.hidden && place_of_spelling(plan, text) == Some(place) {
                 spellings.push(Spelling { text, place })?;
             }
         }

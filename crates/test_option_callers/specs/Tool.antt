@@ -257,14 +257,13 @@ LeadingTells l rest (leading.Refused refused) = ⊥
 
 -- ---- completion of a typed word
 
--- each spelling, and the help text of its option
+-- each spelling of an option that is not hidden, and the help text of the option
 abbrev pub tool_spellings : List (List ℕ × List ℕ)
 tool_spellings = (codes "-v", codes "tell more") ∷ (codes "--verbose", codes "tell more")
-    ∷ (codes "-f", codes "by force") ∷ (codes "-o", codes "write there")
-    ∷ (codes "--output", codes "write there") ∷ (codes "--color", codes "paint")
-    ∷ (codes "-x", codes "leave out") ∷ (codes "-h", codes "help") ∷ (codes "--help", codes "help")
-    ∷ (codes "--version", codes "version") ∷ (codes "-u", codes "for whom")
-    ∷ (codes "--user", codes "for whom") ∷ []
+    ∷ (codes "-o", codes "write there") ∷ (codes "--output", codes "write there")
+    ∷ (codes "--color", codes "paint") ∷ (codes "-x", codes "leave out") ∷ (codes "-h", codes "help")
+    ∷ (codes "--help", codes "help") ∷ (codes "--version", codes "version")
+    ∷ (codes "-u", codes "for whom") ∷ (codes "--user", codes "for whom") ∷ []
 
 -- the spellings that begin with what was typed, in the order of the tool, or none
 abbrev pub AreInOrder : List ℕ → List (List ℕ × List ℕ) → Type 0
