@@ -36,7 +36,7 @@ use Rattle.test_commands.specs.AnyCommands.{HaveMistake, IsAskedFor, IsNamed, Is
 by_words : {C F V M S : Type 0} (o : Options F V Infallible M S) (commands : List (Command C)) (words : List (List ℕ)) (r : Refused F V Infallible M S) (m : Mistake) (l : List legal.Parsed) (rest : List (List ℕ))
     → MeansLeading (declaration_of o) words l rest → first_asked (declaration_of o).options l ≡ None → AreParsedAs (options_of o) l r.before.items → IsMistake commands rest m → HaveMistake o commands words r m
 by_words o commands words r m l rest means none are (missing_command names is named) = ((l, rest, means, none, are, is), named)
-by_words o commands words r m l rest means none are (unknown_command word hints is hinted) = ((l, rest, means, none, are, is), hinted)
+by_words o commands words r m l rest means none are (unknown_command word own hints is hinted) = ((l, rest, means, none, are, is), hinted)
 
 line_so : {C F V M S : Type 0} (c : Commands C F V M S) (words : List (List ℕ)) (it : CommandLine C F V M S) → IsLineRead c words it → LineTells c.options c.commands.now words it
 line_so c words (line.Command parsed name key own) is = ⊎_elim (λ no. absurd no)

@@ -39,7 +39,7 @@ is_task c l parsed rest own name task (line.Refused refused) means are after = n
   where
     no_mistake : (m : Mistake) → IsMistake c.commands.now rest m → ⊥
     no_mistake m (missing_command names is are) = let e : command name task own ≡ missing = sym means ∙ is in cc
-    no_mistake m (unknown_command word hints is are) = let e : command name task own ≡ unknown word = sym means ∙ is in cc
+    no_mistake m (unknown_command word others hints is are) = let e : command name task own ≡ unknown word others.items = sym means ∙ is in cc
 
 pub is_asking : {F V M S : Type 0} (c : Commands Task F V M S) (parsed : List (Parsed F V Infallible M S)) (rest : List (List ℕ)) (it : CommandLine Task F V M S)
     → meaning c.commands.now rest ≡ help → IsLineAfter c parsed rest it → IsAsking it
@@ -49,7 +49,7 @@ is_asking c parsed rest (line.Refused refused) means after = no_mistake refused.
   where
     no_mistake : (m : Mistake) → IsMistake c.commands.now rest m → ⊥
     no_mistake m (missing_command names is are) = let e : ◌≡◌ {A = Meaning Task} help missing = sym means ∙ is in cc
-    no_mistake m (unknown_command word hints is are) = let e : ◌≡◌ {A = Meaning Task} help (unknown word) = sym means ∙ is in cc
+    no_mistake m (unknown_command word others hints is are) = let e : ◌≡◌ {A = Meaning Task} help (unknown word others.items) = sym means ∙ is in cc
 
 pub is_missing : {F V M S : Type 0} (c : Commands Task F V M S) (l : List legal.Parsed) (parsed : List (Parsed F V Infallible M S)) (it : CommandLine Task F V M S)
     → names_of c.commands.now ≡ codes "add" ∷ codes "remote" ∷ codes "help" ∷ [] → AreParsedAs (options_of c.options) l parsed → IsLineAfter c parsed [] it → IsMissing (options_of c.options) l it
@@ -59,23 +59,23 @@ is_missing c l parsed (line.Refused refused) names are after = (subst (λ x. Are
   where
     by_mistake : (m : Mistake) → IsMistake c.commands.now [] m → IsMissingName m
     by_mistake m (missing_command own is named) = named ∙ names
-    by_mistake m (unknown_command word hints is are) = let e : ◌≡◌ {A = Meaning Task} missing (unknown word) = is in cc
+    by_mistake m (unknown_command word others hints is are) = let e : ◌≡◌ {A = Meaning Task} missing (unknown word others.items) = is in cc
 
-same_name : (name word : List ℕ) → ◌≡◌ {A = Meaning Task} (unknown name) (unknown word) → word ≡ name
-same_name name word e = cc
+same_unknown : (name word : List ℕ) (words own : List (List ℕ)) → ◌≡◌ {A = Meaning Task} (unknown name words) (unknown word own) → (word ≡ name) × (own ≡ words)
+same_unknown name word words own e = (cc, cc)
 
-pub is_unknown : {F V M S : Type 0} (c : Commands Task F V M S) (l : List legal.Parsed) (parsed : List (Parsed F V Infallible M S)) (rest : List (List ℕ)) (name typed : List ℕ) (it : CommandLine Task F V M S)
-    → meaning c.commands.now rest ≡ unknown name → ((own : List (List ℕ)) → IsHint c.commands.now name own → AreHintsFor typed own) → AreParsedAs (options_of c.options) l parsed → IsLineAfter c parsed rest it
-    → IsUnknown (options_of c.options) l name typed it
-is_unknown c l parsed rest name typed (line.Command words told key others) means are_hints are after = let e : ◌≡◌ {A = Meaning Task} (unknown name) (command told.now key others.items) = sym means ∙ after.1 in cc
-is_unknown c l parsed rest name typed (line.Asked asked) means are_hints are after = let e : ◌≡◌ {A = Meaning Task} (unknown name) help = sym means ∙ after.0 in cc
-is_unknown c l parsed rest name typed (line.Refused refused) means are_hints are after = (subst (λ x. AreParsedAs (options_of c.options) l x) (sym after.before) are, by_mistake refused.mistake after.told)
+pub is_unknown : {F V M S : Type 0} (c : Commands Task F V M S) (l : List legal.Parsed) (parsed : List (Parsed F V Infallible M S)) (rest own : List (List ℕ)) (name typed : List ℕ) (it : CommandLine Task F V M S)
+    → meaning c.commands.now rest ≡ unknown name own → ((hints : List (List ℕ)) → IsHint c.commands.now name hints → AreHintsFor typed hints) → AreParsedAs (options_of c.options) l parsed → IsLineAfter c parsed rest it
+    → IsUnknown (options_of c.options) l name typed own it
+is_unknown c l parsed rest own name typed (line.Command words told key others) means are_hints are after = let e : ◌≡◌ {A = Meaning Task} (unknown name own) (command told.now key others.items) = sym means ∙ after.1 in cc
+is_unknown c l parsed rest own name typed (line.Asked asked) means are_hints are after = let e : ◌≡◌ {A = Meaning Task} (unknown name own) help = sym means ∙ after.0 in cc
+is_unknown c l parsed rest own name typed (line.Refused refused) means are_hints are after = (subst (λ x. AreParsedAs (options_of c.options) l x) (sym after.before) are, by_mistake refused.mistake after.told)
   where
-    by_mistake : (m : Mistake) → IsMistake c.commands.now rest m → IsUnknownName name typed m
-    by_mistake m (missing_command names is are) = let e : ◌≡◌ {A = Meaning Task} (unknown name) missing = sym means ∙ is in cc
-    by_mistake m (unknown_command word hints is are) =
-        let same = same_name name word (sym means ∙ is) in
-        (same, are_hints (map (λ hint. hint.now) hints.items) (subst (λ w. IsHint c.commands.now w (map (λ hint. hint.now) hints.items)) same are))
+    by_mistake : (m : Mistake) → IsMistake c.commands.now rest m → IsUnknownName name typed own m
+    by_mistake m (missing_command names is are) = let e : ◌≡◌ {A = Meaning Task} (unknown name own) missing = sym means ∙ is in cc
+    by_mistake m (unknown_command word others hints is are) =
+        let same = same_unknown name word own others.items (sym means ∙ is) in
+        (same.0, are_hints (map (λ hint. hint.now) hints.items) (subst (λ w. IsHint c.commands.now w (map (λ hint. hint.now) hints.items)) same.0 are), same.1)
 
 -- ---- under the general options of the caller
 
@@ -101,12 +101,12 @@ missing_line c o l it same none names of =
     let a = after_none c o l [] it same none of in
     subst (λ x. IsMissing (options_of x) l it) same (is_missing c l a.0 it names a.1 a.2)
 
-pub unknown_line : {F V M S : Type 0} (c : Commands Task F V M S) (o : Options F V Infallible M S) (l : List legal.Parsed) (rest : List (List ℕ)) (name typed : List ℕ) (it : CommandLine Task F V M S)
-    → c.options ≡ o → first_asked (declaration_of o).options l ≡ None → meaning c.commands.now rest ≡ unknown name → ((own : List (List ℕ)) → IsHint c.commands.now name own → AreHintsFor typed own) → IsLineOf c l rest it
-    → IsUnknown (options_of o) l name typed it
-unknown_line c o l rest name typed it same none means are_hints of =
+pub unknown_line : {F V M S : Type 0} (c : Commands Task F V M S) (o : Options F V Infallible M S) (l : List legal.Parsed) (rest words : List (List ℕ)) (name typed : List ℕ) (it : CommandLine Task F V M S)
+    → c.options ≡ o → first_asked (declaration_of o).options l ≡ None → meaning c.commands.now rest ≡ unknown name words → ((hints : List (List ℕ)) → IsHint c.commands.now name hints → AreHintsFor typed hints) → IsLineOf c l rest it
+    → IsUnknown (options_of o) l name typed words it
+unknown_line c o l rest words name typed it same none means are_hints of =
     let a = after_none c o l rest it same none of in
-    subst (λ x. IsUnknown (options_of x) l name typed it) same (is_unknown c l a.0 rest name typed it means are_hints a.1 a.2)
+    subst (λ x. IsUnknown (options_of x) l name typed words it) same (is_unknown c l a.0 rest words name typed it means are_hints a.1 a.2)
 
 -- equal options read the same words in the same way
 pub of_options : {F V M S : Type 0} (o own : Options F V Infallible M S) (words : List (List ℕ)) (l : List legal.Parsed) (rest : List (List ℕ)) → o ≡ own → MeansLeading (declaration_of own) words l rest → MeansLeading (declaration_of o) words l rest

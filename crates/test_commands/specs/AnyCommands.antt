@@ -51,8 +51,8 @@ abbrev pub HaveMistake : {C F V M S : Type 0} → Options F V Infallible M S →
 HaveMistake o commands words r (mistake.MissingCommand names) =
     MeanSo o commands words r.before.items missing
     × (map (λ name. name.now) names.items ≡ map (λ c. c.name.now) commands)
-HaveMistake o commands words r (mistake.UnknownCommand word hints) =
-    MeanSo o commands words r.before.items (unknown word)
+HaveMistake o commands words r (mistake.UnknownCommand word rest hints) =
+    MeanSo o commands words r.before.items (unknown word rest.items)
     × IsHint commands word (map (λ hint. hint.now) hints.items)
 HaveMistake o commands words r m = ⊥
 

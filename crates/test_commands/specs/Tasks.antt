@@ -62,17 +62,17 @@ abbrev pub AreHintsFor : List ℕ → List (List ℕ) → Type 0
 AreHintsFor typed hints = (found : Option ℕ) × IsNearest (map (λ p. p.0) task_helps) typed found
     × (hints ≡ hinted_names (map (λ p. p.0) task_helps) typed found)
 
-abbrev pub IsUnknownName : List ℕ → List ℕ → Mistake → Type 0
-IsUnknownName name typed (mistake.UnknownCommand word hints) =
-    (word ≡ name) × AreHintsFor typed (map (λ hint. hint.now) hints.items)
-IsUnknownName name typed m = ⊥
+abbrev pub IsUnknownName : List ℕ → List ℕ → List (List ℕ) → Mistake → Type 0
+IsUnknownName name typed words (mistake.UnknownCommand word rest hints) = (word ≡ name)
+    × AreHintsFor typed (map (λ hint. hint.now) hints.items) × (rest.items ≡ words)
+IsUnknownName name typed words m = ⊥
 
--- no command has this name, and its hints are those for this text
+-- no command has this name, its hints are those for this text, and these are the words for it
 abbrev pub IsUnknown : {F V M S : Type 0} → List (Declared F V M S) → List legal.Parsed → List ℕ
-    → List ℕ → CommandLine Task F V M S → Type 0
-IsUnknown options l name typed (line.Refused refused) = AreParsedAs options l refused.before.items
-    × IsUnknownName name typed refused.mistake
-IsUnknown options l name typed line = ⊥
+    → List ℕ → List (List ℕ) → CommandLine Task F V M S → Type 0
+IsUnknown options l name typed words (line.Refused refused) =
+    AreParsedAs options l refused.before.items × IsUnknownName name typed words refused.mistake
+IsUnknown options l name typed words line = ⊥
 
 -- ---- completion of a typed word
 

@@ -75,7 +75,7 @@ pub fn read_tasks<'a, F: Copy, V: Copy, M: Copy, S: Copy>(
         → MeansLeading (declaration_of options.entry) words.items l
         ((codes "remot" ++ 0xFF ∷ []) ∷ rest)
         → IfOk result (λ line. IsUnknown (options_of options.entry) l (codes "remot" ++ 0xFF ∷ [])
-        (codes "remot" ++ 0xEF ∷ 0xBF ∷ 0xBD ∷ []) line) }
+        (codes "remot" ++ 0xEF ∷ 0xBF ∷ 0xBD ∷ []) rest line) }
 {
     Commands::new(options, &TASKS).read(alloc, words)
 }

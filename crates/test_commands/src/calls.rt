@@ -58,13 +58,14 @@ static ROWS: [(Call, &[u8], &str); 17] = [
     (Read, b"--version bogus", "Version(\"git 1.0\")"),
     (
         Read,
-        b"-v re",
-        "[Flag(Verbose)], then unknown command \"re\"; did you mean one of 'remove', 'remote'?",
+        b"-v help re x",
+        "[Flag(Verbose)], then UnknownCommand { word: \"re\", rest: [\"x\", \"--help\"], \
+        hints: [\"remove\", \"remote\"] }",
     ),
     (
         Read,
         b"-v",
-        "[Flag(Verbose)], then missing command: one of add, remove, remote, help",
+        "[Flag(Verbose)], then MissingCommand([\"add\", \"remove\", \"remote\", \"help\"])",
     ),
     (Answer, b"help", HELP_AT_30),
     (Answer, b"--version", "git 1.0\n"),
@@ -89,8 +90,7 @@ static ROWS: [(Call, &[u8], &str); 17] = [
         "git remote Remote Call { general: [], request: Completion([\"add\"], \"-\") }",
     ),
     (Complete, b"-vCdi", "files\t-vC\n"),
-    // After `--help` the general declaration alone decides. It has no positionals, so nothing can
-    // come after `x`.
+    // After `--help` the general declaration alone decides. It has no positionals.
     (Complete, b"--help -v", "-v\ttell more\n"),
     (Complete, b"--help x -v", ""),
     (CompleteLeading, b"-v x y -", "Rest([\"x\", \"y\"])"),
@@ -119,7 +119,7 @@ fn text_of_line(
         }
         CommandLine::Asked(asked) => format!(in alloc; "{asked:?}"),
         CommandLine::Refused(refused) => {
-            format!(in alloc; "{:?}, then {}", refused.before, refused.mistake)
+            format!(in alloc; "{:?}, then {:?}", refused.before, refused.mistake)
         }
     }
 }

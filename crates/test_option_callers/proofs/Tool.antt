@@ -106,7 +106,7 @@ stopped_by S (mistake.MissingArgument placeholder) why is stopped = (is.0, subst
 stopped_by S (mistake.MissingOption own) why (index, same, (d, here, short, long)) stopped =
     (index, subst S same stopped, d, here, names_are d own short long)
 stopped_by S (mistake.MissingCommand names) why is stopped = absurd is
-stopped_by S (mistake.UnknownCommand word hints) why is stopped = absurd is
+stopped_by S (mistake.UnknownCommand word rest hints) why is stopped = absurd is
 stopped_by S (mistake.InvalidVariable own) why is stopped = absurd is
 
 pub refused_as : (o : Options Flag Value Word Maybe Values) (words : List (List ℕ)) (r : Refused Flag Value Word Maybe Values) → AreOfTool o → IsRefused o words r → ToolRefused words r

@@ -201,7 +201,7 @@ StoppedBy S (mistake.MissingOption own) = (index : ℕ)
     × S (stops.missing_option index)
     × (o : Declared) × (slice_get tool_options index ≡ Some o) × HasNames o own
 StoppedBy S (mistake.MissingCommand names) = ⊥
-StoppedBy S (mistake.UnknownCommand word hints) = ⊥
+StoppedBy S (mistake.UnknownCommand word rest hints) = ⊥
 StoppedBy S (mistake.InvalidVariable own) = ⊥
 
 abbrev pub ToolRefused : List (List ℕ) → Refused Flag Value Word Maybe Values → Type 0

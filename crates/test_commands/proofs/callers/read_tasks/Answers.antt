@@ -40,5 +40,5 @@ returns-clause-unknown g c = λ l rest none means.
     let typed = codes "remot" ++ 0xEF ∷ 0xBF ∷ 0xBD ∷ [] in
     let words = name ∷ rest in
     let hints = λ (own : List (List ℕ)) (is : IsHint c.new.result.commands.now name own). subst (λ (cs : List (Command Task)). IsHint cs name own) c.new.ensures.commands is in
-    IfOk-weaker c.read.result _ _ (λ it of. unknown_line c.new.result c.args.options l words name typed it c.new.ensures.options none (ap (λ cs. meaning cs words) c.new.ensures.commands) hints of)
+    IfOk-weaker c.read.result _ _ (λ it of. unknown_line c.new.result c.args.options l words rest name typed it c.new.ensures.options none (ap (λ cs. meaning cs words) c.new.ensures.commands) hints of)
     (c.read.ensures.answered l words (of_options c.new.result.options c.args.options c.args.words.items l words c.new.ensures.options means))
