@@ -147,13 +147,15 @@ pub(crate) fn words_from(
     requires { pending parser.old ≡ None }
     ensures { IfOk result (λ words. words.items ≡ word ∷ parser.old.words) }
 {
-    let mut words = Vec::new(alloc);
-    words.push(word)?;
     match parser.try_raw_args() {
-        Some(mut left) => add_left(&mut words, &mut left)?,
+        Some(mut left) => {
+            let mut words = Vec::with_capacity(alloc, left.as_slice().len().saturating_add(1))?;
+            words.push(word)?;
+            add_left(&mut words, &mut left)?;
+            Ok(words)
+        }
         None => unreachable!(),
     }
-    Ok(words)
 }
 
 // Reads the leading options of a line into a list that has room for `room` things from the start.
