@@ -44,6 +44,7 @@ static DECLARATION: Declaration<'static, Flag, Value, Word> = declare! {
         flag(Flag::Verbose, Names::Both('v', "verbose"), "tell more; twice, still more"),
         flag(Flag::Force, Names::Both('f', "force"), "replace a file that is there"),
         value(Value::Jobs, Names::Both('j', "jobs"), "COUNT", "how many at a time, from 1 to 64"),
+        value(Value::Jobs, Names::Long("parallel"), "COUNT", "the old name of --jobs").hidden(),
         value(Value::Owner, Names::Both('o', "owner"), "USER", "who owns the copies").text().required(),
         value(Value::Backup, Names::Long("backup"), "WHEN", "").one_of(&["always", "never"]),
         value(Value::Suffix, Names::Long("suffix"), "SUFFIX", "what a backup ends with").text(),
