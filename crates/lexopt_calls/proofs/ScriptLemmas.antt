@@ -6,10 +6,8 @@ use Rattle.std.proofs.Math.Bool.{or-false, or_assoc}
 use Rattle.std.proofs.lemmas.Bool.{ne_eqb, eq-eqb, cond-false, cond-true}
 use Rattle.bstr.specs.Utf8.{decoded}
 use Rattle.std.proofs.lemmas.List.{at_drop_more, at_drop_all, take_all}
-use Rattle.std.proofs.lemmas.List.Splits.{length-slice_split}
-use Rattle.std.proofs.lemmas.List.Sums.{count_by-le-length}
-use Rattle.lexopt_line_spec.specs.Table.{Table, one_value}
-use Rattle.lexopt_calls.specs.Script.{newline, backslash, lines_of, in_front, unescaped, after_backslash, one_character, Command, Entry, Meaning, nothing, word, entry, command, bad, meaning, reads_words, is_reading, is_bad, first_bad, bad_line, word_of, entry_of, command_of, words_of, commands_of, table_with, table_of}
+use Rattle.lexopt_line_spec.specs.Table.{Table}
+use Rattle.lexopt_calls.specs.Script.{backslash, lines_of, in_front, unescaped, after_backslash, one_character, Command, Entry, Meaning, nothing, word, entry, command, bad, meaning, reads_words, is_reading, is_bad, first_bad, bad_line, word_of, entry_of, command_of, words_of, commands_of, table_with, table_of}
 
 -- ---- a text
 
@@ -32,8 +30,6 @@ whole_character bs n c size all char =
     let same : length (take (decoded bs).size bs) ≡ length bs =
     ap length (ap (λ k. take k bs) (size ∙ all) ∙ take_all (length bs) bs (omega arith)) in
     sym char ∙ sym (cond-true (length (take (decoded bs).size bs) == length bs) (decoded bs).char None (eq-eqb _ _ same))
-
--- ---- the lines
 
 -- ---- the first lines of a script
 

@@ -23,7 +23,7 @@ pub data Meaning (C : Type 0) : Type 0 where
   help : Meaning C
   -- there is no word
   missing : Meaning C
-  -- this word is not the name of a command, and these are the words for it
+  -- this word is not the name of a command; a command of that name would get these words
   unknown : List ℕ → List (List ℕ) → Meaning C
 
 -- the word that asks a command for its help

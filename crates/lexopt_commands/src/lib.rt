@@ -20,7 +20,6 @@
 //! };
 //! use lexopt_options::{Answer, Declaration, Names, Options, Parsed, declare};
 //! use std::convert::Infallible;
-//! use std::fmt::Display;
 //! use std::io;
 //! use std::process::ExitCode;
 //!
@@ -66,10 +65,6 @@
 //!     options: [help(Names::Both('h', "help"))],
 //! };
 //!
-//! fn refuse(rt: &HostRuntime, refused: &impl Display) -> io::Result<ExitCode> {
-//!     eprintln!(rt; "{refused}").map(|()| ExitCode::from(USAGE_ERROR))
-//! }
-//!
 //! fn add(rt: &HostRuntime, path: &str, call: Call<GeneralFlag>) -> io::Result<ExitCode> {
 //!     let options = Options::new(&ADD).with_program(path);
 //!     let (general, answer) = call.answer(rt.alloc(), &options, columns(rt))?;
@@ -86,7 +81,7 @@
 //!             Ok(ExitCode::SUCCESS)
 //!         }
 //!         Answer::Text(text) => rt.print(text).map(|()| ExitCode::SUCCESS),
-//!         Answer::Refused(refused) => refuse(rt, &refused),
+//!         Answer::Refused(why) => rt.eprintln(why).map(|()| ExitCode::from(USAGE_ERROR)),
 //!     }
 //! }
 //!
@@ -96,7 +91,7 @@
 //!     match answer {
 //!         Answer::Parsed(_) => rt.println("list").map(|()| ExitCode::SUCCESS),
 //!         Answer::Text(text) => rt.print(text).map(|()| ExitCode::SUCCESS),
-//!         Answer::Refused(refused) => refuse(rt, &refused),
+//!         Answer::Refused(why) => rt.eprintln(why).map(|()| ExitCode::from(USAGE_ERROR)),
 //!     }
 //! }
 //!
@@ -105,7 +100,7 @@
 //!         Step::Command(Task::Add, path, call) => add(rt, &path, call),
 //!         Step::Command(Task::List, path, call) => list(rt, &path, call),
 //!         Step::Text(text) => rt.print(text).map(|()| ExitCode::SUCCESS),
-//!         Step::Refused(refused) => refuse(rt, &refused),
+//!         Step::Refused(why) => rt.eprintln(why).map(|()| ExitCode::from(USAGE_ERROR)),
 //!     }
 //! }
 //!

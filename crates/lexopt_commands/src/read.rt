@@ -43,7 +43,8 @@ pub(crate) enum Meaning<'a, C> {
     Help,
     // There is no word.
     Missing,
-    // This word has to be the name of a command, and is not. The words for it.
+    // This word has to be the name of a command, and is not. A command of that name would get these
+    // words.
     Unknown(OsString, Vec<OsString>),
 }
 
@@ -102,8 +103,8 @@ fn with_help(alloc: Global, words: Vec<OsString>) -> Result<Vec<OsString>, Alloc
     Ok(words)
 }
 
-// What a word that is not the name of a command, and the words after it, mean after a name that asks
-// for the help.
+// What these words mean after a name that asks for the help, where the first is not the name of a
+// command.
 fn help_of_other<'a, C>(
     alloc: Global,
     word: OsString,

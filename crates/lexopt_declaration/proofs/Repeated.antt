@@ -1,8 +1,7 @@
 -- Positionals that may occur more than once.
-use Rattle.std.proofs.Common.{◌≡◌, ℕ, ◌+◌, ◌<◌, ◌≤◌, ◌||◌, Bool, true, false, not, List, [], ◌∷◌, map, filter, length, take, get_or, if◌then◌else◌, Some, refl, sym, ap, ◌∙◌, arith, length-append}
+use Rattle.std.proofs.Common.{◌≡◌, ℕ, ◌+◌, ◌<◌, ◌≤◌, ◌||◌, Bool, true, false, not, List, [], ◌∷◌, map, filter, length, take, get_or, if◌then◌else◌, Some, refl, sym, ap, ◌∙◌, arith}
 use Rattle.std.specs.List.{list_any}
 use Rattle.std.proofs.lemmas.List.{get_or-map, length-map, map_more, take-map, take_all}
-use Rattle.std.proofs.lemmas.List.Elements.{filter-append}
 use Rattle.std.proofs.lemmas.Option.{slice_get-get_or}
 use Rattle.lexopt_options_spec.specs.Declaration as spec
 use Rattle.lexopt_options_spec.specs.Declaration.{IsSecondRepeated, are_clear, may_repeat}
@@ -34,14 +33,6 @@ are_clear_is (p ∷ ps) = elim (may_repeat p.count) as (λ (b : Bool). length (i
 ]
 
 -- ---- the same in the loop over the positionals
-
-count_more : {P : Type 0} (ps : List (Positional P)) (i : ℕ) (d : Positional P) (b : Bool) → i < length ps → may_repeat (count_view (get_or ps i d).count) ≡ b
-    → repeated_count (map positional_view (take (i + 1) ps)) ≡ repeated_count (map positional_view (take i ps)) + length (if b then positional_view (get_or ps i d) ∷ [] else [])
-count_more ps i d b within is =
-    ap repeated_count (map_more positional_view ps i d within)
-    ∙ ap length (filter-append (λ (p : spec.Positional). may_repeat p.count) (map positional_view (take i ps)) (positional_view (get_or ps i d) ∷ []))
-    ∙ length-append (filter (λ (p : spec.Positional). may_repeat p.count) (map positional_view (take i ps))) (filter (λ (p : spec.Positional). may_repeat p.count) (positional_view (get_or ps i d) ∷ []))
-    ∙ ap (λ (c : Bool). repeated_count (map positional_view (take i ps)) + length (if c then positional_view (get_or ps i d) ∷ [] else [])) is
 
 pub second : {P : Type 0} (ps : List (Positional P)) (i : ℕ) (d : Positional P) → i < length ps → may_repeat (count_view (get_or ps i d).count) ≡ true
     → repeated_count (map positional_view (take i ps)) ≡ 1 → IsSecondRepeated (map positional_view ps) i

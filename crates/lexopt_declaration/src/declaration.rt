@@ -188,8 +188,8 @@ pub struct Declared<'a, F, V = Infallible, M = Infallible, S = Infallible> {
     /// Its help text. The help wraps it at spaces, of which several count as one. Shells show it as
     /// it is, with a space for each control character.
     pub help: &'a str,
-    /// Whether it is left out of the help and its usage line, of what shells offer, and of hints.
-    /// Lines may have it all the same.
+    /// Whether the help and its usage line leave it out, shells do not offer its names, and no hint
+    /// has its long name. Lines may have it all the same.
     pub hidden: bool,
     /// Whether every legal line has it.
     pub required: bool,

@@ -76,8 +76,7 @@ fn add_spellings<'a, F, V, M, S>(
     Ok(())
 }
 
-/// Returns the spellings that begin with what was typed, of the options that are not hidden, in
-/// order.
+/// Returns those spellings of options that are not hidden which begin with what was typed, in order.
 ///
 /// # Errors
 ///

@@ -6,7 +6,7 @@ use Rattle.bstr.specs.Utf8.{decoded}
 use Rattle.bstr.proofs.lemmas.PieceLemmas.{piece-bounds}
 use Rattle.lexopt_spec.specs.Pieces.{after_first_piece}
 use Rattle.lexopt_spec.specs.UnreadLine.{dash, Tail, no_tail, joined, rest, rest_of, UnreadLine, pending_in}
-use Rattle.lexopt_spec.specs.Steps.{Reply, taken, end, no_memory, Next, Value, IsLongOption, ReadsPositional, no_word_left, word_left, ReadsWord, no_word, reads_separator, reads_long, reads_cluster, reads_positional, NextStep, joined_value, equals_value, next_in_cluster, after_separator, next_word}
+use Rattle.lexopt_spec.specs.Steps.{Reply, end, no_memory, Next, IsLongOption, ReadsPositional, no_word_left, word_left, ReadsWord, no_word, reads_separator, reads_long, reads_cluster, reads_positional, NextStep, joined_value, equals_value, next_in_cluster, after_separator, next_word}
 use Rattle.lexopt_spec.specs.Views.{TakesWords, TakesWordIf}
 use Rattle.lexopt_spec.specs.Account.{handed_items}
 use Rattle.lexopt_line_spec.specs.Bound.{word_bound, tail_bound, bound, reply_count, replies_count, next_replies}

@@ -1,5 +1,5 @@
 -- Which words the positionals of a line accept, word by word.
-use Rattle.std.proofs.Common.{Vec, Result, Ok, Err, IfOk, MatchOption, ◌≡◌, ◌==◌, is_none, ◌↔◌, ◌≤◌, ◌<◌, ◌+◌, ◌-◌, ◌||◌, ℕ, zero, suc, Bool, true, false, List, [], ◌∷◌, length, take, drop, map, get_or, filter, Option, Some, None, slice_get, cond, option_map, unwrap_or, refl, sym, ap, subst, ◌∙◌, ◌++◌, ⊎_elim, arith}
+use Rattle.std.proofs.Common.{Vec, Result, Ok, Err, IfOk, MatchOption, ◌≡◌, ◌==◌, is_none, ◌↔◌, ◌≤◌, ◌<◌, ◌+◌, ◌-◌, ◌||◌, ℕ, zero, suc, Bool, true, false, List, [], ◌∷◌, length, take, drop, map, get_or, filter, Option, Some, None, slice_get, cond, refl, sym, ap, subst, ◌∙◌, ◌++◌, ⊎_elim, arith}
 use Rattle.std.specs.List.{Contains, list_any}
 use Rattle.std.proofs.lemmas.List.Elements.{Contains-append_cases, Contains-append_left, Contains-append_right}
 use Rattle.std.specs.Global.{Global}
@@ -264,8 +264,6 @@ pub not_taken : (ps : List spec.Positional) (ws : List (List ℕ)) (spare i : �
 not_taken ps ws spare i w within is refused =
     let some = some_places ps (length ws) within in
     record { places = some.0; are_places = some.1; refused = so_many ps ws some.0 some.1 ∙ ap (λ s. refused_word ps (owners 0 (greedy ps s)) ws) (sym is) ∙ refused }
-
--- ---- the positional at an index
 
 -- ---- the positionals that a word can belong to
 

@@ -28,7 +28,8 @@
 ///
 /// After that come any of these, in any order:
 ///
-/// - `.hidden()` leaves the option out of the help, of what shells offer, and of hints.
+/// - `.hidden()` leaves the option out of the help. Shells do not offer its names, and no hint has
+///   its long name.
 /// - `.required()` makes it an option that every line has to have.
 /// - `.one_of(&["fast", "slow"])` lists the values that it accepts, which shells offer.
 /// - `.directories()` has shells offer the names of directories for its values.

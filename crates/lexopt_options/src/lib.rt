@@ -157,9 +157,9 @@
 //!   to [`Options::parse_value`] are also `PartialEq`.
 //! - [`declare!`](crate::declare) lists what a line of the declaration can be. `.required()` is for
 //!   an option that each line must have, `.one_of(&["fast", "slow"])` for values in a list,
-//!   `.hidden()` for an option that the help, shells and hints leave out. For values and
-//!   positionals shells offer the names of files; after `.directories()` those of directories, and
-//!   after `.text()` nothing.
+//!   `.hidden()` for an option that the help leaves out and whose names shells and hints do not
+//!   have. For values and positionals shells offer the names of files; after `.directories()` those
+//!   of directories, and after `.text()` nothing.
 //!
 //! # What to call
 //!

@@ -118,8 +118,8 @@ pub enum Mistake<'a> {
     UnknownCommand {
         /// The word.
         word: OsString,
-        /// The words for it, as a declared command would get them: the words after it; and after a
-        /// name that asks for the help also `--help`, at their end.
+        /// The words that a command of this name would get: those after it, and then `--help` if a
+        /// name that asks for the help came before it.
         rest: Vec<OsString>,
         /// The names of commands that may have been meant: the nearest alone; or, if none is near,
         /// those that begin with the word, in the order of the declaration, and at most the first
@@ -208,8 +208,9 @@ impl fmt::Display for Mistake<'_> {
 
 impl std::error::Error for Mistake<'_> {}
 
-/// Returns the long name of an option that is not hidden and may have been meant by a cluster with
-/// a dash too few, if there is one: an undeclared option of it, and the `rest` after that.
+/// Returns the long name that may have been meant by a cluster with a dash too few: the one that
+/// ends with this undeclared option of the cluster and the `rest` after it, if exactly one does.
+/// Hidden options are passed over.
 ///
 /// # Errors
 ///

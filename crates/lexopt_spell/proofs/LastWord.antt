@@ -1,7 +1,7 @@
 -- The last word of a list, and the words appended after it.
-use Rattle.std.proofs.Common.{◌≡◌, ℕ, Bool, true, false, List, [], ◌∷◌, ◌++◌, Option, Some, refl, sym, ap, ◌∙◌, append-nil, append_assoc}
+use Rattle.std.proofs.Common.{◌≡◌, ℕ, List, [], ◌∷◌, ◌++◌, Option, Some, refl, sym, ap, ◌∙◌, append-nil, append_assoc}
 use Rattle.std.specs.Option.{option_to_list}
-use Rattle.lexopt_spell.specs.Words.{onto_last, pushed}
+use Rattle.lexopt_spell.specs.Words.{onto_last}
 
 pub onto_snoc : (ws : List (List ℕ)) (w bytes : List ℕ) → onto_last (ws ++ (w ∷ [])) bytes ≡ ws ++ ((w ++ bytes) ∷ [])
 onto_snoc [] w bytes = refl

@@ -156,7 +156,7 @@ fn text_of(alloc: Global, call: Call, line: &[u8]) -> Result<String, AllocError>
 fn rows(rt: HostRuntime) {
     for (call, line, wanted) in ROWS.iter() {
         let text = text_of(rt.alloc(), *call, line).expect(&rt, "memory");
-        assert_eq!(rt; text.as_str(), *wanted);
+        assert_eq!(rt; text.as_str(), *wanted, "{line:?}");
     }
 }
 

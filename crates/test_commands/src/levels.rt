@@ -107,6 +107,6 @@ fn text_of(alloc: Global, is_asked: bool, line: &[u8]) -> Result<String, AllocEr
 fn rows(rt: HostRuntime) {
     for (is_asked, line, wanted) in ROWS.iter() {
         let text = text_of(rt.alloc(), *is_asked, line).expect(&rt, "memory");
-        assert_eq!(rt; text.as_str(), *wanted);
+        assert_eq!(rt; text.as_str(), *wanted, "{line:?}");
     }
 }

@@ -62,7 +62,7 @@ fn text_of<'v>(
 fn environments(rt: HostRuntime) {
     for (line, name, value, front) in ROWS.iter() {
         let text = text_of(rt.alloc(), line, name, *value).expect(&rt, "memory");
-        assert!(rt; text.as_str().starts_with(front), "{front}");
+        assert!(rt; text.as_str().starts_with(front), "{line:?} {value:?}");
     }
 }
 
