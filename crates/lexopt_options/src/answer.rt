@@ -268,8 +268,8 @@ impl<F, V, P, M, S> Options<'_, F, V, P, M, S> {
     /// lines, in this order:
     ///
     /// - Unless nothing was typed, one for each spelling that can come and whose option is not
-    ///   hidden: the spelling, a tab, and the help text of the option, with a blank for each control
-    ///   character of ASCII.
+    ///   hidden: the spelling, a tab, and the help text of the option, with a blank for each
+    ///   control character of ASCII.
     /// - One for each value in a list that can come, after `+` unless it begins with a dash. No
     ///   value in a list begins with a dash; an option with its value does.
     /// - If a word that is not an option can come: one line by the [`Words`] of the option that it

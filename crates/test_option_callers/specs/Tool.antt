@@ -261,9 +261,10 @@ LeadingTells l rest (leading.Refused refused) = ⊥
 abbrev pub tool_spellings : List (List ℕ × List ℕ)
 tool_spellings = (codes "-v", codes "tell more") ∷ (codes "--verbose", codes "tell more")
     ∷ (codes "-o", codes "write there") ∷ (codes "--output", codes "write there")
-    ∷ (codes "--color", codes "paint") ∷ (codes "-x", codes "leave out") ∷ (codes "-h", codes "help")
-    ∷ (codes "--help", codes "help") ∷ (codes "--version", codes "version")
-    ∷ (codes "-u", codes "for whom") ∷ (codes "--user", codes "for whom") ∷ []
+    ∷ (codes "--color", codes "paint") ∷ (codes "-x", codes "leave out")
+    ∷ (codes "-h", codes "help") ∷ (codes "--help", codes "help")
+    ∷ (codes "--version", codes "version") ∷ (codes "-u", codes "for whom")
+    ∷ (codes "--user", codes "for whom") ∷ []
 
 -- the spellings that begin with what was typed, in the order of the tool, or none
 abbrev pub AreInOrder : List ℕ → List (List ℕ × List ℕ) → Type 0
