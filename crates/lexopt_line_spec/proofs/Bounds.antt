@@ -151,10 +151,10 @@ next_counts u r v (next_in_cluster bytes is other reads) = inr (ap reply_count r
 next_counts u r v (after_separator is ended reads) = positional_counts u r v reads
 next_counts u r v (next_word is ended reads) = word_counts u r v reads
 
-among_more : (r s : Reply) (rs : List Reply) → IsAmong rs s → IsAmong (r ∷ rs) s
+pub among_more : (r s : Reply) (rs : List Reply) → IsAmong rs s → IsAmong (r ∷ rs) s
 among_more r s rs is = (suc is.0, (let below = is.1.0 in omega arith, is.1.1))
 
-among_first : (r s : Reply) (rs : List Reply) → r ≡ s → IsAmong (r ∷ rs) s
+pub among_first : (r s : Reply) (rs : List Reply) → r ≡ s → IsAmong (r ∷ rs) s
 among_first r s rs is = (0, (omega arith, sym is))
 
 -- one of the replies to `next` is the end, or there are at most as many as the count of all replies

@@ -5,14 +5,10 @@ use Rattle.lexopt_spec.specs.UnreadLine.{Tail, no_tail, joined, rest, LastOption
 use Rattle.lexopt_spec.specs.Steps.{Reply, maybe, unexpected, OptionalStep, optional_pending, optional_none}
 use Rattle.lexopt_spec.specs.Views.{available, ValuesStep, no_values, some_values, TakesWords, TakesWordIf, is_next, is_not_next, RawStep, refuses_pending, lends_words, TryRawStep, leaves_pending, try_lends_words}
 use Rattle.lexopt_spec.specs.Runs.{Call, next, value, optional, values, raw, try_raw, raw_if, set_short_equals, StepWithMemory}
-use Rattle.lexopt_line_spec.proofs.Exact.{Same, next_same, value_same}
+use Rattle.lexopt_line_spec.proofs.Exact.{Same, next_same, value_bytes, value_same}
 use Rattle.lexopt_line_spec.proofs.Total.{Answer, next_answer, value_answer, spelled}
 
 -- ---- at most one result
-
-found_bytes : Option (List ℕ × Bool) → List ℕ
-found_bytes None = []
-found_bytes (Some found) = found.0
 
 option_text : Option (List ℕ) → List ℕ
 option_text None = []
@@ -22,9 +18,8 @@ pub both_pending : (u : UnreadLine) (x : List ℕ × Bool) → pending u ≡ Som
 both_pending u x a b = let e : Some x ≡ None = sym a ∙ b in cc
 
 optional_same : (u : UnreadLine) (r s : Reply) (v w : UnreadLine) → OptionalStep u r v → OptionalStep u s w → Same r v s w
-unfolding found_bytes
 optional_same u r s v w (optional_pending x i a p q) (optional_pending y j b f g) =
-    (p ∙ ap (λ l. maybe (Some l)) (ap found_bytes (sym a ∙ b)) ∙ sym f, q ∙ sym g)
+    (p ∙ ap (λ l. maybe (Some l)) (ap value_bytes (sym a ∙ b)) ∙ sym f, q ∙ sym g)
 optional_same u r s v w (optional_pending x i a p q) (optional_none b f g) = absurd (both_pending u (x, i) a b)
 optional_same u r s v w (optional_none a p q) (optional_pending y j b f g) = absurd (both_pending u (y, j) b a)
 optional_same u r s v w (optional_none a p q) (optional_none b f g) = (p ∙ sym f, q ∙ sym g)
@@ -50,9 +45,9 @@ word_if_same word u r s v w (is_not_next a p q) (is_not_next b f g) = (p ∙ sym
 
 raw_same : (Taken : UnreadLine → Reply → UnreadLine → Type 0) (u : UnreadLine) (r s : Reply) (v w : UnreadLine)
     → (Taken u r v → Taken u s w → Same r v s w) → RawStep Taken u r v → RawStep Taken u s w → Same r v s w
-unfolding found_bytes option_text
+unfolding option_text
 raw_same Taken u r s v w same (refuses_pending x o i a c p q) (refuses_pending y t j b d f g) =
-    (p ∙ ap (λ l. unexpected l x) (ap option_text (sym c ∙ d)) ∙ ap (unexpected t) (ap found_bytes (sym a ∙ b)) ∙ sym f, q ∙ sym g)
+    (p ∙ ap (λ l. unexpected l x) (ap option_text (sym c ∙ d)) ∙ ap (unexpected t) (ap value_bytes (sym a ∙ b)) ∙ sym f, q ∙ sym g)
 raw_same Taken u r s v w same (refuses_pending x o i a c p q) (lends_words b f) = absurd (both_pending u (x, i) a b)
 raw_same Taken u r s v w same (lends_words a p) (refuses_pending y t j b d f g) = absurd (both_pending u (y, j) b a)
 raw_same Taken u r s v w same (lends_words a p) (lends_words b f) = same p f

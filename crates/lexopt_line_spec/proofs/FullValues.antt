@@ -19,7 +19,7 @@ pub data FullStep (u : UnreadLine) (reply : Reply) (after : UnreadLine) : Type 0
   nothing_given : pending u ≡ None → ¬ IsNormalIn u.ended u.words → reply ≡ missing (spelling u.last) → after ≡ u → FullStep u reply after
 
 -- if there were fewer than were asked for, these are all
-all_came : (n : ℕ) (l : List (List ℕ)) → length (take n l) < n → take n l ≡ l
+pub all_came : (n : ℕ) (l : List (List ℕ)) → length (take n l) < n → take n l ≡ l
 all_came n l few = let count = length-take n l in take_all n l (omega arith)
 
 abbrev items_of : Reply → List (List ℕ)

@@ -11,6 +11,7 @@ use Rattle.lexopt_spec.specs.UnreadLine.{equals, Tail, no_tail, joined, rest, Un
 use Rattle.lexopt_spec.specs.Steps.{Reply, ValueStep, pending_value, takes_word, nothing_to_take, OptionalStep, optional_pending, optional_none}
 use Rattle.lexopt_spec.specs.Views.{plain_front, available_with, without, ValuesStep, no_values, some_values, TakesWords, TakesWordIf, is_next, is_not_next, RawStep, refuses_pending, lends_words, TryRawStep, leaves_pending, try_lends_words}
 use Rattle.lexopt_spec.specs.Account.{given, mark, segment_bytes, bytes_of, tail_bytes, flat, dropped_in, handing, handed_items, segment_shown, shown_of}
+use Rattle.lexopt_line_spec.proofs.Exact.{value_bytes}
 
 -- these items, in order, are taken from the first line, and leave the second
 pub data HandedItems (u : UnreadLine) (handed : List (List ℕ)) (v : UnreadLine) : Type 0 where
@@ -79,30 +80,24 @@ try_raw_hands n u r v (try_lends_words p taken) = words_hands n u r v p taken
 
 -- ---- the bytes of a pending value
 
-value_in : Option (List ℕ × Bool) → List ℕ
-value_in None = []
-value_in (Some p) = p.0
-
 pending_rest : (short_equals : Bool) (b : ℕ) (bs x : List ℕ) (by_equals : Bool) → pending_in short_equals (rest (b ∷ bs)) ≡ Some (x, by_equals)
     → b ∷ bs ≡ bytes_of (dropped_in short_equals (rest (b ∷ bs))) ++ x
-unfolding value_in
-pending_rest false b bs x by_equals is = ap value_in is
+pending_rest false b bs x by_equals is = ap value_bytes is
 pending_rest true b bs x by_equals is = ⊎_elim
     (λ (same : b ≡ equals).
     let picked : cond (b == equals) (Some (bs, true)) (Some (b ∷ bs, false)) ≡ Some (bs, true) = rw (eq-eqb b equals same) refl in
     let dropped : cond (b == equals) (mark (equals ∷ []) ∷ []) [] ≡ mark (equals ∷ []) ∷ [] = rw (eq-eqb b equals same) refl in
-    ap (λ c. c ∷ bs) same ∙ ap (λ l. equals ∷ l) (ap value_in (sym picked ∙ is)) ∙ ap (λ l. bytes_of l ++ x) (sym dropped))
+    ap (λ c. c ∷ bs) same ∙ ap (λ l. equals ∷ l) (ap value_bytes (sym picked ∙ is)) ∙ ap (λ l. bytes_of l ++ x) (sym dropped))
     (λ (other : b ≢ equals).
     let picked : cond (b == equals) (Some (bs, true)) (Some (b ∷ bs, false)) ≡ Some (b ∷ bs, false) = rw (ne_eqb b equals other) refl in
     let dropped : cond (b == equals) (mark (equals ∷ []) ∷ []) [] ≡ [] = rw (ne_eqb b equals other) refl in
-    ap value_in (sym picked ∙ is) ∙ ap (λ l. bytes_of l ++ x) (sym dropped))
+    ap value_bytes (sym picked ∙ is) ∙ ap (λ l. bytes_of l ++ x) (sym dropped))
     (cases_eq b equals)
 
 pending_bytes : (short_equals : Bool) (tail : Tail) (x : List ℕ) (by_equals : Bool) → pending_in short_equals tail ≡ Some (x, by_equals)
     → tail_bytes tail ≡ bytes_of (dropped_in short_equals tail) ++ x
-unfolding value_in
 pending_bytes short_equals no_tail x by_equals is = absurd (let e : None ≡ Some (x, by_equals) = is in cc)
-pending_bytes short_equals (joined w) x by_equals is = ap value_in is
+pending_bytes short_equals (joined w) x by_equals is = ap value_bytes is
 pending_bytes short_equals (rest []) x by_equals is = absurd (let e : None ≡ Some (x, by_equals) = is in cc)
 pending_bytes short_equals (rest (b ∷ bs)) x by_equals is = pending_rest short_equals b bs x by_equals is
 

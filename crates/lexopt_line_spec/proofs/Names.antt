@@ -1,5 +1,6 @@
 -- The words that spell items, and the words that show them.
-use Rattle.std.proofs.Common.{◌≡◌, ◌≢◌, ℕ, zero, suc, ◌<◌, ◌≤◌, Bool, true, false, ◌&&◌, List, [], ◌∷◌, ◌++◌, length, map, Option, Some, None, encode_utf8, encode_utf8_all, refl, sym, ap, subst, ◌∙◌, arith, inl, inr, ⊎_elim, length-drop}
+use Rattle.std.proofs.Common.{◌≡◌, ◌≢◌, ℕ, zero, suc, ◌<◌, ◌≤◌, Bool, true, List, [], ◌∷◌, ◌++◌, length, map, Option, Some, None, encode_utf8, encode_utf8_all, refl, sym, ap, subst, ◌∙◌, arith, inl, inr, ⊎_elim, length-drop}
+use Rattle.std.proofs.lemmas.Bool.{and_parts}
 use Rattle.std.specs.Str.{IsUtf8}
 use Rattle.std.specs.List.{Contains}
 use lib.Utf8.{scalar, scalars}
@@ -17,19 +18,15 @@ use Rattle.lexopt_line_spec.proofs.Letters.{exact_read, read_letter}
 pub step : (bs : List ℕ) → 0 < length bs → lossy_characters bs ≡ shown (first_piece bs).char ∷ lossy_characters (after_first_piece bs)
 step bs some = ap (map (λ p. shown p.char)) (pieces-step bs some)
 
-some_bytes : (bs : List ℕ) → bs ≢ [] → 0 < length bs
+pub some_bytes : (bs : List ℕ) → bs ≢ [] → 0 < length bs
 some_bytes [] some = absurd (some refl)
 some_bytes (b ∷ bs) some = omega arith
-
-both : (a b : Bool) → (a && b) ≡ true → (a ≡ true) × (b ≡ true)
-both true b is = (refl, is)
-both false b is = absurd (let e : false ≡ true = is in cc)
 
 -- the characters of UTF-8
 pub encoded : (cs : List ℕ) → scalars cs ≡ true → lossy_characters (encode_utf8_all cs) ≡ cs
 encoded [] is = ap (map (λ p. shown p.char)) pieces-nil
 encoded (c ∷ cs) is =
-    let scalar_and = both (scalar c) (scalars cs) is in
+    let scalar_and = and_parts (scalar c) (scalars cs) is in
     let read = exact_read c (encode_utf8 c) (encode_utf8_all cs) scalar_and.0 refl in
     step (encode_utf8_all (c ∷ cs)) (some_bytes (encode_utf8_all (c ∷ cs)) read.some)
     ∙ ap (λ x. x ∷ lossy_characters (after_first_piece (encode_utf8_all (c ∷ cs)))) read.is
@@ -56,7 +53,7 @@ characters (suc n) (b ∷ bs) le =
     ap scalars (step (b ∷ bs) some) ∙ joined (shown (first_piece (b ∷ bs)).char) (lossy_characters (after_first_piece (b ∷ bs))) (letter_scalar _ _ _ letter.letter)
     (characters n (after_first_piece (b ∷ bs)) (shorter (b ∷ bs) n some le))
 
-contains_first : (c : ℕ) (cs : List ℕ) → Contains (c ∷ cs) c
+pub contains_first : (c : ℕ) (cs : List ℕ) → Contains (c ∷ cs) c
 contains_first c cs = (0, omega arith, refl)
 
 contains_more : (c x : ℕ) (cs : List ℕ) → Contains cs c → Contains (x ∷ cs) c

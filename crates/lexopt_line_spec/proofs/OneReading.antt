@@ -1,7 +1,6 @@
 -- Each line that a parser can have has a reading, and every other reading of it gives the same
 -- items.
 use Rattle.std.proofs.Common.{◌≡◌, ◌≢◌, ◌<◌, ◌≤◌, ℕ, zero, suc, List, [], ◌∷◌, length, take, refl, sym, ap, subst, ◌∙◌, arith, inl, inr}
-use Rattle.std.proofs.lemmas.List.{take_all, length-take}
 use Rattle.lexopt_spec.specs.UnreadLine.{UnreadLine, IsLine, pending}
 use Rattle.lexopt_spec.specs.Steps as steps
 use Rattle.lexopt_spec.specs.Steps.{Reply, Next, NextStep}
@@ -13,11 +12,11 @@ use Rattle.lexopt_line_spec.specs.Table.{Name, short, long, Item, Kind, flag, on
 use Rattle.lexopt_line_spec.specs.Readings.{IsDue, IsLast, IsFull, GoesOn, AskedAfter, last, more, item_after, items_of_replies, option_reply, IsReading}
 use Rattle.lexopt_line_spec.proofs.Bounds.{step_bound, given_falls}
 use Rattle.lexopt_line_spec.proofs.Calls.{call_answer, call_same}
-use Rattle.lexopt_line_spec.proofs.FullValues.{full_answer}
+use Rattle.lexopt_line_spec.proofs.FullValues.{all_came, full_answer, full_step}
 use Rattle.lexopt_line_spec.proofs.Lines.{next_line}
 use Rattle.lexopt_line_spec.proofs.ReplyKinds.{IsNextReply, next_reply, IsValueReply, value_reply, optional_reply, values_reply}
-use Rattle.lexopt_line_spec.proofs.FullValues.{full_step}
 use Rattle.lexopt_line_spec.proofs.RunAccounts.{step_line}
+use Rattle.lexopt_line_spec.proofs.StepsAfterOptions.{last_full}
 use Rattle.lexopt_line_spec.proofs.Total.{next_answer}
 
 -- ---- a reading
@@ -159,15 +158,6 @@ option_reading t u v (long n) line step =
     )
 
 -- ---- no other reading
-
-last_full : (call : Call) (r : Reply) → IsLast r → IsFull call r
-last_full (calls.values n) (steps.items words) is = absurd is
-last_full (calls.values n) r is = tt
-last_full call r is = tt
-
--- if there were fewer than were asked for, these are all
-all_came : (n : ℕ) (l : List (List ℕ)) → length (take n l) < n → take n l ≡ l
-all_came n l few = let count = length-take n l in take_all n l (omega arith)
 
 full_same : (n m : ℕ) (u v w : UnreadLine) (r s : Reply) → IsFull (calls.values n) r → IsFull (calls.values m) s → ValuesStep n u r v → ValuesStep m u s w → (r ≡ s) × (v ≡ w)
 full_same n m u v w r s full other (no_values none r_is v_is) (no_values too s_is w_is) = (r_is ∙ sym s_is, v_is ∙ sym w_is)

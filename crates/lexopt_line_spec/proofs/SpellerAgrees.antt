@@ -433,7 +433,7 @@ abbrev FaultIs : Result (List (List ℕ)) Fault → Fault → Type 0
 FaultIs answer f = answer ≡ Err f
 
 -- only after a flag do bytes continue a word
-none_first : (t : Table) (short_equals : Bool) (place : Place) (items : List Item) (bytes : List ℕ) (words : List (List ℕ)) → place ≢ in_cluster
+pub none_first : (t : Table) (short_equals : Bool) (place : Place) (items : List Item) (bytes : List ℕ) (words : List (List ℕ)) → place ≢ in_cluster
     → SpelledFrom t short_equals place items bytes words → bytes ≡ []
 none_first t short_equals place items bytes words other (rows.no_items p) = refl
 none_first t short_equals place items bytes words other (rows.new_word p next item later word others more ws added spelled_too) = refl

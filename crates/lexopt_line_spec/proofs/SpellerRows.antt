@@ -41,7 +41,7 @@ words_positional : (words : List (List ℕ)) → list_all is_positional (map pos
 words_positional [] = refl
 words_positional (w ∷ ws) = words_positional ws
 
-words_plain : (words : List (List ℕ)) → list_all is_plain_item (map positional words) ≡ list_all (is_plain false) words
+pub words_plain : (words : List (List ℕ)) → list_all is_plain_item (map positional words) ≡ list_all (is_plain false) words
 words_plain [] = refl
 words_plain (w ∷ ws) = ap (λ b. is_plain false w && b) (words_plain ws)
 

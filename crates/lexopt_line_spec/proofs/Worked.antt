@@ -1,7 +1,7 @@
 -- Steps of worked examples. A condition on bytes is a boolean here, so that an example proves it by
 -- `refl`.
 use Rattle.std.proofs.Common.{◌≡◌, ◌≢◌, ℕ, zero, suc, Bool, true, false, ◌==◌, ◌&&◌, not, List, [], ◌∷◌, ◌++◌, None, encode_utf8, length, take, refl, sym, ap, ◌∙◌, arith, true≢false}
-use Rattle.std.proofs.lemmas.Bool.{eq-eqb}
+use Rattle.std.proofs.lemmas.Bool.{and_parts, eq-eqb}
 use lib.Utf8.{scalar}
 use Rattle.std.specs.List.{All, Contains}
 use Rattle.std.specs.Char.{IsScalar}
@@ -22,10 +22,6 @@ use Rattle.lexopt_spec.proofs.PlainFronts.{plain_holds, plain_passes, front-none
 use Rattle.lexopt_line_spec.proofs.WholeLines.{shown_said}
 
 -- ---- booleans
-
-both : (a b : Bool) → a && b ≡ true → (a ≡ true) × (b ≡ true)
-both true b is = (refl, is)
-both false b is = absurd (true≢false (sym is))
 
 pub some : {A : Type 0} (x : A) (xs : List A) → x ∷ xs ≢ []
 some {A = A} x xs is = let e : x ∷ xs ≡ [] = is in cc
@@ -49,8 +45,8 @@ lacks x (b ∷ bs) = not (b == x) && lacks x bs
 
 pub not_among : (x : ℕ) (bs : List ℕ) → lacks x bs ≡ true → ¬ Contains bs x
 not_among x [] is (n, below, same) = absurd (omega arith)
-not_among x (b ∷ bs) is (zero, below, same) = true≢false (sym (both (not (b == x)) (lacks x bs) is).0 ∙ ap not (eq-eqb b x same))
-not_among x (b ∷ bs) is (suc n, below, same) = not_among x bs (both (not (b == x)) (lacks x bs) is).1 (n, omega arith, same)
+not_among x (b ∷ bs) is (zero, below, same) = true≢false (sym (and_parts (not (b == x)) (lacks x bs) is).0 ∙ ap not (eq-eqb b x same))
+not_among x (b ∷ bs) is (suc n, below, same) = not_among x bs (and_parts (not (b == x)) (lacks x bs) is).1 (n, omega arith, same)
 
 pub differ : (a b : ℕ) → a == b ≡ false → a ≢ b
 differ a b is same = true≢false (sym (eq-eqb a b same) ∙ is)
@@ -74,7 +70,7 @@ stops ended (w ∷ ws) = not (is_plain ended w)
 
 are_plain : (ended : Bool) (ws : List (List ℕ)) → all_plain ended ws ≡ true → All (IsPlain ended) ws
 are_plain ended [] is = All-nil (IsPlain ended)
-are_plain ended (w ∷ ws) is = let parts = both (is_plain ended w) (all_plain ended ws) is in
+are_plain ended (w ∷ ws) is = let parts = and_parts (is_plain ended w) (all_plain ended ws) is in
     All-cons (IsPlain ended) w ws (plain_holds ended w parts.0) (are_plain ended ws parts.1)
 
 pub not_normal : (ended : Bool) (ws : List (List ℕ)) → stops ended ws ≡ true → ¬ IsNormalIn ended ws
